@@ -1,0 +1,4 @@
+pub mod Operations
+pub mod Texts
+pub mod Types
+pub mod formers

@@ -1,0 +1,25 @@
+//! Words and their types: what every value of a simulation is, and what the operations on it give.
+//!
+//! A word is a signed 64-bit integer, which contracts see as an integer (`ℤ`). A [`Ty`] says which
+//! words a variable may hold and how they are written; a [`Fault`] is what an operation gives in
+//! place of a word. The crate also has [`List`] and [`Boxed`], a `Vec` and a `Box` that contracts see
+//! as what they hold, so that trees of them are plain data.
+//!
+//! Definitions: `specs/Types.antt` (kinds, ranges, fits), `specs/Operations.antt` (the integer that
+//! each operation means, or its fault), `specs/Texts.antt` (how a word is written).
+#![tactic(auto)]
+
+mod boxed;
+mod list;
+mod operations;
+mod text;
+mod types;
+
+pub use boxed::Boxed;
+pub use list::List;
+pub use operations::add;
+pub use text::word_text;
+pub use types::{Fault, Kind, Literal, LiteralFault, Ty};
+
+/// Want of memory, as an error.
+pub type NoMemory = std::alloc::AllocError;

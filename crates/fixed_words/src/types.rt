@@ -1,0 +1,61 @@
+/// The kind of an expression's value: operands and results are judged by it.
+///
+/// All integer types are of the one kind `Int`.
+#[derive(Clone, Copy, Debug, PartialEq, Eq)]
+pub enum Kind {
+    Int,
+    Bool,
+    /// Fixed point with this many decimals, from 0 to 9.
+    Fixed(u8),
+}
+
+/// The type of a variable: which words it may hold, and how they are written.
+///
+/// The integer types and Boolean are those of FMI 3.0 but `UInt64`; `Fixed` is fixed point.
+#[derive(Clone, Copy, Debug, PartialEq, Eq)]
+pub enum Ty {
+    Int8,
+    UInt8,
+    Int16,
+    UInt16,
+    Int32,
+    UInt32,
+    Int64,
+    /// The word 0 is false and 1 is true.
+    Bool,
+    /// Fixed point with this many decimals, from 0 to 9: the value is the word divided by that power
+    /// of ten, and every word is one.
+    Fixed(u8),
+}
+
+/// What an operation, a store or a call of a component gives in place of a word.
+#[derive(Clone, Copy, Debug, PartialEq, Eq)]
+pub enum Fault {
+    /// A result does not fit 64 bits.
+    Overflow,
+    /// A word is stored in a state or local, or given as an output, outside its declared type.
+    Range,
+    /// The divisor of `div`, `mod` or `/` is zero.
+    ZeroDivisor,
+    /// A component accepts a length outside the step that it was asked for.
+    Accept,
+    /// A component gives a negative greatest step.
+    Max,
+}
+
+/// A literal as it was written: a truth value, or a number by the word of its digits without the
+/// point and how many of them stand behind it, from 0 to 9.
+#[derive(Clone, Copy, Debug, PartialEq, Eq)]
+pub enum Literal {
+    Truth(bool),
+    Number { word: i64, decimals: u8 },
+}
+
+/// Why a literal gives no word of a type.
+#[derive(Clone, Copy, Debug, PartialEq, Eq)]
+pub enum LiteralFault {
+    /// A truth value for a number type, a number for Bool, or more decimals than the type has.
+    Form,
+    /// The form is right, and the word is outside the type's range.
+    Range,
+}
