@@ -1,0 +1,28 @@
+//! The trees of a system, and what they mean.
+//!
+//! A [`System`] is what a model text says: units (component models) with parameters, states, inputs,
+//! outputs and step lines, instances of them, and wires between their ports. All of it is plain data
+//! to contracts: two systems are equal exactly where their trees are.
+//!
+//! The definitions that every layer above speaks of stand in `specs/`: `Values` (what an expression
+//! is worth), `Effects` (what step lines do), `Components` (initial state, get and step of a unit),
+//! `LocalTime`, `Steps` (proposal, reply, agreed step), `Ports` (the right assignment) and `Trace`
+//! (successor, and the one trace of a system).
+#![tactic(auto)]
+
+mod expr;
+mod line;
+mod point;
+mod system;
+mod unit;
+
+pub use expr::{BinOp, Expr, UnOp};
+pub use line::Line;
+pub use point::Point;
+pub use system::{Column, Instance, PortName, Setting, System, Wire};
+pub use unit::{Input, Local, Output, Param, State, Unit};
+
+use fixed_words::List;
+
+/// A name as its bytes: a word of at most 32 bytes that is not reserved.
+pub type Name = List<u8>;

@@ -1,0 +1,59 @@
+use crate::{Expr, Line, Name};
+use fixed_words::{List, Literal, Ty};
+
+/// A constant of a unit, which each instance may set anew.
+#[derive(Debug, Drop)]
+pub struct Param {
+    pub name: Name,
+    pub ty: Ty,
+    pub start: Literal,
+}
+
+/// A variable that a component keeps from step to step, and its initial value.
+#[derive(Debug, Drop)]
+pub struct State {
+    pub name: Name,
+    pub ty: Ty,
+    pub start: Literal,
+}
+
+/// A variable of one step, which begins at the word 0 in every step.
+#[derive(Debug, Drop)]
+pub struct Local {
+    pub name: Name,
+    pub ty: Ty,
+}
+
+/// An input port, and the value that it has where nothing is connected to it.
+#[derive(Debug, Drop)]
+pub struct Input {
+    pub name: Name,
+    pub ty: Ty,
+    pub start: Literal,
+}
+
+/// An output port. Its value may depend on the current value of the inputs in `needs` alone.
+#[derive(Debug, Drop)]
+pub struct Output {
+    pub name: Name,
+    pub ty: Ty,
+    pub needs: List<Name>,
+    pub value: Expr,
+}
+
+/// A component model.
+#[derive(Debug, Drop)]
+pub struct Unit {
+    pub name: Name,
+    /// One local tick is ten to the power of minus this many seconds, from 0 to 9; 0 where none is given.
+    pub resolution: Option<u8>,
+    pub params: List<Param>,
+    pub states: List<State>,
+    pub locals: List<Local>,
+    pub inputs: List<Input>,
+    pub outputs: List<Output>,
+    /// The longest step that the component will accept, in local ticks; none sets no limit.
+    pub max: Option<Expr>,
+    /// What a step does; none keeps the state and accepts every step.
+    pub step: Option<List<Line>>,
+}
