@@ -1,3 +1,4 @@
+pub mod Literals
 pub mod Operations
 pub mod Texts
 pub mod Types

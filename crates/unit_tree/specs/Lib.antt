@@ -1,0 +1,5 @@
+pub mod Components
+pub mod Effects
+pub mod Lines
+pub mod Tokens
+pub mod Values

@@ -40,7 +40,10 @@ pub enum BinOp {
 #[derive(Debug, Drop)]
 pub enum Expr {
     /// A number by the word of its digits without the point, and how many stand behind the point.
-    Number { word: i64, decimals: u8 },
+    Number {
+        word: i64,
+        decimals: u8,
+    },
     Truth(bool),
     /// A parameter, state, local or input by its name.
     Var(Name),
@@ -48,9 +51,24 @@ pub enum Expr {
     Time,
     /// `h`, the local step.
     Step,
-    Unary { op: UnOp, arg: Boxed<Expr> },
-    Binary { op: BinOp, left: Boxed<Expr>, right: Boxed<Expr> },
-    Clamp { value: Boxed<Expr>, low: Boxed<Expr>, high: Boxed<Expr> },
+    Unary {
+        op: UnOp,
+        arg: Boxed<Expr>,
+    },
+    Binary {
+        op: BinOp,
+        left: Boxed<Expr>,
+        right: Boxed<Expr>,
+    },
+    Clamp {
+        value: Boxed<Expr>,
+        low: Boxed<Expr>,
+        high: Boxed<Expr>,
+    },
     /// `if cond then yes else no`
-    Choose { cond: Boxed<Expr>, yes: Boxed<Expr>, no: Boxed<Expr> },
+    Choose {
+        cond: Boxed<Expr>,
+        yes: Boxed<Expr>,
+        no: Boxed<Expr>,
+    },
 }

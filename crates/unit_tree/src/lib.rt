@@ -10,19 +10,22 @@
 //! (successor, and the one trace of a system).
 #![tactic(auto)]
 
+mod environment;
 mod expr;
 mod line;
 mod point;
 mod system;
+mod token;
 mod unit;
 
+pub use environment::{Environment, Value, Variable};
 pub use expr::{BinOp, Expr, UnOp};
+use fixed_words::List;
 pub use line::Line;
 pub use point::Point;
 pub use system::{Column, Instance, PortName, Setting, System, Wire};
+pub use token::{Keyword, Symbol, Token};
 pub use unit::{Input, Local, Output, Param, State, Unit};
-
-use fixed_words::List;
 
 /// A name as its bytes: a word of at most 32 bytes that is not reserved.
 pub type Name = List<u8>;

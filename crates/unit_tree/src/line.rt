@@ -5,9 +5,21 @@ use fixed_words::List;
 #[derive(Debug, Drop)]
 pub enum Line {
     /// `target := value`
-    Assign { target: Name, value: Expr },
-    If { cond: Expr, yes: List<Line>, no: Option<List<Line>> },
+    Assign {
+        target: Name,
+        value: Expr,
+    },
+    If {
+        cond: Expr,
+        yes: List<Line>,
+        no: Option<List<Line>>,
+    },
     /// `count` times the body, from 1 to 1,000.
-    Repeat { count: u32, body: List<Line> },
-    Accept { value: Expr },
+    Repeat {
+        count: u32,
+        body: List<Line>,
+    },
+    Accept {
+        value: Expr,
+    },
 }

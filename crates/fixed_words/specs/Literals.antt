@@ -1,0 +1,37 @@
+-- The word that a literal stands for as a value of a type.
+use Rattle.std.specs.Prelude.{ℕ, zero, ◌-◌, ℤ, pos, ◌*ℤ◌, Bool, true, false, if◌then◌else◌, nat_le, Result, Ok, Err}
+use Rattle.fixed_words.specs.Types.{is_word_of}
+use Rattle.fixed_words.specs.Operations.{ten_to}
+use Rattle.fixed_words.specs.declared.types.Ty.{Ty}
+use Rattle.fixed_words.specs.declared.types.Ty.TheVariants.{Fixed}
+use Rattle.fixed_words.specs.declared.types.Ty.TheVariants as types
+use Rattle.fixed_words.specs.declared.types.Literal.{Literal}
+use Rattle.fixed_words.specs.declared.types.Literal.TheVariants.{Truth, Number}
+use Rattle.fixed_words.specs.declared.types.LiteralFault.{LiteralFault}
+use Rattle.fixed_words.specs.declared.types.LiteralFault.TheVariants.{Form, Range}
+
+abbrev pub word_of_truth : Bool → ℤ
+word_of_truth true = pos 1
+word_of_truth false = pos 0
+
+-- A number of a type, before its range is judged: an integer type takes no decimals, and fixed point
+-- at most as many as it has.
+abbrev pub scaled_number : Ty → ℤ → ℕ → Result ℤ LiteralFault
+scaled_number types.Bool word decimals = Err Form
+scaled_number (Fixed has) word decimals = if nat_le decimals has then Ok (word *ℤ ten_to (has - decimals)) else Err Form
+scaled_number _ word zero = Ok word
+scaled_number _ word decimals = Err Form
+
+-- A literal of a type, before its range is judged.
+abbrev pub scaled_literal : Ty → Literal → Result ℤ LiteralFault
+scaled_literal types.Bool (Truth told) = Ok (word_of_truth told)
+scaled_literal _ (Truth told) = Err Form
+scaled_literal ty (Number word decimals) = scaled_number ty word decimals
+
+abbrev pub within_type : Ty → Result ℤ LiteralFault → Result ℤ LiteralFault
+within_type ty (Ok word) = if is_word_of ty word then Ok word else Err Range
+within_type ty (Err fault) = Err fault
+
+-- The word of a literal, or why it has none: first its form is judged, then the range of the type.
+abbrev pub word_of_literal : Ty → Literal → Result ℤ LiteralFault
+word_of_literal ty literal = within_type ty (scaled_literal ty literal)

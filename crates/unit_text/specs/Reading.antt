@@ -1,0 +1,65 @@
+-- Which texts are of the first form, which system each says, and where every other text is refused.
+use Rattle.std.specs.Prelude.{◌≡◌, ℕ, suc, ◌<◌, ◌≤◌, max, List, [], ◌∷◌, ◌++◌, length, take, ⊤, ◌⊎◌}
+use Rattle.unit_tree.specs.Lines.{lines_of, size_of}
+use Rattle.unit_tree.specs.Tokens.{Spells}
+use Rattle.unit_tree.specs.declared.system.System.{System}
+use Rattle.unit_text.specs.FirstForm.{tokens_of, IsInRange, forms_of, system_of, IsOfForm}
+use Rattle.unit_text.specs.declared.form.LineForm.{LineForm}
+use Rattle.unit_text.specs.declared.form.Source.{Source}
+
+-- The line has the form: its bytes, at most 1,000 of them, spell the form's tokens.
+pub record HasForm (form : LineForm) (line : List ℕ) : Type 0 where
+  pub spelled : Spells (tokens_of form) line
+  pub in_range : IsInRange form
+  pub short : length line ≤ 1000
+
+-- Each line has its form, one for one.
+abbrev pub HaveForms : List LineForm → List (List ℕ) → Type 0
+HaveForms [] [] = ⊤
+HaveForms (form ∷ forms) (line ∷ lines) = HasForm form line × HaveForms forms lines
+HaveForms _ _ = ⊥
+
+-- The text is of the form and says the system.
+pub record Reads (text : List ℕ) (system : System) : Type 0 where
+  pub source : Source
+  pub of_form : IsOfForm source
+  pub lines : HaveForms (forms_of source) (lines_of text)
+  pub says : system ≡ system_of source
+
+-- The lines begin a text of the form: with lines more behind them, perhaps none, they are all its lines.
+pub record Begin (lines : List (List ℕ)) : Type 0 where
+  pub source : Source
+  pub more : List (List ℕ)
+  pub of_form : IsOfForm source
+  pub all : HaveForms (forms_of source) (lines ++ more)
+
+-- The lines up to this one, counted from 1, are the first that no longer begin a text of the form.
+pub record StopsAt (lines : List (List ℕ)) (line : ℕ) : Type 0 where
+  pub before : ℕ
+  pub is_next : line ≡ suc before
+  pub within : before < length lines
+  pub begun : Begin (take before lines)
+  pub broken : Begin (take line lines) → ⊥
+
+-- All lines begin a text of the form and only the end is missing: the line is the last one, and 1 for the
+-- empty text.
+pub record LacksEnd (text : List ℕ) (line : ℕ) : Type 0 where
+  pub begun : Begin (lines_of text)
+  pub unread : (system : System) → Reads text system → ⊥
+  pub last : line ≡ max 1 (length (lines_of text))
+
+-- The most bytes that a text may have, with a LF counted after each line.
+abbrev pub text_limit : ℕ
+text_limit = 1048576
+
+-- The text is refused at a line by a rule: at line 1 by rule 2 where it is too long, and else by rule 4
+-- at the line from which on it is not of the form.
+abbrev pub IsRefused : List ℕ → ℕ → ℕ → Type 0
+IsRefused text line rule =
+    ((text_limit < size_of text) × (line ≡ 1) × (rule ≡ 2))
+    ⊎ ((size_of text ≤ text_limit) × (rule ≡ 4) × (StopsAt (lines_of text) line ⊎ LacksEnd text line))
+
+-- The text is accepted: it is short enough, and of the form.
+pub record IsAccepted (text : List ℕ) (system : System) : Type 0 where
+  pub short : size_of text ≤ text_limit
+  pub read : Reads text system

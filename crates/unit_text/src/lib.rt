@@ -1,0 +1,9 @@
+//! Reading of model texts: from bytes to the tree of a system, or the line and the rule by which the
+//! text is refused.
+#![tactic(auto)]
+
+mod fault;
+mod form;
+
+pub use fault::TextFault;
+pub use form::{Assignment, Declared, LineForm, Operand, Source, WholeNumber};

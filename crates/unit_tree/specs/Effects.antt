@@ -1,0 +1,66 @@
+-- Effect of step lines: the environment after them with the accepted length, or the first fault.
+use Rattle.std.specs.Prelude.{ℕ, zero, suc, ℤ, pos, unsigned_abs, List, [], ◌∷◌, if◌then◌else◌, Option, Some, None, Result, Ok, Err}
+use Rattle.std.specs.Str.{bytes_eq}
+use Rattle.fixed_words.specs.Types.{is_word_of, is_between}
+use Rattle.fixed_words.specs.declared.types.Fault.{Fault}
+use Rattle.fixed_words.specs.declared.types.Fault.TheVariants.{Range, Accept}
+use Rattle.unit_tree.specs.Values.{◌>>=◌, holds, value_of}
+use Rattle.unit_tree.specs.declared.environment.Environment.{Environment}
+use Rattle.unit_tree.specs.declared.environment.Variable.{Variable}
+use Rattle.unit_tree.specs.declared.line.Line.{Line, fold-Line}
+use Rattle.unit_tree.specs.declared.line.Line.TheOpen.{Line-F}
+
+-- What lines do: from each environment to the one after them, or to a fault.
+abbrev pub Effect : Type 0
+Effect = Environment → Result Environment Fault
+
+-- The word, stored in a variable; Range where it is none of the variable's type.
+abbrev pub stored_in : Variable → ℤ → Result Variable Fault
+stored_in variable word = if is_word_of variable.ty word then Ok (record variable { word = word }) else Err Range
+
+-- The variables with the word stored in the first one of the name.
+abbrev pub stored : List Variable → List ℕ → ℤ → Result (List Variable) Fault
+stored [] name word = Ok []
+stored (variable ∷ variables) name word =
+    if bytes_eq variable.name name
+    then (stored_in variable word >>= λ changed. Ok (changed ∷ variables))
+    else (stored variables name word >>= λ changed. Ok (variable ∷ changed))
+
+-- An assignment.
+abbrev pub assigned : List ℕ → ℤ → Effect
+assigned name word env = stored env.variables name word >>= λ changed. Ok (record env { variables = changed })
+
+-- `accept`: a length inside 0 and the step, both ends allowed. The last one counts.
+abbrev pub accepting : ℤ → Effect
+accepting length env = if is_between (pos 0) (pos env.step) length then Ok (record env { accepted = unsigned_abs length }) else Err Accept
+
+-- One effect after the other, each from the environment that the one before left.
+abbrev pub in_sequence : List Effect → Effect
+in_sequence [] env = Ok env
+in_sequence (effect ∷ effects) env = effect env >>= in_sequence effects
+
+-- An effect so many times.
+abbrev pub times : ℕ → Effect → Effect
+times zero effect env = Ok env
+times (suc count) effect env = effect env >>= times count effect
+
+abbrev pub otherwise : Option (List Effect) → Effect
+otherwise None env = Ok env
+otherwise (Some effects) env = in_sequence effects env
+
+-- One line, with the effect of each line of its blocks in its place.
+abbrev pub line_effect : Line-F Effect → Effect
+line_effect (Line-F.Assign target value) env = value_of value env >>= λ v. assigned target v.word env
+line_effect (Line-F.If cond then_lines else_lines) env =
+    value_of cond env >>= λ c. (if holds c then in_sequence then_lines env else otherwise else_lines env)
+line_effect (Line-F.Repeat count body) env = times count (in_sequence body) env
+line_effect (Line-F.Accept value) env = value_of value env >>= λ v. accepting v.word env
+
+-- The effect of a line.
+abbrev pub effect_of : Line → Effect
+effect_of = fold-Line Effect line_effect
+
+-- The effect of lines, in their order.
+abbrev pub effect_of_lines : List Line → Effect
+effect_of_lines [] env = Ok env
+effect_of_lines (line ∷ lines) env = effect_of line env >>= effect_of_lines lines

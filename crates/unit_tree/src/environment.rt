@@ -1,0 +1,30 @@
+use crate::Name;
+use fixed_words::{Kind, List, Ty};
+
+/// A word with the kind of the expression that it is the value of.
+#[derive(Clone, Copy, Debug, PartialEq, Eq)]
+pub struct Value {
+    pub kind: Kind,
+    pub word: i64,
+}
+
+/// A parameter, state, local or input with the word that it has now.
+#[derive(Debug, Drop)]
+pub struct Variable {
+    pub name: Name,
+    pub ty: Ty,
+    pub word: i64,
+}
+
+/// What expressions and step lines of a component see: its variables, the local time `t`, the local
+/// step `h`, and the length of the step that it accepts, which is `h` until a line accepts another.
+#[derive(Debug, Drop)]
+pub struct Environment {
+    pub variables: List<Variable>,
+    /// In local ticks.
+    pub time: u64,
+    /// In local ticks.
+    pub step: u64,
+    /// In local ticks, at most `step`.
+    pub accepted: u64,
+}
