@@ -17,7 +17,7 @@ mod types;
 
 pub use boxed::Boxed;
 pub use list::List;
-pub use operations::add;
+pub use operations::{abs, add, div, fix_div, fix_mul, mul, neg, rem, scale_down, scale_up, sub};
 pub use text::word_text;
 pub use types::{Fault, Kind, Literal, LiteralFault, Ty};
 
