@@ -1,3 +1,4 @@
 pub mod FaultLemmas
 pub mod PieceLemmas
 mod MemoryLemmas
+mod ReadLemmas

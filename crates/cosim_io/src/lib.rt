@@ -14,8 +14,10 @@ mod edge;
 mod memory;
 mod sink;
 mod source;
+mod whole;
 
 pub use edge::{StdSink, StdSource};
 pub use memory::{MemSink, MemSource};
 pub use sink::Sink;
 pub use source::{Failed, Source};
+pub use whole::{ReadEnd, read_all};
