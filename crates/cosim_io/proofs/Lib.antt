@@ -2,3 +2,4 @@ pub mod FaultLemmas
 pub mod PieceLemmas
 mod MemoryLemmas
 mod ReadLemmas
+mod WriteLemmas

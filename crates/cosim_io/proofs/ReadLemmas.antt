@@ -1,9 +1,9 @@
 -- What several reads have taken together.
-use Rattle.std.proofs.Common.{◌≡◌, ℕ, ◌+◌, ◌-◌, ◌<◌, ◌≤◌, List, [], ◌++◌, length, take, sym, ◌∙◌, ap, arith, append-nil, length-append, length-take, None, Some, IfSome}
-use Rattle.std.proofs.KnownBytes.{Consumes-nil, Consumes-trans, Consumes-kept, Consumes-all}
-use Rattle.std.specs.Io.KnownBytes.{Consumes, Keeps, IsAtEnd}
+use Rattle.std.proofs.Common.{◌≡◌, ℕ, ◌+◌, ◌<◌, ◌≤◌, List, ◌++◌, length, take, arith, length-append, length-take}
+use Rattle.std.proofs.KnownBytes.{Consumes-trans}
+use Rattle.std.specs.Io.KnownBytes.{Consumes}
 use Rattle.std.specs.declared.option.Option.{Option}
-use Rattle.cosim_io.specs.Pieces.{ConsumesAtMost, ConsumesExactly, IsLongerThan}
+use Rattle.cosim_io.specs.Pieces.{ConsumesAtMost, ConsumesExactly}
 
 -- so far no read failed, and what was taken is at most the limit
 pub record Taken (old new : Option (List ℕ)) (before now : ℕ) (bytes : List ℕ) (limit : ℕ) : Type 0 where

@@ -7,7 +7,8 @@
 //!
 //! The definitions stand in `specs/`: `Faults` says when a count rose and what a call leaves of it, `Pieces` what is
 //! taken and appended, `Scripted` what the source and the sink over memory are. The laws that a caller of several reads
-//! or puts needs stand in `proofs/FaultLemmas` and `proofs/PieceLemmas`.
+//! or puts needs stand in `proofs/FaultLemmas` and `proofs/PieceLemmas`; a function that makes several puts names them
+//! by `using(cosim_io::proofs::PieceLemmas::piece_laws)`.
 #![tactic(auto)]
 
 mod edge;
@@ -21,3 +22,6 @@ pub use memory::{MemSink, MemSource};
 pub use sink::Sink;
 pub use source::{Failed, Source};
 pub use whole::{ReadEnd, read_all};
+
+#[cfg(test)]
+mod tests;

@@ -22,9 +22,9 @@ pub trait Source {
 
     /// Takes bytes that are left into the first places of `into`, and answers how many.
     ///
-    /// `Ok(0)` for a room that isn't empty means the end of input; an empty room gives `Ok(0)` and takes nothing. What
-    /// stands in `into` behind the bytes that were taken is left open, and so is all of it after `Failed`, which takes
-    /// nothing from what is left.
+    /// `Ok(0)` for a room that isn't empty means the end of input. An empty room gives `Ok(0)`, if the read doesn't
+    /// fail, and takes nothing. What stands in `into` behind the bytes that were taken is left open, and so is all of it
+    /// after `Failed`, which takes nothing from what is left.
     fn read(&mut self, into: &mut [u8]) -> Result<usize, Failed>
         ensures within { ReadsAtMost result into.new }
         ensures taken { ReadConsumes (left self.old) (left self.new) result into.new }

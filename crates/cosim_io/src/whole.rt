@@ -49,9 +49,10 @@ const CHUNK: usize = 4096;
 pub fn read_all<S: Source>(alloc: Global, source: &mut S, limit: usize) -> Result<Vec<u8>, ReadEnd>
     ensures all { IfOk result (λ bytes. IfSome (S.left source.old) (λ left. bytes.items ≡ left)) }
     ensures ended { OnOk result (IsAtEnd (S.left source.new)) }
+    ensures same { OnOk result (S.faults source.new ≡ S.faults source.old) }
     ensures within { IfOk result (λ bytes. vec_len bytes ≤ limit) }
 
-    // The byte after the limit was taken, and none behind it.
+    // The byte after the limit was taken, none is taken behind it, and a longer input is never answered with `Ok`.
     ensures too_long { IsErrOf result ReadEnd.TooLong → ConsumesExactly (S.left source.old) (S.left source.new) (limit + 1) }
     ensures longer { IsLongerThan (S.left source.old) limit → IsErr result }
     ensures taken { ConsumesAtMost (S.left source.old) (S.left source.new) (limit + 1) }

@@ -1,4 +1,4 @@
-use Rattle.cosim_io.proofs.PieceLemmas.{Written-slice, Written-more, Written-kept, Written-front, OnErr-always}
+use Rattle.cosim_io.proofs.WriteLemmas.{Written-slice, Written-more, Written-kept, Written-front, OnErr-always}
 use Rattle.cosim_io.proofs.edge.write_out.Goals as goal
 
 pub loop-rest-preserved : goal.loop-rest-preserved

@@ -1,5 +1,5 @@
 use Rattle.std.proofs.Common.{length}
-use Rattle.cosim_io.proofs.PieceLemmas.{Written}
+use Rattle.cosim_io.proofs.WriteLemmas.{Written}
 use Rattle.cosim_io.proofs.edge.write_out.Given as goal
 
 abbrev pub invariant-loop-rest : goal.invariant-loop-rest
