@@ -1,0 +1,5 @@
+pub mod FaultLemmas
+pub mod PieceLemmas
+mod MemoryLemmas
+mod ReadLemmas
+mod WriteLemmas
