@@ -1,5 +1,5 @@
 -- Effect of step lines: the environment after them with the accepted length, or the first fault.
-use Rattle.std.specs.Prelude.{ℕ, zero, suc, ℤ, pos, unsigned_abs, List, [], ◌∷◌, if◌then◌else◌, Option, Some, None, Result, Ok, Err}
+use Rattle.std.specs.Prelude.{ℕ, zero, suc, ℤ, pos, unsigned_abs, List, [], ◌∷◌, map, if◌then◌else◌, Option, Some, None, Result, Ok, Err}
 use Rattle.std.specs.Str.{bytes_eq}
 use Rattle.fixed_words.specs.Types.{is_word_of, is_between}
 use Rattle.fixed_words.specs.declared.types.Fault.{Fault}
@@ -14,21 +14,18 @@ use Rattle.unit_tree.specs.declared.line.Line.TheOpen.{Line-F}
 abbrev pub Effect : Type 0
 Effect = Environment → Result Environment Fault
 
--- The word, stored in a variable; Range where it is none of the variable's type.
-abbrev pub stored_in : Variable → ℤ → Result Variable Fault
-stored_in variable word = if is_word_of variable.ty word then Ok (record variable { word = word }) else Err Range
-
--- The variables with the word stored in the first one of the name.
-abbrev pub stored : List Variable → List ℕ → ℤ → Result (List Variable) Fault
-stored [] name word = Ok []
-stored (variable ∷ variables) name word =
+-- The words of variables with a word stored for the first variable of the name; Range where it is none of
+-- its type.
+abbrev pub stored : List Variable → List ℤ → List ℕ → ℤ → Result (List ℤ) Fault
+stored (variable ∷ variables) (old ∷ words) name word =
     if bytes_eq variable.name name
-    then (stored_in variable word >>= λ changed. Ok (changed ∷ variables))
-    else (stored variables name word >>= λ changed. Ok (variable ∷ changed))
+    then (if is_word_of variable.ty word then Ok (word ∷ words) else Err Range)
+    else (stored variables words name word >>= λ changed. Ok (old ∷ changed))
+stored _ words name word = Ok words
 
 -- An assignment.
 abbrev pub assigned : List ℕ → ℤ → Effect
-assigned name word env = stored env.variables name word >>= λ changed. Ok (record env { variables = changed })
+assigned name word env = stored env.variables env.words name word >>= λ changed. Ok (record env { words = changed })
 
 -- `accept`: a length inside 0 and the step, both ends allowed. The last one counts.
 abbrev pub accepting : ℤ → Effect
@@ -62,5 +59,4 @@ effect_of = fold-Line Effect line_effect
 
 -- The effect of lines, in their order.
 abbrev pub effect_of_lines : List Line → Effect
-effect_of_lines [] env = Ok env
-effect_of_lines (line ∷ lines) env = effect_of line env >>= effect_of_lines lines
+effect_of_lines lines = in_sequence (map effect_of lines)

@@ -11,6 +11,7 @@
 #![tactic(auto)]
 
 mod environment;
+mod evaluate;
 mod expr;
 mod line;
 mod point;
