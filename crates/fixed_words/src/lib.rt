@@ -19,7 +19,7 @@ pub use boxed::Boxed;
 pub use list::List;
 pub use operations::{abs, add, div, fix_div, fix_mul, mul, neg, rem, scale_down, scale_up, sub};
 pub use text::word_text;
-pub use types::{Fault, Kind, Literal, LiteralFault, Ty};
+pub use types::{Fault, Kind, Literal, LiteralFault, Ty, fits};
 
 /// Want of memory, as an error.
 pub type NoMemory = std::alloc::AllocError;

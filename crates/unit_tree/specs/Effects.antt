@@ -1,10 +1,11 @@
 -- Effect of step lines: the environment after them with the accepted length, or the first fault.
-use Rattle.std.specs.Prelude.{ℕ, zero, suc, ℤ, pos, unsigned_abs, List, [], ◌∷◌, map, if◌then◌else◌, Option, Some, None, Result, Ok, Err}
+use Rattle.std.specs.Prelude.{◌≡◌, ℕ, zero, suc, Bool, true, ◌&&◌, ℤ, pos, unsigned_abs, List, [], ◌∷◌, map, if◌then◌else◌, Option, Some, None, Result, Ok, Err, OnOk, IfErr}
 use Rattle.std.specs.Str.{bytes_eq}
+use Rattle.std.specs.List.{list_all}
 use Rattle.fixed_words.specs.Types.{is_word_of, is_between}
 use Rattle.fixed_words.specs.declared.types.Fault.{Fault}
 use Rattle.fixed_words.specs.declared.types.Fault.TheVariants.{Range, Accept}
-use Rattle.unit_tree.specs.Values.{◌>>=◌, holds, value_of}
+use Rattle.unit_tree.specs.Values.{◌>>=◌, holds, value_of, is_ranged, IsSound}
 use Rattle.unit_tree.specs.declared.environment.Environment.{Environment}
 use Rattle.unit_tree.specs.declared.environment.Variable.{Variable}
 use Rattle.unit_tree.specs.declared.line.Line.{Line, fold-Line}
@@ -60,3 +61,31 @@ effect_of = fold-Line Effect line_effect
 -- The effect of lines, in their order.
 abbrev pub effect_of_lines : List Line → Effect
 effect_of_lines lines = in_sequence (map effect_of lines)
+
+-- ---- Running lines in place
+
+-- The numbers of decimals in lines are at most 9: the test of one line, with that of each line of its blocks in
+-- its place, and of whole lines.
+abbrev pub part_is_ranged : Line-F Bool → Bool
+part_is_ranged (Line-F.Assign target value) = is_ranged value
+part_is_ranged (Line-F.If cond then_lines else_lines) = is_ranged cond && (list_all (λ b. b) then_lines && else_is_ranged else_lines)
+  where
+    else_is_ranged : Option (List Bool) → Bool
+    else_is_ranged None = true
+    else_is_ranged (Some lines) = list_all (λ b. b) lines
+part_is_ranged (Line-F.Repeat count body) = list_all (λ b. b) body
+part_is_ranged (Line-F.Accept value) = is_ranged value
+
+abbrev pub line_is_ranged : Line → Bool
+line_is_ranged = fold-Line Bool part_is_ranged
+
+abbrev pub lines_are_ranged : List Line → Bool
+lines_are_ranged lines = list_all (λ b. b) (map line_is_ranged lines)
+
+-- What an effect has done to an environment in place: it answered as the effect does, and left the environment
+-- after it, as sound as before. After a fault the environment is left open.
+pub record Runs (effect : Effect) (old : Environment) (result : Result (Unit {0}) Fault) (new : Environment) : Type 0 where
+  pub done : OnOk result (effect old ≡ Ok new)
+  pub failed : IfErr result (λ fault. effect old ≡ Err fault)
+  pub sound : OnOk result (IsSound new)
+  pub step : OnOk result (new.step ≡ old.step)

@@ -2,7 +2,7 @@
 --
 -- These definitions are of systems whose components have one resolution and no connections, no `max` and
 -- no `accept`: every step that is proposed is accepted whole.
-use Rattle.std.specs.Prelude.{◌≡◌, ℕ, suc, ◌+◌, ◌*◌, ◌==◌, Bool, ℤ, pos, unsigned_abs, List, [], ◌∷◌, ◌++◌, map, if◌then◌else◌, Option, Some, None, Result, Ok, Err, ⊤}
+use Rattle.std.specs.Prelude.{◌≡◌, ℕ, suc, ◌+◌, ◌==◌, ℤ, unsigned_abs, List, [], ◌∷◌, ◌++◌, map, if◌then◌else◌, Option, Some, None, Result, Ok, Err}
 use Rattle.std.specs.List.{zip, filter_map}
 use Rattle.std.specs.Str.{bytes_eq}
 use Rattle.fixed_words.specs.Operations.{Outcome}
@@ -13,10 +13,8 @@ use Rattle.unit_tree.specs.Components.{Component, Moved, initial, start_word, ge
 use Rattle.unit_tree.specs.LocalTime.{local_time, local_step}
 use Rattle.unit_tree.specs.Steps.{proposal_of, reply_of, agreed_step}
 use Rattle.unit_tree.specs.declared.point.Point.{Point}
-use Rattle.unit_tree.specs.declared.system.Instance.{Instance}
 use Rattle.unit_tree.specs.declared.system.Setting.{Setting}
 use Rattle.unit_tree.specs.declared.system.System.{System}
-use Rattle.unit_tree.specs.declared.unit.Output.{Output}
 use Rattle.unit_tree.specs.declared.unit.Param.{Param}
 use Rattle.unit_tree.specs.declared.unit.Unit.{Unit}
 

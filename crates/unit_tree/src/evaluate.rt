@@ -23,17 +23,24 @@ fn kind(ty: Ty) -> Kind
 fn number_kind(decimals: u8) -> Kind
     ensures { result ≡ kind_of_number decimals }
 {
-    if decimals == 0 { Kind::Int } else { Kind::Fixed(decimals) }
+    if decimals == 0 {
+        Kind::Int
+    } else {
+        Kind::Fixed(decimals)
+    }
 }
 
 fn truth(told: bool) -> Value
     ensures { result ≡ truth_value told }
 {
     let word = if told { 1 } else { 0 };
-    Value { kind: Kind::Bool, word }
+    Value {
+        kind: Kind::Bool,
+        word,
+    }
 }
 
-fn is_true(value: Value) -> bool
+pub(crate) fn is_true(value: Value) -> bool
     ensures { result ≡ holds value }
 {
     value.word != 0

@@ -10,6 +10,7 @@
 //! (successor, and the one trace of a system).
 #![tactic(auto)]
 
+mod effects;
 mod environment;
 mod evaluate;
 mod expr;
@@ -19,7 +20,9 @@ mod system;
 mod token;
 mod unit;
 
+pub use effects::run_lines;
 pub use environment::{Environment, Value, Variable};
+pub use evaluate::value;
 pub use expr::{BinOp, Expr, UnOp};
 use fixed_words::List;
 pub use line::Line;
