@@ -12,6 +12,8 @@ use std::marker::Model;
 const ROOM: usize = 64;
 
 /// The owner's end of a deque: it puts items at the back, and takes them at the front.
+///
+/// Contracts see it as `HandState`: its deque, its puts, and the places and items that it took.
 #[derive(Drop)]
 pub struct Hand<T> {
     worker: Worker<T, Global, View<T>, InOrder>,
@@ -30,6 +32,7 @@ impl<T> Model for Hand<T> {
 }
 
 /// An empty deque: its hand, which has put and taken nothing, and a first reach, which has taken nothing.
+/// `AllocError` where there is no memory for them.
 pub fn make<T: Drop>(alloc: Global) -> Result<(Hand<T>, Reach<T>), AllocError>
     ensures hand { IfOk result (λ ends. (ends.0.puts ≡ []) × (ends.0.taken ≡ [])) }
     ensures reach { IfOk result (λ ends. (ends.1.deque ≡ ends.0.deque) × (ends.1.taken ≡ []) × (ends.1.joined ≡ [])) }
@@ -39,9 +42,11 @@ pub fn make<T: Drop>(alloc: Global) -> Result<(Hand<T>, Reach<T>), AllocError>
     Ok((Hand { worker }, reach))
 }
 
-impl<T> Hand<T> {
-    /// Adds an item at the back. It comes back where the deque has no room for it and finds no storage to grow, which
-    /// none of the first 64 puts meets.
+impl<T: Drop> Hand<T> {
+    /// Adds an item at the back.
+    ///
+    /// Where the deque is full and finds no storage to grow, the item comes back and nothing has changed. The first 64
+    /// puts find a place.
     pub fn put(&mut self, item: T) -> Result<(), T>
         ensures ok { OnOk result (self.new ≡ record self.old { puts = self.old.puts ++ item ∷ [] }) }
         ensures refused { IfErr result (λ back. (back ≡ item) × (self.new ≡ self.old)) }
@@ -50,7 +55,9 @@ impl<T> Hand<T> {
         self.worker.push_as::<Put>(item)
     }
 
-    /// Takes the first item. `None` only where the deque was empty at a step of this call.
+    /// Takes the first item.
+    ///
+    /// `None` only where the deque was empty at a step of this call.
     pub fn next(&mut self) -> Option<T>
         ensures some { IfSome result (HandTakes self.old self.new) }
         ensures none { IfNone result (HandFindsNone self.old self.new) }

@@ -14,6 +14,9 @@ use std::sync::Wait;
 type Thief<T> = Stealer<T, Global, View<T>, InOrder>;
 
 /// A thief's end of a deque: it takes items at the front, in any thread.
+///
+/// Contracts see it as `ReachState`: its deque, the places and items that it took, and those that the reaches which it
+/// took in had taken.
 #[derive(Drop)]
 pub struct Reach<T> {
     stealer: Thief<T>,
@@ -42,8 +45,9 @@ impl<T: Drop> Reach<T> {
         Ok(Reach { stealer, passes })
     }
 
-    /// Takes the first item. `None` only where the deque was empty at a step of this call.
-    /// While other threads take the item at the front first, it tries again.
+    /// Takes the first item.
+    ///
+    /// `None` only where the deque was empty at a step of this call. Where another thread was first, it tries again.
     pub fn steal<R: Wait>(&mut self, rt: &R) -> Option<T>
         ensures some { IfSome result (ReachTakes self.old self.new) }
         ensures none { IfNone result (ReachFindsNone self.old self.new) }
@@ -52,6 +56,8 @@ impl<T: Drop> Reach<T> {
     }
 
     /// A new reach of the same deque, which has taken nothing.
+    ///
+    /// `AllocError` where there is no memory for it.
     pub fn split(&mut self, alloc: Global) -> Result<Reach<T>, AllocError>
         ensures same { self.new ≡ self.old }
         ensures new { IfOk result (λ reach. (reach.deque ≡ self.old.deque) × (reach.taken ≡ []) × (reach.joined ≡ [])) }
@@ -59,7 +65,7 @@ impl<T: Drop> Reach<T> {
         Reach::of(alloc, self.stealer.clone()?)
     }
 
-    /// Takes another reach of the same deque in: this one answers for what both took.
+    /// Takes another reach of the same deque in: this one answers for what both took. It needs no memory.
     pub fn join(&mut self, other: Reach<T>)
         requires { other.deque ≡ self.old.deque }
         ensures { self.new ≡ record self.old { joined = self.old.joined ++ entries_of other } }
