@@ -1,15 +1,15 @@
 -- What the rule comes to: each item once, and each place with one taker.
-use Rattle.std.proofs.Common.{◌≡◌, ◌≢◌, ◌==◌, ℕ, zero, suc, ◌+◌, ◌<◌, ◌≤◌, cond, true, false, List, [], ◌∷◌, ◌++◌, map, length, take, drop, sym, refl, ap, ◌∙◌, subst, inl, inr, ⊎_elim, arith, zero-add, length-append}
-use Rattle.std.specs.Prelude.{All, count_by, slice_get, Some, None, IsPermutation}
+use Rattle.std.proofs.Common.{◌≡◌, ◌≢◌, ◌==◌, ℕ, zero, suc, ◌+◌, ◌<◌, cond, true, false, List, [], ◌∷◌, ◌++◌, map, take, sym, refl, ap, ◌∙◌, subst, ⊎_elim, arith}
+use Rattle.std.specs.Prelude.{All, slice_get, Some, IsPermutation}
 use Rattle.std.proofs.lemmas.List.{take-append-drop}
 use Rattle.std.proofs.lemmas.List.Elements.{All-nil, All-cons, All-head, All-tail}
 use Rattle.std.proofs.lemmas.List.Sorted.{All-permutation, sum_by-IsPermutation, IsPermutation-refl, IsPermutation-sym, IsPermutation-trans, IsPermutation-middle, IsPermutation-append, IsPermutation-map, IsPermutation-cons, IsPermutation-to_front}
 use Rattle.std.proofs.lemmas.List.Sums.{sum_by-cons, sum_by-append}
-use Rattle.std.proofs.lemmas.Bool.Decides.{nat_tests, eqb_tells}
+use Rattle.std.proofs.lemmas.Bool.Decides.{eqb_tells}
 use native.Mathlib.Decide.{ℕ_discrete}
 use mathlib.Core.Option.{some, some-injective, some-ne-none}
 use lib.ListN.{get_elem?}
-use Rattle.ticket_deque.specs.Rule.{taken, all_taken, times, IsInOrder}
+use Rattle.ticket_deque.specs.Rule.{taken, all_taken, times}
 use Rattle.ticket_deque.specs.Laws.{HasOneTaker, IsEachItemOnce, IsEachPlaceTakenOnce}
 use Rattle.ticket_deque.specs.declared.view.View.{View}
 

@@ -1,7 +1,7 @@
 -- Each step keeps the rule of a deque.
-use Rattle.std.proofs.Common.{◌≡◌, ◌≢◌, ◌==◌, ℕ, zero, suc, ◌+◌, ◌<◌, ◌≤◌, cond, true, false, List, [], ◌∷◌, ◌++◌, length, drop, set, sym, refl, ap, ◌∙◌, subst, arith, append_assoc, length-append, zero-add, rules}
+use Rattle.std.proofs.Common.{◌≡◌, ◌==◌, ℕ, zero, suc, ◌+◌, ◌<◌, cond, List, [], ◌∷◌, ◌++◌, length, drop, set, sym, refl, ap, ◌∙◌, subst, arith, append_assoc, length-append, zero-add, rules}
 use Rattle.std.specs.Prelude.{All, count_by, slice_get, Option, Some, None, MatchOption, IfSome, IsPermutation}
-use Rattle.std.proofs.lemmas.List.{append-nil, drop-append-le}
+use Rattle.std.proofs.lemmas.List.{drop-append-le}
 use Rattle.std.proofs.lemmas.List.Elements.{All-nil, All-cons, All-head, All-tail, All-set, All-push, All-weaker, All-take, All-drop}
 use Rattle.std.proofs.lemmas.List.Sorted.{All-permutation, sum_by-IsPermutation, IsPermutation-refl, IsPermutation-sym, IsPermutation-trans, IsPermutation-middle, IsPermutation-append}
 use Rattle.std.proofs.lemmas.List.Sums.{sum_by-cons}
@@ -11,7 +11,7 @@ use mathlib.Core.Option.{some, some-injective, some-ne-none}
 use lib.Seq.{take-append_seam, drop-append_seam}
 use lib.ListN.{get_elem?}
 use Rattle.crossbeam_deque.specs.Tasks.{Pushes, Takes, Finds, FindsFew, Admits}
-use Rattle.ticket_deque.specs.Rule.{taken, all_taken, times, IsThief, IsInOrder}
+use Rattle.ticket_deque.specs.Rule.{taken, all_taken, IsThief, IsInOrder}
 use Rattle.ticket_deque.specs.Steps.{after_put, after_take, IsPut, WasEmpty, WasFirst, TakesFirst}
 use Rattle.ticket_deque.specs.Steps as steps
 use Rattle.ticket_deque.specs.Ends.{HandState, HandTakes}

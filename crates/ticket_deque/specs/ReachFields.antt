@@ -1,5 +1,5 @@
 -- How the fields of a reach are seen.
-use Rattle.std.specs.Prelude.{◌≡◌, ℕ, List, None}
+use Rattle.std.specs.Prelude.{◌≡◌, None}
 use Rattle.crossbeam_deque.specs.Handles.{view, IsPassOf, stealer_deque, stealer_flavor}
 use Rattle.ticket_deque.specs.Ends.{ReachState}
 use Rattle.ticket_deque.specs.Passes.{entries_below, AreBelowOf}
