@@ -12,11 +12,9 @@ use lib.ListN.{get_elem?}
 use Rattle.ticket_deque.specs.Rule.{taken, all_taken, times}
 use Rattle.ticket_deque.specs.Laws.{HasOneTaker, IsEachItemOnce, IsEachPlaceTakenOnce}
 use Rattle.ticket_deque.specs.declared.view.View.{View}
+use Rattle.ticket_deque.proofs.Rules.{Before, IsAt}
 
 module _ {T : Type 0} where
-  abbrev IsAt : ℕ → ℕ × T → ℕ
-  IsAt place e = cond (e.0 == place) 1 0
-
   times-cons : (place : ℕ) (e : ℕ × T) (es : List (ℕ × T)) → times place (e ∷ es) ≡ IsAt place e + times place es
   times-cons place e es = sum_by-cons (IsAt place) e es
 
@@ -42,9 +40,6 @@ module _ {T : Type 0} where
         place_is = b.place_is;
         moved = IsPermutation-trans _ (e ∷ b.entry ∷ b.rest) _ (IsPermutation-cons e es (b.entry ∷ b.rest) b.moved) (IsPermutation-middle (e ∷ []) b.entry b.rest);
       }) (eqb_tells e.0 place)
-
-  abbrev Before : ℕ → ℕ × T → Type 0
-  Before front e = e.0 < front
 
   abbrev Matches : List T → ℕ × T → Type 0
   Matches puts e = slice_get puts e.0 ≡ Some e.1

@@ -84,10 +84,10 @@ module _ {T : Type 0} where
   thief_put (Owner puts got) place x t = absurd t
   thief_put (Thief got) place x t = tt
 
-  abbrev Before : ℕ → ℕ × T → Type 0
+  abbrev pub Before : ℕ → ℕ × T → Type 0
   Before front e = e.0 < front
 
-  abbrev IsAt : ℕ → ℕ × T → ℕ
+  abbrev pub IsAt : ℕ → ℕ × T → ℕ
   IsAt place e = cond (e.0 == place) 1 0
 
   -- none of the places below front is front

@@ -32,6 +32,7 @@ impl<T> Model for Hand<T> {
 }
 
 /// An empty deque: its hand, which has put and taken nothing, and a first reach, which has taken nothing.
+///
 /// `AllocError` where there is no memory for them.
 pub fn make<T: Drop>(alloc: Global) -> Result<(Hand<T>, Reach<T>), AllocError>
     ensures hand { IfOk result (λ ends. (ends.0.puts ≡ []) × (ends.0.taken ≡ [])) }

@@ -1,6 +1,4 @@
 // What the proofs keep of each end, and the rule that ties the ends to the queue.
-ghost use Rattle.std.specs.Prelude.{[]};
-
 use crossbeam_deque::Pass;
 use crossbeam_deque::protocol::{Outcome, Protocol};
 use std::alloc::Global;
@@ -8,9 +6,9 @@ use std::collections::LinkedList;
 
 /// What one end of a deque has done. It is there for the proofs alone: no value of it is made.
 pub enum View<T> {
-    /// The owner's end: what it put, in order, and the places and items that it took.
+    /// The owner's end, a hand: what it put, in order, and the places and items that it took.
     Owner(LinkedList<T>, LinkedList<(u64, T)>),
-    /// A thief's end: the places and items that it took.
+    /// A thief's end, as a reach has: the places and items that it took.
     Thief(LinkedList<(u64, T)>),
 }
 
