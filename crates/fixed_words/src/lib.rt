@@ -11,12 +11,14 @@
 
 mod boxed;
 mod list;
+mod literals;
 mod operations;
 mod text;
 mod types;
 
 pub use boxed::Boxed;
 pub use list::List;
+pub use literals::literal_word;
 pub use operations::{abs, add, div, fix_div, fix_mul, mul, neg, rem, scale_down, scale_up, sub};
 pub use text::word_text;
 pub use types::{Fault, Kind, Literal, LiteralFault, Ty, fits};
