@@ -2,7 +2,9 @@
 -- of its input.
 use Rattle.std.specs.Prelude.{◌≡◌, ℕ, List, [], ◌∷◌, codes, ◌⊎◌}
 use Rattle.unit_text.specs.Reading.{IsAccepted, IsRefused}
-use Rattle.unit_tree.specs.Trace.{Position, Ending, completed, faulted, composition_of, IsTrace}
+use Rattle.unit_tree.specs.Trace.{Position, composition_of, IsTrace}
+use Rattle.unit_tree.specs.declared.ending.Ending.{Ending}
+use Rattle.unit_tree.specs.declared.ending.Ending.TheVariants.{Completed, Faulted}
 use Rattle.unit_tree.specs.declared.point.Point.{Point}
 use Rattle.unit_tree.specs.declared.system.System.{System}
 use Rattle.cosim_app.specs.TraceText.{trace_text}
@@ -26,8 +28,8 @@ abbrev pub refused_answer : ℕ → ℕ → Answer
 refused_answer line rule = record { out = []; notes = refused_note line rule; status = status.Refused }
 
 abbrev pub status_of : Ending → Status
-status_of completed = status.Done
-status_of (faulted instance place fault) = status.UnitFault
+status_of Completed = status.Done
+status_of (Faulted instance place fault) = status.UnitFault
 
 -- The point of the last position.
 abbrev pub last_point : List Position → Point

@@ -4,7 +4,11 @@ use Rattle.std.specs.Option.{option_and_then}
 use Rattle.std.specs.Fmt.{decimal}
 use Rattle.fixed_words.specs.declared.types.Fault.{Fault}
 use Rattle.fixed_words.specs.declared.types.Fault.TheVariants.{Overflow, Range, ZeroDivisor, Accept, Max}
-use Rattle.unit_tree.specs.Trace.{Place, output, step, Ending, completed, faulted, unit_named}
+use Rattle.unit_tree.specs.Trace.{unit_named}
+use Rattle.unit_tree.specs.declared.ending.Ending.{Ending}
+use Rattle.unit_tree.specs.declared.ending.Ending.TheVariants.{Completed, Faulted}
+use Rattle.unit_tree.specs.declared.ending.Place.{Place}
+use Rattle.unit_tree.specs.declared.ending.Place.TheVariants as place
 use Rattle.unit_tree.specs.declared.point.Point.{Point}
 use Rattle.unit_tree.specs.declared.system.Instance.{Instance}
 use Rattle.unit_tree.specs.declared.system.System.{System}
@@ -53,14 +57,14 @@ output_name system instance number =
     name_or_none (option_and_then (λ o. Some o.name) (option_and_then (λ unit. slice_get unit.outputs number) (option_and_then (λ i. unit_named system.units i.unit) (slice_get system.instances instance))))
 
 abbrev pub place_text : System → ℕ → Place → List ℕ
-place_text system instance (output number) = codes " output " ++ output_name system instance number
-place_text system instance step = codes " step"
+place_text system instance (place.Output number) = codes " output " ++ output_name system instance number
+place_text system instance place.Step = codes " step"
 
 abbrev pub point_text : Point → List ℕ
 point_text point = decimal point.t ++ codes "," ++ decimal point.n
 
 -- The note of how a run ended at its last point: none where it came to its stop.
 abbrev pub ending_note : System → Ending → Point → List ℕ
-ending_note system completed point = []
-ending_note system (faulted instance place fault) point =
-    note (codes "fault " ++ decimal (fault_number fault) ++ codes " of " ++ instance_name system instance ++ place_text system instance place ++ codes " at " ++ point_text point)
+ending_note system Completed point = []
+ending_note system (Faulted instance where_ fault) point =
+    note (codes "fault " ++ decimal (fault_number fault) ++ codes " of " ++ instance_name system instance ++ place_text system instance where_ ++ codes " at " ++ point_text point)

@@ -11,6 +11,7 @@
 #![tactic(auto)]
 
 mod effects;
+mod ending;
 mod environment;
 mod evaluate;
 mod expr;
@@ -21,6 +22,7 @@ mod token;
 mod unit;
 
 pub use effects::run_lines;
+pub use ending::{Ending, Place};
 pub use environment::{Environment, Value, Variable};
 pub use evaluate::value;
 pub use expr::{BinOp, Expr, UnOp};
