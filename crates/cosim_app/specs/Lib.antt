@@ -1,3 +1,4 @@
+pub mod OneComponent
 pub mod Pieces
 pub mod TraceText
 pub mod Notes
