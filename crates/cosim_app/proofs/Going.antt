@@ -7,15 +7,9 @@ use Rattle.unit_tree.specs.Trace.{Composition, Position, Row, Next, goes, ends, 
 use Rattle.unit_tree.specs.declared.ending.Ending.{Ending}
 use Rattle.unit_tree.specs.declared.point.Point.{Point}
 use Rattle.cosim_app.specs.Answer.{last_point}
+use Rattle.cosim_app.specs.OneComponent.{at, text_of_rows}
 
--- the position at a time with the state of the one component
-abbrev pub at : ℕ → List ℤ → ℕ → Position
-at t words number = record { point = record { t = t; n = 0 }; states = words ∷ []; number = number }
-
--- the text of the rows of positions
-abbrev pub text_of_rows : Composition → (Row → List ℕ) → List Position → List ℕ
-text_of_rows run line positions = flat_map line (rows_of run positions)
-
+-- a run that stands at a time with these words, after the text of the rows before
 pub record Going (run : Composition) (line : Row → List ℕ) (positions : List Position) (ending : Ending) (t : ℕ) (words : List ℤ) (text : List ℕ) : Type 0 where
   pub number : ℕ
   pub done : List Position

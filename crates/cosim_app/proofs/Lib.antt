@@ -1,2 +1,4 @@
 pub mod Going
 pub mod OneLemmas
+pub mod RowsKept
+pub mod RowsLaws

@@ -16,8 +16,7 @@ use Rattle.unit_tree.specs.declared.line.Line.{Line}
 use Rattle.unit_tree.specs.declared.point.Point.{Point}
 use Rattle.unit_tree.specs.declared.unit.Output.{Output}
 use Rattle.unit_tree.specs.declared.unit.Unit.{Unit}
-use Rattle.cosim_app.specs.OneComponent.{one, IsPlain, given_in, plain_env}
-use Rattle.cosim_app.proofs.Going.{at}
+use Rattle.cosim_app.specs.OneComponent.{at, one, IsPlain, given_in, plain_env}
 
 abbrev pub component_of : Unit → Component
 component_of unit = record { unit = unit; params = [] }

@@ -88,4 +88,5 @@ pub record Runs (effect : Effect) (old : Environment) (result : Result (Unit {0}
   pub done : OnOk result (effect old ≡ Ok new)
   pub failed : IfErr result (λ fault. effect old ≡ Err fault)
   pub sound : OnOk result (IsSound new)
+  pub variables : OnOk result (new.variables ≡ old.variables)
   pub step : OnOk result (new.step ≡ old.step)
