@@ -19,9 +19,11 @@ use Rattle.word_lanes.specs.Guess.{brought_into, guess, guesses, wrapped, EachAt
 abbrev pub straight : ℤ → ℤ → ℕ
 straight last before = ((of_z w64 last + of_z w64 last) % 2 ^ 64 + (2 ^ 64 - of_z w64 before)) % 2 ^ 64
 
+-- the machine adds a word to itself
 doubled : (z : ℤ) → z +ℤ z ≡ pos 2 *ℤ z
 doubled z = omega (arith, ints)
 
+-- read as a signed word, they are the wrapped integer
 pub straight_is : (last before : ℤ) → FitsSigned w64 last → FitsSigned w64 before → to_z w64 (straight last before) ≡ wrapped (pos 2 *ℤ last -ℤ before)
 straight_is last before f g =
     wrapping_sub_onto w64 ((of_z w64 last + of_z w64 last) % 2 ^ 64) before (omega arith) g
@@ -33,29 +35,35 @@ straight_is last before f g =
 abbrev lt_lanes : List ℕ → List ℕ → List ℕ
 lt_lanes = zip2 (act2 (mask (lt signed)) (s_int w64) (s_int w64) (s_int w64))
 
+-- what `simd_min` and `simd_max` choose lane by lane
 abbrev min_lanes : List ℕ → List ℕ → List ℕ
 min_lanes xs ys = sel_l (map (top 63) (lt_lanes xs ys)) xs ys
 
 abbrev max_lanes : List ℕ → List ℕ → List ℕ
 max_lanes xs ys = sel_l (map (top 63) (lt_lanes xs ys)) ys xs
 
+-- the bits of each word
 abbrev words : List ℤ → List ℕ
 words = map (of_z w64)
 
+-- `last + last - before`, lane by lane
 abbrev pub straight_lanes : List ℤ → List ℤ → List ℕ
 straight_lanes last before =
     zip2 (act2 wrap_sub (s_int w64) (s_int w64) (s_int w64)) (zip2 (act2 wrap_add (s_int w64) (s_int w64) (s_int w64)) (words last) (words last)) (words before)
 
+-- the choice of one lane, by the test of its mask
 abbrev chosen : Bool → ℕ → ℕ → ℕ
-chosen t x y = cond (top 63 (cond t 18446744073709551615 0)) x y
+chosen t x y = cond (top 63 (cond t (2 ^ 64 - 1) 0)) x y
 
 chosen_is : (t : Bool) (x y : ℕ) → to_z w64 (chosen t x y) ≡ cond t (to_z w64 x) (to_z w64 y)
 chosen_is true x y = refl
 chosen_is false x y = refl
 
+-- `simd_min` chooses the second of two equal words, and `min` the first
 least_is : (x y : ℤ) → cond (lt_z x y) x y ≡ int_min x y
 least_is x y = grind (arith, ints)
 
+-- one lane is the guess of one word
 guess_is : (l b lo hi : ℤ) → FitsSigned w64 l → FitsSigned w64 b → FitsSigned w64 lo → FitsSigned w64 hi
     → (let s = straight l b in let s' = chosen (lt_z (to_z w64 s) (to_z w64 (of_z w64 hi))) s (of_z w64 hi) in
     to_z w64 (chosen (lt_z (to_z w64 s') (to_z w64 (of_z w64 lo))) (of_z w64 lo) s')) ≡ guess l b lo hi
@@ -66,6 +74,7 @@ guess_is l b lo hi f g m n =
     chosen_is _ s (of_z w64 hi) ∙ least_is (to_z w64 s) (to_z w64 (of_z w64 hi)) ∙ ap₂ int_min (straight_is l b f g) (to_z-of_z w64 hi n) in
     chosen_is _ (of_z w64 lo) s' ∙ ap₂ int_max (to_z-of_z w64 lo m) least
 
+-- all lanes are the guesses of their words
 pub lanes_are : (last before low high : List ℤ) → Each1 (FitsSigned w64) last → Each1 (FitsSigned w64) before → Each1 (FitsSigned w64) low → Each1 (FitsSigned w64) high
     → map (to_z w64) (max_lanes (min_lanes (straight_lanes last before) (words high)) (words low)) ≡ guesses last before low high
 lanes_are [] before low high f g m n = refl
@@ -125,16 +134,17 @@ take-EachAtMost (suc n) [] high h = tt
 take-EachAtMost (suc n) (lo ∷ low) [] h = tt
 take-EachAtMost (suc n) (lo ∷ low) (hi ∷ high) h = (h.0, take-EachAtMost n low high h.1)
 
-none : (low : List ℤ) → EachAtMost low []
-none [] = tt
-none (lo ∷ low) = tt
+nothing_above : (low : List ℤ) → EachAtMost low []
+nothing_above [] = tt
+nothing_above (lo ∷ low) = tt
 
 pub drop-EachAtMost : (n : ℕ) (low high : List ℤ) → EachAtMost low high → EachAtMost (drop n low) (drop n high)
 drop-EachAtMost zero low high h = h
 drop-EachAtMost (suc n) [] high h = tt
-drop-EachAtMost (suc n) (lo ∷ low) [] h = none (drop n low)
+drop-EachAtMost (suc n) (lo ∷ low) [] h = nothing_above (drop n low)
 drop-EachAtMost (suc n) (lo ∷ low) (hi ∷ high) h = drop-EachAtMost n low high h.1
 
+-- no guess is below low or above high
 low_bound : (low high z : ℤ) → low ≤ℤ brought_into low high z
 low_bound low high z = omega (arith, ints, clamps)
 
