@@ -1,6 +1,8 @@
 -- What each way through a run's loop has put, in terms of its trace.
-use Rattle.std.proofs.Common.{◌≡◌, ℕ, suc, ◌+◌, ◌-◌, ◌≤◌, ◌==◌, min, true, false, ℤ, List, [], ◌∷◌, ◌++◌, length, Option, Some, None, Result, Ok, Err, refl, sym, ap, subst, ◌∙◌, arith, append_assoc, length-append, length-map}
+use Rattle.std.proofs.Common.{◌≡◌, ℕ, suc, ◌+◌, ◌-◌, ◌≤◌, ◌==◌, min, true, false, ℤ, List, [], ◌∷◌, ◌++◌, length, Option, Some, None, Result, Ok, Err, refl, sym, ap, subst, ◌∙◌, arith, append_assoc, length-append}
+use Rattle.std.specs.Prelude.{IsErr}
 use Rattle.std.specs.Io.KnownBytes.{Appends}
+use Rattle.std.proofs.lemmas.List.{length-map}
 use Rattle.std.proofs.KnownBytes.{Appends-nil, Appends-trans}
 use Rattle.fixed_words.specs.Operations.{Outcome}
 use Rattle.fixed_words.specs.declared.types.Fault.{Fault}
@@ -81,6 +83,15 @@ puts_front_row run line t words row held0 held held' fault shows put standing = 
     subst (AppendsPrefix held0 held') (sym all)
       (AppendsPrefix-longer held0 held' (so_far.text ++ line row) front.0 (AppendsPrefix-after held0 held held' so_far.text (line row) so_far.appended put));
 }
+
+-- the same of what a `?` gives up with
+pub puts_front_err : (run : Composition) (line : Row → List ℕ) (t : ℕ) (words : List ℤ) (held0 held : Option (List ℕ)) (result : Result RunEnd RunFault) → IsErr result → Standing run line t words held0 held → PutsRows run line held0 held result
+puts_front_err run line t words held0 held (Ok end) is standing = absurd (cc)
+puts_front_err run line t words held0 held (Err fault) is standing = puts_front run line t words held0 held fault standing
+
+pub puts_front_row_err : (run : Composition) (line : Row → List ℕ) (t : ℕ) (words : List ℤ) (row : Row) (held0 held held' : Option (List ℕ)) (result : Result RunEnd RunFault) → IsErr result → ((number : ℕ) → row_at run (at t words number) ≡ Some row) → AppendsPrefix held held' (line row) → Standing run line t words held0 held → PutsRows run line held0 held' result
+puts_front_row_err run line t words row held0 held held' (Ok end) is shows put standing = absurd (cc)
+puts_front_row_err run line t words row held0 held held' (Err fault) is shows put standing = puts_front_row run line t words row held0 held held' fault shows put standing
 
 -- an environment of the unit's variables, with its times set
 pub env_with : (unit : Unit) (env : Environment) (time step : ℕ) → env.variables ≡ variables_of unit → record env { time = time; step = step; accepted = step } ≡ plain_env unit env.words time step
