@@ -2,3 +2,4 @@ pub mod Going
 pub mod OneLemmas
 pub mod RowsKept
 pub mod RowsLaws
+pub mod RunnableLaws

@@ -1,5 +1,6 @@
 pub mod OneComponent
 pub mod Pieces
+pub mod Runnable
 pub mod TraceText
 pub mod Notes
 pub mod Answer
