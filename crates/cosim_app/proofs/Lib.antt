@@ -1,3 +1,4 @@
+pub mod FormLaws
 pub mod Going
 pub mod OneLemmas
 pub mod RowsKept
