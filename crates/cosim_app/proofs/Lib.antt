@@ -4,3 +4,4 @@ pub mod OneLemmas
 pub mod RowsKept
 pub mod RowsLaws
 pub mod RunnableLaws
+pub mod TraceExists

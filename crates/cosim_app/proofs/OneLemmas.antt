@@ -102,15 +102,19 @@ step_fault_ends unit output lines stop longest t words word fault plain is more 
     steps_by unit output lines stop longest t words word plain is more number
     ∙ ap (λ r. moved_on (at t words number) (min (stop - t) longest) (all_moved 0 (moved_from unit r ∷ []))) faults
 
--- a step that is accepted whole leads on
-pub step_goes : (unit : Unit) (output : Output) (lines : List Line) (stop longest t : ℕ) (words : List ℤ) (word : ℤ) (after : Environment) → IsPlain unit output lines → given unit output words ≡ Ok word → (t == stop) ≡ false → effect_of_lines lines (plain_env unit words t (min (stop - t) longest)) ≡ Ok after → length after.words ≡ length unit.states → (number : ℕ) → successor (one unit stop longest) (at t words number) ≡ goes (at (t + min (stop - t) longest) after.words (suc number))
-step_goes unit output lines stop longest t words word after plain is more moves one_each number =
+-- a step that is accepted whole leads on, to the state that it left
+pub step_leads : (unit : Unit) (output : Output) (lines : List Line) (stop longest t : ℕ) (words : List ℤ) (word : ℤ) (after : Environment) → IsPlain unit output lines → given unit output words ≡ Ok word → (t == stop) ≡ false → effect_of_lines lines (plain_env unit words t (min (stop - t) longest)) ≡ Ok after → (number : ℕ) → successor (one unit stop longest) (at t words number) ≡ goes (at (t + min (stop - t) longest) (take (length unit.states) after.words) (suc number))
+step_leads unit output lines stop longest t words word after plain is more moves number =
     let h = min (stop - t) longest in
     let accepted : after.accepted ≡ min (stop - t) longest = plain.whole (plain_env unit words t (min (stop - t) longest)) after moves in
-    let state : take (length unit.states) after.words ≡ after.words = take_all (length unit.states) after.words (omega arith) in
-    let reply : reply_of 1 t (min (stop - t) longest) (min (stop - t) longest) ≡ min (stop - t) longest = reply_whole t (min (stop - t) longest) in
     steps_by unit output lines stop longest t words word plain is more number
     ∙ ap (λ r. moved_on (at t words number) h (all_moved 0 (moved_from unit r ∷ []))) moves
     ∙ ap (λ a. goes (at (t + reply_of 1 t h a) (take (length unit.states) after.words) (suc number))) accepted
-    ∙ ap (λ r. goes (at (t + r) (take (length unit.states) after.words) (suc number))) reply
+    ∙ ap (λ r. goes (at (t + r) (take (length unit.states) after.words) (suc number))) (reply_whole t h)
+
+-- where it left a word for each state, these are the state
+pub step_goes : (unit : Unit) (output : Output) (lines : List Line) (stop longest t : ℕ) (words : List ℤ) (word : ℤ) (after : Environment) → IsPlain unit output lines → given unit output words ≡ Ok word → (t == stop) ≡ false → effect_of_lines lines (plain_env unit words t (min (stop - t) longest)) ≡ Ok after → length after.words ≡ length unit.states → (number : ℕ) → successor (one unit stop longest) (at t words number) ≡ goes (at (t + min (stop - t) longest) after.words (suc number))
+step_goes unit output lines stop longest t words word after plain is more moves one_each number =
+    let state : take (length unit.states) after.words ≡ after.words = take_all (length unit.states) after.words (omega arith) in
+    step_leads unit output lines stop longest t words word after plain is more moves number
     ∙ ap (λ ws. goes (at (t + min (stop - t) longest) ws (suc number))) state
