@@ -116,8 +116,8 @@ plain_unit source = record {
   output_ranged = operand_ranged (operand.Name source.shown);
   lines_ranged = lines_ranged source.assignments;
   typed =
-    let states = map (λ (state : State). variable state.name state.ty) (map state_of source.states) in
-    subst AreTyped (sym (append-nil (states ++ []) ∙ append-nil states)) (states_typed source.states);
+      let states = map (λ (state : State). variable state.name state.ty) (map state_of source.states) in
+      subst AreTyped (sym (append-nil (states ++ []) ∙ append-nil states)) (states_typed source.states);
   whole = lines_whole source.assignments;
 }
 

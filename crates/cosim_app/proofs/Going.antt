@@ -68,9 +68,9 @@ going_on run line positions ending t words text row t' words' shows steps going 
       split = going.split ∙ ap (λ l. going.done ++ (here ∷ l)) on.1 ∙ sym (append_assoc going.done (here ∷ []) (at t' words' (suc going.number) ∷ on.0));
       follows = on.2;
       told =
-        ap (λ before. before ++ line row) going.told
-        ∙ ap (λ last. text_of_rows run line going.done ++ last) (sym (rows_of_one run line here row (shows going.number)))
-        ∙ sym (text_of_rows-append run line going.done (here ∷ []));
+          ap (λ before. before ++ line row) going.told
+          ∙ ap (λ last. text_of_rows run line going.done ++ last) (sym (rows_of_one run line here row (shows going.number)))
+          ∙ sym (text_of_rows-append run line going.done (here ∷ []));
     }
 
 -- how a run that ends stands to its trace
@@ -94,10 +94,10 @@ ended_here run line positions ending t words text told end here_tells stops goin
       is = sym last.1;
       last = sym (ap last_point split ∙ last_point-append going.done here);
       all =
-        ap (text_of_rows run line) split
-        ∙ text_of_rows-append run line going.done (here ∷ [])
-        ∙ ap (λ before. before ++ text_of_rows run line (here ∷ [])) (sym going.told)
-        ∙ ap (λ last. text ++ last) (here_tells going.number);
+          ap (text_of_rows run line) split
+          ∙ text_of_rows-append run line going.done (here ∷ [])
+          ∙ ap (λ before. before ++ text_of_rows run line (here ∷ [])) (sym going.told)
+          ∙ ap (λ last. text ++ last) (here_tells going.number);
     }
 
 -- a run that ends with a row here
@@ -114,18 +114,20 @@ going_breaks run line positions ending t words text end hides stops going =
 -- what was told begins the whole text
 pub going_front : (run : Composition) (line : Row → List ℕ) (positions : List Position) (ending : Ending) (t : ℕ) (words : List ℤ) (text : List ℕ) → Going run line positions ending t words text → (rest : List ℕ) × (text_of_rows run line positions ≡ text ++ rest)
 going_front run line positions ending t words text going =
-    let here_and_later = at t words going.number ∷ going.later in
-    (text_of_rows run line here_and_later,
-    ap (text_of_rows run line) going.split
-    ∙ text_of_rows-append run line going.done here_and_later
-    ∙ ap (λ before. before ++ text_of_rows run line here_and_later) (sym going.told))
+    let here_and_later = at t words going.number ∷ going.later in (
+      text_of_rows run line here_and_later,
+      ap (text_of_rows run line) going.split
+          ∙ text_of_rows-append run line going.done here_and_later
+          ∙ ap (λ before. before ++ text_of_rows run line here_and_later) (sym going.told),
+    )
 
 -- and so does what was told with the row here
 pub going_front_row : (run : Composition) (line : Row → List ℕ) (positions : List Position) (ending : Ending) (t : ℕ) (words : List ℤ) (text : List ℕ) (row : Row) → ((number : ℕ) → row_at run (at t words number) ≡ Some row) → Going run line positions ending t words text → (rest : List ℕ) × (text_of_rows run line positions ≡ text ++ (line row ++ rest))
 going_front_row run line positions ending t words text row shows going =
-    let here = at t words going.number in
-    (text_of_rows run line going.later,
-    ap (text_of_rows run line) going.split
-    ∙ text_of_rows-append run line going.done (here ∷ going.later)
-    ∙ ap (λ before. before ++ text_of_rows run line (here ∷ going.later)) (sym going.told)
-    ∙ ap (λ l. text ++ l) (text_of_rows-append run line (here ∷ []) going.later ∙ ap (λ l. l ++ text_of_rows run line going.later) (rows_of_one run line here row (shows going.number))))
+    let here = at t words going.number in (
+      text_of_rows run line going.later,
+      ap (text_of_rows run line) going.split
+          ∙ text_of_rows-append run line going.done (here ∷ going.later)
+          ∙ ap (λ before. before ++ text_of_rows run line (here ∷ going.later)) (sym going.told)
+          ∙ ap (λ l. text ++ l) (text_of_rows-append run line (here ∷ []) going.later ∙ ap (λ l. l ++ text_of_rows run line going.later) (rows_of_one run line here row (shows going.number))),
+    )

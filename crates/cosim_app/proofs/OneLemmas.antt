@@ -24,7 +24,7 @@ component_of unit = record { unit = unit; params = [] }
 pub env_is : (unit : Unit) (output : Output) (lines : List Line) (words : List ℤ) (t h : ℕ) → IsPlain unit output lines → environment_of (component_of unit) words (start_inputs (component_of unit)) t h ≡ plain_env unit words t h
 env_is unit output lines words t h plain =
     let all : words_of (component_of unit) words (start_inputs (component_of unit)) ≡ words =
-        rw (plain.inputs, plain.locals) (append-nil (words ++ []) ∙ append-nil words) in
+    rw (plain.inputs, plain.locals) (append-nil (words ++ []) ∙ append-nil words) in
     ap (λ ws. plain_env unit ws t h) all
 
 -- a reply of the whole step

@@ -46,9 +46,9 @@ stands_on run line t words t' words' row held0 held held' shows steps put standi
 pub puts_all : (run : Composition) (line : Row → List ℕ) (t : ℕ) (words : List ℤ) (row : Row) (end : Ending) (held0 held held' : Option (List ℕ)) → ((number : ℕ) → row_at run (at t words number) ≡ Some row) → ((number : ℕ) → successor run (at t words number) ≡ ends end) → Appends held held' (line row) → Standing run line t words held0 held → PutsRows run line held0 held' (Ok (record { ending = end; last = record { t = t; n = 0 } }))
 puts_all run line t words row end held0 held held' shows stops put standing = record {
   whole = λ positions ending trace.
-    let so_far = standing positions ending trace in
-    let ended = going_ends run line positions ending t words so_far.text row end shows stops so_far.going in
-    (subst (Appends held0 held') (sym ended.all) (Appends-trans held0 held held' so_far.text (line row) so_far.appended put), ended.is, ended.last);
+      let so_far = standing positions ending trace in
+      let ended = going_ends run line positions ending t words so_far.text row end shows stops so_far.going in
+      (subst (Appends held0 held') (sym ended.all) (Appends-trans held0 held held' so_far.text (line row) so_far.appended put), ended.is, ended.last);
   front = tt;
 }
 
@@ -56,9 +56,9 @@ puts_all run line t words row end held0 held held' shows stops put standing = re
 pub puts_before : (run : Composition) (line : Row → List ℕ) (t : ℕ) (words : List ℤ) (end : Ending) (held0 held : Option (List ℕ)) → ((number : ℕ) → row_at run (at t words number) ≡ None) → ((number : ℕ) → successor run (at t words number) ≡ ends end) → Standing run line t words held0 held → PutsRows run line held0 held (Ok (record { ending = end; last = record { t = t; n = 0 } }))
 puts_before run line t words end held0 held hides stops standing = record {
   whole = λ positions ending trace.
-    let so_far = standing positions ending trace in
-    let ended = going_breaks run line positions ending t words so_far.text end hides stops so_far.going in
-    (subst (Appends held0 held) (sym ended.all) so_far.appended, ended.is, ended.last);
+      let so_far = standing positions ending trace in
+      let ended = going_breaks run line positions ending t words so_far.text end hides stops so_far.going in
+      (subst (Appends held0 held) (sym ended.all) so_far.appended, ended.is, ended.last);
   front = tt;
 }
 
@@ -67,9 +67,9 @@ pub puts_front : (run : Composition) (line : Row → List ℕ) (t : ℕ) (words 
 puts_front run line t words held0 held fault standing = record {
   whole = tt;
   front = λ positions ending trace.
-    let so_far = standing positions ending trace in
-    let front = going_front run line positions ending t words so_far.text so_far.going in
-    subst (AppendsPrefix held0 held) (sym front.1) (AppendsPrefix-longer held0 held so_far.text front.0 (AppendsPrefix-whole held0 held so_far.text so_far.appended));
+      let so_far = standing positions ending trace in
+      let front = going_front run line positions ending t words so_far.text so_far.going in
+      subst (AppendsPrefix held0 held) (sym front.1) (AppendsPrefix-longer held0 held so_far.text front.0 (AppendsPrefix-whole held0 held so_far.text so_far.appended));
 }
 
 -- the run is given up inside a row
@@ -77,10 +77,10 @@ pub puts_front_row : (run : Composition) (line : Row → List ℕ) (t : ℕ) (wo
 puts_front_row run line t words row held0 held held' fault shows put standing = record {
   whole = tt;
   front = λ positions ending trace.
-    let so_far = standing positions ending trace in
-    let front = going_front_row run line positions ending t words so_far.text row shows so_far.going in
-    let all = front.1 ∙ sym (append_assoc so_far.text (line row) front.0) in
-    subst (AppendsPrefix held0 held') (sym all)
+      let so_far = standing positions ending trace in
+      let front = going_front_row run line positions ending t words so_far.text row shows so_far.going in
+      let all = front.1 ∙ sym (append_assoc so_far.text (line row) front.0) in
+      subst (AppendsPrefix held0 held') (sym all)
       (AppendsPrefix-longer held0 held' (so_far.text ++ line row) front.0 (AppendsPrefix-after held0 held held' so_far.text (line row) so_far.appended put));
 }
 
@@ -123,11 +123,11 @@ states_only unit output lines plain = rw (plain.params, plain.inputs, plain.loca
 pub kept_on : (unit : Unit) (output : Output) (lines : List Line) (stop longest : ℕ) (env env' : Environment) (t h : ℕ) (word : ℤ) (held0 held held' : Option (List ℕ)) (faults0 faults faults' : ℕ) → IsPlain unit output lines → Kept unit output stop longest env t held0 held faults0 faults → given unit output env.words ≡ Ok word → (t == stop) ≡ false → h ≡ min (stop - t) longest → effect_of_lines lines (plain_env unit env.words t h) ≡ Ok env' → IsSound env' → env'.variables ≡ env.variables → faults' ≡ faults → ((instance : List ℕ) → Appends held held' (row_text (one_column instance output) (one_row t word))) → Kept unit output stop longest env' (t + h) held0 held' faults0 faults'
 kept_on unit output lines stop longest env env' t h word held0 held held' faults0 faults faults' plain kept is more step_is moves sound same_variables same put =
     let one_each : length env'.words ≡ length unit.states =
-        sound.one_each ∙ ap length (same_variables ∙ kept.variables) ∙ states_only unit output lines plain in
+    sound.one_each ∙ ap length (same_variables ∙ kept.variables) ∙ states_only unit output lines plain in
     let moves' : effect_of_lines lines (plain_env unit env.words t (min (stop - t) longest)) ≡ Ok env' =
-        ap (λ s. effect_of_lines lines (plain_env unit env.words t s)) (sym step_is) ∙ moves in
+    ap (λ s. effect_of_lines lines (plain_env unit env.words t s)) (sym step_is) ∙ moves in
     let next : (number : ℕ) → successor (one unit stop longest) (at t env.words number) ≡ goes (at (t + h) env'.words (suc number)) =
-        λ number. step_goes unit output lines stop longest t env.words word env' plain is more moves' one_each number ∙ ap (λ s. goes (at (t + s) env'.words (suc number))) (sym step_is) in
+    λ number. step_goes unit output lines stop longest t env.words word env' plain is more moves' one_each number ∙ ap (λ s. goes (at (t + s) env'.words (suc number))) (sym step_is) in
     let before = kept.before_stop in
     record {
       before_stop = omega arith;
@@ -135,5 +135,5 @@ kept_on unit output lines stop longest env env' t h word held0 held held' faults
       variables = same_variables ∙ kept.variables;
       same = same ∙ kept.same;
       standing = λ instance. stands_on (one unit stop longest) (row_text (one_column instance output)) t env.words (t + h) env'.words (one_row t word) held0 held held'
-        (row_is unit output lines stop longest t env.words word plain is) next (put instance) (kept.standing instance);
+          (row_is unit output lines stop longest t env.words word plain is) next (put instance) (kept.standing instance);
     }

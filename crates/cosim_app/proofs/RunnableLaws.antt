@@ -57,15 +57,15 @@ trace_text_is system r positions =
 pub puts_trace : (system : System) (r : IsRunnable system) (held0 held held' : Option (List ℕ)) (result : Result RunEnd RunFault) → Appends held0 held (header_text (one_column r.instance.name r.output)) → PutsRows (one r.unit (stop_of system) (longest_of system)) (row_text (one_column r.instance.name r.output)) held held' result → PutsTrace system held0 held' result
 puts_trace system r held0 held held' (Ok end) header rows = record {
   whole = λ positions ending trace.
-    let done = rows.whole positions ending (subst (λ (run : Composition). IsTrace run positions ending) (composition_is system r) trace) in
-    (subst (Appends held0 held') (sym (trace_text_is system r positions)) (Appends-trans held0 held held' _ _ header done.0), done.1, done.2);
+      let done = rows.whole positions ending (subst (λ (run : Composition). IsTrace run positions ending) (composition_is system r) trace) in
+      (subst (Appends held0 held') (sym (trace_text_is system r positions)) (Appends-trans held0 held held' _ _ header done.0), done.1, done.2);
   front = tt;
 }
 puts_trace system r held0 held held' (Err fault) header rows = record {
   whole = tt;
   front = λ positions ending trace.
-    let front = rows.front positions ending (subst (λ (run : Composition). IsTrace run positions ending) (composition_is system r) trace) in
-    subst (AppendsPrefix held0 held') (sym (trace_text_is system r positions)) (AppendsPrefix-after held0 held held' _ _ header front);
+      let front = rows.front positions ending (subst (λ (run : Composition). IsTrace run positions ending) (composition_is system r) trace) in
+      subst (AppendsPrefix held0 held') (sym (trace_text_is system r positions)) (AppendsPrefix-after held0 held held' _ _ header front);
 }
 
 -- a run that is given up in its header
@@ -80,6 +80,6 @@ puts_header_front system r held0 held (Err fault) is header = record {
 pub puts_rows_of : (unit unit' : Unit) (output output' : Output) (stop stop' longest longest' : ℕ) (instance : List ℕ) (held held' : Option (List ℕ)) (result : Result RunEnd RunFault) → unit ≡ unit' → output ≡ output' → stop ≡ stop' → longest ≡ longest' → PutsRows (one unit stop longest) (row_text (one_column instance output)) held held' result → PutsRows (one unit' stop' longest') (row_text (one_column instance output')) held held' result
 puts_rows_of unit unit' output output' stop stop' longest longest' instance held held' result same_unit same_output same_stop same_longest rows =
     subst (λ (l : ℕ). PutsRows (one unit' stop' l) (row_text (one_column instance output')) held held' result) same_longest
-      (subst (λ (s : ℕ). PutsRows (one unit' s longest) (row_text (one_column instance output')) held held' result) same_stop
-      (subst (λ (o : Output). PutsRows (one unit' stop longest) (row_text (one_column instance o)) held held' result) same_output
-      (subst (λ (u : Unit). PutsRows (one u stop longest) (row_text (one_column instance output)) held held' result) same_unit rows)))
+    (subst (λ (s : ℕ). PutsRows (one unit' s longest) (row_text (one_column instance output')) held held' result) same_stop
+    (subst (λ (o : Output). PutsRows (one unit' stop longest) (row_text (one_column instance o)) held held' result) same_output
+    (subst (λ (u : Unit). PutsRows (one u stop longest) (row_text (one_column instance output)) held held' result) same_unit rows)))

@@ -2,5 +2,6 @@ pub mod OneComponent
 pub mod Pieces
 pub mod Runnable
 pub mod TraceText
+pub mod Headline
 pub mod Notes
 pub mod Answer

@@ -63,8 +63,12 @@ place_text system instance place.Step = codes " step"
 abbrev pub point_text : Point → List ℕ
 point_text point = decimal point.t ++ codes "," ++ decimal point.n
 
+-- A fault of an instance in a place at a point.
+abbrev pub fault_text : List ℕ → List ℕ → Fault → Point → List ℕ
+fault_text instance place fault point =
+    note (codes "fault " ++ decimal (fault_number fault) ++ codes " of " ++ instance ++ place ++ codes " at " ++ point_text point)
+
 -- The note of how a run ended at its last point: none where it came to its stop.
 abbrev pub ending_note : System → Ending → Point → List ℕ
 ending_note system Completed point = []
-ending_note system (Faulted instance where_ fault) point =
-    note (codes "fault " ++ decimal (fault_number fault) ++ codes " of " ++ instance_name system instance ++ place_text system instance where_ ++ codes " at " ++ point_text point)
+ending_note system (Faulted instance where_ fault) point = fault_text (instance_name system instance) (place_text system instance where_) fault point

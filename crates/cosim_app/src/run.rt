@@ -46,7 +46,11 @@ pub fn output_word(output: &Output, env: &mut Environment) -> Result<i64, Fault>
     env.step = 0;
     env.accepted = 0;
     let given = value(&output.value, env)?;
-    if fits(output.ty, given.word) { Ok(given.word) } else { Err(Fault::Range) }
+    if fits(output.ty, given.word) {
+        Ok(given.word)
+    } else {
+        Err(Fault::Range)
+    }
 }
 
 /// A step of the lines at a time by a length.

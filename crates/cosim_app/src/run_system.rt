@@ -42,11 +42,7 @@ fn longest(system: &System) -> u64
 }
 
 /// Puts the trace of a system: the header as one piece, then each row as one piece.
-pub fn run_system<O: Sink>(
-    alloc: Global,
-    system: &System,
-    out: &mut O,
-) -> Result<RunEnd, RunFault>
+pub fn run_system<O: Sink>(alloc: Global, system: &System, out: &mut O) -> Result<RunEnd, RunFault>
     requires { IsRunnable system.now }
     ensures trace { PutsTrace system.now (O.held out.old) (O.held out.new) result }
     ensures cause { Tells (O.faults out.old) (O.faults out.new) result }
