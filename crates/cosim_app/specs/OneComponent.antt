@@ -7,6 +7,8 @@ use Rattle.unit_tree.specs.Components.{initial, variables_of, given_as}
 use Rattle.unit_tree.specs.Effects.{effect_of_lines, lines_are_ranged}
 use Rattle.unit_tree.specs.Trace.{Composition, Position, Row, rows_of, IsTrace}
 use Rattle.unit_tree.specs.declared.ending.Ending.{Ending}
+use Rattle.unit_tree.specs.declared.ending.Ending.TheVariants.{Completed, Faulted}
+use Rattle.unit_tree.specs.declared.ending.Place.TheVariants as place
 use Rattle.unit_tree.specs.declared.point.Point.{Point}
 use Rattle.std.specs.List.{flat_map}
 use Rattle.std.specs.Io.KnownBytes.{Appends}
@@ -84,3 +86,9 @@ pub record Tells (before now : ℕ) (result : Result RunEnd RunFault) : Type 0 w
   pub later : before ≤ now
   pub failed : result ≡ Err WriteFault → Rose before now
   pub same : (result ≡ Err WriteFault → ⊥) → now ≡ before
+
+-- An end that is told of the first instance, and of its first output.
+abbrev pub IsOfFirst : Ending → Type 0
+IsOfFirst Completed = ⊤
+IsOfFirst (Faulted instance (place.Output number) fault) = (instance ≡ 0) × (number ≡ 0)
+IsOfFirst (Faulted instance place.Step fault) = instance ≡ 0

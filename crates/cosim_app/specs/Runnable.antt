@@ -1,10 +1,8 @@
 -- Which systems are run: those of one plain component, and what a run of one puts.
-use Rattle.std.specs.Prelude.{◌≡◌, ℕ, ◌<◌, ◌≤◌, ◌^◌, List, [], ◌∷◌, Option, Result, IfOk, OnErr, ◌⊎◌, ⊤}
+use Rattle.std.specs.Prelude.{◌≡◌, ℕ, ◌<◌, ◌≤◌, ◌^◌, List, [], ◌∷◌, Option, Result, IfOk, OnErr, ◌⊎◌}
 use Rattle.std.specs.Io.KnownBytes.{Appends}
 use Rattle.unit_tree.specs.Trace.{Position, composition_of, ticks_or, IsTrace}
 use Rattle.unit_tree.specs.declared.ending.Ending.{Ending}
-use Rattle.unit_tree.specs.declared.ending.Ending.TheVariants.{Completed, Faulted}
-use Rattle.unit_tree.specs.declared.ending.Place.TheVariants as place
 use Rattle.unit_tree.specs.declared.line.Line.{Line}
 use Rattle.unit_tree.specs.declared.system.Instance.{Instance}
 use Rattle.unit_tree.specs.declared.system.System.{System}
@@ -43,9 +41,3 @@ pub record IsRunnable (system : System) : Type 0 where
 pub record PutsTrace (system : System) (old new : Option (List ℕ)) (result : Result RunEnd RunFault) : Type 0 where
   pub whole : IfOk result (λ end. (positions : List Position) (ending : Ending) → IsTrace (composition_of system) positions ending → Appends old new (trace_text system positions) × (end.ending ≡ ending) × (end.last ≡ last_point positions))
   pub front : OnErr result ((positions : List Position) (ending : Ending) → IsTrace (composition_of system) positions ending → AppendsPrefix old new (trace_text system positions))
-
--- An end that is told of the first instance, and of its first output.
-abbrev pub IsOfFirst : Ending → Type 0
-IsOfFirst Completed = ⊤
-IsOfFirst (Faulted instance (place.Output number) fault) = (instance ≡ 0) × (number ≡ 0)
-IsOfFirst (Faulted instance place.Step fault) = instance ≡ 0

@@ -1,7 +1,8 @@
 //! The notes of the program.
 ghost use Rattle.std.specs.Prelude.{◌≡◌, ◌++◌, IfOk};
 ghost use Rattle.cosim_app.specs.Notes.{fault_number, refused_note, fault_text, ending_note};
-ghost use Rattle.cosim_app.specs.Runnable.{IsRunnable, IsOfFirst};
+ghost use Rattle.cosim_app.specs.OneComponent.{IsOfFirst};
+ghost use Rattle.cosim_app.specs.Runnable.{IsRunnable};
 
 use crate::fault::RunEnd;
 use crate::pieces::append_all;

@@ -1,10 +1,10 @@
 //! The rows of a run of one component, put as they come.
-ghost use Rattle.std.specs.Prelude.{◌≡◌, ◌<◌, ◌≤◌, ◌^◌, ◌⊎◌, List, ℕ};
+ghost use Rattle.std.specs.Prelude.{◌≡◌, ◌<◌, ◌≤◌, ◌^◌, ◌⊎◌, List, ℕ, IfOk};
 ghost use Rattle.unit_tree.specs.Components.{initial, variables_of};
 ghost use Rattle.unit_tree.specs.Values.{IsSound};
 ghost use Rattle.cosim_io.specs.Faults.{Rose};
 ghost use Rattle.cosim_app.specs.TraceText.{row_text};
-ghost use Rattle.cosim_app.specs.OneComponent.{one, one_column, IsPlain, PutsRows, StandsAtStart, Tells};
+ghost use Rattle.cosim_app.specs.OneComponent.{IsOfFirst, one, one_column, IsPlain, PutsRows, StandsAtStart, Tells};
 
 use crate::fault::{RunEnd, RunFault};
 use crate::run::{advance, output_word};
@@ -34,6 +34,7 @@ pub fn put_rows<O: Sink>(
     requires stop { plan.stop < 2 ^ 63 }
     requires progress { (1 ≤ plan.longest) ⊎ (plan.stop ≡ 0) }
     ensures rows { (instance : List ℕ) → PutsRows (one plan.entry.unit.now plan.entry.stop plan.entry.longest) (row_text (one_column instance plan.entry.output.now)) (O.held out.old) (O.held out.new) result }
+    ensures first { IfOk result (λ end. IsOfFirst end.ending) }
     ensures cause { Tells (O.faults out.old) (O.faults out.new) result }
 {
     let mut t = 0;

@@ -1,7 +1,7 @@
 //! The run of a system of one plain component, from the header on.
-ghost use Rattle.std.specs.Prelude.{◌≡◌, ◌<◌, OnOk};
+ghost use Rattle.std.specs.Prelude.{◌≡◌, IfOk};
 ghost use Rattle.unit_tree.specs.Trace.{ticks_of};
-ghost use Rattle.cosim_app.specs.OneComponent.{Tells};
+ghost use Rattle.cosim_app.specs.OneComponent.{IsOfFirst, Tells};
 ghost use Rattle.cosim_app.specs.Runnable.{IsRunnable, PutsTrace, longest_of, stop_of};
 
 use crate::fault::{RunEnd, RunFault};
@@ -45,6 +45,7 @@ fn longest(system: &System) -> u64
 pub fn run_system<O: Sink>(alloc: Global, system: &System, out: &mut O) -> Result<RunEnd, RunFault>
     requires { IsRunnable system.now }
     ensures trace { PutsTrace system.now (O.held out.old) (O.held out.new) result }
+    ensures first { IfOk result (λ end. IsOfFirst end.ending) }
     ensures cause { Tells (O.faults out.old) (O.faults out.new) result }
 {
     let unit = &system.units.as_slice()[0];
