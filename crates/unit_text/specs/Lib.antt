@@ -1,2 +1,3 @@
 pub mod FirstForm
 pub mod Reading
+pub mod Scanning

@@ -4,6 +4,8 @@
 
 mod fault;
 mod form;
+mod lines;
+mod tokens;
 
 pub use fault::TextFault;
 pub use form::{Assignment, Declared, LineForm, Operand, Source, WholeNumber};
