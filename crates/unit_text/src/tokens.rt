@@ -1,7 +1,7 @@
-ghost use Rattle.std.specs.Prelude.{◌≡◌, ◌≤◌, ◌<◌, ◌+◌, ◌-◌, ◌*◌, ◌^◌, ◌∷◌, length};
+ghost use Rattle.std.specs.Prelude.{◌≡◌, ◌≤◌, ◌<◌, ◌+◌, ◌-◌, ◌*◌, ◌^◌, ◌∷◌, length, take, drop, IfOk};
 ghost use Rattle.std.specs.List.{prefix_len};
-ghost use Rattle.unit_tree.specs.Tokens.{is_blank, is_letter, is_digit, is_word_byte, keyword_text, symbol_text, number_from};
-ghost use Rattle.unit_text.specs.Scanning.{Gives, keyword_of, symbol_of, word_token, bounded_number};
+ghost use Rattle.unit_tree.specs.Tokens.{is_blank, is_letter, is_digit, is_word_byte, keyword_text, symbol_text, number_from, begins_with};
+ghost use Rattle.unit_text.specs.Scanning.{Gives, GivesFront, ReadsAs, keyword_of, symbol_of, word_token, word_at, bounded_number, fraction_of, number_token, number_at, symbol_at, token_at, TokensAre};
 
 use crate::fault::Unread;
 use fixed_words::List;
@@ -75,6 +75,9 @@ const SYMBOLS: [Symbol; 18] = [
 
 /// The most bytes that a name may have.
 const LONGEST_NAME: usize = 32;
+
+/// The most digits behind a point.
+const MOST_DECIMALS: usize = 9;
 
 /// The greatest number that a token may be.
 const GREATEST_NUMBER: u64 = 1 << 63;
@@ -227,5 +230,138 @@ fn word_token(alloc: Global, text: &[u8]) -> Result<Token, Unread>
         Some(keyword) => Ok(Token::Keyword(keyword)),
         None if text.len() > LONGEST_NAME => Err(Unread::NoForm),
         None => Ok(Token::Name(List::from_slice(alloc, text)?)),
+    }
+}
+
+#[tactic(auto, unfolding(crate::specs::Scanning::word_at))]
+fn word_at(alloc: Global, bytes: &[u8]) -> Result<(Token, &[u8]), Unread>
+    ensures { GivesFront result (word_at bytes.now) }
+{
+    let (text, rest) = bytes.split_at(word_length(bytes));
+    Ok((word_token(alloc, text)?, rest))
+}
+
+/// The number that digits are written for, those of `before` counting first.
+#[tactic(auto, unfolding(crate::specs::Scanning::bounded_number), using(crate::proofs::NumberLemmas::bounded_number_at))]
+fn bounded_number(before: u64, digits: &[u8]) -> Result<u64, Unread>
+    requires { before ≤ 2 ^ 63 }
+    ensures number { Gives result (bounded_number before digits.now) }
+    ensures bound { IfOk result (λ number. number ≤ 2 ^ 63) }
+{
+    let mut number = before;
+    for digit in digits {
+        let value = u128::from(digit.saturating_sub(b'0'));
+        let longer = 10 * u128::from(number) + value;
+        if longer > u128::from(GREATEST_NUMBER) {
+            return Err(Unread::NoForm);
+        }
+        number = longer as u64;
+    }
+    Ok(number)
+}
+
+/// The digits of a fraction whose point comes first, and the rest; no digits where there is none.
+fn fraction_of(bytes: &[u8]) -> (&[u8], &[u8])
+    ensures digits { result.0.now ≡ (fraction_of bytes.now).0 }
+    ensures rest { result.1.now ≡ (fraction_of bytes.now).1 }
+{
+    match bytes {
+        [b'.', behind @ ..] => {
+            let length = digits_length(behind);
+            if length == 0 {
+                (&[], bytes)
+            } else {
+                behind.split_at(length)
+            }
+        }
+        _ => (&[], bytes),
+    }
+}
+
+#[tactic(auto, unfolding(crate::specs::Scanning::number_token))]
+fn number_token(whole: &[u8], fraction: &[u8]) -> Result<Token, Unread>
+    ensures { Gives result (number_token whole.now fraction.now) }
+{
+    if fraction.len() > MOST_DECIMALS {
+        return Err(Unread::NoForm);
+    }
+    let before = bounded_number(0, whole)?;
+    let digits = bounded_number(before, fraction)?;
+    let decimals = fraction.len() as u8;
+    Ok(Token::Number { digits, decimals })
+}
+
+fn begins_with_word_byte(bytes: &[u8]) -> bool
+    ensures { result ≡ begins_with is_word_byte bytes.now }
+{
+    match bytes {
+        [] => false,
+        [first, ..] => is_word_byte(*first),
+    }
+}
+
+#[tactic(auto, unfolding(crate::specs::Scanning::number_at))]
+fn number_at(bytes: &[u8]) -> Result<(Token, &[u8]), Unread>
+    ensures { GivesFront result (number_at bytes.now) }
+{
+    let (whole, behind) = bytes.split_at(digits_length(bytes));
+    let (fraction, rest) = fraction_of(behind);
+    if begins_with_word_byte(rest) {
+        return Err(Unread::NoForm);
+    }
+    Ok((number_token(whole, fraction)?, rest))
+}
+
+/// The bytes at the front, at most `count` of them, and the rest.
+#[tactic(auto, using(std::proofs::lemmas::List::take_min, std::proofs::lemmas::List::drop_min))]
+fn cut(bytes: &[u8], count: usize) -> (&[u8], &[u8])
+    ensures front { result.0.now ≡ take count bytes.now }
+    ensures rest { result.1.now ≡ drop count bytes.now }
+{
+    bytes.split_at(count.min(bytes.len()))
+}
+
+#[tactic(auto, unfolding(crate::specs::Scanning::symbol_at))]
+fn symbol_at(bytes: &[u8]) -> Result<(Token, &[u8]), Unread>
+    ensures { GivesFront result (symbol_at bytes.now) }
+{
+    let (pair, behind) = cut(bytes, 2);
+    if let Some(symbol) = symbol_of(pair) {
+        return Ok((Token::Symbol(symbol), behind));
+    }
+    let (single, behind) = cut(bytes, 1);
+    match symbol_of(single) {
+        Some(symbol) => Ok((Token::Symbol(symbol), behind)),
+        None => Err(Unread::NoForm),
+    }
+}
+
+/// The token at the front of bytes that begin with no blank.
+#[tactic(auto, unfolding(crate::specs::Scanning::token_at))]
+fn token_at(alloc: Global, bytes: &[u8]) -> Result<(Token, &[u8]), Unread>
+    ensures { GivesFront result (token_at bytes.now) }
+{
+    match bytes {
+        [] => Err(Unread::NoForm),
+        [first, ..] if is_letter(*first) => word_at(alloc, bytes),
+        [first, ..] if is_digit(*first) => number_at(bytes),
+        _ => symbol_at(bytes),
+    }
+}
+
+/// The tokens of a line.
+pub fn tokens(alloc: Global, line: &[u8]) -> Result<List<Token>, Unread>
+    ensures { ReadsAs result (TokensAre line.now) }
+{
+    let mut tokens = List::new(alloc);
+    let mut rest = line;
+    loop {
+        rest = rest.split_at(blanks_length(rest)).1;
+        if rest.is_empty() {
+            return Ok(tokens);
+        }
+        let (token, behind) = token_at(alloc, rest)?;
+        tokens.push(token)?;
+        rest = behind;
     }
 }
