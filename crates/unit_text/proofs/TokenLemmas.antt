@@ -4,7 +4,7 @@ use Rattle.std.specs.List.{list_all, prefix_len}
 use Rattle.std.specs.Option.{option_map}
 use Rattle.std.proofs.lemmas.Bool.{and_parts, and_from, and_left, and_right, or_parts, or_left, or_right, or_from, cond-true, cond-false, false≢true}
 use Rattle.std.proofs.lemmas.Bool.Decides.{nat_tests}
-use Rattle.std.proofs.lemmas.List.{drop_all, take_all, take_at, drop_at, take-append-drop, length-append, length-take}
+use Rattle.std.proofs.lemmas.List.{drop_all, take_all, take_at, drop_at, take-append-drop, length-append, length-take, length-drop, nil_from_length, append-nil}
 use Rattle.std.proofs.lemmas.List.Folds.{length-prefix_len}
 use Rattle.unit_tree.specs.Tokens.{is_blank, is_digit, is_letter, is_word_byte, keyword_text, symbol_text, number_from, pointed, begins_with, begins_with_fraction, IsWord, IsReserved, IsNumber, IsSpelling, IsLongest, Ends, BeginsWith, Spells}
 use Rattle.unit_tree.specs.declared.token.Keyword.{Keyword}
@@ -342,5 +342,182 @@ number_at_is x xs first rest digit e =
     let behind = fraction_of (drop n (x ∷ xs)) in
     number_at_case x xs (take n (x ∷ xs)) (drop n (x ∷ xs)) behind.0 behind.1 first rest (begins_with is_word_byte behind.1) (sym (take-append-drop n (x ∷ xs))) (front_passes is_digit (x ∷ xs)) (omega (arith, length-prefix_len is_digit (x ∷ xs), size)) (fraction_is (drop n (x ∷ xs))) refl e
 
-pub token_at_shorter : (bytes rest : List ℕ) (first : Token) → token_at bytes ≡ Some (first, rest) → length rest < length bytes
-token_at_shorter bytes rest first found = ?
+symbol_length : (text : List ℕ) → is_symbol_text text ≡ true → (0 < length text) × (length text ≤ 2)
+symbol_length [] is = absurd cc
+symbol_length (x ∷ []) is = (omega arith, omega arith)
+symbol_length (x ∷ y ∷ []) is = (omega arith, omega arith)
+symbol_length (x ∷ y ∷ z ∷ others) is = absurd cc
+
+longest_pair : (symbol : Symbol) (bytes rest : List ℕ) → 0 < length bytes → take 2 bytes ≡ symbol_text symbol → drop 2 bytes ≡ rest → IsLongest symbol rest
+longest_pair symbol bytes rest some text behind other after same =
+    let short = symbol_length (symbol_text other) (symbol_is_text other) in
+    omega (arith, short.1, ap length text, ap length behind, ap length same, length-take 2 bytes, length-drop 2 bytes, length-append (symbol_text symbol) rest, length-append (symbol_text other) after)
+
+longest_single_case : (x : ℕ) (xs : List ℕ) (other : Symbol) (after text : List ℕ) → text ≡ symbol_text other → is_symbol_text text ≡ true → symbol_of (take 2 (x ∷ xs)) ≡ None → x ∷ xs ≡ text ++ after → length text ≤ 1
+longest_single_case x xs other after [] spelled is none same = omega arith
+longest_single_case x xs other after (a ∷ []) spelled is none same = omega arith
+longest_single_case x xs other after (a ∷ b ∷ []) spelled is none same =
+    let pair : take 2 (x ∷ xs) ≡ a ∷ b ∷ [] = ap (λ (t : List ℕ). take 2 t) same in
+    let found : symbol_of (take 2 (x ∷ xs)) ≡ Some other = rw (pair, spelled) (symbol_of-symbol_text other) in
+    absurd cc
+longest_single_case x xs other after (a ∷ b ∷ d ∷ others) spelled is none same = absurd cc
+
+longest_single : (symbol : Symbol) (x : ℕ) (xs : List ℕ) → x ∷ [] ≡ symbol_text symbol → symbol_of (take 2 (x ∷ xs)) ≡ None → IsLongest symbol xs
+longest_single symbol x xs text none other after same =
+    let line : x ∷ xs ≡ symbol_text other ++ after = ap (λ (t : List ℕ). t ++ xs) text ∙ same in
+    let short = longest_single_case x xs other after (symbol_text other) refl (symbol_is_text other) none line in
+    omega (arith, short, ap length text)
+
+symbol_at_second : (x : ℕ) (xs : List ℕ) (first : Token) (rest : List ℕ) (single : Option Symbol) → symbol_of (take 2 (x ∷ xs)) ≡ None → symbol_of (x ∷ []) ≡ single → with_rest (symbol_token single) xs ≡ Some (first, rest) → Front (x ∷ xs) first rest
+symbol_at_second x xs first rest None none read e = absurd cc
+symbol_at_second x xs first rest (Some symbol) none read e =
+    let parts = with_rest_is (Some (token.Symbol symbol)) xs first rest e in
+    let is : token.Symbol symbol ≡ first = cc in
+    let text = symbol_of_is (x ∷ []) symbol read in
+    record { text = x ∷ []; cut = ap (λ (t : List ℕ). x ∷ t) parts.1; spelling = rw (← is) text; ends = rw (← is, ← parts.1) (longest_single symbol x xs text none); some = omega arith }
+
+symbol_at_case : (x : ℕ) (xs : List ℕ) (first : Token) (rest : List ℕ) (pair : Option Symbol) → symbol_of (take 2 (x ∷ xs)) ≡ pair → or_else (with_rest (symbol_token pair) (drop 2 (x ∷ xs))) (with_rest (symbol_token (symbol_of (x ∷ []))) xs) ≡ Some (first, rest) → Front (x ∷ xs) first rest
+symbol_at_case x xs first rest None read e = symbol_at_second x xs first rest (symbol_of (x ∷ [])) read refl e
+symbol_at_case x xs first rest (Some symbol) read e =
+    let parts = with_rest_is (Some (token.Symbol symbol)) (drop 2 (x ∷ xs)) first rest e in
+    let is : token.Symbol symbol ≡ first = cc in
+    let text = symbol_of_is (take 2 (x ∷ xs)) symbol read in
+    record { text = take 2 (x ∷ xs); cut = sym (take-append-drop 2 (x ∷ xs)) ∙ ap (λ (t : List ℕ). take 2 (x ∷ xs) ++ t) parts.1; spelling = rw (← is) text; ends = rw (← is) (longest_pair symbol (x ∷ xs) rest (omega arith) text parts.1); some = omega (arith, length-take 2 (x ∷ xs)) }
+
+symbol_at_is : (x : ℕ) (xs : List ℕ) (first : Token) (rest : List ℕ) → symbol_at (x ∷ xs) ≡ Some (first, rest) → Front (x ∷ xs) first rest
+unfolding symbol_at
+symbol_at_is x xs first rest e = symbol_at_case x xs first rest (symbol_of (take 2 (x ∷ xs))) refl e
+
+token_at_case : (x : ℕ) (xs : List ℕ) (first : Token) (rest : List ℕ) (letter digit : Bool) → is_letter x ≡ letter → is_digit x ≡ digit → cond letter (word_at (x ∷ xs)) (cond digit (number_at (x ∷ xs)) (symbol_at (x ∷ xs))) ≡ Some (first, rest) → Front (x ∷ xs) first rest
+token_at_case x xs first rest true digit a b e = word_at_is x xs first rest a e
+token_at_case x xs first rest false true a b e = number_at_is x xs first rest b e
+token_at_case x xs first rest false false a b e = symbol_at_is x xs first rest e
+
+token_at_is : (bytes : List ℕ) (first : Token) (rest : List ℕ) → token_at bytes ≡ Some (first, rest) → Front bytes first rest
+unfolding token_at
+token_at_is [] first rest e = absurd cc
+token_at_is (x ∷ xs) first rest e = token_at_case x xs first rest (is_letter x) (is_digit x) refl refl e
+
+pub token_at_shorter : (bytes : List ℕ) (first : Token) (rest : List ℕ) → token_at bytes ≡ Some (first, rest) → length rest < length bytes
+token_at_shorter bytes first rest e =
+    let front = token_at_is bytes first rest e in
+    omega (arith, front.some, ap length front.cut, length-append front.text rest)
+
+-- ---- all tokens of a line
+
+begins_with_first : (line : List ℕ) (first : Token) (rest : List ℕ) → token_at (behind_blanks line) ≡ Some (first, rest) → BeginsWith line first rest
+begins_with_first line first rest e =
+    let front = token_at_is (behind_blanks line) first rest e in
+    let blanks = take (prefix_len is_blank line) line in
+    record {
+      blanks = blanks;
+      text = front.text;
+      cut = sym (take-append-drop (prefix_len is_blank line) line) ∙ ap (λ (t : List ℕ). blanks ++ t) front.cut ∙ sym (append_assoc blanks front.text rest);
+      are_blank = front_passes is_blank line;
+      spelling = front.spelling;
+      ends = front.ends;
+    }
+
+blank_line : (line : List ℕ) → list_all is_blank line ≡ true → behind_blanks line ≡ []
+blank_line line blank =
+    let n : prefix_len is_blank (line ++ []) ≡ length line = prefix_len-front is_blank line [] blank refl in
+    drop_all (prefix_len is_blank line) line (omega (arith, ap (prefix_len is_blank) (append-nil line)))
+
+line_blank : (line : List ℕ) → behind_blanks line ≡ [] → list_all is_blank line ≡ true
+line_blank line none =
+    let parts : take (prefix_len is_blank line) line ++ behind_blanks line ≡ line = take-append-drop (prefix_len is_blank line) line in
+    let whole : take (prefix_len is_blank line) line ≡ line = sym (append-nil (take (prefix_len is_blank line) line)) ∙ (rw none at parts) in
+    rw whole at (front_passes is_blank line)
+
+tokens_end : (line : List ℕ) → behind_blanks line ≡ [] → TokensAre line (Some [])
+tokens_end line none = line_blank line none
+
+no_token : token_at [] ≡ None
+unfolding token_at
+no_token = refl
+
+spells_some : (tokens : List Token) (line : List ℕ) (first : Token) (rest : List ℕ) → token_at (behind_blanks line) ≡ Some (first, rest) → Spells tokens line → (others : List Token) × (tokens ≡ first ∷ others) × Spells others rest
+spells_some [] line first rest e spelled =
+    let none = blank_line line spelled in
+    let read : token_at (behind_blanks line) ≡ None = rw none no_token in
+    absurd cc
+spells_some (token ∷ others) line first rest e (after, begins, more) =
+    let read = first_again line token after begins in
+    let pairs : ◌≡◌ {A = Token × List ℕ} (token, after) (first, rest) = cc in
+    let is : token ≡ first = ap (λ (p : Token × List ℕ). p.0) pairs in
+    let behind : after ≡ rest = ap (λ (p : Token × List ℕ). p.1) pairs in
+    (others, ap (λ (t : Token). t ∷ others) is, rw (← behind) more)
+
+tokens_step : (line : List ℕ) (first : Token) (rest : List ℕ) (found : Option (List Token)) → token_at (behind_blanks line) ≡ Some (first, rest) → TokensAre rest found → TokensAre line (option_map (λ others. first ∷ others) found)
+tokens_step line first rest (Some others) e are = (rest, begins_with_first line first rest e, are)
+tokens_step line first rest None e are = λ tokens spelled. (let parts = spells_some tokens line first rest e spelled in are parts.0 parts.2)
+
+pub tokens_none : (line : List ℕ) → 0 < length (behind_blanks line) → token_at (behind_blanks line) ≡ None → TokensAre line None
+tokens_none line some e [] spelled = omega (arith, ap length (blank_line line spelled))
+tokens_none line some e (token ∷ others) (after, begins, more) =
+    let read = first_again line token after begins in
+    absurd cc
+
+-- what the rest spells, behind the tokens so far, is what the line spells
+pub record Completes (line : List ℕ) (tokens : List Token) (rest : List ℕ) : Type 0 where
+  pub by : (found : Option (List Token)) → TokensAre rest found → TokensAre line (option_map (λ others. tokens ++ others) found)
+
+completes_start : (line : List ℕ) (found : Option (List Token)) → TokensAre line found → TokensAre line (option_map (λ others. [] ++ others) found)
+completes_start line None are = are
+completes_start line (Some tokens) are = are
+
+pub completes_none : (line : List ℕ) → Completes line [] line
+completes_none line = record { by = completes_start line }
+
+completes_step : (line : List ℕ) (tokens : List Token) (first : Token) (found : Option (List Token)) → TokensAre line (option_map (λ others. tokens ++ others) (option_map (λ others. first ∷ others) found)) → TokensAre line (option_map (λ others. (tokens ++ first ∷ []) ++ others) found)
+completes_step line tokens first None are = are
+completes_step line tokens first (Some others) are = rw (append_assoc tokens (first ∷ []) others) are
+
+pub completes_more : (line : List ℕ) (tokens : List Token) (rest behind : List ℕ) (first : Token) (after : List ℕ) → Completes line tokens rest → behind ≡ drop (prefix_len is_blank rest) rest → token_at behind ≡ Some (first, after) → Completes line (tokens ++ first ∷ []) after
+completes_more line tokens rest behind first after so_far at e =
+    let read : token_at (behind_blanks rest) ≡ Some (first, after) = rw (← at) e in
+    record { by = λ found are. completes_step line tokens first found (so_far.by (option_map (λ others. first ∷ others) found) (tokens_step rest first after found read are)) }
+
+pub completes_end : (line : List ℕ) (tokens : List Token) (rest behind : List ℕ) → Completes line tokens rest → behind ≡ drop (prefix_len is_blank rest) rest → length behind ≡ 0 → Spells tokens line
+completes_end line tokens rest behind so_far at none =
+    let empty : behind_blanks rest ≡ [] = nil_from_length (behind_blanks rest) (rw (← at) none) in
+    let whole : Spells (tokens ++ []) line = so_far.by (Some []) (tokens_end rest empty) in
+    rw (append-nil tokens) at whole
+
+pub completes_fail : (line : List ℕ) (tokens : List Token) (rest behind : List ℕ) → Completes line tokens rest → behind ≡ drop (prefix_len is_blank rest) rest → 0 < length behind → token_at behind ≡ None → (others : List Token) → Spells others line → ⊥
+completes_fail line tokens rest behind so_far at some e =
+    so_far.by None (tokens_none rest (rw (← at) some) (rw (← at) e))
+
+-- a line spells tokens in one way
+pub spells_one : (tokens others : List Token) (line : List ℕ) → Spells tokens line → Spells others line → tokens ≡ others
+spells_one [] [] line a b = refl
+spells_one [] (other ∷ others) line a (rest, begins, more) =
+    let read = first_again line other rest begins in
+    let none : token_at (behind_blanks line) ≡ None = rw (blank_line line a) no_token in
+    absurd cc
+spells_one (token ∷ tokens) others line (rest, begins, more) b =
+    let parts = spells_some others line token rest (first_again line token rest begins) b in
+    ap (λ (t : List Token). token ∷ t) (spells_one tokens parts.0 rest more parts.2) ∙ sym parts.1
+
+-- every line spells tokens, or it spells none
+abbrev pub Tokenized : List ℕ → Type 0
+Tokenized line = (found : Option (List Token)) × TokensAre line found
+
+tokens_at_none : (line behind : List ℕ) → behind_blanks line ≡ behind → token_at (behind_blanks line) ≡ None → Tokenized line
+tokens_at_none line [] at e = (Some [], tokens_end line at)
+tokens_at_none line (x ∷ xs) at e = (None, tokens_none line (omega (arith, ap length at)) e)
+
+tokens_case : (line : List ℕ) (found : Option (Token × List ℕ)) → ((rest : List ℕ) → length rest < length line → Tokenized rest) → token_at (behind_blanks line) ≡ found → Tokenized line
+tokens_case line None shorter e = tokens_at_none line (behind_blanks line) refl e
+tokens_case line (Some (first, rest)) shorter e =
+    let less = token_at_shorter (behind_blanks line) first rest e in
+    let later = shorter rest (omega (arith, length-drop (prefix_len is_blank line) line)) in
+    (option_map (λ others. first ∷ others) later.0, tokens_step line first rest later.0 e later.1)
+
+tokens_within : (n : ℕ) (line : List ℕ) → length line < n → Tokenized line
+tokens_within zero line short = absurd (omega arith)
+tokens_within (suc n) line short =
+    tokens_case line (token_at (behind_blanks line)) (λ rest less. tokens_within n rest (omega arith)) refl
+
+pub tokens_decided : (line : List ℕ) → Tokenized line
+tokens_decided line = tokens_within (suc (length line)) line (omega arith)

@@ -350,6 +350,7 @@ fn token_at(alloc: Global, bytes: &[u8]) -> Result<(Token, &[u8]), Unread>
 }
 
 /// The tokens of a line.
+#[tactic(auto, using(crate::proofs::TokenLemmas::completes_none, crate::proofs::TokenLemmas::completes_more, crate::proofs::TokenLemmas::completes_end, crate::proofs::TokenLemmas::completes_fail, crate::proofs::TokenLemmas::token_at_shorter))]
 pub fn tokens(alloc: Global, line: &[u8]) -> Result<List<Token>, Unread>
     ensures { ReadsAs result (TokensAre line.now) }
 {
