@@ -1,3 +1,4 @@
 pub mod FirstForm
+pub mod Forms
 pub mod Reading
 pub mod Scanning

@@ -4,6 +4,7 @@
 
 mod fault;
 mod form;
+mod line_form;
 mod lines;
 mod tokens;
 
