@@ -1,10 +1,10 @@
 -- The form that tokens are read as is the one form that has these tokens.
 use Rattle.std.proofs.Common.{◌≡◌, ℕ, suc, zero, ◌+◌, ◌^◌, ◌<◌, ◌≤◌, Bool, true, false, cond, ◌&&◌, ◌||◌, ◌==◌, List, [], ◌∷◌, ◌++◌, length, codes, refl, ap, sym, ◌∙◌, arith, nat_lt, nat_le, Option, Some, None, IsTrue, inl, inr, ⊎_elim, ◌⊎◌}
 use Rattle.std.specs.Str.{bytes_eq}
-use Rattle.std.proofs.lemmas.Bool.{and_parts, and_from, or_cases, or_left, or_right, cond-true}
+use Rattle.std.proofs.lemmas.Bool.{and_parts, and_from, or_cases, or_left, or_right, cond-true, cases_lt}
 use Rattle.std.proofs.lemmas.Bool.Decides.{nat_tests}
 use Rattle.std.proofs.lemmas.Slice.Eq.{bytes_eq-Decides}
-use Rattle.unit_tree.specs.Tokens.{symbol_text}
+use Rattle.unit_tree.specs.Tokens.{symbol_text, Spells}
 use Rattle.unit_tree.specs.declared.token.Keyword.{Keyword}
 use Rattle.unit_tree.specs.declared.token.Keyword.TheVariants as word
 use Rattle.unit_tree.specs.declared.token.Symbol.{Symbol}
@@ -13,7 +13,9 @@ use Rattle.unit_tree.specs.declared.token.Token.{Token}
 use Rattle.unit_tree.specs.declared.token.Token.TheVariants as token
 use Rattle.unit_text.specs.FirstForm.{whole, number_tokens, operand_token, typed, tokens_of, IsStart, IsOperand, IsInRange}
 use Rattle.unit_text.specs.Forms.{◌>>=◌, name_at, whole_at, same_symbol, after_symbol, sign_at, number_at, typed_at, operand_at, last, header_form, unit_form, is_start, state_form, output_form, assign_form, instance_form, stop_form, longest_form, keyword_form, form_of}
-use Rattle.unit_text.specs.Scanning.{symbol_of}
+use Rattle.unit_text.specs.Reading.{HasForm, FormIs}
+use Rattle.unit_text.specs.Scanning.{symbol_of, TokensAre}
+use Rattle.unit_text.proofs.TokenLemmas.{spells_one, tokens_decided}
 use Rattle.unit_text.specs.declared.form.LineForm.{LineForm}
 use Rattle.unit_text.specs.declared.form.LineForm.TheVariants as form
 use Rattle.unit_text.specs.declared.form.Operand.{Operand}
@@ -283,3 +285,45 @@ form_is (token.Keyword keyword ∷ rest) line e = keyword_is keyword rest line e
 form_is (token.Name name ∷ rest) line e = assign_is (token.Name name ∷ rest) line e
 form_is (token.Number digits decimals ∷ rest) line e = assign_is (token.Number digits decimals ∷ rest) line e
 form_is (token.Symbol symbol ∷ rest) line e = assign_is (token.Symbol symbol ∷ rest) line e
+
+-- ---- the form of a line
+
+pub form_found : (line : List ℕ) (tokens : List Token) (found : LineForm) → length line ≤ 1000 → Spells tokens line → form_of tokens ≡ Some found → HasForm found line
+form_found line tokens found short spelled e =
+    let is = form_is tokens found e in
+    record { spelled = rw (← is.0) spelled; in_range = is.1; short = short }
+
+pub form_unknown : (line : List ℕ) (tokens : List Token) → Spells tokens line → form_of tokens ≡ None → (other : LineForm) → HasForm other line → ⊥
+form_unknown line tokens spelled e other has =
+    let same = spells_one tokens (tokens_of other) line spelled has.spelled in
+    let read : form_of tokens ≡ Some other = ap form_of same ∙ form_again other has.in_range in
+    absurd cc
+
+pub form_unspelled : (line : List ℕ) → ((tokens : List Token) → Spells tokens line → ⊥) → (other : LineForm) → HasForm other line → ⊥
+form_unspelled line unspelled other has = unspelled (tokens_of other) has.spelled
+
+pub form_long : (line : List ℕ) → 1000 < length line → (other : LineForm) → HasForm other line → ⊥
+form_long line long other has = omega (arith, has.short)
+
+-- a line has one form at most
+pub one_form : (line : List ℕ) (one other : LineForm) → HasForm one line → HasForm other line → one ≡ other
+one_form line one other a b =
+    let same = spells_one (tokens_of one) (tokens_of other) line a.spelled b.spelled in
+    let both : ◌≡◌ {A = Option LineForm} (Some one) (Some other) = sym (form_again one a.in_range) ∙ ap form_of same ∙ form_again other b.in_range in
+    cc
+
+-- every line has a form, or it has none
+form_decided_case : (line : List ℕ) (tokens : List Token) (found : Option LineForm) → length line ≤ 1000 → Spells tokens line → form_of tokens ≡ found → FormIs line found
+form_decided_case line tokens None short spelled e = form_unknown line tokens spelled e
+form_decided_case line tokens (Some found) short spelled e = form_found line tokens found short spelled e
+
+form_decided_short : (line : List ℕ) (found : Option (List Token)) → length line ≤ 1000 → TokensAre line found → (form : Option LineForm) × FormIs line form
+form_decided_short line None short are = (None, form_unspelled line are)
+form_decided_short line (Some tokens) short are = (form_of tokens, form_decided_case line tokens (form_of tokens) short are refl)
+
+pub form_decided : (line : List ℕ) → (form : Option LineForm) × FormIs line form
+form_decided line =
+    elim (cases_lt 1000 (length line)) [
+      | inl long ↦ (None, form_long line long)
+      | inr short ↦ (let tokens = tokens_decided line in form_decided_short line tokens.0 short tokens.1)
+    ]

@@ -1,5 +1,5 @@
 -- Which texts are of the first form, which system each says, and where every other text is refused.
-use Rattle.std.specs.Prelude.{◌≡◌, ℕ, suc, ◌<◌, ◌≤◌, max, List, [], ◌∷◌, ◌++◌, length, take, ⊤, ◌⊎◌}
+use Rattle.std.specs.Prelude.{◌≡◌, ℕ, suc, ◌<◌, ◌≤◌, max, List, [], ◌∷◌, ◌++◌, length, take, Option, Some, None, ⊤, ◌⊎◌}
 use Rattle.unit_tree.specs.Lines.{lines_of, size_of}
 use Rattle.unit_tree.specs.Tokens.{Spells}
 use Rattle.unit_tree.specs.declared.system.System.{System}
@@ -12,6 +12,11 @@ pub record HasForm (form : LineForm) (line : List ℕ) : Type 0 where
   pub spelled : Spells (tokens_of form) line
   pub in_range : IsInRange form
   pub short : length line ≤ 1000
+
+-- The form of a line, or that it has none.
+abbrev pub FormIs : List ℕ → Option LineForm → Type 0
+FormIs line None = (form : LineForm) → HasForm form line → ⊥
+FormIs line (Some form) = HasForm form line
 
 -- Each line has its form, one for one.
 abbrev pub HaveForms : List LineForm → List (List ℕ) → Type 0

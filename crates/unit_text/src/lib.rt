@@ -2,6 +2,7 @@
 //! text is refused.
 #![tactic(auto)]
 
+mod draft;
 mod fault;
 mod form;
 mod line_form;

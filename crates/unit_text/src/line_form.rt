@@ -1,15 +1,20 @@
 ghost use Rattle.std.specs.Prelude.{◌≡◌};
-ghost use Rattle.unit_text.specs.Scanning.{Gives, GivesFront};
+ghost use Rattle.unit_text.specs.Scanning.{Gives, GivesFront, ReadsAs};
+ghost use Rattle.unit_text.specs.Reading.{FormIs};
 ghost use Rattle.unit_text.specs.Forms.{GivesRest, name_at, whole_at, after_symbol, sign_at, number_at, typed_at, operand_at, last, header_form, unit_form, is_start, state_form, output_form, assign_form, instance_form, stop_form, longest_form, keyword_form, form_of};
 
 use crate::fault::Unread;
 use crate::form::{Assignment, Declared, LineForm, Operand, WholeNumber};
+use crate::tokens::tokens;
 use fixed_words::List;
 use std::alloc::Global;
 use unit_tree::{Keyword, Name, Symbol, Token};
 
 /// The one type of the form.
 const INT64: &[u8] = b"Int64";
+
+/// The most bytes of a line, its end not counted.
+const LONGEST_LINE: usize = 1000;
 
 /// The one version of the language.
 const VERSION: u64 = 1;
@@ -232,9 +237,9 @@ fn keyword_line(alloc: Global, keyword: Keyword, rest: &[Token]) -> Result<LineF
     }
 }
 
-/// The form of a line by its tokens.
+/// The form by a line's tokens.
 #[tactic(auto, unfolding(crate::specs::Forms::form_of))]
-pub fn form_of(alloc: Global, tokens: &[Token]) -> Result<LineForm, Unread>
+fn form_of(alloc: Global, tokens: &[Token]) -> Result<LineForm, Unread>
     ensures { Gives result (form_of tokens.now) }
 {
     match tokens {
@@ -242,4 +247,16 @@ pub fn form_of(alloc: Global, tokens: &[Token]) -> Result<LineForm, Unread>
         [Token::Keyword(keyword), rest @ ..] => keyword_line(alloc, *keyword, rest),
         _ => assignment(alloc, tokens),
     }
+}
+
+/// The form of a line.
+#[tactic(auto, using(crate::proofs::FormLemmas::form_found, crate::proofs::FormLemmas::form_unknown, crate::proofs::FormLemmas::form_unspelled, crate::proofs::FormLemmas::form_long))]
+pub fn line_form(alloc: Global, line: &[u8]) -> Result<LineForm, Unread>
+    ensures { ReadsAs result (FormIs line.now) }
+{
+    if line.len() > LONGEST_LINE {
+        return Err(Unread::NoForm);
+    }
+    let tokens = tokens(alloc, line)?;
+    form_of(alloc, tokens.as_slice())
 }
