@@ -51,3 +51,15 @@ size_of_snoc [] last = size_of-one last ∙ omega arith
 size_of_snoc (byte ∷ front) last =
     let step = size_of_snoc front last in
     omega (arith, size_of-cons byte (front ++ last ∷ []) (omega arith), step)
+
+-- a text has no more bytes than its size
+size_of-some : (text : List ℕ) → 0 < length text → length text ≤ size_of text
+size_of-some [] some = absurd (omega arith)
+size_of-some (byte ∷ []) some = omega (arith, size_of-one byte)
+size_of-some (byte ∷ next ∷ text) some =
+    let later = size_of-some (next ∷ text) (omega arith) in
+    omega (arith, later, size_of-cons byte (next ∷ text) (omega (arith, later)))
+
+pub length_le_size_of : (text : List ℕ) → length text ≤ size_of text
+length_le_size_of [] = omega arith
+length_le_size_of (byte ∷ text) = size_of-some (byte ∷ text) (omega arith)

@@ -2,6 +2,7 @@
 use Rattle.std.specs.Prelude.{◌≡◌, ℕ, Bool, true, false, not, ◌&&◌, List, [], ◌∷◌, ◌++◌, length, Option, Some, None, if◌then◌else◌, nat_lt}
 use Rattle.std.specs.List.{list_any}
 use Rattle.std.specs.Str.{bytes_eq}
+use Rattle.unit_text.specs.Reading.{HasForm}
 use Rattle.unit_text.specs.declared.draft.Draft.{Draft}
 use Rattle.unit_text.specs.declared.draft.Stage.{Stage}
 use Rattle.unit_text.specs.declared.draft.Stage.TheVariants as stage
@@ -104,3 +105,9 @@ is_whole _ = false
 -- The text, where nothing lacks.
 abbrev pub whole_source : Draft → Option Source
 whole_source draft = if is_whole draft.stage then Some (draft.source) else None
+
+-- The draft with a line of the text more, in the form that it has; none where it has no form that can come
+-- there.
+abbrev pub NextIs : Draft → List ℕ → Option Draft → Type 0
+NextIs draft line None = (form : LineForm) → HasForm form line → with_line draft form ≡ None
+NextIs draft line (Some next) = (form : LineForm) × HasForm form line × (with_line draft form ≡ Some next)

@@ -4,6 +4,8 @@ use Rattle.unit_tree.specs.Lines.{lines_of, size_of}
 use Rattle.unit_tree.specs.Tokens.{Spells}
 use Rattle.unit_tree.specs.declared.system.System.{System}
 use Rattle.unit_text.specs.FirstForm.{tokens_of, IsInRange, forms_of, system_of, IsOfForm}
+use Rattle.unit_text.specs.declared.fault.TextFault.{TextFault}
+use Rattle.unit_text.specs.declared.fault.TextFault.TheVariants as fault
 use Rattle.unit_text.specs.declared.form.LineForm.{LineForm}
 use Rattle.unit_text.specs.declared.form.Source.{Source}
 
@@ -68,3 +70,29 @@ IsRefused text line rule =
 pub record IsAccepted (text : List ℕ) (system : System) : Type 0 where
   pub short : size_of text ≤ text_limit
   pub read : Reads text system
+
+-- The lines of the text are those of a text of the form.
+abbrev pub IsSource : List ℕ → Source → Type 0
+IsSource text source = IsOfForm source × HaveForms (forms_of source) (lines_of text)
+
+-- A refusal names its line and its rule; want of memory says nothing of the text.
+abbrev pub RefusalIs : List ℕ → TextFault → Type 0
+RefusalIs text (fault.Line line rule) = IsRefused text line rule
+RefusalIs text fault.NoMemory = ⊤
+
+-- No byte is more than 255.
+abbrev pub IsBytes : List ℕ → Type 0
+IsBytes [] = ⊤
+IsBytes (byte ∷ bytes) = (byte < 256) × IsBytes bytes
+
+-- A text says one system at most, and it is never both accepted and refused; it is refused at one line
+-- and by one rule at most.
+pub record AnswersAgree (text : List ℕ) : Type 0 where
+  pub one_system : (one other : System) → IsAccepted text one → IsAccepted text other → one ≡ other
+  pub not_both : (system : System) (line rule : ℕ) → IsAccepted text system → IsRefused text line rule → ⊥
+  pub one_refusal : (line rule other by : ℕ) → IsRefused text line rule → IsRefused text other by → (line ≡ other) × (rule ≡ by)
+
+-- The text says a system, or a line of it breaks a rule.
+abbrev pub IsAnswered : List ℕ → Type 0
+IsAnswered text =
+    ((system : System) × IsAccepted text system) ⊎ ((line : ℕ) × (rule : ℕ) × IsRefused text line rule)

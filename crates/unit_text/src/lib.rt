@@ -7,6 +7,7 @@ mod fault;
 mod form;
 mod line_form;
 mod lines;
+mod reading;
 mod tokens;
 
 pub use fault::TextFault;
