@@ -8,6 +8,7 @@ mod form;
 mod line_form;
 mod lines;
 mod reading;
+mod system;
 mod tokens;
 
 pub use fault::TextFault;
