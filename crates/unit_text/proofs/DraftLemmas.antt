@@ -1,15 +1,14 @@
 -- A draft of lines that are read has exactly these lines, and a whole text is read to its end.
-use Rattle.std.proofs.Common.{◌≡◌, ℕ, suc, zero, ◌+◌, ◌<◌, ◌≤◌, Bool, true, false, not, cond, ◌&&◌, List, [], ◌∷◌, ◌++◌, length, map, refl, ap, sym, ◌∙◌, arith, nat_lt, Option, Some, None, append_assoc, option_and_then}
+use Rattle.std.proofs.Common.{◌≡◌, ℕ, ◌<◌, ◌≤◌, Bool, true, false, not, cond, ◌&&◌, List, [], ◌∷◌, ◌++◌, length, map, refl, ap, sym, ◌∙◌, arith, nat_lt, Option, Some, None, append_assoc, option_and_then}
 use Rattle.std.specs.List.{AllByRecursion, Contains}
 use Rattle.std.specs.Str.{bytes_eq}
-use Rattle.std.proofs.lemmas.Bool.{and_parts, and_from, cond-true}
+use Rattle.std.proofs.lemmas.Bool.{and_parts}
 use Rattle.std.proofs.lemmas.Bool.Decides.{nat_tests}
-use Rattle.std.proofs.lemmas.List.{append-nil, length-append, length_push, map_push, map-append}
+use Rattle.std.proofs.lemmas.List.{length_push, map_push}
 use Rattle.std.proofs.lemmas.Slice.Eq.{bytes_eq-Decides}
-use Rattle.unit_tree.specs.Tokens.{IsWord, IsReserved}
-use Rattle.unit_text.specs.FirstForm.{longest_line, forms_of, state_names, IsDeclared, IsAssignment, AreDistinct, IsOfForm}
-use Rattle.unit_text.specs.Nesting.{no_source, no_lines, names_state, is_declared, to, after_start, after_header, after_states, after_output, after_step, after_step_end, after_unit_end, after_instance, after_instance_end, after_stop, after, with_line, is_whole, whole_source}
-use Rattle.unit_text.specs.Reading.{HasForm, HaveForms}
+use Rattle.unit_text.specs.FirstForm.{longest_line, state_names, IsAssignment, AreDistinct, IsOfForm}
+use Rattle.unit_text.specs.Nesting.{no_lines, names_state, is_declared, after_start, after_header, after_states, after_output, after_step, after_step_end, after_unit_end, after_instance, after_instance_end, after_stop, after, with_line}
+use Rattle.unit_text.specs.Reading.{HasForm}
 use Rattle.unit_text.specs.declared.draft.Draft.{Draft}
 use Rattle.unit_text.specs.declared.draft.Stage.{Stage}
 use Rattle.unit_text.specs.declared.draft.Stage.TheVariants as stage
@@ -17,9 +16,8 @@ use Rattle.unit_text.specs.declared.form.Assignment.{Assignment}
 use Rattle.unit_text.specs.declared.form.Declared.{Declared}
 use Rattle.unit_text.specs.declared.form.LineForm.{LineForm}
 use Rattle.unit_text.specs.declared.form.LineForm.TheVariants as form
-use Rattle.unit_text.specs.declared.form.Operand.{Operand}
 use Rattle.unit_text.specs.declared.form.Source.{Source}
-use Rattle.unit_text.proofs.NameLemmas.{names, IsName, bytes_eq-same, names_state_is, names_state_again, names_state_no, names_state_not, is_declared_is, is_declared_again, distinct_push, distinct_middle}
+use Rattle.unit_text.proofs.NameLemmas.{names, IsName, names_state_is, names_state_no, is_declared_is, distinct_push}
 
 -- The draft that lines lead to.
 abbrev pub run : Draft → List LineForm → Option Draft

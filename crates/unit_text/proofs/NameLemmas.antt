@@ -1,5 +1,5 @@
 -- Lists of names: which they contain, that they differ, and that there are more names than states.
-use Rattle.std.proofs.Common.{◌≡◌, ℕ, suc, zero, ◌+◌, ◌<◌, ◌≤◌, Bool, true, false, not, cond, ◌&&◌, ◌||◌, List, [], ◌∷◌, ◌++◌, length, map, codes, refl, ap, sym, ◌∙◌, arith, nat_le, Option, Some, None, inl, inr, ⊎_elim, ◌⊎◌}
+use Rattle.std.proofs.Common.{◌≡◌, ℕ, suc, ◌<◌, ◌≤◌, Bool, true, false, not, cond, ◌&&◌, List, [], ◌∷◌, ◌++◌, length, map, codes, refl, sym, ◌∙◌, arith, nat_le, Option, Some, None, inl, inr, ◌⊎◌}
 use Rattle.std.specs.List.{list_any, list_all, Contains}
 use Rattle.std.specs.Str.{bytes_eq}
 use Rattle.std.specs.Option.{is_none}
@@ -7,7 +7,7 @@ use Rattle.std.proofs.lemmas.Bool.{and_parts, and_from, or_cases, or_left, or_ri
 use Rattle.std.proofs.lemmas.Bool.Decides.{nat_tests}
 use Rattle.std.proofs.lemmas.List.Elements.{Contains-append_cases, Contains-append_right, Contains-push_cases}
 use Rattle.std.proofs.lemmas.Slice.Eq.{bytes_eq-Decides}
-use Rattle.unit_tree.specs.Tokens.{IsWord, IsReserved, is_letter, is_word_byte, begins_with}
+use Rattle.unit_tree.specs.Tokens.{IsWord, IsReserved, is_letter, is_word_byte}
 use Rattle.unit_text.specs.FirstForm.{AreDistinct, IsDeclared}
 use Rattle.unit_text.specs.Nesting.{names_state, is_declared}
 use Rattle.unit_text.specs.Scanning.{keyword_of}

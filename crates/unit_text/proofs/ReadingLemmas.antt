@@ -1,16 +1,22 @@
 -- A text that is read line by line.
-use Rattle.std.proofs.Common.{◌≡◌, ℕ, suc, zero, ◌+◌, ◌<◌, ◌≤◌, List, [], ◌∷◌, ◌++◌, length, take, max, refl, ap, sym, ◌∙◌, arith, Option, Some, None, Result, Ok, Err, append_assoc, inl, inr, ◌⊎◌}
+use Rattle.std.proofs.Common.{◌≡◌, ℕ, ◌+◌, ◌<◌, ◌≤◌, List, [], ◌∷◌, ◌++◌, length, take, map, max, refl, ap, sym, ◌∙◌, arith, Option, Some, None, Result, Ok, Err, append_assoc, inl, inr}
 use Rattle.std.proofs.lemmas.List.{append-nil, length-append, length_push, take_at, nil_from_length}
+use Rattle.std.proofs.lemmas.List.Elements.{All-from_recursion}
+use Rattle.std.specs.List.{AllByRecursion}
+use Rattle.std.specs.Prelude.{IfSome}
 use Rattle.unit_tree.specs.Lines.{lines_of, size_of}
 use Rattle.unit_tree.specs.declared.system.System.{System}
-use Rattle.unit_text.specs.FirstForm.{forms_of, IsOfForm, system_of}
+use Rattle.unit_text.specs.FirstForm.{longest_line, forms_of, IsStart, IsOperand, IsInRange, system_of}
 use Rattle.unit_text.specs.Nesting.{no_lines, with_line, whole_source, NextIs}
-use Rattle.unit_text.specs.Reading.{HasForm, FormIs, HaveForms, Reads, Begin, StopsAt, LacksEnd, text_limit, IsRefused, IsAccepted, IsSource}
+use Rattle.unit_text.specs.Reading.{HasForm, HaveForms, StopsAt, LacksEnd, text_limit, IsRefused, IsAccepted, IsSource, AreInRange}
 use Rattle.unit_text.specs.Scanning.{ReadsAs, Gives}
 use Rattle.unit_text.specs.declared.draft.Draft.{Draft}
 use Rattle.unit_text.specs.declared.fault.Unread.{Unread}
 use Rattle.unit_text.specs.declared.fault.Unread.TheVariants as unread
+use Rattle.unit_text.specs.declared.form.Assignment.{Assignment}
+use Rattle.unit_text.specs.declared.form.Declared.{Declared}
 use Rattle.unit_text.specs.declared.form.LineForm.{LineForm}
+use Rattle.unit_text.specs.declared.form.LineForm.TheVariants as form
 use Rattle.unit_text.specs.declared.form.Source.{Source}
 use Rattle.unit_text.proofs.FormLemmas.{one_form}
 use Rattle.unit_text.proofs.WholeLemmas.{Progress, progress_none, progress_more, progress_begins, progress_stops, progress_ends, progress_lacks}
@@ -49,22 +55,24 @@ pub reached_next : (text rest : List ℕ) (line : ℕ) (draft : Draft) (first be
 reached_next text rest line draft first behind next so_far cut shorter is =
     reached_more text rest line draft first behind next is.0 so_far cut shorter is.1 is.2
 
-take_all_but : (before : List (List ℕ)) (rest : List (List ℕ)) (line : ℕ) → length before ≡ line → take line (before ++ rest) ≡ before
-take_all_but before rest line count = take_at before rest line count
+-- the first line that no draft goes on with
+pub stops_here : (before : List (List ℕ)) (line : List ℕ) (rest : List (List ℕ)) (count : ℕ) (draft : Draft) → Progress before draft → NextIs draft line None → length before ≡ count → StopsAt (before ++ line ∷ rest) (count + 1)
+stops_here before line rest count draft so_far refuses at =
+    let all : before ++ line ∷ rest ≡ (before ++ line ∷ []) ++ rest = sym (append_assoc before (line ∷ []) rest) in
+    let front : take count (before ++ line ∷ rest) ≡ before = take_at before (line ∷ rest) count at in
+    let longer : take (count + 1) (before ++ line ∷ rest) ≡ before ++ line ∷ [] = ap (take (count + 1)) all ∙ take_at (before ++ line ∷ []) rest (count + 1) (omega (arith, length_push before line, at)) in
+    record {
+      before = count;
+      is_next = omega arith;
+      within = omega (arith, length-append before (line ∷ rest), at);
+      begun = rw front (progress_begins before draft so_far);
+      broken = rw longer (progress_stops before line draft so_far refuses);
+    }
 
 pub reached_stops : (text rest : List ℕ) (line : ℕ) (draft : Draft) (first behind : List ℕ) → Reached text rest line draft → lines_of rest ≡ first ∷ lines_of behind → NextIs draft first None → StopsAt (lines_of text) (line + 1)
 reached_stops text rest line draft first behind so_far cut refuses =
-    let lines : lines_of text ≡ so_far.before ++ (first ∷ lines_of behind) = so_far.cut ∙ ap (λ (t : List (List ℕ)). so_far.before ++ t) cut in
-    let with_first : lines_of text ≡ (so_far.before ++ first ∷ []) ++ lines_of behind = lines ∙ sym (append_assoc so_far.before (first ∷ []) (lines_of behind)) in
-    let front : take line (lines_of text) ≡ so_far.before = ap (take line) lines ∙ take_at so_far.before (first ∷ lines_of behind) line so_far.count in
-    let longer : take (line + 1) (lines_of text) ≡ so_far.before ++ first ∷ [] = ap (take (line + 1)) with_first ∙ take_at (so_far.before ++ first ∷ []) (lines_of behind) (line + 1) (omega (arith, length_push so_far.before first, so_far.count)) in
-    record {
-      before = line;
-      is_next = omega arith;
-      within = omega (arith, ap length lines, length-append so_far.before (first ∷ lines_of behind), so_far.count);
-      begun = rw front (progress_begins so_far.before draft so_far.progress);
-      broken = rw longer (progress_stops so_far.before first draft so_far.progress refuses);
-    }
+    let lines : lines_of text ≡ so_far.before ++ first ∷ lines_of behind = so_far.cut ∙ ap (λ (t : List (List ℕ)). so_far.before ++ t) cut in
+    rw lines (stops_here so_far.before first (lines_of behind) line draft so_far.progress refuses so_far.count)
 
 -- nothing is left of the text
 ended : (text rest : List ℕ) (line : ℕ) (draft : Draft) (so_far : Reached text rest line draft) → length rest ≡ 0 → lines_of text ≡ so_far.before
@@ -93,3 +101,53 @@ refused_at text rest line draft first behind short so_far cut refuses =
 pub refused_end : (text rest : List ℕ) (line : ℕ) (draft : Draft) → size_of text ≤ text_limit → Reached text rest line draft → length rest ≡ 0 → whole_source draft ≡ None → IsRefused text (max line 1) 4
 refused_end text rest line draft short so_far none e =
     inr (short, refl, inr (reached_lacks text rest line draft so_far none e))
+
+pub refused_long : (text : List ℕ) → text_limit < size_of text → IsRefused text 1 2
+refused_long text long = inl (long, refl, refl)
+
+-- ---- the numbers of a text
+
+have_range : (forms : List LineForm) (lines : List (List ℕ)) → HaveForms forms lines → AllByRecursion IsInRange forms
+have_range [] lines have = tt
+have_range (form ∷ forms) [] have = absurd have
+have_range (form ∷ forms) (line ∷ lines) have = (have.0.in_range, have_range forms lines have.1)
+
+parts_range : (forms others : List LineForm) → AllByRecursion IsInRange (forms ++ others) → AllByRecursion IsInRange forms × AllByRecursion IsInRange others
+parts_range [] others are = (tt, are)
+parts_range (form ∷ forms) others are =
+    let later = parts_range forms others are.1 in
+    ((are.0, later.0), later.1)
+
+states_range : (states : List Declared) → AllByRecursion IsInRange (map form.State states) → AllByRecursion (λ (state : Declared). IsStart state.start) states
+states_range [] are = tt
+states_range (state ∷ states) are = (are.0, states_range states are.1)
+
+left_range : (sums : List Assignment) → AllByRecursion IsInRange (map form.Assign sums) → AllByRecursion (λ (sum : Assignment). IsOperand sum.left) sums
+left_range [] are = tt
+left_range (sum ∷ sums) are = (are.0.0, left_range sums are.1)
+
+right_range : (sums : List Assignment) → AllByRecursion IsInRange (map form.Assign sums) → AllByRecursion (λ (sum : Assignment). IsOperand sum.right) sums
+right_range [] are = tt
+right_range (sum ∷ sums) are = (are.0.1, right_range sums are.1)
+
+longest_range : (longest : Option ℕ) → AllByRecursion IsInRange (longest_line longest) → IfSome longest (λ ticks. ticks ≤ 99999)
+longest_range None are = tt
+longest_range (Some ticks) are = are.0.1
+
+pub in_range : (text : List ℕ) (source : Source) → IsSource text source → AreInRange source
+in_range text source is =
+    let all = have_range (forms_of source) (lines_of text) is.1 in
+    let ends = form.End ∷ form.End ∷ form.Instance source.instance source.unit ∷ form.End ∷ form.Stop source.stop ∷ longest_line source.longest in
+    let outer = parts_range (map form.State source.states) (form.Output source.output source.shown ∷ form.Step ∷ (map form.Assign source.assignments ++ ends)) all.1.1 in
+    let inner = parts_range (map form.Assign source.assignments) ends outer.1.1.1 in
+    record {
+      starts = All-from_recursion (λ (state : Declared). IsStart state.start) source.states (states_range source.states outer.0);
+      left = All-from_recursion (λ (sum : Assignment). IsOperand sum.left) source.assignments (left_range source.assignments inner.0);
+      right = All-from_recursion (λ (sum : Assignment). IsOperand sum.right) source.assignments (right_range source.assignments inner.0);
+      stop = inner.1.1.1.1.1.0;
+      longest = longest_range source.longest inner.1.1.1.1.1.1;
+    }
+
+pub accepted : (text : List ℕ) (source : Source) (system : System) → size_of text ≤ text_limit → IsSource text source → system ≡ system_of source → IsAccepted text system
+accepted text source system short is says =
+    record { short = short; read = record { source = source; of_form = is.0; lines = is.1; says = says } }

@@ -1,10 +1,10 @@
 -- The token at the front of bytes is the one token that they begin with.
-use Rattle.std.proofs.Common.{◌≡◌, ℕ, suc, zero, ◌+◌, ◌-◌, ◌*◌, ◌^◌, ◌<◌, ◌≤◌, Bool, true, false, not, cond, ◌&&◌, ◌||◌, List, [], ◌∷◌, ◌++◌, length, take, drop, refl, ap, sym, ◌∙◌, arith, ◌==◌, nat_lt, Option, Some, None, append_assoc, option_and_then, IsTrue}
+use Rattle.std.proofs.Common.{◌≡◌, ℕ, suc, zero, ◌^◌, ◌<◌, ◌≤◌, Bool, true, false, not, cond, ◌&&◌, List, [], ◌∷◌, ◌++◌, length, take, drop, refl, ap, sym, ◌∙◌, arith, ◌==◌, nat_lt, Option, Some, None, append_assoc, option_and_then, IsTrue}
 use Rattle.std.specs.List.{list_all, prefix_len}
 use Rattle.std.specs.Option.{option_map}
-use Rattle.std.proofs.lemmas.Bool.{and_parts, and_from, and_left, and_right, or_parts, or_left, or_right, or_from, cond-true, cond-false, false≢true}
+use Rattle.std.proofs.lemmas.Bool.{and_parts, and_from, and_left, and_right, or_parts, or_left, cond-true, cond-false}
 use Rattle.std.proofs.lemmas.Bool.Decides.{nat_tests}
-use Rattle.std.proofs.lemmas.List.{drop_all, take_all, take_at, drop_at, take-append-drop, length-append, length-take, length-drop, nil_from_length, append-nil}
+use Rattle.std.proofs.lemmas.List.{drop_all, take_at, drop_at, take-append-drop, length-append, length-take, length-drop, nil_from_length, append-nil}
 use Rattle.std.proofs.lemmas.List.Folds.{length-prefix_len}
 use Rattle.unit_tree.specs.Tokens.{is_blank, is_digit, is_letter, is_word_byte, keyword_text, symbol_text, number_from, pointed, begins_with, begins_with_fraction, IsWord, IsReserved, IsNumber, IsSpelling, IsLongest, Ends, BeginsWith, Spells}
 use Rattle.unit_tree.specs.declared.token.Keyword.{Keyword}

@@ -1,18 +1,14 @@
 -- The lines of a whole text are read, and each line that is read begins a whole text.
-use Rattle.std.proofs.Common.{◌≡◌, ℕ, suc, zero, ◌+◌, ◌^◌, ◌<◌, ◌≤◌, Bool, true, false, not, cond, ◌&&◌, List, [], ◌∷◌, ◌++◌, length, map, codes, refl, ap, sym, subst, ◌∙◌, arith, nat_lt, Option, Some, None, append_assoc, option_and_then, inl, inr}
-use Rattle.std.specs.List.{AllByRecursion, Contains, list_all}
-use Rattle.std.specs.Str.{bytes_eq}
+use Rattle.std.proofs.Common.{◌≡◌, ℕ, ◌<◌, ◌≤◌, Bool, true, false, not, cond, ◌&&◌, List, [], ◌∷◌, ◌++◌, length, map, codes, refl, ap, sym, subst, ◌∙◌, arith, nat_lt, Option, Some, None, append_assoc, option_and_then, inl}
+use Rattle.std.specs.List.{AllByRecursion, Contains}
 use Rattle.std.proofs.lemmas.Bool.{and_parts, false≢true}
 use Rattle.std.proofs.lemmas.Bool.Decides.{nat_tests}
 use Rattle.std.proofs.lemmas.List.{append-nil, length-append, length-map, map-append}
-use Rattle.unit_tree.specs.Tokens.{IsWord, IsReserved, IsNumber, IsSpelling, Ends, IsLongest, BeginsWith, Spells, keyword_text, symbol_text, is_blank, is_letter, is_digit}
-use Rattle.unit_tree.specs.declared.token.Keyword.TheVariants as word
-use Rattle.unit_tree.specs.declared.token.Symbol.{Symbol}
-use Rattle.unit_tree.specs.declared.token.Symbol.TheVariants as sign
+use Rattle.unit_tree.specs.Tokens.{IsNumber, IsSpelling, Ends, Spells, symbol_text, is_blank, is_letter, is_digit}
 use Rattle.unit_tree.specs.declared.token.Token.{Token}
 use Rattle.unit_tree.specs.declared.token.Token.TheVariants as token
-use Rattle.unit_text.specs.FirstForm.{longest_line, forms_of, state_names, IsDeclared, IsAssignment, AreDistinct, IsOfForm, tokens_of, whole, typed, IsInRange}
-use Rattle.unit_text.specs.Nesting.{no_source, no_lines, names_state, is_declared, with_line, is_whole, whole_source}
+use Rattle.unit_text.specs.FirstForm.{longest_line, forms_of, state_names, IsAssignment, AreDistinct, IsOfForm, tokens_of, IsInRange}
+use Rattle.unit_text.specs.Nesting.{no_source, no_lines, with_line, is_whole, whole_source}
 use Rattle.unit_text.specs.Reading.{HasForm, HaveForms, Begin}
 use Rattle.unit_text.specs.declared.draft.Draft.{Draft}
 use Rattle.unit_text.specs.declared.draft.Stage.{Stage}
@@ -22,8 +18,7 @@ use Rattle.unit_text.specs.declared.form.Declared.{Declared}
 use Rattle.unit_text.specs.declared.form.LineForm.{LineForm}
 use Rattle.unit_text.specs.declared.form.LineForm.TheVariants as form
 use Rattle.unit_text.specs.declared.form.Source.{Source}
-use Rattle.unit_text.specs.declared.form.WholeNumber.{WholeNumber}
-use Rattle.unit_text.proofs.DraftLemmas.{run, run-append, opening, middle, begun, IsEmpty, IsOpen, IsClosed, IsShown, IsSound, Holds, holds_none, holds_more}
+use Rattle.unit_text.proofs.DraftLemmas.{run, run-append, opening, begun, IsEmpty, IsOpen, IsSound, Holds, holds_none, holds_more}
 use Rattle.unit_text.proofs.FormLemmas.{one_form}
 use Rattle.unit_text.proofs.NameLemmas.{names, IsName, bytes_eq-same, names_state_again, names_state_not, is_declared_again, distinct_middle, some_name, int64_is, letter_is}
 use Rattle.unit_text.proofs.TableLemmas.{is_symbol_text, symbol_is_text}
@@ -399,21 +394,33 @@ progress_begins lines draft so_far =
     let forms : forms_of more.last.source ≡ so_far.forms ++ more.forms = is.1 ∙ holds.are in
     record { source = more.last.source; more = more.lines; of_form = is.0; all = rw forms (HaveForms-append so_far.forms more.forms lines more.lines so_far.have more.have) }
 
+-- a draft that goes no further by one form goes no further by more
+run-stuck : (forms : List LineForm) (draft : Draft) (form : LineForm) (more : List LineForm) → run no_lines forms ≡ Some draft → with_line draft form ≡ None → run no_lines (forms ++ form ∷ more) ≡ None
+run-stuck forms draft form more e stuck =
+    run-append no_lines forms (form ∷ more) ∙ ap (λ (found : Option Draft). option_and_then (λ (end : Draft). run end (form ∷ more)) found) e ∙ ap (λ (found : Option Draft). option_and_then (λ (end : Draft). run end more) found) stuck
+
+-- forms that lead nowhere begin no text
+stuck_forms : (forms : List LineForm) (form : LineForm) (more : List LineForm) (source : Source) → run no_lines (forms ++ form ∷ more) ≡ None → IsOfForm source → forms_of source ≡ forms ++ form ∷ more → ⊥
+stuck_forms forms form more source stuck is same =
+    let whole = run_forms source is in
+    let runs : run no_lines (forms ++ form ∷ more) ≡ Some whole.draft = ap (run no_lines) (sym same) ∙ whole.runs in
+    absurd cc
+
 one_line : (forms : List LineForm) (line : List ℕ) (more : List (List ℕ)) → HaveForms forms (line ∷ more) → (form : LineForm) × (others : List LineForm) × (forms ≡ form ∷ others) × HasForm form line
 one_line [] line more have = absurd have
 one_line (form ∷ forms) line more have = (form, forms, refl, have.0)
+
+stops_with : (forms : List LineForm) (draft : Draft) (source : Source) (front back : List LineForm) (line : List ℕ) (more : List (List ℕ)) → run no_lines forms ≡ Some draft → Refuses draft line → IsOfForm source → forms_of source ≡ front ++ back → front ≡ forms → ((form : LineForm) × (others : List LineForm) × (back ≡ form ∷ others) × HasForm form line) → ⊥
+stops_with forms draft source front back line more runs refuses is are same (form, others, split, has) =
+    let all : forms_of source ≡ forms ++ form ∷ others = rw (same, split) at are in
+    stuck_forms forms form others source (run-stuck forms draft form others runs (refuses form has)) is all
 
 pub progress_stops : (lines : List (List ℕ)) (line : List ℕ) (draft : Draft) → Progress lines draft → Refuses draft line → Begin (lines ++ line ∷ []) → ⊥
 progress_stops lines line draft so_far refuses begin =
     let joined : HaveForms (forms_of begin.source) (lines ++ (line ∷ begin.more)) = rw append_assoc at begin.all in
     let parts = split_forms (forms_of begin.source) lines (line ∷ begin.more) joined in
     let same = same_forms parts.front so_far.forms lines parts.first so_far.have in
-    let next = one_line parts.back line begin.more parts.later in
-    let whole = run_forms begin.source begin.of_form in
-    let forms : forms_of begin.source ≡ so_far.forms ++ next.0 ∷ next.1 = parts.are ∙ ap (λ (t : List LineForm). t ++ parts.back) same ∙ ap (λ (t : List LineForm). so_far.forms ++ t) next.2 in
-    let runs : run no_lines (so_far.forms ++ next.0 ∷ next.1) ≡ Some whole.draft = ap (run no_lines) (sym forms) ∙ whole.runs in
-    let stuck : run no_lines (so_far.forms ++ next.0 ∷ next.1) ≡ None = run-append no_lines so_far.forms (next.0 ∷ next.1) ∙ ap (λ (found : Option Draft). option_and_then (λ (end : Draft). run end (next.0 ∷ next.1)) found) so_far.runs ∙ ap (λ (found : Option Draft). option_and_then (λ (end : Draft). run end next.1) found) (refuses next.0 next.3) in
-    absurd cc
+    stops_with so_far.forms draft begin.source parts.front parts.back line begin.more so_far.runs refuses begin.of_form parts.are same (one_line parts.back line begin.more parts.later)
 
 whole_case : (stage : Stage) (source found : Source) (test : Bool) → is_whole stage ≡ test → IsSound stage source → cond test (Some source) None ≡ Some found → IsOfForm found × (forms_of found ≡ begun stage source)
 whole_case stage source found true e sound is =

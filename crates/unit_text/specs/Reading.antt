@@ -1,9 +1,9 @@
 -- Which texts are of the first form, which system each says, and where every other text is refused.
-use Rattle.std.specs.Prelude.{◌≡◌, ℕ, suc, ◌<◌, ◌≤◌, max, List, [], ◌∷◌, ◌++◌, length, take, Option, Some, None, ⊤, ◌⊎◌}
+use Rattle.std.specs.Prelude.{◌≡◌, ℕ, suc, ◌<◌, ◌≤◌, max, List, [], ◌∷◌, ◌++◌, length, take, Option, Some, None, IfSome, All, ⊤, ◌⊎◌}
 use Rattle.unit_tree.specs.Lines.{lines_of, size_of}
 use Rattle.unit_tree.specs.Tokens.{Spells}
 use Rattle.unit_tree.specs.declared.system.System.{System}
-use Rattle.unit_text.specs.FirstForm.{tokens_of, IsInRange, forms_of, system_of, IsOfForm}
+use Rattle.unit_text.specs.FirstForm.{tokens_of, IsStart, IsOperand, IsInRange, forms_of, system_of, IsOfForm}
 use Rattle.unit_text.specs.declared.fault.TextFault.{TextFault}
 use Rattle.unit_text.specs.declared.fault.TextFault.TheVariants as fault
 use Rattle.unit_text.specs.declared.form.LineForm.{LineForm}
@@ -80,19 +80,28 @@ abbrev pub RefusalIs : List ℕ → TextFault → Type 0
 RefusalIs text (fault.Line line rule) = IsRefused text line rule
 RefusalIs text fault.NoMemory = ⊤
 
--- No byte is more than 255.
-abbrev pub IsBytes : List ℕ → Type 0
-IsBytes [] = ⊤
-IsBytes (byte ∷ bytes) = (byte < 256) × IsBytes bytes
+-- Each number of the text is one that its line may have.
+pub record AreInRange (source : Source) : Type 0 where
+  pub starts : All (λ state. IsStart state.start) source.states
+  pub left : All (λ sum. IsOperand sum.left) source.assignments
+  pub right : All (λ sum. IsOperand sum.right) source.assignments
+  pub stop : source.stop ≤ 99999
+  pub longest : IfSome source.longest (λ ticks. ticks ≤ 99999)
 
--- A text says one system at most, and it is never both accepted and refused; it is refused at one line
--- and by one rule at most.
-pub record AnswersAgree (text : List ℕ) : Type 0 where
-  pub one_system : (one other : System) → IsAccepted text one → IsAccepted text other → one ≡ other
-  pub not_both : (system : System) (line rule : ℕ) → IsAccepted text system → IsRefused text line rule → ⊥
-  pub one_refusal : (line rule other by : ℕ) → IsRefused text line rule → IsRefused text other by → (line ≡ other) × (rule ≡ by)
+-- A text says one system at most.
+abbrev pub SaysOne : List ℕ → Type 0
+SaysOne text = (one other : System) → IsAccepted text one → IsAccepted text other → one ≡ other
 
--- The text says a system, or a line of it breaks a rule.
+-- A text that says a system is not refused.
+abbrev pub IsNotBoth : List ℕ → Type 0
+IsNotBoth text = (system : System) (line rule : ℕ) → IsAccepted text system → IsRefused text line rule → ⊥
+
+-- A text is refused at one line and by one rule at most.
+abbrev pub IsRefusedOnce : List ℕ → Type 0
+IsRefusedOnce text =
+    (line rule other by : ℕ) → IsRefused text line rule → IsRefused text other by → (line ≡ other) × (rule ≡ by)
+
+-- The text says a system, or it is refused.
 abbrev pub IsAnswered : List ℕ → Type 0
 IsAnswered text =
     ((system : System) × IsAccepted text system) ⊎ ((line : ℕ) × (rule : ℕ) × IsRefused text line rule)

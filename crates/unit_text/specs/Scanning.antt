@@ -1,9 +1,9 @@
 -- Reading of bytes as tokens, and what a reading may answer.
-use Rattle.std.specs.Prelude.{◌≡◌, ℕ, ◌+◌, ◌*◌, ◌-◌, ◌^◌, Bool, true, false, List, [], ◌∷◌, ◌++◌, length, take, drop, find, Option, Some, None, Result, Ok, Err, ⊤, if◌then◌else◌, nat_le, nat_lt, ◌==◌, option_and_then}
+use Rattle.std.specs.Prelude.{◌≡◌, ℕ, ◌^◌, List, [], ◌∷◌, length, take, drop, find, Option, Some, None, Result, Ok, Err, ⊤, if◌then◌else◌, nat_le, nat_lt, ◌==◌, option_and_then}
 use Rattle.std.specs.Borrow.{Bor}
 use Rattle.std.specs.List.{prefix_len}
 use Rattle.std.specs.Str.{bytes_eq}
-use Rattle.unit_tree.specs.Tokens.{is_blank, is_digit, is_letter, is_word_byte, keyword_text, symbol_text, number_from, begins_with, begins_with_fraction, Spells}
+use Rattle.unit_tree.specs.Tokens.{is_digit, is_letter, is_word_byte, keyword_text, symbol_text, number_from, begins_with, Spells}
 use Rattle.unit_tree.specs.declared.token.Keyword.{Keyword}
 use Rattle.unit_tree.specs.declared.token.Symbol.{Symbol}
 use Rattle.unit_tree.specs.declared.token.Token.{Token}

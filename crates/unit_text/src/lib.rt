@@ -13,3 +13,4 @@ mod tokens;
 
 pub use fault::TextFault;
 pub use form::{Assignment, Declared, LineForm, Operand, Source, WholeNumber};
+pub use reading::{answers_agree, every_text_is_answered, read_first_form};

@@ -1,16 +1,18 @@
-ghost use Rattle.std.specs.Prelude.{◌≡◌, ◌≤◌, IfOk, IfErr, List};
+ghost use Rattle.std.specs.Prelude.{◌≡◌, ◌≤◌, IfOk, IfErr, ℕ, List};
 ghost use Rattle.unit_tree.specs.Lines.{lines_of, size_of};
 ghost use Rattle.unit_text.specs.FirstForm.{IsOfForm, forms_of, system_of};
 ghost use Rattle.unit_text.specs.Scanning.{ReadsAs};
 ghost use Rattle.unit_text.specs.Nesting.{NextIs};
-ghost use Rattle.unit_text.specs.Reading.{IsSource, RefusalIs, text_limit};
+ghost use Rattle.unit_text.specs.Reading.{IsSource, RefusalIs, IsAccepted, text_limit, SaysOne, IsNotBoth, IsRefusedOnce, IsAnswered};
 
 use crate::draft::Draft;
 use crate::fault::{TextFault, Unread};
 use crate::form::Source;
 use crate::line_form::line_form;
 use crate::lines::{cut_line, size};
+use crate::system::system_of;
 use std::alloc::Global;
+use unit_tree::System;
 
 /// The most bytes of a text, with an end counted for each line.
 const LONGEST_TEXT: usize = 1_048_576;
@@ -61,3 +63,34 @@ fn read_source(alloc: Global, text: &[u8]) -> Result<Source, TextFault>
         }),
     }
 }
+
+/// The system that a text of the first form says.
+///
+/// A text that is too long is refused at line 1 by rule 2, and any other at the first line from which on
+/// it is not of the form, by rule 4; where only the end is missing, at the last line.
+#[tactic(auto, using(crate::proofs::ReadingLemmas::accepted, crate::proofs::ReadingLemmas::refused_long))]
+pub fn read_first_form(alloc: Global, text: &[u8]) -> Result<System, TextFault>
+    ensures accepted { IfOk result (λ system. IsAccepted text.now system) }
+    ensures refused { IfErr result (RefusalIs text.now) }
+{
+    if size(text) > LONGEST_TEXT {
+        return Err(TextFault::Line {
+            line: 1,
+            rule: SIZE_RULE,
+        });
+    }
+    let source = read_source(alloc, text)?;
+    Ok(system_of(alloc, source)?)
+}
+
+/// A text has one answer at most: a system, or a line and a rule.
+pub fn answers_agree()
+    ensures one_system { (text : List ℕ) → SaysOne text }
+    ensures not_both { (text : List ℕ) → IsNotBoth text }
+    ensures one_refusal { (text : List ℕ) → IsRefusedOnce text }
+{}
+
+/// Every text has an answer.
+pub fn every_text_is_answered()
+    ensures { (text : List ℕ) → IsAnswered text }
+{}

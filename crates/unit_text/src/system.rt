@@ -1,10 +1,11 @@
 ghost use Rattle.std.specs.Prelude.{◌≡◌, ◌<◌, ◌≤◌, IfOk, IfSome, All, map};
-ghost use Rattle.unit_text.specs.FirstForm.{IsStart, IsOperand, start_of, expression_of, line_of, state_of, literal_of, optional_literal};
+ghost use Rattle.unit_text.specs.FirstForm.{IsStart, IsOperand, start_of, expression_of, line_of, state_of, literal_of, optional_literal, system_of};
+ghost use Rattle.unit_text.specs.Reading.{AreInRange};
 
-use crate::form::{Assignment, Declared, Operand, WholeNumber};
+use crate::form::{Assignment, Declared, Operand, Source, WholeNumber};
 use fixed_words::{Boxed, List, Literal, NoMemory, Ty};
 use std::alloc::Global;
-use unit_tree::{BinOp, Expr, Line, State};
+use unit_tree::{BinOp, Expr, Instance, Line, Output, State, System, Unit};
 
 /// A number as a word.
 fn start_of(number: WholeNumber) -> i64
@@ -106,4 +107,56 @@ fn lines_of(alloc: Global, sums: List<Assignment>) -> Result<List<Line>, NoMemor
         made.push(line_of(alloc, sum)?)?;
     }
     Ok(made)
+}
+
+/// The system that a text says, by how it is written.
+pub fn system_of(alloc: Global, source: Source) -> Result<System, NoMemory>
+    requires { AreInRange source }
+    ensures { IfOk result (λ system. system ≡ system_of source) }
+{
+    let Source {
+        unit: name,
+        states,
+        output,
+        shown,
+        assignments,
+        instance,
+        stop,
+        longest,
+    } = source;
+    let mut outputs = List::new(alloc);
+    outputs.push(Output {
+        name: output,
+        ty: Ty::Int64,
+        needs: List::new(alloc),
+        value: Expr::Var(shown),
+    })?;
+    let mut instances = List::new(alloc);
+    instances.push(Instance {
+        name: instance,
+        unit: List::from_slice(alloc, name.as_slice())?,
+        settings: List::new(alloc),
+    })?;
+    let mut units = List::new(alloc);
+    units.push(Unit {
+        name,
+        resolution: None,
+        params: List::new(alloc),
+        states: states_of(alloc, states)?,
+        locals: List::new(alloc),
+        inputs: List::new(alloc),
+        outputs,
+        max: None,
+        step: Some(lines_of(alloc, assignments)?),
+    })?;
+    Ok(System {
+        units,
+        instances,
+        wires: List::new(alloc),
+        stop: Some(literal_of(stop)),
+        longest: optional_literal(longest),
+        zero: None,
+        rows: None,
+        samples: List::new(alloc),
+    })
 }

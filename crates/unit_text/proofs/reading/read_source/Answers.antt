@@ -1,6 +1,5 @@
 use Rattle.std.proofs.Common.{arith, ◌≡◌, length, sym}
 use Rattle.std.proofs.lemmas.Bool.Decides.{nat_tests}
-use Rattle.unit_text.specs.Nesting.{whole_source}
 use Rattle.unit_text.proofs.ReadingLemmas.{refused_at, refused_end, reached_end}
 use Rattle.unit_text.proofs.reading.read_source.Goals as goal
 
