@@ -1,2 +1,5 @@
 pub mod FirstForm
+pub mod Forms
+pub mod Nesting
 pub mod Reading
+pub mod Scanning

@@ -1,9 +1,11 @@
 -- Which texts are of the first form, which system each says, and where every other text is refused.
-use Rattle.std.specs.Prelude.{◌≡◌, ℕ, suc, ◌<◌, ◌≤◌, max, List, [], ◌∷◌, ◌++◌, length, take, ⊤, ◌⊎◌}
+use Rattle.std.specs.Prelude.{◌≡◌, ℕ, suc, ◌<◌, ◌≤◌, max, List, [], ◌∷◌, ◌++◌, length, take, Option, Some, None, IfSome, All, ⊤, ◌⊎◌}
 use Rattle.unit_tree.specs.Lines.{lines_of, size_of}
 use Rattle.unit_tree.specs.Tokens.{Spells}
 use Rattle.unit_tree.specs.declared.system.System.{System}
-use Rattle.unit_text.specs.FirstForm.{tokens_of, IsInRange, forms_of, system_of, IsOfForm}
+use Rattle.unit_text.specs.FirstForm.{tokens_of, IsStart, IsOperand, IsInRange, forms_of, system_of, IsOfForm}
+use Rattle.unit_text.specs.declared.fault.TextFault.{TextFault}
+use Rattle.unit_text.specs.declared.fault.TextFault.TheVariants as fault
 use Rattle.unit_text.specs.declared.form.LineForm.{LineForm}
 use Rattle.unit_text.specs.declared.form.Source.{Source}
 
@@ -12,6 +14,11 @@ pub record HasForm (form : LineForm) (line : List ℕ) : Type 0 where
   pub spelled : Spells (tokens_of form) line
   pub in_range : IsInRange form
   pub short : length line ≤ 1000
+
+-- The form of a line, or that it has none.
+abbrev pub FormIs : List ℕ → Option LineForm → Type 0
+FormIs line None = (form : LineForm) → HasForm form line → ⊥
+FormIs line (Some form) = HasForm form line
 
 -- Each line has its form, one for one.
 abbrev pub HaveForms : List LineForm → List (List ℕ) → Type 0
@@ -63,3 +70,38 @@ IsRefused text line rule =
 pub record IsAccepted (text : List ℕ) (system : System) : Type 0 where
   pub short : size_of text ≤ text_limit
   pub read : Reads text system
+
+-- The lines of the text are those of a text of the form.
+abbrev pub IsSource : List ℕ → Source → Type 0
+IsSource text source = IsOfForm source × HaveForms (forms_of source) (lines_of text)
+
+-- A refusal names its line and its rule; want of memory says nothing of the text.
+abbrev pub RefusalIs : List ℕ → TextFault → Type 0
+RefusalIs text (fault.Line line rule) = IsRefused text line rule
+RefusalIs text fault.NoMemory = ⊤
+
+-- Each number of the text is one that its line may have.
+pub record AreInRange (source : Source) : Type 0 where
+  pub starts : All (λ state. IsStart state.start) source.states
+  pub left : All (λ sum. IsOperand sum.left) source.assignments
+  pub right : All (λ sum. IsOperand sum.right) source.assignments
+  pub stop : source.stop ≤ 99999
+  pub longest : IfSome source.longest (λ ticks. ticks ≤ 99999)
+
+-- A text says one system at most.
+abbrev pub SaysOne : List ℕ → Type 0
+SaysOne text = (one other : System) → IsAccepted text one → IsAccepted text other → one ≡ other
+
+-- A text that says a system is not refused.
+abbrev pub IsNotBoth : List ℕ → Type 0
+IsNotBoth text = (system : System) (line rule : ℕ) → IsAccepted text system → IsRefused text line rule → ⊥
+
+-- A text is refused at one line and by one rule at most.
+abbrev pub IsRefusedOnce : List ℕ → Type 0
+IsRefusedOnce text =
+    (line rule other by : ℕ) → IsRefused text line rule → IsRefused text other by → (line ≡ other) × (rule ≡ by)
+
+-- The text says a system, or it is refused.
+abbrev pub IsAnswered : List ℕ → Type 0
+IsAnswered text =
+    ((system : System) × IsAccepted text system) ⊎ ((line : ℕ) × (rule : ℕ) × IsRefused text line rule)
