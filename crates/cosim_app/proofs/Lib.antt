@@ -1,5 +1,6 @@
 pub mod FormLaws
 pub mod Going
+pub mod JudgeLaws
 pub mod OneLemmas
 pub mod RowsKept
 pub mod RowsLaws
