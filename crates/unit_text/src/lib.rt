@@ -1,5 +1,13 @@
 //! Reading of model texts: from bytes to the tree of a system, or the line and the rule by which the
 //! text is refused.
+//!
+//! The layer above uses [`read_first_form`] and its [`TextFault`], and two laws of the definitions:
+//! [`answers_agree`] (a text has one answer at most) and [`every_text_is_answered`].
+//!
+//! Definitions: `specs/FirstForm.antt` (the lines of a text, and the system that it says),
+//! `specs/Reading.antt` (which texts are accepted, and where the others are refused). How the reader
+//! goes about it stands in `specs/Scanning.antt` (tokens of a line), `specs/Forms.antt` (the form of
+//! tokens) and `specs/Nesting.antt` (one line after the other).
 #![tactic(auto)]
 
 mod draft;
@@ -9,6 +17,8 @@ mod line_form;
 mod lines;
 mod reading;
 mod system;
+#[cfg(test)]
+mod tests;
 mod tokens;
 
 pub use fault::TextFault;
