@@ -1,16 +1,20 @@
 -- What a run has put and come to, as the answer of its text.
-use Rattle.std.proofs.Common.{◌≡◌, ℕ, List, [], Option, Result, Ok, Err, refl, sym, ap, subst, ◌∙◌, inl, inr, ◌⊎◌}
+use Rattle.std.proofs.Common.{◌≡◌, ℕ, ◌+◌, ◌<◌, List, [], ◌++◌, length, length-append, arith, Option, Some, None, Result, Ok, Err, refl, sym, ap, subst, ◌∙◌, inl, inr, ◌⊎◌}
+use Rattle.std.specs.Prelude.{IfSome}
 use Rattle.std.specs.Io.KnownBytes.{Appends}
 use Rattle.std.proofs.KnownBytes.{Appends-nil}
-use Rattle.unit_text.specs.Reading.{IsAccepted, IsRefused, IsAnswered, RefusalIs}
+use Rattle.unit_text.specs.Reading.{IsAccepted, IsRefused, IsAnswered, text_limit}
 use Rattle.unit_text.proofs.AnswerLemmas.{answered}
+use Rattle.unit_text.proofs.LineLemmas.{length_le_size_of}
+use Rattle.unit_text.proofs.ReadingLemmas.{refused_long}
+use Rattle.unit_tree.specs.Lines.{size_of}
 use Rattle.unit_tree.specs.declared.ending.Ending.{Ending}
 use Rattle.unit_tree.specs.declared.ending.Ending.TheVariants.{Completed, Faulted}
 use Rattle.unit_tree.specs.declared.system.System.{System}
-use Rattle.cosim_io.specs.Pieces.{AppendsPrefix}
+use Rattle.cosim_io.specs.Pieces.{AppendsPrefix, ConsumesExactly}
 use Rattle.cosim_io.proofs.PieceLemmas.{AppendsPrefix-nil, AppendsPrefix-whole}
 use Rattle.cosim_app.specs.Answer.{Answer, last_point, run_answer, refused_answer, status_of}
-use Rattle.cosim_app.specs.Judgement.{RunAnswers, PutsAnswer, PutsFront, IsOwn, JudgesText, Refuses}
+use Rattle.cosim_app.specs.Judgement.{RunAnswers, PutsAnswer, PutsFront, IsOwn, JudgesText, JudgesInput, Refuses}
 use Rattle.cosim_app.specs.Notes.{ending_note, refused_note}
 use Rattle.cosim_app.specs.Runnable.{IsRunnable, PutsTrace}
 use Rattle.cosim_app.specs.declared.fault.RunEnd.{RunEnd}
@@ -98,3 +102,44 @@ refuses text held faults line rule (verdict.Answered given note) refused is =
 refuses text held faults line rule verdict.NoMemory refused is = (puts_nothing text held, refl)
 refuses text held faults line rule verdict.ReadFault refused is = absurd is
 refuses text held faults line rule verdict.WriteFault refused is = absurd is
+
+-- nothing was put yet, whatever the input is
+pub nothing_put : (left : Option (List ℕ)) (held : Option (List ℕ)) → IfSome left (λ text. PutsFront text held held)
+nothing_put None held = tt
+nothing_put (Some text) held = puts_nothing text held
+
+-- more bytes than a text may have were taken
+too_long : (left left' : Option (List ℕ)) → ConsumesExactly left left' (text_limit + 1) → IfSome left (λ text. text_limit < size_of text)
+too_long None left' taken = tt
+too_long (Some text) None taken = absurd taken.consumed
+too_long (Some text) (Some rest) taken =
+    let whole : length text ≡ length taken.front + length rest = ap length taken.consumed ∙ length-append taken.front rest in
+    let size = length_le_size_of text in
+    let front = taken.size in
+    omega arith
+
+long_answer : (left : Option (List ℕ)) (held : Option (List ℕ)) (given : Status) (note : List ℕ) → IfSome left (λ text. text_limit < size_of text) → given ≡ status.Refused → note ≡ refused_note 1 2 → IfSome left (λ text. PutsAnswer text held held given note)
+long_answer None held given note long is note_is = tt
+long_answer (Some text) held given note long is note_is = record {
+  answer = refused_answer 1 2;
+  is = inl (record { line = 1; rule = 2; refused = refused_long text long; is = refl });
+  out = Appends-nil held;
+  notes = note_is;
+  same_status = is;
+}
+
+-- a text that is too long is refused at once
+pub refuses_long : (left left' : Option (List ℕ)) (reads reads' : ℕ) (held : Option (List ℕ)) (puts : ℕ) (v : Verdict) → ConsumesExactly left left' (text_limit + 1) → reads' ≡ reads → Refuses 1 2 v → JudgesInput left left' reads reads' held held puts puts v
+refuses_long left left' reads reads' held puts (verdict.Answered given note) taken same is =
+    let long = too_long left left' taken in
+    record {
+      gives = long_answer left held given note.items long is.0 is.1;
+      own = subst IsOwn (sym is.0) tt;
+      same_reads = same;
+      same_puts = refl;
+      untouched = λ _. refl;
+      to_end = inr (is.0, long);
+    }
+refuses_long left left' reads reads' held puts verdict.NoMemory taken same is = (nothing_put left held, same, refl)
+refuses_long left left' reads reads' held puts verdict.ReadFault taken same is = absurd is
+refuses_long left left' reads reads' held puts verdict.WriteFault taken same is = absurd is

@@ -6,3 +6,4 @@ pub mod RowsKept
 pub mod RowsLaws
 pub mod RunnableLaws
 pub mod TraceExists
+pub mod WordLaws

@@ -50,3 +50,30 @@ abbrev pub Refuses : ℕ → ℕ → Verdict → Type 0
 Refuses line rule (verdict.Answered given note) = (given ≡ status.Refused) × (note.items ≡ refused_note line rule)
 Refuses line rule verdict.NoMemory = ⊤
 Refuses line rule _ = ⊥
+
+-- A run has answered its input: put the answer's bytes, with the status and the note of its own, and read the input
+-- to its end, but for a text that is too long.
+pub record AnswersInput (left left' : Option (List ℕ)) (reads reads' : ℕ) (held held' : Option (List ℕ)) (puts puts' : ℕ) (given : Status) (note : List ℕ) : Type 0 where
+  pub gives : IfSome left (λ text. PutsAnswer text held held' given note)
+  pub own : IsOwn given
+  pub same_reads : reads' ≡ reads
+  pub same_puts : puts' ≡ puts
+  pub untouched : given ≡ status.Refused → held' ≡ held
+  pub to_end : IsAtEnd left' ⊎ ((given ≡ status.Refused) × IfSome left (λ text. text_limit < size_of text))
+
+-- A run has read its input and come to the verdict.
+abbrev pub JudgesInput : Option (List ℕ) → Option (List ℕ) → ℕ → ℕ → Option (List ℕ) → Option (List ℕ) → ℕ → ℕ → Verdict → Type 0
+JudgesInput left left' reads reads' held held' puts puts' (verdict.Answered given note) =
+    AnswersInput left left' reads reads' held held' puts puts' given note.items
+JudgesInput left left' reads reads' held held' puts puts' verdict.ReadFault =
+    Rose reads reads' × (held' ≡ held) × (puts' ≡ puts)
+JudgesInput left left' reads reads' held held' puts puts' verdict.WriteFault =
+    IfSome left (λ text. PutsFront text held held') × (reads' ≡ reads) × Rose puts puts'
+JudgesInput left left' reads reads' held held' puts puts' verdict.NoMemory =
+    IfSome left (λ text. PutsFront text held held') × (reads' ≡ reads) × (puts' ≡ puts)
+
+-- A note was told with its status; where telling it failed, the status is a write fault.
+abbrev pub TellsNote : Option (List ℕ) → Option (List ℕ) → ℕ → ℕ → List ℕ → Status → Status → Type 0
+TellsNote noted noted' faults faults' note wanted given =
+    ((given ≡ wanted) × Appends noted noted' note × (faults' ≡ faults))
+    ⊎ ((given ≡ status.WriteFault) × AppendsPrefix noted noted' note × Rose faults faults')

@@ -2,7 +2,7 @@
 ghost use Rattle.std.specs.Prelude.{◌≡◌, List, ℕ};
 ghost use Rattle.unit_text.specs.Reading.{IsAccepted};
 ghost use Rattle.cosim_app.specs.Answer.{status_of};
-ghost use Rattle.cosim_app.specs.Judgement.{JudgesText, Refuses};
+ghost use Rattle.cosim_app.specs.Judgement.{JudgesText, JudgesInput, Refuses};
 ghost use Rattle.cosim_app.specs.Runnable.{IsRunnable};
 
 use crate::fault::RunFault;
@@ -10,10 +10,16 @@ use crate::note;
 use crate::run_system::run_system;
 use crate::status::Status;
 use crate::verdict::Verdict;
-use cosim_io::Sink;
+use cosim_io::{ReadEnd, Sink, Source, read_all};
 use std::alloc::Global;
 use unit_text::{TextFault, read_first_form};
 use unit_tree::{Ending, System};
+
+/// The most bytes of a text.
+const LONGEST_TEXT: usize = 1_048_576;
+
+/// The rule that bounds the text.
+const SIZE_RULE: u8 = 2;
 
 /// The status of how a run ended.
 fn status(ending: Ending) -> Status
@@ -64,5 +70,17 @@ pub fn judge_text<O: Sink>(alloc: Global, text: &[u8], out: &mut O) -> Verdict
         Ok(system) => judge_system(alloc, &system, out),
         Err(TextFault::Line { line, rule }) => refuse(alloc, line, rule),
         Err(TextFault::NoMemory) => Verdict::NoMemory,
+    }
+}
+
+/// Reads the input and runs it.
+pub fn judge<S: Source, O: Sink>(alloc: Global, source: &mut S, out: &mut O) -> Verdict
+    ensures { JudgesInput (S.left source.old) (S.left source.new) (S.faults source.old) (S.faults source.new) (O.held out.old) (O.held out.new) (O.faults out.old) (O.faults out.new) result }
+{
+    match read_all(alloc, source, LONGEST_TEXT) {
+        Ok(text) => judge_text(alloc, &text, out),
+        Err(ReadEnd::TooLong) => refuse(alloc, 1, SIZE_RULE),
+        Err(ReadEnd::Fault) => Verdict::ReadFault,
+        Err(ReadEnd::NoMemory) => Verdict::NoMemory,
     }
 }
