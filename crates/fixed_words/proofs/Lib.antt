@@ -1,2 +1,5 @@
 pub mod Floors
+pub mod Fractions
+pub mod Numbers
 pub mod Products
+pub mod Spellings

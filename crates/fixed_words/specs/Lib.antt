@@ -1,3 +1,4 @@
+pub mod Digits
 pub mod Literals
 pub mod Operations
 pub mod Texts

@@ -10,6 +10,7 @@
 #![tactic(auto)]
 
 mod boxed;
+mod digits;
 mod list;
 mod literals;
 mod operations;
@@ -18,7 +19,7 @@ mod types;
 
 pub use boxed::Boxed;
 pub use list::List;
-pub use literals::literal_word;
+pub use literals::{literal_word, read_literal};
 pub use operations::{abs, add, div, fix_div, fix_mul, mul, neg, rem, scale_down, scale_up, sub};
 pub use text::word_text;
 pub use types::{Fault, Kind, Literal, LiteralFault, Ty, fits};
