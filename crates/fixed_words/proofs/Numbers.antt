@@ -1,11 +1,13 @@
 -- Numbers as text: where their digits and their point stand, and what reading them digit by digit gives.
-use Rattle.std.proofs.Common.{◌≡◌, ℕ, suc, ◌+◌, ◌-◌, ◌*◌, ◌^◌, ◌<◌, ◌≤◌, ◌==◌, not, inl, inr, nat_lt, unwrap_or, List, [], ◌∷◌, ◌++◌, length, get_or, take, drop, IsTrue, Option, Some, None, if◌then◌else◌, refl, sym, ap, ◌∙◌, subst, arith}
+use Rattle.std.proofs.Common.{zero, true, replicate, ◌%◌, ◌/◌, ◌≡◌, ℕ, suc, ◌+◌, ◌-◌, ◌*◌, ◌^◌, ◌<◌, ◌≤◌, ◌==◌, not, inl, inr, nat_lt, unwrap_or, List, [], ◌∷◌, ◌++◌, length, get_or, take, drop, IsTrue, Option, Some, None, if◌then◌else◌, refl, sym, ap, ◌∙◌, subst, arith}
 use Rattle.std.specs.List.{list_all, position_or_len}
 use Rattle.std.specs.Option.{option_and_then}
-use Rattle.std.proofs.lemmas.Bool.{and_parts, le-leb, cases_lt, eqb-true, not-false}
+use Rattle.std.proofs.lemmas.Bool.{and_from, and_parts, le-leb, cases_lt, eqb-true, not-false}
 use Rattle.std.proofs.lemmas.Bool.Decides.{nat_tests}
 use Rattle.std.proofs.lemmas.List.{append-nil, length-append, drop_more, drop_all, take_at, take_all, take-append-drop, length-take-le}
 use Rattle.std.proofs.lemmas.List.Sums.{prefix_len_stops, prefix_len-le-length}
+use Rattle.std.specs.Fmt.{decimal}
+use Rattle.std.proofs.lemmas.Fmt.{decimal_by_steps}
 use Rattle.fixed_words.specs.Digits.{is_digit, number_from, pointed, IsNumber, number_of_digits}
 
 -- a number grows with each digit
@@ -170,3 +172,52 @@ pub parts_at : (digits decimals : ℕ) (text fraction : List ℕ) (place : ℕ) 
 parts_at digits decimals text fraction place is behind number =
     let parts = subst (λ n. HasParts digits decimals n (number_from 0 number.whole) text) (sym is) (parts_of_number digits decimals text number) in
     (number_from 0 number.whole, parts, ap length behind ∙ parts.decimals_are, ap (number_of_digits (number_from 0 number.whole)) behind ∙ parts.then_read)
+
+-- a text is one number only
+pub one_number : (one other few many : ℕ) (text : List ℕ) → IsNumber one few text → IsNumber other many text → (one ≡ other) × (few ≡ many)
+one_number one other few many text is also =
+    let first = parts_of_number one few text is in
+    let second = parts_of_number other many text also in
+    let wholes = sym first.first_read ∙ second.first_read in
+    let same_whole : number_from 0 is.whole ≡ number_from 0 also.whole = ap (λ o. unwrap_or o (number_from 0 is.whole)) wholes in
+    let numbers = sym first.then_read ∙ ap (λ n. number_of_digits n (drop (position_or_len (λ byte. byte == 46) text + 1) text)) same_whole ∙ second.then_read in
+    (ap (λ o. unwrap_or o one) numbers, sym first.decimals_are ∙ second.decimals_are)
+
+digits_end : (before : ℕ) (first : List ℕ) (digit : ℕ) → number_from before (first ++ digit ∷ []) ≡ 10 * number_from before first + (digit - 48)
+digits_end before first digit = number_from-append before first (digit ∷ [])
+
+all_digits-append : (first later : List ℕ) → IsTrue (list_all is_digit first) → IsTrue (list_all is_digit later) → IsTrue (list_all is_digit (first ++ later))
+all_digits-append [] later all more = more
+all_digits-append (byte ∷ bytes) later all more =
+    let parts = and_parts (is_digit byte) (list_all is_digit bytes) all in
+    and_from (is_digit byte) (list_all is_digit (bytes ++ later)) parts.0 (all_digits-append bytes later parts.1 more)
+
+-- the decimal digits of a number, read again
+abbrev pub IsDecimal : ℕ → List ℕ → Type 0
+IsDecimal number bytes = IsTrue (list_all is_digit bytes) × (number_from 0 bytes ≡ number)
+
+last_digit : (digit : ℕ) → digit < 10 → is_digit (48 + digit) ≡ true
+last_digit digit small = grind (arith, nat_tests)
+
+pub decimal_is : (number : ℕ) → number < 2 ^ 64 → IsDecimal number (decimal number)
+decimal_is number fits =
+    decimal_by_steps IsDecimal
+        (λ n small. (and_from (is_digit (48 + n)) true (last_digit n small) refl, omega arith))
+        (λ n digits more is. (
+            all_digits-append digits ((48 + n % 10) ∷ []) is.0 (and_from (is_digit (48 + n % 10)) true (last_digit (n % 10) (omega arith)) refl),
+            digits_end 0 digits (48 + n % 10) ∙ omega (arith, is.1)))
+        number fits
+
+-- zeros in front of digits change no number
+pub zeros_before : (count number : ℕ) (digits : List ℕ) → IsDecimal number digits → IsDecimal number (replicate count 48 ++ digits)
+zeros_before zero number digits is = is
+zeros_before (suc count) number digits is =
+    let rest = zeros_before count number digits is in
+    (rest.0, rest.1)
+
+pub all_digits_parts : (first later : List ℕ) → IsTrue (list_all is_digit (first ++ later)) → IsTrue (list_all is_digit first) × IsTrue (list_all is_digit later)
+all_digits_parts [] later all = (refl, all)
+all_digits_parts (byte ∷ bytes) later all =
+    let here = and_parts (is_digit byte) (list_all is_digit (bytes ++ later)) all in
+    let rest = all_digits_parts bytes later here.1 in
+    (and_from (is_digit byte) (list_all is_digit bytes) here.0 rest.0, rest.1)

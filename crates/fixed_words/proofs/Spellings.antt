@@ -7,7 +7,10 @@ use Rattle.fixed_words.specs.Digits.{is_digit, pointed, IsNumber}
 use Rattle.fixed_words.specs.Types.{is_word_of}
 use Rattle.fixed_words.specs.declared.types.Ty.TheVariants.{Int64}
 use Rattle.fixed_words.specs.Texts.{sign_text, truth_text}
-use Rattle.fixed_words.specs.Literals.{IsSignedNumber, with_sign}
+use Rattle.fixed_words.specs.declared.types.Literal.{Literal}
+use Rattle.fixed_words.specs.declared.types.Literal.TheVariants.{Truth, Number}
+use Rattle.fixed_words.specs.Literals.{IsSignedNumber, IsLiteralText, with_sign}
+use Rattle.fixed_words.proofs.Numbers.{one_number}
 
 -- a number begins with a digit
 no_digit_first : (whole fraction others : List ℕ) (byte : ℕ) → IsTrue (list_all is_digit whole) → 0 < length whole → is_digit byte ≡ false → byte ∷ others ≡ whole ++ pointed fraction → ⊥
@@ -59,3 +62,33 @@ not_both true word decimals text truth is =
     not_signed is.negative is.digits decimals 116 (114 ∷ 117 ∷ 101 ∷ []) is.number refl (λ e. omega arith) (sym true_bytes ∙ sym truth ∙ is.spelled) is.is_number
 not_both false word decimals text truth is =
     not_signed is.negative is.digits decimals 102 (97 ∷ 108 ∷ 115 ∷ 101 ∷ []) is.number refl (λ e. omega arith) (sym false_bytes ∙ sym truth ∙ is.spelled) is.is_number
+
+-- behind a `-` no number begins with `-`, and no number does
+no_second_sign : (digits decimals : ℕ) (text number : List ℕ) (negative : Bool) → text ≡ sign_text negative ++ number → IsNumber digits decimals number → OnFalse negative ((rest : List ℕ) → text ≢ 45 ∷ rest)
+no_second_sign digits decimals text number true spelled is = tt
+no_second_sign digits decimals text number false spelled is = λ rest begins.
+    number_first digits decimals 45 rest refl (subst (IsNumber digits decimals) (sym spelled ∙ begins) is)
+
+one_signed : (word other : ℤ) (decimals many : ℕ) (text : List ℕ) → IsSignedNumber word decimals text → IsSignedNumber other many text → (word ≡ other) × (decimals ≡ many)
+one_signed word other decimals many text is also =
+    let parts = signed_parts other many text is.number is.negative is.spelled (no_second_sign is.digits decimals text is.number is.negative is.spelled is.is_number) also in
+    let same = one_number is.digits also.digits decimals many is.number is.is_number parts.0 in
+    (sym is.value ∙ ap (with_sign is.negative) same.0 ∙ parts.1, same.1)
+
+one_truth : (told other : Bool) (text : List ℕ) → text ≡ truth_text told → text ≡ truth_text other → told ≡ other
+one_truth true true text is also = refl
+one_truth false false text is also = refl
+one_truth true false text is also =
+    let same = sym true_bytes ∙ sym is ∙ also ∙ false_bytes in
+    cc
+one_truth false true text is also =
+    let same = sym false_bytes ∙ sym is ∙ also ∙ true_bytes in
+    cc
+
+pub one_literal : (text : List ℕ) (one other : Literal) → IsLiteralText text one → IsLiteralText text other → one ≡ other
+one_literal text (Truth told) (Truth other) is also = ap Truth (one_truth told other text is also)
+one_literal text (Truth told) (Number word decimals) is also = absurd (not_both told word decimals text is also)
+one_literal text (Number word decimals) (Truth told) is also = absurd (not_both told word decimals text also is)
+one_literal text (Number word decimals) (Number other many) is also =
+    let same = one_signed word other decimals many text is also in
+    ap (λ w. Number w decimals) same.0 ∙ ap (Number other) same.1

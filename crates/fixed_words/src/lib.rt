@@ -11,6 +11,7 @@
 
 mod boxed;
 mod digits;
+mod laws;
 mod list;
 mod literals;
 mod operations;
@@ -18,6 +19,7 @@ mod text;
 mod types;
 
 pub use boxed::Boxed;
+pub use laws::{quotients_are_floors, texts_are_read_back, texts_spell_one_literal};
 pub use list::List;
 pub use literals::{literal_word, read_literal};
 pub use operations::{abs, add, div, fix_div, fix_mul, mul, neg, rem, scale_down, scale_up, sub};
