@@ -202,11 +202,12 @@ last_digit digit small = grind (arith, nat_tests)
 pub decimal_is : (number : ℕ) → number < 2 ^ 64 → IsDecimal number (decimal number)
 decimal_is number fits =
     decimal_by_steps IsDecimal
-        (λ n small. (and_from (is_digit (48 + n)) true (last_digit n small) refl, omega arith))
-        (λ n digits more is. (
-            all_digits-append digits ((48 + n % 10) ∷ []) is.0 (and_from (is_digit (48 + n % 10)) true (last_digit (n % 10) (omega arith)) refl),
-            digits_end 0 digits (48 + n % 10) ∙ omega (arith, is.1)))
-        number fits
+    (λ n small. (and_from (is_digit (48 + n)) true (last_digit n small) refl, omega arith))
+    (λ n digits more is. (
+      all_digits-append digits ((48 + n % 10) ∷ []) is.0 (and_from (is_digit (48 + n % 10)) true (last_digit (n % 10) (omega arith)) refl),
+      digits_end 0 digits (48 + n % 10) ∙ omega (arith, is.1),
+    ))
+    number fits
 
 -- zeros in front of digits change no number
 pub zeros_before : (count number : ℕ) (digits : List ℕ) → IsDecimal number digits → IsDecimal number (replicate count 48 ++ digits)

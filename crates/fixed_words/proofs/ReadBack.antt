@@ -69,7 +69,7 @@ padded_number decimals n few bounded =
     let place = length digits - decimals in
     let is : IsDecimal n digits = zeros_before (decimals + 1 - length (decimal n)) n (decimal n) (decimal_is n (omega arith)) in
     let long : decimals + 1 ≤ length digits =
-        omega (arith, length-append (replicate {A = ℕ} (decimals + 1 - length (decimal n)) 48) (decimal n), length-replicate {A = ℕ} (decimals + 1 - length (decimal n)) 48) in
+    omega (arith, length-append (replicate {A = ℕ} (decimals + 1 - length (decimal n)) 48) (decimal n), length-replicate {A = ℕ} (decimals + 1 - length (decimal n)) 48) in
     let whole = take-append-drop place digits in
     let parts = all_digits_parts (take place digits) (drop place digits) (subst (λ bytes. IsTrue (list_all is_digit bytes)) (sym whole) is.0) in
     record {

@@ -4,17 +4,14 @@ ghost use Rattle.fixed_words.specs.Laws.{QuotientsAreFloors, TextsSpellOneLitera
 /// zero or has the divisor's sign.
 pub fn quotients_are_floors()
     ensures { QuotientsAreFloors }
-{
-}
+{}
 
 /// A law: no text spells two literals.
 pub fn texts_spell_one_literal()
     ensures { TextsSpellOneLiteral }
-{
-}
+{}
 
 /// A law: the text of every word of every type spells a literal that stands for this word.
 pub fn texts_are_read_back()
     ensures { TextsAreReadBack }
-{
-}
+{}

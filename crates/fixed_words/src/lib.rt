@@ -15,6 +15,8 @@ mod laws;
 mod list;
 mod literals;
 mod operations;
+#[cfg(test)]
+mod tests;
 mod text;
 mod types;
 
