@@ -1,0 +1,25 @@
+// The writer's end.
+use crate::front::Front;
+use crate::view::EndPass;
+use std::marker::Model;
+
+/// The one writer of a cell.
+///
+/// Contracts see it as `WriterState`: its cell, and the front that it wrote last, which is what the cell holds.
+#[derive(Drop)]
+pub struct Writer {
+    pub(crate) pass: EndPass,
+    pub(crate) front: Front,
+}
+
+impl Model for Writer {
+    ghost use Rattle.front_cell.specs.Ends.{WriterState};
+
+    ghost Value = { WriterState };
+
+    ghost use Rattle.front_cell.specs.WriterFields.{writer_state, IsWriter};
+
+    ghost view = { writer_state };
+
+    ghost invariant = { IsWriter };
+}
