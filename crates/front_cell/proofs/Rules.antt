@@ -6,7 +6,7 @@ use Rattle.atomic_table.proofs.Lists.{set_again}
 use mathlib.Core.Option.{some, some-injective, some-ne-none}
 use lib.ListN.{get_elem?}
 use Rattle.crossbeam_utils.specs.Register.{Turns, Forks, Merges}
-use Rattle.front_cell.specs.Front.{open_at, closed_at, IsBehind}
+use Rattle.front_cell.specs.Front.{IsBehind}
 use Rattle.front_cell.specs.Rule.{Follows, IsInStep}
 use Rattle.front_cell.specs.Steps.{Stores, Loads, reader_of}
 use Rattle.front_cell.specs.declared.front.Front.{Front}
@@ -18,13 +18,6 @@ behind-refl front = record { rows = le_refl front.rows; closed = λ c. c }
 
 pub behind-trans : (x y z : Front) → IsBehind x y → IsBehind y z → IsBehind x z
 behind-trans x y z before after = record { rows = le_trans before.rows after.rows; closed = λ c. after.closed (before.closed c) }
-
--- a store of more rows leaves no reader ahead
-pub behind-open_at : (front : Front) (rows : ℕ) → front.rows ≤ rows → front.closed ≡ false → IsBehind front (open_at rows)
-behind-open_at front rows more is_open = record { rows = more; closed = λ c. sym is_open ∙ c }
-
-pub behind-closed_at : (front : Front) → IsBehind front (closed_at front)
-behind-closed_at front = record { rows = le_refl front.rows; closed = λ _. refl }
 
 follows_on : (x y : Front) → IsBehind x y → (v : View) → Follows x v → Follows y v
 follows_on x y ahead (Wrote front) h = h

@@ -36,10 +36,7 @@ impl FrontCell {
     pub fn new(alloc: Global) -> Result<(FrontCell, Writer), AllocError>
         ensures { IfOk result (λ made. made.1 ≡ record { cell = made.0; front = opening }) }
     {
-        let front = Front {
-            rows: 0,
-            closed: false,
-        };
+        let front = Front::open_at(0);
         let (words, pass) = RuledSeqCell::ruled(alloc, front)?;
         Ok((FrontCell { words }, Writer { pass, front }))
     }
@@ -51,12 +48,7 @@ impl FrontCell {
         requires still_open { w.old.front.closed ≡ false }
         ensures { w.new ≡ record w.old { front = open_at rows } }
     {
-        let next = Front {
-            rows,
-            closed: false,
-        };
-        self.words.swap_as::<Store, R>(rt, &mut w.pass, next);
-        w.front = next;
+        self.store(rt, w, Front::open_at(rows));
     }
 
     /// Closes the run. A second close changes nothing.
@@ -64,10 +56,16 @@ impl FrontCell {
         requires { w.old.cell ≡ self.now }
         ensures { w.new ≡ record w.old { front = closed_at w.old.front } }
     {
-        let next = Front {
-            rows: w.front.rows,
-            closed: true,
-        };
+        let next = w.front.to_closed();
+        self.store(rt, w, next);
+    }
+
+    // The writer's one kind of step.
+    fn store<R: Wait>(&self, rt: &R, w: &mut Writer, next: Front)
+        requires own { w.old.cell ≡ self.now }
+        requires forward { IsBehind w.old.front next }
+        ensures { w.new ≡ record w.old { front = next } }
+    {
         self.words.swap_as::<Store, R>(rt, &mut w.pass, next);
         w.front = next;
     }

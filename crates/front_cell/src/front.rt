@@ -12,6 +12,30 @@ pub struct Front {
     pub closed: bool,
 }
 
+impl Front {
+    ghost use Rattle.front_cell.specs.Front.{open_at, closed_at};
+
+    // This many rows, of an open run.
+    pub(crate) fn open_at(rows: u64) -> Front
+        ensures { result ≡ open_at rows }
+    {
+        Front {
+            rows,
+            closed: false,
+        }
+    }
+
+    // The same rows, of a closed run.
+    pub(crate) fn to_closed(self) -> Front
+        ensures { result ≡ closed_at self }
+    {
+        Front {
+            rows: self.rows,
+            closed: true,
+        }
+    }
+}
+
 impl Words<2> for Front {
     ghost use Rattle.front_cell.specs.Front.{words_of};
 

@@ -1,4 +1,40 @@
-//! A cell.
+//! A cell of two words that says how far a run has come: the number of committed rows, and whether the run is closed.
+//!
+//! [`FrontCell::new`] gives the cell and its one [`Writer`], which stores by [`FrontCell::advance`] and
+//! [`FrontCell::close`]. [`FrontCell::split`] makes a [`Reader`], which may go to another thread and loads the cell by
+//! [`FrontCell::read`]. [`FrontCell::join`] takes a reader in again. Below stands the ruled cell of `crossbeam_utils`.
+//!
+//! # What the layer above may use
+//!
+//! A contract sees a cell as which cell it is, a writer as its cell and the front that it stored last, and a reader as
+//! its cell, the number of its loads and the front that it saw last (`specs/Ends.antt`). A reader begins with the writer's
+//! front and no load. A read is one load more, its answer is what the reader has then seen, and it is not behind what the
+//! reader had seen before: its number is no smaller, and closed stays closed (`specs/Front.antt`). So it is not behind the
+//! writer's front at the split either. Nothing else is known of the number that another thread stores.
+//!
+//! Each call asks that the writer and the reader which it is given are of this cell. [`FrontCell::new`] alone takes
+//! memory, and the other calls alone may wait, for a store that is under way: what they promise holds if they return.
+//!
+//! # The rule
+//!
+//! Four kinds of step are taken on a cell: a store by the writer, a load by a reader, a split and a join. Between any two
+//! of them the cell holds what the writer stored last, and no reader has seen more rows, or closed before the cell is
+//! (`specs/Rule.antt`). What a step does to the view of its end stands in `specs/Steps.antt`: the view of a reader
+//! changes by its own loads, and ends by its join. A view is data of the proofs alone, so the loads are counted without
+//! bound. A reader that was joined leaves the one view of a spent end, of which the rule says nothing.
+//!
+//! [`writer_never_goes_back`] says what follows for all stores from the opening, and [`reader_never_goes_back`] for all
+//! reads from a split (`specs/Laws.antt`).
+//!
+//! The ruled cell joins a pass, the token of an end, only where it is fresh from a split. So a join first hands the
+//! reader's view on, whole, to a fresh pass, and then the writer takes that one in.
+//!
+//! # What no clause says
+//!
+//! That a call returns; that a thread ran; that memory is there; that a read finds the latest store. A reader's clause
+//! can't tell a load before a store of another thread from one after it, so a read that loads and then keeps to what was
+//! seen before, and counts that as its load, is one of a reader that loaded in time. That a read after a store of the same
+//! thread gives that store is shown by a test. Another test has a writer and a reader in two threads.
 #![tactic(auto)]
 
 mod cell;
@@ -12,7 +48,6 @@ pub use cell::FrontCell;
 pub use front::Front;
 pub use laws::{reader_never_goes_back, writer_never_goes_back};
 pub use reader::Reader;
-pub use view::{InStep, View};
 pub use writer::Writer;
 
 #[cfg(test)]

@@ -23,11 +23,11 @@ fn readers_see_what_the_writer_stores(rt: HostRuntime) -> Result<(), Fail> {
     assert_eq!(rt; cell.read(&rt, &mut late), at(3, false));
     cell.advance(&rt, &mut writer, 3);
     cell.advance(&rt, &mut writer, u64::MAX);
-    for _ in 0..2 {
-        cell.close(&rt, &mut writer);
-        assert_eq!(rt; cell.read(&rt, &mut early), at(u64::MAX, true));
-        assert_eq!(rt; cell.read(&rt, &mut late), at(u64::MAX, true));
-    }
+    cell.close(&rt, &mut writer);
+    assert_eq!(rt; cell.read(&rt, &mut early), at(u64::MAX, true));
+    assert_eq!(rt; cell.read(&rt, &mut late), at(u64::MAX, true));
+    cell.close(&rt, &mut writer);
+    assert_eq!(rt; cell.read(&rt, &mut early), at(u64::MAX, true));
     cell.join(&rt, &mut writer, early);
     cell.join(&rt, &mut writer, late);
     let mut last = cell.split(&rt, &mut writer);
