@@ -7,13 +7,14 @@ use Rattle.front_cell.specs.declared.front.Front.{Front}
 abbrev pub CellId : Type 0
 CellId = TableId
 
--- a writer: its cell, and what it wrote last
+-- a writer: its cell, what it stored last, and how many loads the readers that it took in had made
 pub record WriterState : Type 0 where
   pub cell : CellId
   pub front : Front
+  pub joined : ℕ
 
--- a reader: its cell, how many loads it made, and what the last one gave, or before the first the writer's front at the split
+-- a reader: its cell, what its last load gave, or before the first the writer's front at the split, and how many loads it made
 pub record ReaderState : Type 0 where
   pub cell : CellId
-  pub loads : ℕ
   pub seen : Front
+  pub loads : ℕ

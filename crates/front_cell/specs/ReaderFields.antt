@@ -10,12 +10,12 @@ use Rattle.front_cell.specs.declared.reader.Reader.TheInside.{Inside}
 
 -- the state of a reader's view
 abbrev pub state_of : CellId → View → ReaderState
-state_of cell (Saw loads seen) = record { cell = cell; loads = loads; seen = seen }
-state_of cell _ = record { cell = cell; loads = 0; seen = opening }
+state_of cell (Saw seen loads) = record { cell = cell; seen = seen; loads = loads }
+state_of cell _ = record { cell = cell; seen = opening; loads = 0 }
 
 abbrev pub reader_state : Inside → ReaderState
 reader_state r = state_of r.pass.table_id (cell_view r.pass)
 
 -- its view is a reader's
 abbrev pub IsReader : Inside → Type 0
-IsReader r = (loads : ℕ) × (seen : Front) × (cell_view r.pass ≡ Saw loads seen)
+IsReader r = (seen : Front) × (loads : ℕ) × (cell_view r.pass ≡ Saw seen loads)

@@ -34,7 +34,7 @@ impl FrontCell {
     ///
     /// `AllocError` where there is no memory for it.
     pub fn new(alloc: Global) -> Result<(FrontCell, Writer), AllocError>
-        ensures { IfOk result (λ made. made.1 ≡ record { cell = made.0; front = opening }) }
+        ensures { IfOk result (λ made. made.1 ≡ record { cell = made.0; front = opening; joined = 0 }) }
     {
         let front = Front::open_at(0);
         let (words, pass) = RuledSeqCell::ruled(alloc, front)?;
@@ -42,62 +42,62 @@ impl FrontCell {
     }
 
     /// Stores a number of rows, which is no smaller than the last, while the run is open.
-    pub fn advance<R: Wait>(&self, rt: &R, w: &mut Writer, rows: u64)
-        requires own { w.old.cell ≡ self.now }
-        requires forward { w.old.front.rows ≤ rows }
-        requires still_open { w.old.front.closed ≡ false }
-        ensures { w.new ≡ record w.old { front = open_at rows } }
+    pub fn advance<R: Wait>(&self, rt: &R, writer: &mut Writer, rows: u64)
+        requires own { writer.old.cell ≡ self.now }
+        requires forward { writer.old.front.rows ≤ rows }
+        requires still_open { writer.old.front.closed ≡ false }
+        ensures { writer.new ≡ record writer.old { front = open_at rows } }
     {
-        self.store(rt, w, Front::open_at(rows));
+        self.store(rt, writer, Front::open_at(rows));
     }
 
     /// Closes the run. A second close changes nothing.
-    pub fn close<R: Wait>(&self, rt: &R, w: &mut Writer)
-        requires { w.old.cell ≡ self.now }
-        ensures { w.new ≡ record w.old { front = closed_at w.old.front } }
+    pub fn close<R: Wait>(&self, rt: &R, writer: &mut Writer)
+        requires { writer.old.cell ≡ self.now }
+        ensures { writer.new ≡ record writer.old { front = closed_at writer.old.front } }
     {
-        let next = w.front.to_closed();
-        self.store(rt, w, next);
+        let next = writer.front.to_closed();
+        self.store(rt, writer, next);
     }
 
     // The writer's one kind of step.
-    fn store<R: Wait>(&self, rt: &R, w: &mut Writer, next: Front)
-        requires own { w.old.cell ≡ self.now }
-        requires forward { IsBehind w.old.front next }
-        ensures { w.new ≡ record w.old { front = next } }
+    fn store<R: Wait>(&self, rt: &R, writer: &mut Writer, next: Front)
+        requires own { writer.old.cell ≡ self.now }
+        requires forward { IsBehind writer.old.front next }
+        ensures { writer.new ≡ record writer.old { front = next } }
     {
-        self.words.swap_as::<Store, R>(rt, &mut w.pass, next);
-        w.front = next;
+        self.words.swap_as::<Store, R>(rt, &mut writer.pass, next);
+        writer.front = next;
     }
 
-    /// A new reader, which knows what the writer wrote last, and has made no load.
-    pub fn split<R: Wait>(&self, _rt: &R, w: &mut Writer) -> Reader
-        requires { w.old.cell ≡ self.now }
-        ensures same { w.new ≡ w.old }
-        ensures reader { result ≡ record { cell = w.old.cell; loads = 0; seen = w.old.front } }
+    /// A new reader, which has seen what the writer stored last, and has made no load.
+    pub fn split<R: Wait>(&self, _rt: &R, writer: &mut Writer) -> Reader
+        requires { writer.old.cell ≡ self.now }
+        ensures same { writer.new ≡ writer.old }
+        ensures new { result ≡ record { cell = writer.old.cell; seen = writer.old.front; loads = 0 } }
     {
         Reader {
-            pass: self.words.split_pass::<Begin>(&mut w.pass),
+            pass: self.words.split_pass::<Begin>(&mut writer.pass),
         }
     }
 
-    /// Loads the cell.
-    pub fn read<R: Wait>(&self, rt: &R, r: &mut Reader) -> Front
-        requires { r.old.cell ≡ self.now }
-        ensures loaded { r.new ≡ record { cell = r.old.cell; loads = r.old.loads + 1; seen = result } }
-        ensures not_behind { IsBehind r.old.seen result }
+    /// One load of the cell: what it holds at a step of this call.
+    pub fn read<R: Wait>(&self, rt: &R, reader: &mut Reader) -> Front
+        requires { reader.old.cell ≡ self.now }
+        ensures loaded { reader.new ≡ record { cell = reader.old.cell; seen = result; loads = reader.old.loads + 1 } }
+        ensures not_behind { IsBehind reader.old.seen result }
     {
-        self.words.load_as::<Load, R>(rt, &mut r.pass)
+        self.words.load_as::<Load, R>(rt, &mut reader.pass)
     }
 
-    /// Takes a reader in, whose view ends.
-    pub fn join<R: Wait>(&self, _rt: &R, w: &mut Writer, r: Reader)
-        requires writer { w.old.cell ≡ self.now }
-        requires reader { r.cell ≡ self.now }
-        ensures { w.new ≡ w.old }
+    /// Takes a reader in, whose loads the writer then counts. The writer's front and the cell stay.
+    pub fn join<R: Wait>(&self, _rt: &R, writer: &mut Writer, reader: Reader)
+        requires own_writer { writer.old.cell ≡ self.now }
+        requires own_reader { reader.cell ≡ self.now }
+        ensures { writer.new ≡ record writer.old { joined = writer.old.joined + reader.loads } }
     {
-        let mut used = r.pass;
+        let mut used = reader.pass;
         let fresh = self.words.split_pass::<HandOn>(&mut used);
-        self.words.join_pass::<End>(&mut w.pass, fresh);
+        self.words.join_pass::<End>(&mut writer.pass, fresh);
     }
 }

@@ -6,22 +6,24 @@
 //!
 //! # What the layer above may use
 //!
-//! A contract sees a cell as which cell it is, a writer as its cell and the front that it stored last, and a reader as
-//! its cell, the number of its loads and the front that it saw last (`specs/Ends.antt`). A reader begins with the writer's
-//! front and no load. A read is one load more, its answer is what the reader has then seen, and it is not behind what the
-//! reader had seen before: its number is no smaller, and closed stays closed (`specs/Front.antt`). So it is not behind the
-//! writer's front at the split either. Nothing else is known of the number that another thread stores.
+//! A contract sees a cell as which cell it is; a writer as its cell, the front that it stored last, and the loads of the
+//! readers that it took in; a reader as its cell, the front that it saw last, and the number of its loads
+//! (`specs/Ends.antt`). A reader begins with the writer's front and no load. A read is one load more, its answer is what
+//! the reader has then seen, and this is not behind what the reader had seen before: its number is no smaller, and closed
+//! stays closed (`specs/Front.antt`). So it is not behind the writer's front at the split either. Nothing else is known of
+//! what another thread stores.
 //!
 //! Each call asks that the writer and the reader which it is given are of this cell. [`FrontCell::new`] alone takes
-//! memory, and the other calls alone may wait, for a store that is under way: what they promise holds if they return.
+//! memory. The other calls may wait, for a store that is under way: what they promise holds if they return. (A split and
+//! a join take the handle too, though the ruled cell waits at loads and stores alone.)
 //!
 //! # The rule
 //!
 //! Four kinds of step are taken on a cell: a store by the writer, a load by a reader, a split and a join. Between any two
-//! of them the cell holds what the writer stored last, and no reader has seen more rows, or closed before the cell is
-//! (`specs/Rule.antt`). What a step does to the view of its end stands in `specs/Steps.antt`: the view of a reader
-//! changes by its own loads, and ends by its join. A view is data of the proofs alone, so the loads are counted without
-//! bound. A reader that was joined leaves the one view of a spent end, of which the rule says nothing.
+//! of them the cell holds what the writer stored last, no reader has seen more rows than the cell has, and none has seen
+//! closed unless the cell is closed (`specs/Rule.antt`). What a step does to the view of its end stands in
+//! `specs/Steps.antt`. A reader's view changes by its own loads, and ends by its join, which leaves the one view of a
+//! spent end, of which the rule says nothing. Views are data of the proofs alone, so loads are counted without bound.
 //!
 //! [`writer_never_goes_back`] says what follows for all stores from the opening, and [`reader_never_goes_back`] for all
 //! reads from a split (`specs/Laws.antt`).
@@ -31,10 +33,12 @@
 //!
 //! # What no clause says
 //!
-//! That a call returns; that a thread ran; that memory is there; that a read finds the latest store. A reader's clause
-//! can't tell a load before a store of another thread from one after it, so a read that loads and then keeps to what was
-//! seen before, and counts that as its load, is one of a reader that loaded in time. That a read after a store of the same
-//! thread gives that store is shown by a test. Another test has a writer and a reader in two threads.
+//! That a call returns; that a thread ran; that memory is there; that a read finds the latest store of another thread.
+//! A rule is a fact about the cell and the views at one moment. In that light a load that finds the cell as the reader
+//! saw it before can't be told from one that came before a store of another thread: that a load's answer is what the cell
+//! holds is what [`FrontCell::read`] takes from the ruled cell, by the outcome that it names (`Loads` of
+//! `specs/Steps.antt`). A test shows that a read after a store by the same thread gives that store. Another has a writer
+//! and a reader in two threads.
 #![tactic(auto)]
 
 mod cell;

@@ -4,8 +4,8 @@ use std::marker::Model;
 
 /// A reader of a cell, in any thread.
 ///
-/// Contracts see it as `ReaderState`: its cell, how many loads it made, and what the last one gave. Before the first load
-/// that is the writer's front at the split.
+/// Contracts see it as `ReaderState`: its cell, what its last load gave, or before the first the writer's front at the
+/// split, and how many loads it made.
 #[derive(Drop)]
 pub struct Reader {
     pub(crate) pass: EndPass,

@@ -1,4 +1,5 @@
-ghost use Rattle.std.specs.Prelude.{◌≡◌, false};
+ghost use Rattle.std.specs.Prelude.{◌≡◌};
+ghost use Rattle.front_cell.specs.Front.{opening};
 
 use super::*;
 use std::sync::Wait;
@@ -40,7 +41,7 @@ fn readers_see_what_the_writer_stores(rt: HostRuntime) -> Result<(), Fail> {
 // Stores all numbers up to `ALL`, one after another, and closes.
 fn write<R: Wait>(rt: &R, cell: &FrontCell, mut writer: Writer) -> Writer
     requires own { writer.cell ≡ cell.now }
-    requires start { writer.front ≡ record { rows = 0; closed = false } }
+    requires start { writer.front ≡ opening }
     ensures { result.cell ≡ cell.now }
 {
     for rows in 0..ALL {

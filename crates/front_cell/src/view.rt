@@ -7,10 +7,10 @@ use crossbeam_utils::rule::{Outcome, Protocol};
 /// What one end of a cell has done. It is there for the proofs alone: no value of it is made, and so its numbers have no
 /// bound.
 pub enum View {
-    /// The writer's: what it wrote last.
-    Wrote(Front),
-    /// A reader's: how many loads it made, and what the last one gave, or before the first what the writer had written.
-    Saw(u64, Front),
+    /// The writer's: what it stored last, and how many loads the readers that it took in had made.
+    Wrote(Front, u64),
+    /// A reader's: what its last load gave, or before the first what the writer had stored, and how many loads it made.
+    Saw(Front, u64),
     /// That of a reader which was joined away.
     Spent,
 }
@@ -25,7 +25,7 @@ impl Protocol<Front, View> for InStep {
 
     ghost holds = { IsInStep };
 
-    ghost first = { Wrote opening };
+    ghost first = { Wrote opening 0 };
 }
 
 /// What a store does to the writer's view.
@@ -68,13 +68,14 @@ impl Split<View> for HandOn {
     ghost right = { λ v. v };
 }
 
-/// How a reader's view ends.
+/// How the writer takes a reader in, whose view ends.
 pub struct End;
 
 impl Join<View> for End {
+    ghost use Rattle.front_cell.specs.Steps.{after_join};
     ghost use Rattle.front_cell.specs.declared.view.View.TheVariants.{Spent};
 
-    ghost both = { λ v _. v };
+    ghost both = { after_join };
 
     ghost spent = { Spent };
 }
