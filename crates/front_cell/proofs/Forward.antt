@@ -1,9 +1,9 @@
 -- The laws of the writer's stores and of a reader's reads.
-use Rattle.std.proofs.Common.{◌≡◌, ◌≤◌, ◌<◌, false, true, List, [], ◌∷◌, sym, refl, ap, ◌∙◌, subst, le_refl, le_trans, ⊎_elim, arith}
+use Rattle.std.proofs.Common.{◌≡◌, false, true, List, [], ◌∷◌, sym, ap, ◌∙◌, subst, le_refl, le_trans, ⊎_elim, arith}
 use Rattle.std.specs.Prelude.{All, AllPairs, IsTrue}
 use Rattle.std.proofs.lemmas.List.Elements.{All-nil, All-cons, All-weaker}
 use Rattle.std.proofs.lemmas.List.Kept.{AllPairs-cons}
-use Rattle.front_cell.specs.Front.{opening, open_at, closed_at, IsBehind}
+use Rattle.front_cell.specs.Front.{opening, closed_at, IsBehind}
 use Rattle.front_cell.specs.Laws.{Steps, IsAdvance, IsStore, IsKept, IsWriterForward, IsReaderForward}
 use Rattle.front_cell.specs.declared.front.Front.{Front}
 use Rattle.front_cell.proofs.Rules.{behind-trans}

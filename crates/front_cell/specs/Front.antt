@@ -1,5 +1,5 @@
 -- What a cell holds, and how one front stands to another.
-use Rattle.std.specs.Prelude.{◌≡◌, ℕ, ◌≤◌, Bool, true, false, List, [], ◌∷◌, IsTrue}
+use Rattle.std.specs.Prelude.{ℕ, ◌≤◌, Bool, true, false, List, [], ◌∷◌, IsTrue}
 use Rattle.front_cell.specs.declared.front.Front.{Front}
 
 -- nothing is committed, and the run is open

@@ -5,7 +5,7 @@ use Rattle.front_cell.specs.Ends.{CellId, ReaderState}
 use Rattle.front_cell.specs.Front.{opening}
 use Rattle.front_cell.specs.declared.front.Front.{Front}
 use Rattle.front_cell.specs.declared.view.View.{View}
-use Rattle.front_cell.specs.declared.view.View.TheVariants.{Wrote, Saw, Spent}
+use Rattle.front_cell.specs.declared.view.View.TheVariants.{Saw}
 use Rattle.front_cell.specs.declared.reader.Reader.TheInside.{Inside}
 
 -- the state of a reader's view

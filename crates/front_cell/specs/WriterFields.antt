@@ -3,7 +3,7 @@ use Rattle.std.specs.Prelude.{◌≡◌, ℕ}
 use Rattle.crossbeam_utils.specs.Seq.{cell_view}
 use Rattle.front_cell.specs.Ends.{WriterState}
 use Rattle.front_cell.specs.declared.view.View.{View}
-use Rattle.front_cell.specs.declared.view.View.TheVariants.{Wrote, Saw, Spent}
+use Rattle.front_cell.specs.declared.view.View.TheVariants.{Wrote}
 use Rattle.front_cell.specs.declared.writer.Writer.TheInside.{Inside}
 
 -- the loads that a writer's view counts
