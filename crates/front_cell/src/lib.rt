@@ -34,11 +34,11 @@
 //! # What no clause says
 //!
 //! That a call returns; that a thread ran; that memory is there; that a read finds the latest store of another thread.
-//! A rule is a fact about the cell and the views at one moment. In that light a load that finds the cell as the reader
-//! saw it before can't be told from one that came before a store of another thread: that a load's answer is what the cell
-//! holds is what [`FrontCell::read`] takes from the ruled cell, by the outcome that it names (`Loads` of
-//! `specs/Steps.antt`). A test shows that a read after a store by the same thread gives that store. Another has a writer
-//! and a reader in two threads.
+//! The rule relates the cell and the views at one moment, so it cannot refuse a load after which the reader keeps to an
+//! older front: it might have loaded before the store. That the front which was loaded is the one that goes into the view
+//! is said by the outcome under which [`FrontCell::read`] loads, `Loads` of `specs/Steps.antt`. A test shows that a read
+//! after a store by the same thread gives what was stored. Another has a writer and a reader in two threads, whose reads
+//! never go back and end by seeing closed.
 #![tactic(auto)]
 
 mod cell;
