@@ -1,6 +1,6 @@
 -- A composition has at most one trace.
 use Rattle.std.proofs.Common.{◌≡◌, List, [], ◌∷◌, refl, sym, ap, subst, ◌∙◌}
-use Rattle.unit_tree.specs.Trace.{Composition, Position, successor, goes, ends, Follows, IsTrace}
+use Rattle.unit_tree.specs.Trace.{Composition, Position, Follows, IsTrace}
 use Rattle.unit_tree.specs.declared.ending.Ending.{Ending}
 
 follows_same : (run : Composition) (here : Position) (xs ys : List Position) (e f : Ending) → Follows run here xs e → Follows run here ys f → (xs ≡ ys) × (e ≡ f)
