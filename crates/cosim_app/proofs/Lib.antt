@@ -1,3 +1,4 @@
+pub mod CallLaws
 pub mod FormLaws
 pub mod Going
 pub mod JudgeLaws

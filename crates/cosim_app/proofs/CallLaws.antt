@@ -1,0 +1,366 @@
+-- The five clauses of a call, from what its parts have done.
+use Rattle.std.proofs.Common.{◌≡◌, ℕ, ◌+◌, ◌<◌, ◌≤◌, ◌⊎◌, List, [], Option, Some, None, refl, sym, ap, subst, ◌∙◌, inl, inr, arith}
+use Rattle.std.specs.Prelude.{IfSome}
+use Rattle.std.specs.Io.KnownBytes.{Appends, IsAtEnd}
+use Rattle.std.proofs.KnownBytes.{Appends-nil}
+use Rattle.unit_text.specs.Reading.{text_limit}
+use Rattle.unit_text.proofs.AnswerLemmas.{says_one, not_both, refused_once}
+use Rattle.unit_tree.proofs.TraceLaws.{traces_same}
+use Rattle.cosim_io.specs.Faults.{Rose}
+use Rattle.cosim_io.specs.Pieces.{AppendsPrefix}
+use Rattle.cosim_io.proofs.PieceLemmas.{AppendsPrefix-nil, AppendsPrefix-whole}
+use Rattle.cosim_app.specs.Answer.{Answer, AnswersRefusal, AnswersRun, IsAnswer, run_words, run_answer, refused_answer, usage_answer, status_of}
+use Rattle.cosim_app.specs.Headline.{Streams, IsQuiet, Gives, AnswerClause, PrefixClause, EndsWith, BreaksARule, CauseClause, WholeInputClause, IsNotesText, NotesClause}
+use Rattle.cosim_app.specs.Judgement.{RunAnswers, PutsAnswer, PutsFront, IsOwn, AnswersInput, TellsNote}
+use Rattle.cosim_app.specs.Notes.{usage_note, read_fault_note, write_fault_note, no_memory_note, refused_note}
+use Rattle.cosim_app.specs.declared.status.Status.{Status}
+use Rattle.cosim_app.specs.declared.status.Status.TheVariants as status
+use Rattle.unit_tree.specs.Lines.{size_of}
+use Rattle.unit_tree.specs.Trace.{Composition, Position, composition_of, IsTrace}
+use Rattle.unit_tree.specs.declared.ending.Ending.{Ending}
+use Rattle.unit_tree.specs.declared.system.System.{System}
+use Rattle.cosim_app.proofs.JudgeLaws.{ends_unrefused}
+
+-- all that a call promises
+pub record Promises (words : List (List ℕ)) (before now : Streams) (given : Status) : Type 0 where
+  pub answer : AnswerClause words before now given
+  pub prefix : PrefixClause words before now given
+  pub cause : CauseClause words before now given
+  pub whole_input : WholeInputClause words before now given
+  pub notes : NotesClause words before now given
+
+-- ---- One answer
+
+-- two runs of a text answer the same
+runs_same : (text : List ℕ) (one other : Answer) (a : AnswersRun text one) (b : AnswersRun text other) → one ≡ other
+runs_same text one other a b =
+    let same_system : a.system ≡ b.system = says_one text a.system b.system a.accepted b.accepted in
+    let trace : IsTrace (composition_of b.system) a.positions a.ending = subst (λ (s : System). IsTrace (composition_of s) a.positions a.ending) same_system a.trace in
+    let same = traces_same (composition_of b.system) a.positions b.positions a.ending b.ending trace b.trace in
+    a.is ∙ ap (λ s. run_answer s a.positions a.ending) same_system ∙ ap (λ p. run_answer b.system p a.ending) same.0 ∙ ap (run_answer b.system b.positions) same.1 ∙ sym b.is
+
+pub run_answers_same : (text : List ℕ) (one other : Answer) → RunAnswers text one → RunAnswers text other → one ≡ other
+run_answers_same text one other (inl a) (inl b) =
+    let same = refused_once text a.line a.rule b.line b.rule a.refused b.refused in
+    a.is ∙ ap (λ l. refused_answer l a.rule) same.0 ∙ ap (refused_answer b.line) same.1 ∙ sym b.is
+run_answers_same text one other (inl a) (inr b) = absurd (not_both text b.system a.line a.rule b.accepted a.refused)
+run_answers_same text one other (inr a) (inl b) = absurd (not_both text a.system b.line b.rule a.accepted b.refused)
+run_answers_same text one other (inr a) (inr b) = runs_same text one other a b
+
+-- the answer of the words of `run` is that of `run`
+run_of : (words : List (List ℕ)) (text : List ℕ) (answer : Answer) → words ≡ run_words → IsAnswer words text answer → RunAnswers text answer
+run_of words text answer is (inl found) = found.1
+run_of words text answer is (inr found) = absurd (found.0 is)
+
+usage_of : (words : List (List ℕ)) (text : List ℕ) (answer : Answer) → (words ≡ run_words → ⊥) → IsAnswer words text answer → answer ≡ usage_answer
+usage_of words text answer not (inl found) = absurd (not found.0)
+usage_of words text answer not (inr found) = found.1
+
+-- what was put begins each answer
+front_of : (words : List (List ℕ)) (text : List ℕ) (held held' : Option (List ℕ)) → words ≡ run_words → PutsFront text held held' → (answer : Answer) → IsAnswer words text answer → AppendsPrefix held held' answer.out
+front_of words text held held' is puts answer found =
+    subst (λ (a : Answer). AppendsPrefix held held' a.out) (run_answers_same text puts.answer answer puts.is (run_of words text answer is found)) puts.front
+
+fronts_of : (words : List (List ℕ)) (left held held' : Option (List ℕ)) → words ≡ run_words → IfSome left (λ text. PutsFront text held held') → IfSome left (λ text. (answer : Answer) → IsAnswer words text answer → AppendsPrefix held held' answer.out)
+fronts_of words None held held' is puts = tt
+fronts_of words (Some text) held held' is puts = front_of words text held held' is puts
+
+-- ---- From a status and its note to the clauses
+
+-- what stands before the note is told: which status and which text it is, and why
+pub record Facts (words : List (List ℕ)) (before now : Streams) (wanted : Status) (text_of_note : List ℕ) : Type 0 where
+  pub front : IfSome before.left (λ text. (answer : Answer) → IsAnswer words text answer → AppendsPrefix before.held now.held answer.out)
+  pub untouched : (wanted ≡ status.Usage) ⊎ ((wanted ≡ status.Refused) ⊎ (wanted ≡ status.ReadFault)) → now.held ≡ before.held
+  pub answers : (Rose before.read_faults now.read_faults → ⊥) → (Rose before.put_faults now.put_faults → ⊥) → (wanted ≡ status.NoMemory → ⊥) → IfSome before.left (λ text. (answer : Answer) → IsAnswer words text answer → Appends before.held now.held answer.out × (text_of_note ≡ answer.notes) × (wanted ≡ answer.status))
+  pub is_text : IfSome before.left (λ text. IsNotesText words text text_of_note)
+  pub usage : wanted ≡ status.Usage → words ≡ run_words → ⊥
+  pub usage_due : (words ≡ run_words → ⊥) → wanted ≡ status.Usage
+  pub read_fault : wanted ≡ status.ReadFault → Rose before.read_faults now.read_faults
+  pub write_fault : wanted ≡ status.WriteFault → Rose before.put_faults now.put_faults
+  pub refused : wanted ≡ status.Refused → IfSome before.left BreaksARule
+  pub done : wanted ≡ status.Done → IfSome before.left (EndsWith status.Done)
+  pub unit_fault : wanted ≡ status.UnitFault → IfSome before.left (EndsWith status.UnitFault)
+  pub put_greater : before.put_faults < now.put_faults → wanted ≡ status.WriteFault
+  pub read_greater : before.read_faults < now.read_faults → wanted ≡ status.ReadFault
+  pub done_read : wanted ≡ status.Done → IsAtEnd now.left
+  pub unit_fault_read : wanted ≡ status.UnitFault → IsAtEnd now.left
+  pub refused_read : wanted ≡ status.Refused → IsAtEnd now.left ⊎ IfSome before.left (λ text. text_limit < size_of text)
+  pub usage_read : (words ≡ run_words → ⊥) → (now.left ≡ before.left) × (now.read_faults ≡ before.read_faults)
+  pub read_fault_text : wanted ≡ status.ReadFault → text_of_note ≡ read_fault_note
+  pub write_fault_text : wanted ≡ status.WriteFault → text_of_note ≡ write_fault_note
+  pub no_memory_text : wanted ≡ status.NoMemory → text_of_note ≡ no_memory_note
+
+given_answer : (words : List (List ℕ)) (before now : Streams) (given wanted : Status) (note : List ℕ) (left : Option (List ℕ)) → given ≡ wanted → Appends before.noted now.noted note → IfSome left (λ text. (answer : Answer) → IsAnswer words text answer → Appends before.held now.held answer.out × (note ≡ answer.notes) × (wanted ≡ answer.status)) → IfSome left (λ text. (answer : Answer) → IsAnswer words text answer → Gives before now given answer)
+given_answer words before now given wanted note None is told answers = tt
+given_answer words before now given wanted note (Some text) is told answers = λ answer found.
+    let a = answers answer found in
+    record { out = a.0; notes = subst (Appends before.noted now.noted) a.1 told; status = is ∙ a.2 }
+
+noted_front : (words : List (List ℕ)) (before now : Streams) (note : List ℕ) (left : Option (List ℕ)) → AppendsPrefix before.noted now.noted note → IfSome left (λ text. IsNotesText words text note) → IfSome left (λ text. (notes : List ℕ) × IsNotesText words text notes × AppendsPrefix before.noted now.noted notes)
+noted_front words before now note None front is_text = tt
+noted_front words before now note (Some text) front is_text = (note, is_text, front)
+
+pub promises_told : (words : List (List ℕ)) (before now : Streams) (wanted given : Status) (note : List ℕ) → Facts words before now wanted note → TellsNote before.noted now.noted before.note_faults now.note_faults note wanted given → Promises words before now given
+promises_told words before now wanted given note facts (inl told) =
+    let is = told.0 in
+    let same = told.2 in
+    record {
+      answer = λ quiet more. given_answer words before now given wanted note before.left is told.1 (facts.answers quiet.reads quiet.puts (λ no. more (is ∙ no)));
+      prefix = record {
+        front = facts.front;
+        usage = λ e. facts.untouched (inl (sym is ∙ e));
+        refused = λ e. facts.untouched (inr (inl (sym is ∙ e)));
+        read_fault = λ e. facts.untouched (inr (inr (sym is ∙ e)));
+      };
+      cause = record {
+        usage = λ e. facts.usage (sym is ∙ e);
+        usage_due = λ no. inl (is ∙ facts.usage_due no);
+        read_fault = λ e. facts.read_fault (sym is ∙ e);
+        write_fault = λ e. inl (facts.write_fault (sym is ∙ e));
+        refused = λ e. facts.refused (sym is ∙ e);
+        done = λ e. facts.done (sym is ∙ e);
+        unit_fault = λ e. facts.unit_fault (sym is ∙ e);
+        put_greater = λ more. is ∙ facts.put_greater more;
+        note_greater = λ more. absurd (omega arith);
+        read_greater = λ more. inl (is ∙ facts.read_greater more);
+      };
+      whole_input = record {
+        done = λ e. facts.done_read (sym is ∙ e);
+        unit_fault = λ e. facts.unit_fault_read (sym is ∙ e);
+        refused = λ e. facts.refused_read (sym is ∙ e);
+        usage = facts.usage_read;
+      };
+      notes = record {
+        read_fault = λ e. subst (Appends before.noted now.noted) (facts.read_fault_text (sym is ∙ e)) told.1;
+        write_fault = λ e quiet. subst (Appends before.noted now.noted) (facts.write_fault_text (sym is ∙ e)) told.1;
+        no_memory = λ e. subst (Appends before.noted now.noted) (facts.no_memory_text (sym is ∙ e)) told.1;
+        failed = noted_front words before now note before.left (AppendsPrefix-whole before.noted now.noted note told.1) facts.is_text;
+      };
+    }
+promises_told words before now wanted given note facts (inr failed) =
+    let is = failed.0 in
+    record {
+      answer = λ quiet more. absurd (quiet.notes failed.2);
+      prefix = record { front = facts.front; usage = λ e. absurd (cc); refused = λ e. absurd (cc); read_fault = λ e. absurd (cc) };
+      cause = record {
+        usage = λ e. absurd (cc);
+        usage_due = λ no. inr is;
+        read_fault = λ e. absurd (cc);
+        write_fault = λ e. inr failed.2;
+        refused = λ e. absurd (cc);
+        done = λ e. absurd (cc);
+        unit_fault = λ e. absurd (cc);
+        put_greater = λ more. is;
+        note_greater = λ more. is;
+        read_greater = λ more. inr failed.2;
+      };
+      whole_input = record { done = λ e. absurd (cc); unit_fault = λ e. absurd (cc); refused = λ e. absurd (cc); usage = facts.usage_read };
+      notes = record {
+        read_fault = λ e. absurd (cc);
+        write_fault = λ e quiet. absurd (quiet failed.2);
+        no_memory = λ e. absurd (cc);
+        failed = noted_front words before now note before.left failed.1 facts.is_text;
+      };
+    }
+
+-- ---- The facts of each way through a call
+
+usage_front : (words : List (List ℕ)) (left held : Option (List ℕ)) → (words ≡ run_words → ⊥) → IfSome left (λ text. (answer : Answer) → IsAnswer words text answer → AppendsPrefix held held answer.out)
+usage_front words None held not = tt
+usage_front words (Some text) held not = λ answer found. AppendsPrefix-nil held answer.out
+
+usage_answers : (words : List (List ℕ)) (left held : Option (List ℕ)) → (words ≡ run_words → ⊥) → IfSome left (λ text. (answer : Answer) → IsAnswer words text answer → Appends held held answer.out × (usage_note ≡ answer.notes) × (status.Usage ≡ answer.status))
+usage_answers words None held not = tt
+usage_answers words (Some text) held not = λ answer found.
+    let is : answer ≡ usage_answer = usage_of words text answer not found in
+    (subst (λ (a : Answer). Appends held held a.out) (sym is) (Appends-nil held), ap (λ (a : Answer). a.notes) (sym is), ap (λ (a : Answer). a.status) (sym is))
+
+usage_text : (words : List (List ℕ)) (left : Option (List ℕ)) → (words ≡ run_words → ⊥) → IfSome left (λ text. IsNotesText words text usage_note)
+usage_text words None not = tt
+usage_text words (Some text) not = inr (inr (inr (λ answer found. ap (λ (a : Answer). a.notes) (sym (usage_of words text answer not found)))))
+
+pub facts_usage : (words : List (List ℕ)) (before now : Streams) → (words ≡ run_words → ⊥) → now.left ≡ before.left → now.read_faults ≡ before.read_faults → now.held ≡ before.held → now.put_faults ≡ before.put_faults → Facts words before now status.Usage usage_note
+facts_usage words before now not left reads held puts = record {
+  front = subst (λ (h : Option (List ℕ)). IfSome before.left (λ text. (answer : Answer) → IsAnswer words text answer → AppendsPrefix before.held h answer.out)) (sym held) (usage_front words before.left before.held not);
+  untouched = λ _. held;
+  answers = λ _ _ _. subst (λ (h : Option (List ℕ)). IfSome before.left (λ text. (answer : Answer) → IsAnswer words text answer → Appends before.held h answer.out × (usage_note ≡ answer.notes) × (status.Usage ≡ answer.status))) (sym held) (usage_answers words before.left before.held not);
+  is_text = usage_text words before.left not;
+  usage = λ _ is. not is;
+  usage_due = λ _. refl;
+  read_fault = λ e. absurd (cc);
+  write_fault = λ e. absurd (cc);
+  refused = λ e. absurd (cc);
+  done = λ e. absurd (cc);
+  unit_fault = λ e. absurd (cc);
+  put_greater = λ more. absurd (omega arith);
+  read_greater = λ more. absurd (omega arith);
+  done_read = λ e. absurd (cc);
+  unit_fault_read = λ e. absurd (cc);
+  refused_read = λ e. absurd (cc);
+  usage_read = λ _. (left, reads);
+  read_fault_text = λ e. absurd (cc);
+  write_fault_text = λ e. absurd (cc);
+  no_memory_text = λ e. absurd (cc);
+}
+
+write_fault_is_other : (status.WriteFault ≡ status.Usage) ⊎ ((status.WriteFault ≡ status.Refused) ⊎ (status.WriteFault ≡ status.ReadFault)) → ⊥
+write_fault_is_other (inl e) = cc
+write_fault_is_other (inr (inl e)) = cc
+write_fault_is_other (inr (inr e)) = cc
+
+no_memory_is_other : (status.NoMemory ≡ status.Usage) ⊎ ((status.NoMemory ≡ status.Refused) ⊎ (status.NoMemory ≡ status.ReadFault)) → ⊥
+no_memory_is_other (inl e) = cc
+no_memory_is_other (inr (inl e)) = cc
+no_memory_is_other (inr (inr e)) = cc
+
+fixed_text_is : (words : List (List ℕ)) (left : Option (List ℕ)) (note : List ℕ) → ((text : List ℕ) → IsNotesText words text note) → IfSome left (λ text. IsNotesText words text note)
+fixed_text_is words None note is = tt
+fixed_text_is words (Some text) note is = is text
+
+pub facts_read_fault : (words : List (List ℕ)) (before now : Streams) → words ≡ run_words → IfSome before.left (λ text. PutsFront text before.held before.held) → Rose before.read_faults now.read_faults → now.held ≡ before.held → now.put_faults ≡ before.put_faults → Facts words before now status.ReadFault read_fault_note
+facts_read_fault words before now is_run nothing rose held puts = record {
+  front = subst (λ (h : Option (List ℕ)). IfSome before.left (λ text. (answer : Answer) → IsAnswer words text answer → AppendsPrefix before.held h answer.out)) (sym held) (fronts_of words before.left before.held before.held is_run nothing);
+  untouched = λ _. held;
+  answers = λ quiet _ _. absurd (quiet rose);
+  is_text = fixed_text_is words before.left read_fault_note (λ text. inl refl);
+  usage = λ e. absurd (cc);
+  usage_due = λ not. absurd (not is_run);
+  read_fault = λ _. rose;
+  write_fault = λ e. absurd (cc);
+  refused = λ e. absurd (cc);
+  done = λ e. absurd (cc);
+  unit_fault = λ e. absurd (cc);
+  put_greater = λ more. absurd (omega arith);
+  read_greater = λ more. refl;
+  done_read = λ e. absurd (cc);
+  unit_fault_read = λ e. absurd (cc);
+  refused_read = λ e. absurd (cc);
+  usage_read = λ not. absurd (not is_run);
+  read_fault_text = λ _. refl;
+  write_fault_text = λ e. absurd (cc);
+  no_memory_text = λ e. absurd (cc);
+}
+
+pub facts_write_fault : (words : List (List ℕ)) (before now : Streams) → words ≡ run_words → IfSome before.left (λ text. PutsFront text before.held now.held) → now.read_faults ≡ before.read_faults → Rose before.put_faults now.put_faults → Facts words before now status.WriteFault write_fault_note
+facts_write_fault words before now is_run puts_front reads rose = record {
+  front = fronts_of words before.left before.held now.held is_run puts_front;
+  untouched = λ e. absurd (write_fault_is_other e);
+  answers = λ _ quiet _. absurd (quiet rose);
+  is_text = fixed_text_is words before.left write_fault_note (λ text. inr (inl refl));
+  usage = λ e. absurd (cc);
+  usage_due = λ not. absurd (not is_run);
+  read_fault = λ e. absurd (cc);
+  write_fault = λ _. rose;
+  refused = λ e. absurd (cc);
+  done = λ e. absurd (cc);
+  unit_fault = λ e. absurd (cc);
+  put_greater = λ more. refl;
+  read_greater = λ more. absurd (omega arith);
+  done_read = λ e. absurd (cc);
+  unit_fault_read = λ e. absurd (cc);
+  refused_read = λ e. absurd (cc);
+  usage_read = λ not. absurd (not is_run);
+  read_fault_text = λ e. absurd (cc);
+  write_fault_text = λ _. refl;
+  no_memory_text = λ e. absurd (cc);
+}
+
+pub facts_no_memory : (words : List (List ℕ)) (before now : Streams) → words ≡ run_words → IfSome before.left (λ text. PutsFront text before.held now.held) → now.read_faults ≡ before.read_faults → now.put_faults ≡ before.put_faults → Facts words before now status.NoMemory no_memory_note
+facts_no_memory words before now is_run puts_front reads puts = record {
+  front = fronts_of words before.left before.held now.held is_run puts_front;
+  untouched = λ e. absurd (no_memory_is_other e);
+  answers = λ _ _ more. absurd (more refl);
+  is_text = fixed_text_is words before.left no_memory_note (λ text. inr (inr (inl refl)));
+  usage = λ e. absurd (cc);
+  usage_due = λ not. absurd (not is_run);
+  read_fault = λ e. absurd (cc);
+  write_fault = λ e. absurd (cc);
+  refused = λ e. absurd (cc);
+  done = λ e. absurd (cc);
+  unit_fault = λ e. absurd (cc);
+  put_greater = λ more. absurd (omega arith);
+  read_greater = λ more. absurd (omega arith);
+  done_read = λ e. absurd (cc);
+  unit_fault_read = λ e. absurd (cc);
+  refused_read = λ e. absurd (cc);
+  usage_read = λ not. absurd (not is_run);
+  read_fault_text = λ e. absurd (cc);
+  write_fault_text = λ e. absurd (cc);
+  no_memory_text = λ _. refl;
+}
+
+-- an answer of its own
+own_front : (words : List (List ℕ)) (left held held' : Option (List ℕ)) (given : Status) (note : List ℕ) → words ≡ run_words → IfSome left (λ text. PutsAnswer text held held' given note) → IfSome left (λ text. (answer : Answer) → IsAnswer words text answer → Appends held held' answer.out × (note ≡ answer.notes) × (given ≡ answer.status))
+own_front words None held held' given note is_run gives = tt
+own_front words (Some text) held held' given note is_run gives = λ answer found.
+    let same = run_answers_same text gives.answer answer gives.is (run_of words text answer is_run found) in
+    (subst (λ (a : Answer). Appends held held' a.out) same gives.out, gives.notes ∙ ap (λ (a : Answer). a.notes) same, gives.same_status ∙ ap (λ (a : Answer). a.status) same)
+
+own_prefix : (words : List (List ℕ)) (left held held' : Option (List ℕ)) (given : Status) (note : List ℕ) → IfSome left (λ text. (answer : Answer) → IsAnswer words text answer → Appends held held' answer.out × (note ≡ answer.notes) × (given ≡ answer.status)) → IfSome left (λ text. (answer : Answer) → IsAnswer words text answer → AppendsPrefix held held' answer.out)
+own_prefix words None held held' given note answers = tt
+own_prefix words (Some text) held held' given note answers = λ answer found. AppendsPrefix-whole held held' answer.out (answers answer found).0
+
+own_text : (words : List (List ℕ)) (left held held' : Option (List ℕ)) (given : Status) (note : List ℕ) → IfSome left (λ text. (answer : Answer) → IsAnswer words text answer → Appends held held' answer.out × (note ≡ answer.notes) × (given ≡ answer.status)) → IfSome left (λ text. IsNotesText words text note)
+own_text words None held held' given note answers = tt
+own_text words (Some text) held held' given note answers = inr (inr (inr (λ answer found. (answers answer found).1)))
+
+breaks : (text : List ℕ) (answer : Answer) → RunAnswers text answer → answer.status ≡ status.Refused → BreaksARule text
+breaks text answer (inl a) is = record { line = a.line; rule = a.rule; refused = a.refused }
+breaks text answer (inr a) is = absurd (ends_unrefused a.ending answer.status (ap (λ (x : Answer). x.status) a.is) is)
+
+breaks_a_rule : (left held held' : Option (List ℕ)) (given : Status) (note : List ℕ) → IfSome left (λ text. PutsAnswer text held held' given note) → given ≡ status.Refused → IfSome left BreaksARule
+breaks_a_rule None held held' given note gives is = tt
+breaks_a_rule (Some text) held held' given note gives is = breaks text gives.answer gives.is (sym gives.same_status ∙ is)
+
+ends_so : (text : List ℕ) (answer : Answer) (end : Status) → (end ≡ status.Refused → ⊥) → RunAnswers text answer → answer.status ≡ end → EndsWith end text
+ends_so text answer end other (inl a) is = absurd (other (sym is ∙ ap (λ (x : Answer). x.status) a.is))
+ends_so text answer end other (inr a) is =
+    record { system = a.system; accepted = a.accepted; positions = a.positions; ending = a.ending; trace = a.trace; status = sym (ap (λ (x : Answer). x.status) a.is) ∙ is }
+
+ends_with : (left held held' : Option (List ℕ)) (given end : Status) (note : List ℕ) → (end ≡ status.Refused → ⊥) → IfSome left (λ text. PutsAnswer text held held' given note) → given ≡ end → IfSome left (EndsWith end)
+ends_with None held held' given end note other gives is = tt
+ends_with (Some text) held held' given end note other gives is = ends_so text gives.answer end other gives.is (sym gives.same_status ∙ is)
+
+own_is_other : (given other : Status) → IsOwn given → (IsOwn other → ⊥) → given ≡ other → ⊥
+own_is_other given other own not is = not (subst IsOwn is own)
+
+own_untouched : (given : Status) {A : Type 0} → IsOwn given → (given ≡ status.Refused → A) → (given ≡ status.Usage) ⊎ ((given ≡ status.Refused) ⊎ (given ≡ status.ReadFault)) → A
+own_untouched given own refused (inl e) = absurd (own_is_other given status.Usage own (λ x. x) e)
+own_untouched given own refused (inr (inl e)) = refused e
+own_untouched given own refused (inr (inr e)) = absurd (own_is_other given status.ReadFault own (λ x. x) e)
+
+read_to_end : (given : Status) (left left' : Option (List ℕ)) → (given ≡ status.Refused → ⊥) → IsAtEnd left' ⊎ ((given ≡ status.Refused) × IfSome left (λ text. text_limit < size_of text)) → IsAtEnd left'
+read_to_end given left left' other (inl end) = end
+read_to_end given left left' other (inr long) = absurd (other long.0)
+
+read_or_long : (given : Status) (left left' : Option (List ℕ)) → IsAtEnd left' ⊎ ((given ≡ status.Refused) × IfSome left (λ text. text_limit < size_of text)) → IsAtEnd left' ⊎ IfSome left (λ text. text_limit < size_of text)
+read_or_long given left left' (inl end) = inl end
+read_or_long given left left' (inr long) = inr long.1
+
+pub facts_answered : (words : List (List ℕ)) (before now : Streams) (given : Status) (note : List ℕ) → words ≡ run_words → AnswersInput before.left now.left before.read_faults now.read_faults before.held now.held before.put_faults now.put_faults given note → Facts words before now given note
+facts_answered words before now given note is_run a =
+    let answers = own_front words before.left before.held now.held given note is_run a.gives in
+    let reads = a.same_reads in
+    let puts = a.same_puts in
+    record {
+      front = own_prefix words before.left before.held now.held given note answers;
+      untouched = own_untouched given a.own a.untouched;
+      answers = λ _ _ _. answers;
+      is_text = own_text words before.left before.held now.held given note answers;
+      usage = λ e. absurd (own_is_other given status.Usage a.own (λ x. x) e);
+      usage_due = λ not. absurd (not is_run);
+      read_fault = λ e. absurd (own_is_other given status.ReadFault a.own (λ x. x) e);
+      write_fault = λ e. absurd (own_is_other given status.WriteFault a.own (λ x. x) e);
+      refused = breaks_a_rule before.left before.held now.held given note a.gives;
+      done = ends_with before.left before.held now.held given status.Done note (λ e. absurd (cc)) a.gives;
+      unit_fault = ends_with before.left before.held now.held given status.UnitFault note (λ e. absurd (cc)) a.gives;
+      put_greater = λ more. absurd (omega arith);
+      read_greater = λ more. absurd (omega arith);
+      done_read = λ e. read_to_end given before.left now.left (λ r. absurd (cc)) a.to_end;
+      unit_fault_read = λ e. read_to_end given before.left now.left (λ r. absurd (cc)) a.to_end;
+      refused_read = λ e. read_or_long given before.left now.left a.to_end;
+      usage_read = λ not. absurd (not is_run);
+      read_fault_text = λ e. absurd (own_is_other given status.ReadFault a.own (λ x. x) e);
+      write_fault_text = λ e. absurd (own_is_other given status.WriteFault a.own (λ x. x) e);
+      no_memory_text = λ e. absurd (own_is_other given status.NoMemory a.own (λ x. x) e);
+    }
