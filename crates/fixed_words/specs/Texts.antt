@@ -1,5 +1,5 @@
 -- How a word is written.
-use Rattle.std.specs.Prelude.{ℕ, zero, ◌+◌, ◌-◌, Bool, ℤ, pos, unsigned_abs, List, [], ◌++◌, length, take, drop, replicate, codes, if◌then◌else◌}
+use Rattle.std.specs.Prelude.{ℕ, zero, ◌+◌, ◌-◌, Bool, true, false, ℤ, pos, unsigned_abs, List, [], ◌++◌, length, take, drop, replicate, codes, if◌then◌else◌}
 use Rattle.std.specs.Int.{is_negative}
 use Rattle.std.specs.Fmt.{decimal, signed_decimal}
 use Rattle.fixed_words.specs.Digits.{pointed}
@@ -30,7 +30,7 @@ fixed_text decimals magnitude = pointed_before decimals (padded decimals (decima
 -- The text of a word of the type: a truth value by its name; an integer in decimal, with `-` in front of a
 -- negative one; fixed point with exactly its decimals, and `-` in front of a negative word.
 abbrev pub text_of : Ty → ℤ → List ℕ
-text_of types.Bool (pos zero) = codes "false"
-text_of types.Bool _ = codes "true"
+text_of types.Bool (pos zero) = truth_text false
+text_of types.Bool _ = truth_text true
 text_of (Fixed decimals) word = sign_text (is_negative word) ++ fixed_text decimals (unsigned_abs word)
 text_of _ word = signed_decimal word

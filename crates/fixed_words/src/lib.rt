@@ -5,8 +5,13 @@
 //! place of a word. The crate also has [`List`] and [`Boxed`], a `Vec` and a `Box` that contracts see
 //! as what they hold, so that trees of them are plain data.
 //!
+//! The layers above use all that is named here. [`read_literal`], [`literal_word`], [`fits`] and the
+//! operations take no memory; [`word_text`] takes only what its buffer grows by.
+//!
 //! Definitions: `specs/Types.antt` (kinds, ranges, fits), `specs/Operations.antt` (the integer that
-//! each operation means, or its fault), `specs/Texts.antt` (how a word is written).
+//! each operation means, or its fault), `specs/Digits.antt` (numbers as text), `specs/Literals.antt`
+//! (how a literal is spelled, and its word as a value of a type), `specs/Texts.antt` (how a word is
+//! written), `specs/Laws.antt` (quotients are floors, a text spells one literal, texts are read back).
 #![tactic(auto)]
 
 mod boxed;

@@ -1,10 +1,8 @@
 ghost use Rattle.std.specs.Prelude.{◌≡◌, ◌≢◌, ◌≤◌, ◌∷◌, ◌++◌, ℤ, ℕ, Bool, List, IfSome, IfNone, if◌then◌else◌};
 ghost use Rattle.std.specs.Bool.{OnFalse};
-ghost use Rattle.fixed_words.specs.Types.{AreDecimals};
-ghost use Rattle.fixed_words.specs.declared.types.Ty.TheVariants.{Fixed};
-ghost use Rattle.fixed_words.specs.declared.types.Ty.TheVariants.{Int64};
+ghost use Rattle.fixed_words.specs.declared.types.Ty.TheVariants.{Fixed, Int64};
 ghost use Rattle.fixed_words.specs.declared.types.Literal.{Literal};
-ghost use Rattle.fixed_words.specs.Types.{is_word_of};
+ghost use Rattle.fixed_words.specs.Types.{AreDecimals, is_word_of};
 ghost use Rattle.fixed_words.specs.Texts.{sign_text, truth_text};
 ghost use Rattle.fixed_words.specs.Literals.{IsLiteralText, IsSignedNumber, with_sign, scaled_number, word_of_literal, within_type};
 
