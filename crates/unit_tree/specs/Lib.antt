@@ -1,5 +1,9 @@
 pub mod Components
+pub mod Costs
+pub mod Counter
 pub mod Effects
+pub mod Kinds
+pub mod Laws
 pub mod Lines
 pub mod LocalTime
 pub mod Steps

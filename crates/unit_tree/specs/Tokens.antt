@@ -1,6 +1,7 @@
 -- The tokens of a line: how each is spelled, and where it ends.
-use Rattle.std.specs.Prelude.{◌≡◌, ℕ, ◌+◌, ◌-◌, ◌*◌, ◌^◌, ◌<◌, ◌≤◌, Bool, false, ◌&&◌, ◌||◌, ◌==◌, nat_le, List, [], ◌∷◌, ◌++◌, length, codes, IsTrue, IsFalse}
+use Rattle.std.specs.Prelude.{◌≡◌, ℕ, ◌<◌, ◌≤◌, Bool, false, ◌&&◌, ◌||◌, ◌==◌, nat_le, List, [], ◌∷◌, ◌++◌, length, codes, IsTrue, IsFalse}
 use Rattle.std.specs.List.{list_all}
+pub use Rattle.fixed_words.specs.Digits.{is_digit, number_from, pointed, IsNumber}
 use Rattle.unit_tree.specs.declared.token.Keyword.{Keyword}
 use Rattle.unit_tree.specs.declared.token.Keyword.TheVariants as word
 use Rattle.unit_tree.specs.declared.token.Symbol.{Symbol}
@@ -11,9 +12,6 @@ use Rattle.unit_tree.specs.declared.token.Token.TheVariants as token
 -- Space and tab.
 abbrev pub is_blank : ℕ → Bool
 is_blank byte = (byte == 32) || (byte == 9)
-
-abbrev pub is_digit : ℕ → Bool
-is_digit byte = nat_le 48 byte && nat_le byte 57
 
 -- A letter or `_`.
 abbrev pub is_letter : ℕ → Bool
@@ -93,27 +91,6 @@ IsWord (first ∷ others) = IsTrue (is_letter first) × IsTrue (list_all is_word
 
 abbrev pub IsReserved : List ℕ → Type 0
 IsReserved text = (keyword : Keyword) × (text ≡ keyword_text keyword)
-
--- The number that digits are written for, leading zeros allowed; the digits before them count first.
-abbrev pub number_from : ℕ → List ℕ → ℕ
-number_from before [] = before
-number_from before (digit ∷ digits) = number_from (10 * before + (digit - 48)) digits
-
--- A fraction behind its point; no point where there is none.
-abbrev pub pointed : List ℕ → List ℕ
-pointed [] = []
-pointed (digit ∷ digits) = 46 ∷ digit ∷ digits
-
--- A number: digits, or digits, a point and one to nine digits. All its digits together are the number
--- `digits`, at most 2^63.
-pub record IsNumber (digits decimals : ℕ) (text : List ℕ) : Type 0 where
-  pub whole : List ℕ
-  pub fraction : List ℕ
-  pub spelled : text ≡ whole ++ pointed fraction
-  pub is_whole : IsTrue (list_all is_digit whole) × (0 < length whole)
-  pub is_fraction : IsTrue (list_all is_digit fraction) × (length fraction ≡ decimals) × (decimals ≤ 9)
-  pub value : number_from 0 (whole ++ fraction) ≡ digits
-  pub bounded : digits ≤ 2 ^ 63
 
 -- The text spells the token.
 abbrev pub IsSpelling : Token → List ℕ → Type 0

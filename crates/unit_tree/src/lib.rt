@@ -10,17 +10,25 @@
 //! (successor, and the one trace of a system).
 #![tactic(auto)]
 
+mod effects;
+mod ending;
 mod environment;
+mod evaluate;
 mod expr;
+mod laws;
 mod line;
 mod point;
 mod system;
 mod token;
 mod unit;
 
+pub use effects::run_lines;
+pub use ending::{Ending, Place};
 pub use environment::{Environment, Value, Variable};
+pub use evaluate::value;
 pub use expr::{BinOp, Expr, UnOp};
 use fixed_words::List;
+pub use laws::{at_most_one_trace, counter_is_worked};
 pub use line::Line;
 pub use point::Point;
 pub use system::{Column, Instance, PortName, Setting, System, Wire};

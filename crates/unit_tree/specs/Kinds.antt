@@ -1,0 +1,78 @@
+-- Kind of an expression: what its operands are to be, and what it is then; none where an operand is of a wrong kind.
+use Rattle.std.specs.Prelude.{ℕ, Bool, true, false, ◌&&◌, nat_eq, List, Option, Some, None, if◌then◌else◌}
+use Rattle.std.specs.Option.{option_and_then}
+use Rattle.fixed_words.specs.declared.types.Kind.{Kind}
+use Rattle.fixed_words.specs.declared.types.Kind.TheVariants.{Int, Bool as Truth, Fixed}
+use Rattle.unit_tree.specs.Values.{kind_of_number}
+use Rattle.unit_tree.specs.declared.expr.BinOp.{BinOp}
+use Rattle.unit_tree.specs.declared.expr.BinOp.TheVariants as by
+use Rattle.unit_tree.specs.declared.expr.Expr.{Expr, fold-Expr}
+use Rattle.unit_tree.specs.declared.expr.Expr.TheOpen.{Expr-F}
+use Rattle.unit_tree.specs.declared.expr.UnOp.{UnOp}
+use Rattle.unit_tree.specs.declared.expr.UnOp.TheVariants as of
+
+-- Whether two kinds are one. Int and fixed point without decimals are two.
+abbrev pub same_kind : Kind → Kind → Bool
+same_kind Int Int = true
+same_kind Truth Truth = true
+same_kind (Fixed m) (Fixed n) = nat_eq m n
+same_kind _ _ = false
+
+abbrev pub is_number : Kind → Bool
+is_number Truth = false
+is_number _ = true
+
+abbrev pub is_fixed : Kind → Bool
+is_fixed (Fixed decimals) = true
+is_fixed _ = false
+
+-- The kind, where the test holds.
+abbrev pub where_holds : Bool → Kind → Option Kind
+where_holds test kind = if test then Some kind else None
+
+abbrev pub unary_kind : UnOp → Kind → Option Kind
+unary_kind of.Neg x = where_holds (is_number x) x
+unary_kind of.Abs x = where_holds (is_number x) x
+unary_kind of.Not x = where_holds (same_kind x Truth) Truth
+unary_kind of.ToInt x = Some Int
+unary_kind (of.ToFix decimals) x = where_holds (is_number x) (Fixed decimals)
+
+abbrev pub binary_kind : BinOp → Kind → Kind → Option Kind
+binary_kind by.Slash x y = where_holds (same_kind x y && is_fixed x) x
+binary_kind by.Div x y = where_holds (same_kind x Int && same_kind y Int) Int
+binary_kind by.Mod x y = where_holds (same_kind x Int && same_kind y Int) Int
+binary_kind by.Eq x y = where_holds (same_kind x y) Truth
+binary_kind by.Ne x y = where_holds (same_kind x y) Truth
+binary_kind by.Lt x y = where_holds (same_kind x y && is_number x) Truth
+binary_kind by.Le x y = where_holds (same_kind x y && is_number x) Truth
+binary_kind by.Gt x y = where_holds (same_kind x y && is_number x) Truth
+binary_kind by.Ge x y = where_holds (same_kind x y && is_number x) Truth
+binary_kind by.And x y = where_holds (same_kind x Truth && same_kind y Truth) Truth
+binary_kind by.Or x y = where_holds (same_kind x Truth && same_kind y Truth) Truth
+binary_kind _ x y = where_holds (same_kind x y && is_number x) x
+
+-- The kinds of names, where they are declared.
+abbrev pub KindsOfNames : Type 0
+KindsOfNames = List ℕ → Option Kind
+
+abbrev pub Kinding : Type 0
+Kinding = KindsOfNames → Option Kind
+
+-- One node, with the kind of each part in its place.
+abbrev pub node_kind : Expr-F Kinding → Kinding
+node_kind (Expr-F.Number word decimals) names = Some (kind_of_number decimals)
+node_kind (Expr-F.Truth told) names = Some Truth
+node_kind (Expr-F.Var name) names = names name
+node_kind Expr-F.Time names = Some Int
+node_kind Expr-F.Step names = Some Int
+node_kind (Expr-F.Unary op arg) names = option_and_then (unary_kind op) (arg names)
+node_kind (Expr-F.Binary op left right) names =
+    option_and_then (λ x. option_and_then (binary_kind op x) (right names)) (left names)
+node_kind (Expr-F.Clamp value low high) names =
+    option_and_then (λ x. option_and_then (λ l. option_and_then (λ h. where_holds (same_kind x l && (same_kind x h && is_number x)) x) (high names)) (low names)) (value names)
+node_kind (Expr-F.Choose cond then_part else_part) names =
+    option_and_then (λ c. option_and_then (λ x. option_and_then (λ y. where_holds (same_kind c Truth && same_kind x y) x) (else_part names)) (then_part names)) (cond names)
+
+-- The kind of an expression, where each operand has the kind that its operation asks for.
+abbrev pub kind_of_expression : Expr → Kinding
+kind_of_expression = fold-Expr Kinding node_kind
