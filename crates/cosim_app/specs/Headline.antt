@@ -98,3 +98,8 @@ pub record NotesClause (words : List (List ℕ)) (before now : Streams) (given :
   pub write_fault : given ≡ status.WriteFault → (Rose before.note_faults now.note_faults → ⊥) → Appends before.noted now.noted write_fault_note
   pub no_memory : given ≡ status.NoMemory → Appends before.noted now.noted no_memory_note
   pub failed : IfSome before.left (λ text. (notes : List ℕ) × IsNotesText words text notes × AppendsPrefix before.noted now.noted notes)
+
+-- The streams at a moment.
+abbrev pub streams : Option (List ℕ) → ℕ → Option (List ℕ) → ℕ → Option (List ℕ) → ℕ → Streams
+streams left read_faults held put_faults noted note_faults =
+    record { left = left; read_faults = read_faults; held = held; put_faults = put_faults; noted = noted; note_faults = note_faults }

@@ -1,7 +1,7 @@
 //! The commands of the program.
 ghost use Rattle.std.specs.Prelude.{◌≡◌, ◌↔◌, IsTrue};
 ghost use Rattle.cosim_app.specs.Answer.{run_words};
-ghost use Rattle.cosim_app.specs.Headline.{AnswerClause, PrefixClause, CauseClause, WholeInputClause, NotesClause, Streams};
+ghost use Rattle.cosim_app.specs.Headline.{AnswerClause, PrefixClause, CauseClause, WholeInputClause, NotesClause, streams};
 ghost use Rattle.cosim_app.specs.Judgement.{TellsNote};
 ghost use Rattle.cosim_app.specs.Words.{bytes_of};
 
@@ -31,5 +31,33 @@ fn tell<N: Sink>(notes: &mut N, note: &[u8], status: Status) -> Status
     match notes.put(note) {
         Ok(()) => status,
         Err(_) => Status::WriteFault,
+    }
+}
+
+/// Serves every form of words in the calling thread, and returns.
+///
+/// The words are those behind the program's name. The output gets the bytes of the command, the notes get at
+/// most one line, and the answer is the status of the call.
+pub fn cosim_alone<S: Source, O: Sink, N: Sink>(
+    alloc: Global,
+    words: &[String],
+    source: &mut S,
+    out: &mut O,
+    notes: &mut N,
+) -> Status
+    ensures answer { AnswerClause (bytes_of words.now) (streams (S.left source.old) (S.faults source.old) (O.held out.old) (O.faults out.old) (N.held notes.old) (N.faults notes.old)) (streams (S.left source.new) (S.faults source.new) (O.held out.new) (O.faults out.new) (N.held notes.new) (N.faults notes.new)) result }
+    ensures prefix { PrefixClause (bytes_of words.now) (streams (S.left source.old) (S.faults source.old) (O.held out.old) (O.faults out.old) (N.held notes.old) (N.faults notes.old)) (streams (S.left source.new) (S.faults source.new) (O.held out.new) (O.faults out.new) (N.held notes.new) (N.faults notes.new)) result }
+    ensures cause { CauseClause (bytes_of words.now) (streams (S.left source.old) (S.faults source.old) (O.held out.old) (O.faults out.old) (N.held notes.old) (N.faults notes.old)) (streams (S.left source.new) (S.faults source.new) (O.held out.new) (O.faults out.new) (N.held notes.new) (N.faults notes.new)) result }
+    ensures whole_input { WholeInputClause (bytes_of words.now) (streams (S.left source.old) (S.faults source.old) (O.held out.old) (O.faults out.old) (N.held notes.old) (N.faults notes.old)) (streams (S.left source.new) (S.faults source.new) (O.held out.new) (O.faults out.new) (N.held notes.new) (N.faults notes.new)) result }
+    ensures notes { NotesClause (bytes_of words.now) (streams (S.left source.old) (S.faults source.old) (O.held out.old) (O.faults out.old) (N.held notes.old) (N.faults notes.old)) (streams (S.left source.new) (S.faults source.new) (O.held out.new) (O.faults out.new) (N.held notes.new) (N.faults notes.new)) result }
+{
+    if !is_run(words) {
+        return tell(notes, b"cosim: usage\n", Status::Usage);
+    }
+    match judge(alloc, source, out) {
+        Verdict::Answered { status, note } => tell(notes, &note, status),
+        Verdict::ReadFault => tell(notes, b"cosim: read fault\n", Status::ReadFault),
+        Verdict::WriteFault => tell(notes, b"cosim: write fault\n", Status::WriteFault),
+        Verdict::NoMemory => tell(notes, b"cosim: no memory\n", Status::NoMemory),
     }
 }

@@ -64,11 +64,11 @@ increment_is env =
 abbrev pub onward_worked : ℕ → Next
 onward_worked k =
     cond (k == 3) (ends Completed)
-      (moved_on (counted k) (proposal_of 3 1 k [])
-        (all_moved 0 (((incremented (environment_of component (pos k ∷ []) [] (local_time 1 k) (local_step 1 k (proposal_of 3 1 k []))) >>= in_sequence []) >>= λ after. Ok (record { state = state_in component after; accepted = after.accepted })) ∷ [])))
+    (moved_on (counted k) (proposal_of 3 1 k [])
+    (all_moved 0 (((incremented (environment_of component (pos k ∷ []) [] (local_time 1 k) (local_step 1 k (proposal_of 3 1 k []))) >>= in_sequence []) >>= λ after. Ok (record { state = state_in component after; accepted = after.accepted })) ∷ [])))
 
 pub successor_is : (k : ℕ) → is_word_of Int64 (pos k) ≡ true → successor worked (counted k) ≡ onward_worked k
 successor_is k fits =
     ap (λ ports. unless_fault (port_fault 0 ports) (onward worked (counted k))) (ports_are k fits)
     ∙ ap (λ (moved : Result Environment Fault). cond (k == 3) (ends Completed) (moved_on (counted k) (proposal_of 3 1 k []) (all_moved 0 (((moved >>= in_sequence []) >>= λ after. Ok (record { state = state_in component after; accepted = after.accepted })) ∷ []))))
-      (increment_is (environment_of component (pos k ∷ []) [] (local_time 1 k) (local_step 1 k (proposal_of 3 1 k []))))
+    (increment_is (environment_of component (pos k ∷ []) [] (local_time 1 k) (local_step 1 k (proposal_of 3 1 k []))))
