@@ -48,11 +48,11 @@ run_answers_same text one other (inr a) (inl b) = absurd (not_both text a.system
 run_answers_same text one other (inr a) (inr b) = runs_same text one other a b
 
 -- the answer of the words of `run` is that of `run`
-run_of : (words : List (List ℕ)) (text : List ℕ) (answer : Answer) → words ≡ run_words → IsAnswer words text answer → RunAnswers text answer
+pub run_of : (words : List (List ℕ)) (text : List ℕ) (answer : Answer) → words ≡ run_words → IsAnswer words text answer → RunAnswers text answer
 run_of words text answer is (inl found) = found.1
 run_of words text answer is (inr found) = absurd (found.0 is)
 
-usage_of : (words : List (List ℕ)) (text : List ℕ) (answer : Answer) → (words ≡ run_words → ⊥) → IsAnswer words text answer → answer ≡ usage_answer
+pub usage_of : (words : List (List ℕ)) (text : List ℕ) (answer : Answer) → (words ≡ run_words → ⊥) → IsAnswer words text answer → answer ≡ usage_answer
 usage_of words text answer not (inl found) = absurd (not found.0)
 usage_of words text answer not (inr found) = found.1
 

@@ -91,14 +91,18 @@ puts_nothing text held =
 
 -- a refusal is the answer of a text that is refused
 pub refuses : (text : List ℕ) (held : Option (List ℕ)) (faults line rule : ℕ) (v : Verdict) → IsRefused text line rule → Refuses line rule v → JudgesText text held held faults faults v
-refuses text held faults line rule (verdict.Answered given note) refused is =
-    (record {
-      answer = refused_answer line rule;
-      is = inl (record { line = line; rule = rule; refused = refused; is = refl });
-      out = Appends-nil held;
-      notes = is.1;
-      same_status = is.0;
-    }, subst IsOwn (sym is.0) tt, refl, λ _. refl)
+refuses text held faults line rule (verdict.Answered given note) refused is = (
+  record {
+    answer = refused_answer line rule;
+    is = inl (record { line = line; rule = rule; refused = refused; is = refl });
+    out = Appends-nil held;
+    notes = is.1;
+    same_status = is.0;
+  },
+  subst IsOwn (sym is.0) tt,
+  refl,
+  λ _. refl,
+)
 refuses text held faults line rule verdict.NoMemory refused is = (puts_nothing text held, refl)
 refuses text held faults line rule verdict.ReadFault refused is = absurd is
 refuses text held faults line rule verdict.WriteFault refused is = absurd is

@@ -1,5 +1,5 @@
 -- The words of `run`.
-use Rattle.std.proofs.Common.{◌≡◌, ℕ, true, List, [], ◌∷◌, length, get_or, refl, sym, ap, ◌∙◌, arith, rules}
+use Rattle.std.proofs.Common.{◌≡◌, ℕ, Bool, true, false, ◌⊎◌, inl, inr, List, [], ◌∷◌, length, get_or, refl, sym, ap, ◌∙◌, arith, rules}
 use Rattle.std.specs.Prelude.{codes, string_bytes, String}
 use Rattle.std.specs.Str.{bytes_eq}
 use Rattle.std.proofs.lemmas.Slice.Eq.{bytes_eq-Decides}
@@ -20,3 +20,13 @@ run_if bytes is =
 
 pub run_only_if : (bytes : List ℕ) → bytes ∷ [] ≡ run_words → bytes_eq bytes (codes "run") ≡ true
 run_only_if bytes is = let same : bytes ≡ codes "run" = cc in ap (λ b. bytes_eq b (codes "run")) same
+
+one_word_is : (word : List ℕ) (test : Bool) → bytes_eq word (codes "run") ≡ test → ((word ∷ []) ≡ run_words) ⊎ ((word ∷ []) ≡ run_words → ⊥)
+one_word_is word true is = inl (run_if word is)
+one_word_is word false is = inr (λ same. let tested = run_only_if word same in absurd (cc))
+
+-- words are those of `run`, or not
+pub are_run_words : (words : List (List ℕ)) → (words ≡ run_words) ⊎ (words ≡ run_words → ⊥)
+are_run_words [] = inr (λ same. absurd (cc))
+are_run_words (word ∷ []) = one_word_is word (bytes_eq word (codes "run")) refl
+are_run_words (word ∷ other ∷ words) = inr (λ same. absurd (cc))

@@ -3,7 +3,9 @@ pub mod Pieces
 pub mod Runnable
 pub mod TraceText
 pub mod Words
+pub mod ExitCodes
 pub mod Headline
 pub mod Judgement
+pub mod Laws
 pub mod Notes
 pub mod Answer

@@ -3,6 +3,7 @@ ghost use Rattle.std.specs.Prelude.{◌≡◌, ◌↔◌, IsTrue};
 ghost use Rattle.cosim_app.specs.Answer.{run_words};
 ghost use Rattle.cosim_app.specs.Headline.{AnswerClause, PrefixClause, CauseClause, WholeInputClause, NotesClause, streams};
 ghost use Rattle.cosim_app.specs.Judgement.{TellsNote};
+ghost use Rattle.cosim_app.specs.Laws.{EveryCallIsAnswered, NoCallIsAnsweredTwice};
 ghost use Rattle.cosim_app.specs.Words.{bytes_of};
 
 use crate::judge::judge;
@@ -10,6 +11,8 @@ use crate::status::Status;
 use crate::verdict::Verdict;
 use cosim_io::{Sink, Source};
 use std::alloc::Global;
+use std::sync::Wait;
+use std::thread::Threads;
 
 /// Whether the words are those of `run`.
 fn is_run(words: &[String]) -> bool
@@ -61,3 +64,28 @@ pub fn cosim_alone<S: Source, O: Sink, N: Sink>(
         Verdict::NoMemory => tell(notes, b"cosim: no memory\n", Status::NoMemory),
     }
 }
+
+/// The program: `rt` is the leave to start threads and to wait, which no command uses yet.
+pub fn cosim<R: Threads + Wait + Copy + Send, S: Source, O: Sink, N: Sink>(
+    rt: R,
+    alloc: Global,
+    words: &[String],
+    source: &mut S,
+    out: &mut O,
+    notes: &mut N,
+) -> Status
+    ensures answer { AnswerClause (bytes_of words.now) (streams (S.left source.old) (S.faults source.old) (O.held out.old) (O.faults out.old) (N.held notes.old) (N.faults notes.old)) (streams (S.left source.new) (S.faults source.new) (O.held out.new) (O.faults out.new) (N.held notes.new) (N.faults notes.new)) result }
+    ensures prefix { PrefixClause (bytes_of words.now) (streams (S.left source.old) (S.faults source.old) (O.held out.old) (O.faults out.old) (N.held notes.old) (N.faults notes.old)) (streams (S.left source.new) (S.faults source.new) (O.held out.new) (O.faults out.new) (N.held notes.new) (N.faults notes.new)) result }
+    ensures cause { CauseClause (bytes_of words.now) (streams (S.left source.old) (S.faults source.old) (O.held out.old) (O.faults out.old) (N.held notes.old) (N.faults notes.old)) (streams (S.left source.new) (S.faults source.new) (O.held out.new) (O.faults out.new) (N.held notes.new) (N.faults notes.new)) result }
+    ensures whole_input { WholeInputClause (bytes_of words.now) (streams (S.left source.old) (S.faults source.old) (O.held out.old) (O.faults out.old) (N.held notes.old) (N.faults notes.old)) (streams (S.left source.new) (S.faults source.new) (O.held out.new) (O.faults out.new) (N.held notes.new) (N.faults notes.new)) result }
+    ensures notes { NotesClause (bytes_of words.now) (streams (S.left source.old) (S.faults source.old) (O.held out.old) (O.faults out.old) (N.held notes.old) (N.faults notes.old)) (streams (S.left source.new) (S.faults source.new) (O.held out.new) (O.faults out.new) (N.held notes.new) (N.faults notes.new)) result }
+{
+    let _unused = rt;
+    cosim_alone(alloc, words, source, out, notes)
+}
+
+/// A law: for each list of words and each input there is exactly one answer.
+pub fn one_answer()
+    ensures some { EveryCallIsAnswered }
+    ensures only { NoCallIsAnsweredTwice }
+{}

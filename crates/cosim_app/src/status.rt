@@ -1,3 +1,6 @@
+ghost use Rattle.std.specs.Prelude.{◌≡◌};
+ghost use Rattle.cosim_app.specs.ExitCodes.{code_of};
+
 /// How a call of the program ends. Its number is the exit code.
 #[derive(Clone, Copy, Debug, PartialEq, Eq)]
 pub enum Status {
@@ -15,4 +18,21 @@ pub enum Status {
     WriteFault,
     /// The trace ends by a fault of a component.
     UnitFault,
+}
+
+impl Status {
+    /// The exit code.
+    pub fn code(self) -> u8
+        ensures { result ≡ code_of self }
+    {
+        match self {
+            Status::Done => 0,
+            Status::NoMemory => 1,
+            Status::Usage => 2,
+            Status::Refused => 3,
+            Status::ReadFault => 4,
+            Status::WriteFault => 5,
+            Status::UnitFault => 8,
+        }
+    }
 }

@@ -3,11 +3,12 @@ use Rattle.cosim_app.proofs.JudgeLaws.{puts_answer, puts_front, puts_front_of, e
 use Rattle.cosim_app.proofs.judge.judge_system.Goals as goal
 
 pub returns-in-Ok-ending : goal.returns-in-Ok-ending
-returns-in-Ok-ending g c = λ text accepted.
-    (puts_answer text c.args.system.now (g.O.Sink.held c.args.out.now) (g.O.Sink.held c.run_system.new.out) c.run_system.result c.in-Ok.end c.status.result c.in-Ok-ending.note.items accepted c.run_system.ensures.trace c.in-Ok.is c.status.ensures c.in-Ok-ending.ensures,
-    ends_own c.in-Ok.end.ending c.status.result c.status.ensures,
-    search rules,
-    λ refused. absurd (ends_unrefused c.in-Ok.end.ending c.status.result c.status.ensures refused))
+returns-in-Ok-ending g c = λ text accepted. (
+  puts_answer text c.args.system.now (g.O.Sink.held c.args.out.now) (g.O.Sink.held c.run_system.new.out) c.run_system.result c.in-Ok.end c.status.result c.in-Ok-ending.note.items accepted c.run_system.ensures.trace c.in-Ok.is c.status.ensures c.in-Ok-ending.ensures,
+  ends_own c.in-Ok.end.ending c.status.result c.status.ensures,
+  search rules,
+  λ refused. absurd (ends_unrefused c.in-Ok.end.ending c.status.result c.status.ensures refused),
+)
 
 pub returns-in-Err : goal.returns-in-Err
 returns-in-Err g c = λ text accepted. (puts_front_of text c.args.system.now (g.O.Sink.held c.args.out.now) (g.O.Sink.held c.run_system.new.out) c.run_system.result c.in-Ok.end accepted c.run_system.ensures.trace c.in-Ok.is, search rules)

@@ -1,0 +1,8 @@
+use Rattle.cosim_app.proofs.AnswerLaws.{every_call_is_answered, no_call_is_answered_twice}
+use Rattle.cosim_app.proofs.command.one_answer.Goals as goal
+
+pub returns-clause-some : goal.returns-clause-some
+returns-clause-some c = every_call_is_answered
+
+pub returns-clause-only : goal.returns-clause-only
+returns-clause-only c = no_call_is_answered_twice

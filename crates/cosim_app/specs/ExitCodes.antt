@@ -1,0 +1,13 @@
+-- The exit code of each status.
+use Rattle.std.specs.Prelude.{ℕ}
+use Rattle.cosim_app.specs.declared.status.Status.{Status}
+use Rattle.cosim_app.specs.declared.status.Status.TheVariants.{Done, NoMemory, Usage, Refused, ReadFault, WriteFault, UnitFault}
+
+abbrev pub code_of : Status → ℕ
+code_of Done = 0
+code_of NoMemory = 1
+code_of Usage = 2
+code_of Refused = 3
+code_of ReadFault = 4
+code_of WriteFault = 5
+code_of UnitFault = 8

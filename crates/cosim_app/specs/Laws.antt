@@ -1,0 +1,12 @@
+-- Laws of answers.
+use Rattle.std.specs.Prelude.{◌≡◌, ℕ, List}
+use Rattle.cosim_app.specs.Answer.{Answer, IsAnswer}
+
+-- For each list of words and each input there is an answer.
+abbrev pub EveryCallIsAnswered : Type 0
+EveryCallIsAnswered = (words : List (List ℕ)) (text : List ℕ) → (answer : Answer) × IsAnswer words text answer
+
+-- There are no two.
+abbrev pub NoCallIsAnsweredTwice : Type 0
+NoCallIsAnsweredTwice =
+    (words : List (List ℕ)) (text : List ℕ) (one other : Answer) → IsAnswer words text one → IsAnswer words text other → one ≡ other

@@ -1,0 +1,81 @@
+//! Whole calls, over sources and sinks in memory.
+use crate::{Status, cosim_alone};
+use cosim_io::{MemSink, MemSource};
+use std::alloc::{AllocError, Global};
+use std::test::Fail;
+
+const COUNTER: &str =
+    "cosim 1\nunit Counter\n  state n : Int64 = 0\n  output y : Int64 = n\n  step\n    n := n + 1\n  end\nend\ninstance a : Counter\nend\nstop 3\nlongest 1\n";
+
+const ROWS: &[u8] = b"time,index,a.y\n0,0,0\n1,0,1\n2,0,2\n3,0,3\n";
+
+/// A call of words on a text, whose reads and puts fail by their numbers.
+fn call(
+    alloc: Global,
+    words: &[&str],
+    text: &str,
+    reads: &[u64],
+    puts: &[u64],
+    notes: &[u64],
+) -> Result<(Status, MemSink, MemSink), AllocError> {
+    let mut list = Vec::new(alloc);
+    for word in words {
+        list.push(String::from_str(alloc, word)?)?;
+    }
+    let bytes = Vec::from_slice(alloc, text.as_bytes())?;
+    let mut source = MemSource::new(bytes, Vec::from_slice(alloc, reads)?);
+    let mut out = MemSink::new(alloc, 4096, Vec::from_slice(alloc, puts)?)?;
+    let mut noted = MemSink::new(alloc, 4096, Vec::from_slice(alloc, notes)?)?;
+    let status = cosim_alone(alloc, &list, &mut source, &mut out, &mut noted);
+    Ok((status, out, noted))
+}
+
+/// With ample memory the counter's rows come, and no note.
+#[test]
+fn the_counter_runs(rt: HostRuntime) -> Result<(), Fail> {
+    let (status, out, notes) = call(rt.alloc(), &["run"], COUNTER, &[], &[], &[])?;
+    assert_eq!(rt; status, Status::Done);
+    assert!(rt; out.bytes() == ROWS);
+    assert!(rt; notes.bytes() == b"".as_slice());
+    Ok(())
+}
+
+/// A refusal, words without a form, and each stream failing.
+#[test]
+fn each_stream_fails(rt: HostRuntime) -> Result<(), Fail> {
+    let (status, out, notes) = call(rt.alloc(), &["run"], COUNTER, &[2], &[], &[])?;
+    assert_eq!(rt; status, Status::ReadFault);
+    assert!(rt; out.bytes() == b"".as_slice());
+    assert!(rt; notes.bytes() == b"cosim: read fault\n".as_slice());
+
+    let (status, out, notes) = call(rt.alloc(), &["run"], COUNTER, &[], &[3], &[])?;
+    assert_eq!(rt; status, Status::WriteFault);
+    assert!(rt; out.bytes() == b"time,index,a.y\n0,0,0\n1,0".as_slice());
+    assert!(rt; notes.bytes() == b"cosim: write fault\n".as_slice());
+
+    let (status, out, notes) = call(rt.alloc(), &["run", "run"], COUNTER, &[], &[], &[])?;
+    assert_eq!(rt; status, Status::Usage);
+    assert!(rt; out.bytes() == b"".as_slice());
+    assert!(rt; notes.bytes() == b"cosim: usage\n".as_slice());
+
+    let (status, _, notes) = call(rt.alloc(), &[], COUNTER, &[], &[], &[1])?;
+    assert_eq!(rt; status, Status::WriteFault);
+    assert!(rt; notes.bytes() == b"cosim:".as_slice());
+    Ok(())
+}
+
+/// A sum that does not fit ends the run behind its row, and a wrong line is told.
+#[test]
+fn notes_tell_the_end(rt: HostRuntime) -> Result<(), Fail> {
+    let text =
+        "cosim 1\nunit C\nstate n : Int64 = 9223372036854775807\noutput y : Int64 = n\nstep\nn := n + 1\nend\nend\ninstance a : C\nend\nstop 3\n";
+    let (status, out, notes) = call(rt.alloc(), &["run"], text, &[], &[], &[])?;
+    assert_eq!(rt; status, Status::UnitFault);
+    assert!(rt; out.bytes() == b"time,index,a.y\n0,0,9223372036854775807\n".as_slice());
+    assert!(rt; notes.bytes() == b"cosim: fault 1 of a step at 0,0\n".as_slice());
+
+    let (status, _, notes) = call(rt.alloc(), &["run"], "cosim 1\nhello\n", &[], &[], &[])?;
+    assert_eq!(rt; status, Status::Refused);
+    assert!(rt; notes.bytes() == b"cosim: line 2: rule 4\n".as_slice());
+    Ok(())
+}
