@@ -1,5 +1,5 @@
 -- Numbers as text: where their digits and their point stand, and what reading them digit by digit gives.
-use Rattle.std.proofs.Common.{zero, true, replicate, ◌%◌, ◌/◌, ◌≡◌, ℕ, suc, ◌+◌, ◌-◌, ◌*◌, ◌^◌, ◌<◌, ◌≤◌, ◌==◌, not, inl, inr, nat_lt, unwrap_or, List, [], ◌∷◌, ◌++◌, length, get_or, take, drop, IsTrue, Option, Some, None, if◌then◌else◌, refl, sym, ap, ◌∙◌, subst, arith}
+use Rattle.std.proofs.Common.{zero, true, replicate, ◌%◌, ◌≡◌, ℕ, suc, ◌+◌, ◌-◌, ◌*◌, ◌^◌, ◌<◌, ◌≤◌, ◌==◌, not, inl, inr, nat_lt, unwrap_or, List, [], ◌∷◌, ◌++◌, length, get_or, take, drop, IsTrue, Option, Some, None, if◌then◌else◌, refl, sym, ap, ◌∙◌, subst, arith}
 use Rattle.std.specs.List.{list_all, position_or_len}
 use Rattle.std.specs.Option.{option_and_then}
 use Rattle.std.proofs.lemmas.Bool.{and_from, and_parts, le-leb, cases_lt, eqb-true, not-false}

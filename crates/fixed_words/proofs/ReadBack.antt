@@ -1,21 +1,19 @@
 -- The text of a word is read back as this word.
-use Rattle.std.proofs.Common.{◌≡◌, ℕ, zero, suc, ◌+◌, ◌-◌, ◌*◌, ◌^◌, ◌<◌, ◌≤◌, Bool, true, false, ◌&&◌, ℤ, pos, negsuc, ◌*ℤ◌, nat_le, if◌then◌else◌, Result, Ok, Err, List, [], ◌∷◌, ◌++◌, length, take, drop, replicate, IsTrue, refl, sym, ap, ◌∙◌, subst, arith, rules}
+use Rattle.std.proofs.Common.{◌≡◌, ℕ, zero, suc, ◌+◌, ◌-◌, ◌^◌, ◌<◌, ◌≤◌, true, false, ℤ, pos, negsuc, ◌*ℤ◌, nat_le, Ok, [], length, take, drop, replicate, IsTrue, refl, sym, ap, ◌∙◌, subst, arith}
 use Rattle.std.specs.Int.{is_negative}
-use Rattle.std.specs.Int.RustNames.{unsigned_abs}
 use Rattle.std.specs.Fmt.{decimal, signed_decimal}
 use Rattle.std.specs.List.{list_all}
 use Rattle.std.proofs.lemmas.Int.{ints}
 use Rattle.std.proofs.lemmas.Fmt.{decimal_nonempty}
-use Rattle.std.proofs.lemmas.Bool.{and_parts, and_from, le-leb, cond-true}
+use Rattle.std.proofs.lemmas.Bool.{le-leb, cond-true}
 use Rattle.std.proofs.lemmas.Bool.Decides.{nat_tests}
 use Rattle.std.proofs.lemmas.List.{append-nil, length-append, length-replicate, length-take-le, length-drop, take-append-drop}
-use Rattle.fixed_words.specs.Digits.{is_digit, number_from, pointed, IsNumber}
+use Rattle.fixed_words.specs.Digits.{is_digit, number_from, IsNumber}
 use Rattle.fixed_words.specs.Laws.{IsReadBack}
-use Rattle.fixed_words.specs.Literals.{IsSignedNumber, with_sign, scaled_number, within_type, word_of_literal}
+use Rattle.fixed_words.specs.Literals.{IsSignedNumber, scaled_number, within_type}
 use Rattle.fixed_words.specs.Operations.{ten_to}
-use Rattle.fixed_words.specs.Texts.{text_of, padded, fixed_text, pointed_before, sign_text}
+use Rattle.fixed_words.specs.Texts.{text_of, padded, fixed_text}
 use Rattle.fixed_words.specs.Types.{is_word_of, AreDecimals}
-use Rattle.fixed_words.specs.declared.types.LiteralFault.{LiteralFault}
 use Rattle.fixed_words.specs.declared.types.Literal.TheVariants.{Truth, Number}
 use Rattle.fixed_words.specs.declared.types.Ty.{Ty}
 use Rattle.fixed_words.specs.declared.types.Ty.TheVariants.{Int8, UInt8, Int16, UInt16, Int32, UInt32, Int64, Fixed}

@@ -18,6 +18,7 @@ pub record IsFloor (dividend divisor : ℤ) : Type 0 where
   pub smaller : unsigned_abs (left_over dividend divisor) < unsigned_abs divisor
   pub sign : (left_over dividend divisor ≡ pos 0) ⊎ (is_negative (left_over dividend divisor) ≡ is_negative divisor)
 
+-- Every quotient by a divisor that is not zero is the floor.
 abbrev pub QuotientsAreFloors : Type 0
 QuotientsAreFloors = (dividend divisor : ℤ) → divisor ≢ pos 0 → IsFloor dividend divisor
 

@@ -31,6 +31,7 @@ abbrev pub IsLiteralText : List ℕ → Literal → Type 0
 IsLiteralText text (Truth told) = text ≡ truth_text told
 IsLiteralText text (Number word decimals) = IsSignedNumber word decimals text
 
+-- The word of a truth value.
 abbrev pub word_of_truth : Bool → ℤ
 word_of_truth true = pos 1
 word_of_truth false = pos 0
@@ -49,6 +50,7 @@ scaled_literal types.Bool (Truth told) = Ok (word_of_truth told)
 scaled_literal _ (Truth told) = Err Form
 scaled_literal ty (Number word decimals) = scaled_number ty word decimals
 
+-- A scaled word, if it is one of the type's.
 abbrev pub within_type : Ty → Result ℤ LiteralFault → Result ℤ LiteralFault
 within_type ty (Ok word) = if is_word_of ty word then Ok word else Err Range
 within_type ty (Err fault) = Err fault

@@ -14,6 +14,7 @@ Outcome = Result ℤ Fault
 abbrev pub word_of : ℤ → Outcome
 word_of exact = if is_word_of Int64 exact then Ok exact else Err Overflow
 
+-- Whether an integer is zero.
 abbrev pub is_zero : ℤ → Bool
 is_zero (pos zero) = true
 is_zero _ = false

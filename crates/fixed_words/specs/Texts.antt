@@ -11,6 +11,7 @@ use Rattle.fixed_words.specs.declared.types.Ty.TheVariants as types
 abbrev pub sign_text : Bool → List ℕ
 sign_text negative = if negative then codes "-" else []
 
+-- A truth value by its name.
 abbrev pub truth_text : Bool → List ℕ
 truth_text told = if told then codes "true" else codes "false"
 
