@@ -1,2 +1,7 @@
 pub mod Floors
+pub mod Fractions
+pub mod Numbers
 pub mod Products
+pub mod ReadBack
+pub mod Remainders
+pub mod Spellings

@@ -1,3 +1,5 @@
+pub mod Digits
+pub mod Laws
 pub mod Literals
 pub mod Operations
 pub mod Texts

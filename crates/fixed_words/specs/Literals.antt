@@ -1,14 +1,35 @@
--- The word that a literal stands for as a value of a type.
-use Rattle.std.specs.Prelude.{ℕ, zero, ◌-◌, ℤ, pos, ◌*ℤ◌, Bool, true, false, if◌then◌else◌, nat_le, Result, Ok, Err}
+-- Literals: how one is spelled, and the word that it stands for as a value of a type.
+use Rattle.std.specs.Prelude.{◌≡◌, ℕ, zero, ◌-◌, ℤ, pos, ◌*ℤ◌, neg_ℤ, Bool, true, false, if◌then◌else◌, IsTrue, nat_le, List, ◌++◌, Result, Ok, Err}
+use Rattle.fixed_words.specs.Digits.{IsNumber}
+use Rattle.fixed_words.specs.Texts.{sign_text, truth_text}
 use Rattle.fixed_words.specs.Types.{is_word_of}
 use Rattle.fixed_words.specs.Operations.{ten_to}
 use Rattle.fixed_words.specs.declared.types.Ty.{Ty}
-use Rattle.fixed_words.specs.declared.types.Ty.TheVariants.{Fixed}
+use Rattle.fixed_words.specs.declared.types.Ty.TheVariants.{Fixed, Int64}
 use Rattle.fixed_words.specs.declared.types.Ty.TheVariants as types
 use Rattle.fixed_words.specs.declared.types.Literal.{Literal}
 use Rattle.fixed_words.specs.declared.types.Literal.TheVariants.{Truth, Number}
 use Rattle.fixed_words.specs.declared.types.LiteralFault.{LiteralFault}
 use Rattle.fixed_words.specs.declared.types.LiteralFault.TheVariants.{Form, Range}
+
+-- A number with or without a sign.
+abbrev pub with_sign : Bool → ℕ → ℤ
+with_sign negative number = if negative then neg_ℤ (pos number) else pos number
+
+-- A number, perhaps with a `-` directly before it, and the word of all its digits, which fits 64 bits.
+pub record IsSignedNumber (word : ℤ) (decimals : ℕ) (text : List ℕ) : Type 0 where
+  pub negative : Bool
+  pub digits : ℕ
+  pub number : List ℕ
+  pub spelled : text ≡ sign_text negative ++ number
+  pub is_number : IsNumber digits decimals number
+  pub value : with_sign negative digits ≡ word
+  pub fits : IsTrue (is_word_of Int64 word)
+
+-- The text spells the literal: `true`, `false`, or a number that keeps its word and its count of decimals.
+abbrev pub IsLiteralText : List ℕ → Literal → Type 0
+IsLiteralText text (Truth told) = text ≡ truth_text told
+IsLiteralText text (Number word decimals) = IsSignedNumber word decimals text
 
 abbrev pub word_of_truth : Bool → ℤ
 word_of_truth true = pos 1

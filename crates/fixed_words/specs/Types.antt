@@ -1,5 +1,5 @@
 -- Value types: the kind of each type, and the words that it may hold.
-use Rattle.std.specs.Prelude.{Bool, ◌&&◌, ◌-◌, ◌^◌, ℤ, pos, negsuc, int_le}
+use Rattle.std.specs.Prelude.{◌≤◌, ⊤, Bool, ◌&&◌, ◌-◌, ◌^◌, ℤ, pos, negsuc, int_le}
 use Rattle.fixed_words.specs.declared.types.Kind.{Kind}
 use Rattle.fixed_words.specs.declared.types.Kind.TheVariants as kinds
 use Rattle.fixed_words.specs.declared.types.Ty.{Ty}
@@ -39,3 +39,8 @@ is_between low high word = int_le low word && int_le word high
 -- A word is one of the type's.
 abbrev pub is_word_of : Ty → ℤ → Bool
 is_word_of ty word = is_between (lowest ty) (highest ty) word
+
+-- The decimals of a fixed-point type are at most 9.
+abbrev pub AreDecimals : Ty → Type 0
+AreDecimals (Fixed decimals) = decimals ≤ 9
+AreDecimals _ = ⊤

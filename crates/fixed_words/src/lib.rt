@@ -10,16 +10,23 @@
 #![tactic(auto)]
 
 mod boxed;
+mod digits;
+mod laws;
 mod list;
+mod literals;
 mod operations;
+#[cfg(test)]
+mod tests;
 mod text;
 mod types;
 
 pub use boxed::Boxed;
+pub use laws::{quotients_are_floors, texts_are_read_back, texts_spell_one_literal};
 pub use list::List;
+pub use literals::{literal_word, read_literal};
 pub use operations::{abs, add, div, fix_div, fix_mul, mul, neg, rem, scale_down, scale_up, sub};
 pub use text::word_text;
-pub use types::{Fault, Kind, Literal, LiteralFault, Ty};
+pub use types::{Fault, Kind, Literal, LiteralFault, Ty, fits};
 
 /// Want of memory, as an error.
 pub type NoMemory = std::alloc::AllocError;

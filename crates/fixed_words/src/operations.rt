@@ -39,7 +39,7 @@ fn product_of(a: i64, b: i64) -> i128
 }
 
 /// The power of ten, for at most 9 decimals.
-fn ten_to_the(decimals: u8) -> i64
+pub(crate) fn ten_to_the(decimals: u8) -> i64
     requires { decimals ≤ 9 }
     ensures power { result ≡ ten_to decimals }
     ensures positive { pos 1 ≤ℤ result }

@@ -1,3 +1,6 @@
+ghost use Rattle.std.specs.Prelude.{◌≡◌};
+ghost use Rattle.fixed_words.specs.Types.{lowest, highest, is_word_of};
+
 /// The kind of an expression's value: operands and results are judged by it.
 ///
 /// All integer types are of the one kind `Int`.
@@ -58,4 +61,29 @@ pub enum LiteralFault {
     Form,
     /// The form is right, and the word is outside the type's range.
     Range,
+}
+
+/// The lowest and the highest word of a type.
+fn range(ty: Ty) -> (i64, i64)
+    ensures low { result.0 ≡ lowest ty }
+    ensures high { result.1 ≡ highest ty }
+{
+    match ty {
+        Ty::Int8 => (-128, 127),
+        Ty::UInt8 => (0, 255),
+        Ty::Int16 => (-32_768, 32_767),
+        Ty::UInt16 => (0, 65_535),
+        Ty::Int32 => (-2_147_483_648, 2_147_483_647),
+        Ty::UInt32 => (0, 4_294_967_295),
+        Ty::Bool => (0, 1),
+        Ty::Int64 | Ty::Fixed(_) => (i64::MIN, i64::MAX),
+    }
+}
+
+/// Whether the word is one of the type's.
+pub fn fits(ty: Ty, word: i64) -> bool
+    ensures { result ≡ is_word_of ty word }
+{
+    let (low, high) = range(ty);
+    low <= word && word <= high
 }

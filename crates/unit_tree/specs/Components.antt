@@ -1,7 +1,6 @@
 -- Calls of a component, for a unit with the words of its parameters (Broman et al., EMSOFT 2013: the
 -- initial state, get and doStep; `max` is this language's own).
-use Rattle.std.specs.Prelude.{ℕ, ℤ, pos, List, ◌++◌, map, Option, Some, None, if◌then◌else◌, Result, Ok, Err}
-use Rattle.std.specs.List.{zip}
+use Rattle.std.specs.Prelude.{ℕ, ℤ, pos, List, ◌++◌, map, length, take, drop, Option, Some, None, if◌then◌else◌, Result, Ok, Err}
 use Rattle.std.specs.Int.{is_negative}
 use Rattle.std.specs.Prelude.{unsigned_abs}
 use Rattle.fixed_words.specs.Types.{is_word_of}
@@ -11,7 +10,7 @@ use Rattle.fixed_words.specs.declared.types.Fault.{Fault}
 use Rattle.fixed_words.specs.declared.types.Fault.TheVariants.{Range, Max}
 use Rattle.fixed_words.specs.declared.types.Literal.{Literal}
 use Rattle.fixed_words.specs.declared.types.Ty.{Ty}
-use Rattle.unit_tree.specs.Values.{◌>>=◌, value_of, value_of_name}
+use Rattle.unit_tree.specs.Values.{◌>>=◌, value_of}
 use Rattle.unit_tree.specs.Effects.{effect_of_lines}
 use Rattle.unit_tree.specs.declared.environment.Environment.{Environment}
 use Rattle.unit_tree.specs.declared.environment.Value.{Value}
@@ -39,23 +38,32 @@ start_word ty literal = or_zero (word_of_literal ty literal)
 abbrev pub initial : Component → List ℤ
 initial component = map (λ state. start_word state.ty state.start) component.unit.states
 
-abbrev pub variable : List ℕ → Ty → ℤ → Variable
-variable name ty word = record { name = name; ty = ty; word = word }
+abbrev pub variable : List ℕ → Ty → Variable
+variable name ty = record { name = name; ty = ty }
 
--- What the names of a component mean: its parameters, its states and inputs with the words that they
--- have, and its locals, which begin at 0. All names are different, so their order does not matter.
-abbrev pub variables_of : Component → List ℤ → List ℤ → List Variable
-variables_of component state inputs =
-    map (λ p. variable p.0.name p.0.ty p.1) (zip component.unit.params component.params)
-    ++ map (λ s. variable s.0.name s.0.ty s.1) (zip component.unit.states state)
-    ++ map (λ i. variable i.0.name i.0.ty i.1) (zip component.unit.inputs inputs)
-    ++ map (λ l. variable l.name l.ty (pos 0)) component.unit.locals
+-- The variables of a unit: parameters, states, inputs and locals. All names are different, so their order
+-- does not matter.
+abbrev pub variables_of : Unit → List Variable
+variables_of unit =
+    map (λ param. variable param.name param.ty) unit.params
+    ++ map (λ state. variable state.name state.ty) unit.states
+    ++ map (λ input. variable input.name input.ty) unit.inputs
+    ++ map (λ local. variable local.name local.ty) unit.locals
+
+-- The words that they have: locals begin at 0.
+abbrev pub words_of : Component → List ℤ → List ℤ → List ℤ
+words_of component state inputs = component.params ++ state ++ inputs ++ map (λ local. pos 0) component.unit.locals
 
 -- What an expression or a step sees at a local time, for a local step, which is accepted until a line
 -- accepts another.
 abbrev pub environment_of : Component → List ℤ → List ℤ → ℕ → ℕ → Environment
-environment_of component state inputs time step =
-    record { variables = variables_of component state inputs; time = time; step = step; accepted = step }
+environment_of component state inputs time step = record {
+  variables = variables_of component.unit;
+  words = words_of component state inputs;
+  time = time;
+  step = step;
+  accepted = step;
+}
 
 -- A word that is given as one of the type; Range where it is none.
 abbrev pub given_as : Ty → Value → Outcome
@@ -83,9 +91,9 @@ pub record Moved : Type 0 where
   pub state : List ℤ
   pub accepted : ℕ
 
--- The words that the states have in an environment.
+-- The words that the states have in an environment: those behind the parameters'.
 abbrev pub state_in : Component → Environment → List ℤ
-state_in component env = map (λ state. (value_of_name env.variables state.name).word) component.unit.states
+state_in component env = take (length component.unit.states) (drop (length component.params) env.words)
 
 -- doStep by lines; without them the state stays and the whole step is accepted.
 abbrev pub moved_by : Option (List Line) → Component → List ℤ → Environment → Result Moved Fault

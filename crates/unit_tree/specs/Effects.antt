@@ -1,10 +1,11 @@
 -- Effect of step lines: the environment after them with the accepted length, or the first fault.
-use Rattle.std.specs.Prelude.{ℕ, zero, suc, ℤ, pos, unsigned_abs, List, [], ◌∷◌, if◌then◌else◌, Option, Some, None, Result, Ok, Err}
+use Rattle.std.specs.Prelude.{◌≡◌, ℕ, zero, suc, Bool, true, ◌&&◌, ℤ, pos, unsigned_abs, List, [], ◌∷◌, map, if◌then◌else◌, Option, Some, None, Result, Ok, Err, OnOk, IfErr}
 use Rattle.std.specs.Str.{bytes_eq}
+use Rattle.std.specs.List.{list_all}
 use Rattle.fixed_words.specs.Types.{is_word_of, is_between}
 use Rattle.fixed_words.specs.declared.types.Fault.{Fault}
 use Rattle.fixed_words.specs.declared.types.Fault.TheVariants.{Range, Accept}
-use Rattle.unit_tree.specs.Values.{◌>>=◌, holds, value_of}
+use Rattle.unit_tree.specs.Values.{◌>>=◌, holds, value_of, is_ranged, IsSound}
 use Rattle.unit_tree.specs.declared.environment.Environment.{Environment}
 use Rattle.unit_tree.specs.declared.environment.Variable.{Variable}
 use Rattle.unit_tree.specs.declared.line.Line.{Line, fold-Line}
@@ -14,21 +15,18 @@ use Rattle.unit_tree.specs.declared.line.Line.TheOpen.{Line-F}
 abbrev pub Effect : Type 0
 Effect = Environment → Result Environment Fault
 
--- The word, stored in a variable; Range where it is none of the variable's type.
-abbrev pub stored_in : Variable → ℤ → Result Variable Fault
-stored_in variable word = if is_word_of variable.ty word then Ok (record variable { word = word }) else Err Range
-
--- The variables with the word stored in the first one of the name.
-abbrev pub stored : List Variable → List ℕ → ℤ → Result (List Variable) Fault
-stored [] name word = Ok []
-stored (variable ∷ variables) name word =
+-- The words of variables with a word stored for the first variable of the name; Range where it is none of
+-- its type.
+abbrev pub stored : List Variable → List ℤ → List ℕ → ℤ → Result (List ℤ) Fault
+stored (variable ∷ variables) (old ∷ words) name word =
     if bytes_eq variable.name name
-    then (stored_in variable word >>= λ changed. Ok (changed ∷ variables))
-    else (stored variables name word >>= λ changed. Ok (variable ∷ changed))
+    then (if is_word_of variable.ty word then Ok (word ∷ words) else Err Range)
+    else (stored variables words name word >>= λ changed. Ok (old ∷ changed))
+stored _ words name word = Ok words
 
 -- An assignment.
 abbrev pub assigned : List ℕ → ℤ → Effect
-assigned name word env = stored env.variables name word >>= λ changed. Ok (record env { variables = changed })
+assigned name word env = stored env.variables env.words name word >>= λ changed. Ok (record env { words = changed })
 
 -- `accept`: a length inside 0 and the step, both ends allowed. The last one counts.
 abbrev pub accepting : ℤ → Effect
@@ -62,5 +60,33 @@ effect_of = fold-Line Effect line_effect
 
 -- The effect of lines, in their order.
 abbrev pub effect_of_lines : List Line → Effect
-effect_of_lines [] env = Ok env
-effect_of_lines (line ∷ lines) env = effect_of line env >>= effect_of_lines lines
+effect_of_lines lines = in_sequence (map effect_of lines)
+
+-- ---- Running lines in place
+
+-- The numbers of decimals in lines are at most 9: the test of one line, with that of each line of its blocks in
+-- its place, and of whole lines.
+abbrev pub part_is_ranged : Line-F Bool → Bool
+part_is_ranged (Line-F.Assign target value) = is_ranged value
+part_is_ranged (Line-F.If cond then_lines else_lines) = is_ranged cond && (list_all (λ b. b) then_lines && else_is_ranged else_lines)
+  where
+    else_is_ranged : Option (List Bool) → Bool
+    else_is_ranged None = true
+    else_is_ranged (Some lines) = list_all (λ b. b) lines
+part_is_ranged (Line-F.Repeat count body) = list_all (λ b. b) body
+part_is_ranged (Line-F.Accept value) = is_ranged value
+
+abbrev pub line_is_ranged : Line → Bool
+line_is_ranged = fold-Line Bool part_is_ranged
+
+abbrev pub lines_are_ranged : List Line → Bool
+lines_are_ranged lines = list_all (λ b. b) (map line_is_ranged lines)
+
+-- What an effect has done to an environment in place: it answered as the effect does, and left the environment
+-- after it, as sound as before. After a fault the environment is left open.
+pub record Runs (effect : Effect) (old : Environment) (result : Result (Unit {0}) Fault) (new : Environment) : Type 0 where
+  pub done : OnOk result (effect old ≡ Ok new)
+  pub failed : IfErr result (λ fault. effect old ≡ Err fault)
+  pub sound : OnOk result (IsSound new)
+  pub variables : OnOk result (new.variables ≡ old.variables)
+  pub step : OnOk result (new.step ≡ old.step)

@@ -2,7 +2,7 @@
 --
 -- These definitions are of systems whose components have one resolution and no connections, no `max` and
 -- no `accept`: every step that is proposed is accepted whole.
-use Rattle.std.specs.Prelude.{◌≡◌, ℕ, suc, ◌+◌, ◌*◌, ◌==◌, Bool, ℤ, pos, unsigned_abs, List, [], ◌∷◌, ◌++◌, map, if◌then◌else◌, Option, Some, None, Result, Ok, Err, ⊤}
+use Rattle.std.specs.Prelude.{◌≡◌, ℕ, suc, ◌+◌, ◌==◌, ℤ, unsigned_abs, List, [], ◌∷◌, ◌++◌, map, if◌then◌else◌, Option, Some, None, Result, Ok, Err}
 use Rattle.std.specs.List.{zip, filter_map}
 use Rattle.std.specs.Str.{bytes_eq}
 use Rattle.fixed_words.specs.Operations.{Outcome}
@@ -12,11 +12,12 @@ use Rattle.fixed_words.specs.declared.types.Literal.TheVariants as literal
 use Rattle.unit_tree.specs.Components.{Component, Moved, initial, start_word, get_of, step_of}
 use Rattle.unit_tree.specs.LocalTime.{local_time, local_step}
 use Rattle.unit_tree.specs.Steps.{proposal_of, reply_of, agreed_step}
+use Rattle.unit_tree.specs.declared.ending.Ending.{Ending}
+use Rattle.unit_tree.specs.declared.ending.Ending.TheVariants.{Completed, Faulted}
+use Rattle.unit_tree.specs.declared.ending.Place.TheVariants.{Output, Step}
 use Rattle.unit_tree.specs.declared.point.Point.{Point}
-use Rattle.unit_tree.specs.declared.system.Instance.{Instance}
 use Rattle.unit_tree.specs.declared.system.Setting.{Setting}
 use Rattle.unit_tree.specs.declared.system.System.{System}
-use Rattle.unit_tree.specs.declared.unit.Output.{Output}
 use Rattle.unit_tree.specs.declared.unit.Param.{Param}
 use Rattle.unit_tree.specs.declared.unit.Unit.{Unit}
 
@@ -101,19 +102,9 @@ first_fault place (Err fault ∷ others) = Some (place, fault)
 
 -- ---- The end of a run
 
--- Where in a component a fault was.
-pub data Place : Type 0 where
-  output : ℕ → Place
-  step : Place
-
--- How a run ends: at its stop, or by a fault of an instance.
-pub data Ending : Type 0 where
-  completed : Ending
-  faulted : ℕ → Place → Fault → Ending
-
 -- A fault of an output of the instance, if there is one, and else what is told of later instances.
 abbrev pub output_fault : ℕ → Option (ℕ × Fault) → Option Ending → Option Ending
-output_fault instance (Some (place, fault)) later = Some (faulted instance (output place) fault)
+output_fault instance (Some (place, fault)) later = Some (Faulted instance (Output place) fault)
 output_fault instance None later = later
 
 -- The fault of the first output, by instance and then by declaration, that has one.
@@ -135,7 +126,7 @@ after_all (Err ending) moved = Err ending
 abbrev pub all_moved : ℕ → List (Result Moved Fault) → Result (List Moved) Ending
 all_moved instance [] = Ok []
 all_moved instance (Ok moved ∷ others) = after_all (all_moved (suc instance) others) moved
-all_moved instance (Err fault ∷ others) = Err (faulted instance step fault)
+all_moved instance (Err fault ∷ others) = Err (Faulted instance Step fault)
 
 -- What follows a position: another one, or the end of the run.
 pub data Next : Type 0 where
@@ -159,7 +150,7 @@ stepped run position h = moved_on position h (all_moved 0 (map (step_at position
 abbrev pub onward : Composition → Position → Next
 onward run position =
     if position.point.t == run.stop
-    then ends completed
+    then ends Completed
     else stepped run position (proposal_of run.stop run.longest position.point.t [])
 
 abbrev pub unless_fault : Option Ending → Next → Next

@@ -1,5 +1,5 @@
 -- Value of an expression in an environment: a word with its kind, or the first fault from the left.
-use Rattle.std.specs.Prelude.{ℕ, zero, ◌-◌, Bool, true, false, not, ◌&&◌, ◌||◌, ℤ, pos, List, [], ◌∷◌, if◌then◌else◌, nat_le, int_lt, int_le, Result, Ok, Err}
+use Rattle.std.specs.Prelude.{◌≡◌, ◌<◌, ◌^◌, length, ℕ, zero, ◌-◌, Bool, true, false, not, ◌&&◌, ◌||◌, ℤ, pos, List, [], ◌∷◌, if◌then◌else◌, nat_le, ◌≤◌, ⊤, int_lt, int_le, Result, Ok, Err}
 use Rattle.std.specs.Str.{bytes_eq}
 use Rattle.std.specs.Ordering.{int_eq}
 use Rattle.std.specs.Int.{int_min, int_max}
@@ -43,10 +43,10 @@ kind_of_number zero = kinds.Int
 kind_of_number decimals = kinds.Fixed decimals
 
 -- The value of a name: the word of the first variable that has it, in its type's kind.
-abbrev pub value_of_name : List Variable → List ℕ → Value
-value_of_name [] name = record { kind = kinds.Int; word = pos 0 }
-value_of_name (variable ∷ variables) name =
-    if bytes_eq variable.name name then record { kind = kind_of variable.ty; word = variable.word } else value_of_name variables name
+abbrev pub value_of_name : List Variable → List ℤ → List ℕ → Value
+value_of_name (variable ∷ variables) (word ∷ words) name =
+    if bytes_eq variable.name name then record { kind = kind_of variable.ty; word = word } else value_of_name variables words name
+value_of_name _ _ name = record { kind = kinds.Int; word = pos 0 }
 
 -- A word of the kind as one with so many decimals: a whole number has none before.
 abbrev pub with_decimals : ℕ → Kind → ℤ → Outcome
@@ -68,6 +68,45 @@ product_of _ left right = product left right
 abbrev pub ratio_of : Kind → ℤ → ℤ → Outcome
 ratio_of (kinds.Fixed decimals) left right = fixed_quotient decimals left right
 ratio_of _ left right = quotient left right
+
+-- A kind has at most 9 decimals.
+abbrev pub IsKind : Kind → Type 0
+IsKind (kinds.Fixed decimals) = decimals ≤ 9
+IsKind _ = ⊤
+
+-- `fix N` has an N of at most 9.
+abbrev pub IsUnary : UnOp → Type 0
+IsUnary (of.ToFix decimals) = decimals ≤ 9
+IsUnary _ = ⊤
+
+-- The numbers of decimals in an expression are at most 9: the test of one node, with that of each part in
+-- its place, and of the whole.
+abbrev pub unary_is_ranged : UnOp → Bool
+unary_is_ranged (of.ToFix decimals) = nat_le decimals 9
+unary_is_ranged _ = true
+
+abbrev pub node_is_ranged : Expr-F Bool → Bool
+node_is_ranged (Expr-F.Number word decimals) = nat_le decimals 9
+node_is_ranged (Expr-F.Unary op arg) = unary_is_ranged op && arg
+node_is_ranged (Expr-F.Binary op left right) = left && right
+node_is_ranged (Expr-F.Clamp value low high) = value && (low && high)
+node_is_ranged (Expr-F.Choose cond then_part else_part) = cond && (then_part && else_part)
+node_is_ranged _ = true
+
+abbrev pub is_ranged : Expr → Bool
+is_ranged = fold-Expr Bool node_is_ranged
+
+-- The types of variables have at most 9 decimals.
+abbrev pub AreTyped : List Variable → Type 0
+AreTyped [] = ⊤
+AreTyped (variable ∷ variables) = IsKind (kind_of variable.ty) × AreTyped variables
+
+-- An environment has a word for each variable, and its times are words.
+pub record IsSound (env : Environment) : Type 0 where
+  pub typed : AreTyped env.variables
+  pub one_each : length env.words ≡ length env.variables
+  pub time : env.time < 2 ^ 63
+  pub step : env.step < 2 ^ 63
 
 -- What an operation on one value gives.
 abbrev pub unary_value : UnOp → Value → Result Value Fault
@@ -96,6 +135,11 @@ binary_value by.Or x y = Ok (truth (holds x || holds y))
 binary_value by.Min x y = as_kind x.kind (Ok (int_min x.word y.word))
 binary_value by.Max x y = as_kind x.kind (Ok (int_max x.word y.word))
 
+-- A value brought into two bounds, or the first fault of the three.
+abbrev pub clamped_value : Result Value Fault → Result Value Fault → Result Value Fault → Result Value Fault
+clamped_value value low high =
+    value >>= λ x. (low >>= λ l. (high >>= λ h. Ok (record { kind = x.kind; word = clamped x.word l.word h.word })))
+
 -- What a tree's meaning is: in each environment a value, or a fault.
 abbrev pub Meaning : Type 0
 Meaning = Environment → Result Value Fault
@@ -105,13 +149,12 @@ Meaning = Environment → Result Value Fault
 abbrev pub node_meaning : Expr-F Meaning → Meaning
 node_meaning (Expr-F.Number word decimals) env = Ok (record { kind = kind_of_number decimals; word = word })
 node_meaning (Expr-F.Truth told) env = Ok (truth told)
-node_meaning (Expr-F.Var name) env = Ok (value_of_name env.variables name)
+node_meaning (Expr-F.Var name) env = Ok (value_of_name env.variables env.words name)
 node_meaning Expr-F.Time env = Ok (record { kind = kinds.Int; word = pos env.time })
 node_meaning Expr-F.Step env = Ok (record { kind = kinds.Int; word = pos env.step })
 node_meaning (Expr-F.Unary op arg) env = arg env >>= λ x. unary_value op x
 node_meaning (Expr-F.Binary op left right) env = left env >>= λ x. (right env >>= λ y. binary_value op x y)
-node_meaning (Expr-F.Clamp value low high) env =
-    value env >>= λ x. (low env >>= λ l. (high env >>= λ h. Ok (record { kind = x.kind; word = clamped x.word l.word h.word })))
+node_meaning (Expr-F.Clamp value low high) env = clamped_value (value env) (low env) (high env)
 node_meaning (Expr-F.Choose cond then_part else_part) env =
     cond env >>= λ c. (if holds c then then_part env else else_part env)
 

@@ -8,19 +8,21 @@ pub struct Value {
     pub word: i64,
 }
 
-/// A parameter, state, local or input with the word that it has now.
+/// A parameter, state, local or input as expressions and step lines see it.
 #[derive(Debug, Drop)]
 pub struct Variable {
     pub name: Name,
     pub ty: Ty,
-    pub word: i64,
 }
 
-/// What expressions and step lines of a component see: its variables, the local time `t`, the local
-/// step `h`, and the length of the step that it accepts, which is `h` until a line accepts another.
+/// What expressions and step lines of a component see: its variables with their words, the local time
+/// `t`, the local step `h`, and the length of the step that it accepts, which is `h` until a line
+/// accepts another.
 #[derive(Debug, Drop)]
 pub struct Environment {
     pub variables: List<Variable>,
+    /// The words that the variables have now, one each.
+    pub words: List<i64>,
     /// In local ticks.
     pub time: u64,
     /// In local ticks.

@@ -10,7 +10,10 @@
 //! (successor, and the one trace of a system).
 #![tactic(auto)]
 
+mod effects;
+mod ending;
 mod environment;
+mod evaluate;
 mod expr;
 mod line;
 mod point;
@@ -18,7 +21,10 @@ mod system;
 mod token;
 mod unit;
 
+pub use effects::run_lines;
+pub use ending::{Ending, Place};
 pub use environment::{Environment, Value, Variable};
+pub use evaluate::value;
 pub use expr::{BinOp, Expr, UnOp};
 use fixed_words::List;
 pub use line::Line;

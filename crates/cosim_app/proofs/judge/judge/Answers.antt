@@ -1,0 +1,12 @@
+use Rattle.std.proofs.Common.{◌≡◌, Err, ap, refl, rules}
+use Rattle.cosim_io.specs.declared.whole.ReadEnd.{ReadEnd}
+use Rattle.cosim_app.proofs.JudgeLaws.{nothing_put, refuses_long}
+use Rattle.cosim_app.proofs.judge.judge.Goals as goal
+
+pub returns-in-Err-TooLong : goal.returns-in-Err-TooLong
+returns-in-Err-TooLong g c =
+    let same : g.S.Source.faults c.read_all.new.source ≡ g.S.Source.faults c.args.source.now = search rules in
+    refuses_long (g.S.Source.left c.args.source.now) (g.S.Source.left c.read_all.new.source) (g.S.Source.faults c.args.source.now) (g.S.Source.faults c.read_all.new.source) (g.O.Sink.held c.args.out.now) (g.O.Sink.faults c.args.out.now) c.refuse.result (c.in-Err-TooLong.ensures.too_long (ap (λ (e : ReadEnd). Err e) c.in-Err-TooLong.field-0-is)) same c.refuse.ensures
+
+pub returns-in-Err-NoMemory : goal.returns-in-Err-NoMemory
+returns-in-Err-NoMemory g c = (nothing_put (g.S.Source.left c.args.source.now) (g.O.Sink.held c.args.out.now), search rules, refl)

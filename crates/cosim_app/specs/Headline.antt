@@ -1,0 +1,100 @@
+-- What a call of the program promises, in five clauses: the answer, the prefix, the causes, the whole input and
+-- the notes.
+use Rattle.std.specs.Prelude.{◌≡◌, ℕ, ◌<◌, List, Option, IfSome, ◌⊎◌}
+use Rattle.std.specs.Io.KnownBytes.{Appends, IsAtEnd}
+use Rattle.unit_text.specs.Reading.{IsAccepted, IsRefused, text_limit}
+use Rattle.unit_tree.specs.Lines.{size_of}
+use Rattle.unit_tree.specs.Trace.{Position, composition_of, IsTrace}
+use Rattle.unit_tree.specs.declared.ending.Ending.{Ending}
+use Rattle.unit_tree.specs.declared.system.System.{System}
+use Rattle.cosim_io.specs.Faults.{Rose}
+use Rattle.cosim_io.specs.Pieces.{AppendsPrefix}
+use Rattle.cosim_app.specs.Answer.{Answer, IsAnswer, run_words, status_of}
+use Rattle.cosim_app.specs.Notes.{read_fault_note, write_fault_note, no_memory_note}
+use Rattle.cosim_app.specs.declared.status.Status.{Status}
+use Rattle.cosim_app.specs.declared.status.Status.TheVariants as status
+
+-- What is seen of the streams at a moment: the bytes that are left in the source, those that the output and the
+-- notes hold, where they tell of them, and how often each has failed.
+pub record Streams : Type 0 where
+  pub left : Option (List ℕ)
+  pub read_faults : ℕ
+  pub held : Option (List ℕ)
+  pub put_faults : ℕ
+  pub noted : Option (List ℕ)
+  pub note_faults : ℕ
+
+-- No count of faults rose.
+pub record IsQuiet (before now : Streams) : Type 0 where
+  pub reads : Rose before.read_faults now.read_faults → ⊥
+  pub puts : Rose before.put_faults now.put_faults → ⊥
+  pub notes : Rose before.note_faults now.note_faults → ⊥
+
+-- The call gave the answer: what it appended to the output and to the notes, and its status, are the answer's.
+pub record Gives (before now : Streams) (given : Status) (answer : Answer) : Type 0 where
+  pub out : Appends before.held now.held answer.out
+  pub notes : Appends before.noted now.noted answer.notes
+  pub status : given ≡ answer.status
+
+-- Answer clause: where no count rose, the call gave the answer for its words and input, or there was no memory.
+abbrev pub AnswerClause : List (List ℕ) → Streams → Streams → Status → Type 0
+AnswerClause words before now given =
+    IsQuiet before now → (given ≡ status.NoMemory → ⊥) → IfSome before.left (λ text. (answer : Answer) → IsAnswer words text answer → Gives before now given answer)
+
+-- Prefix clause: in every case what was appended to the output begins the answer's, and a call that is answered
+-- by Usage, Refused or ReadFault put nothing.
+pub record PrefixClause (words : List (List ℕ)) (before now : Streams) (given : Status) : Type 0 where
+  pub front : IfSome before.left (λ text. (answer : Answer) → IsAnswer words text answer → AppendsPrefix before.held now.held answer.out)
+  pub usage : given ≡ status.Usage → now.held ≡ before.held
+  pub refused : given ≡ status.Refused → now.held ≡ before.held
+  pub read_fault : given ≡ status.ReadFault → now.held ≡ before.held
+
+-- The text is accepted, and its trace ends so that the status is this one.
+pub record EndsWith (given : Status) (text : List ℕ) : Type 0 where
+  pub system : System
+  pub accepted : IsAccepted text system
+  pub positions : List Position
+  pub ending : Ending
+  pub trace : IsTrace (composition_of system) positions ending
+  pub status : status_of ending ≡ given
+
+-- Some line of the text breaks a rule.
+pub record BreaksARule (text : List ℕ) : Type 0 where
+  pub line : ℕ
+  pub rule : ℕ
+  pub refused : IsRefused text line rule
+
+-- Cause clause: each status comes only with its cause, and a count of faults that is greater after the call than
+-- before is answered as that fault: a sink's before the source's.
+pub record CauseClause (words : List (List ℕ)) (before now : Streams) (given : Status) : Type 0 where
+  pub usage : given ≡ status.Usage → words ≡ run_words → ⊥
+  pub usage_due : (words ≡ run_words → ⊥) → (given ≡ status.Usage) ⊎ (given ≡ status.WriteFault)
+  pub read_fault : given ≡ status.ReadFault → Rose before.read_faults now.read_faults
+  pub write_fault : given ≡ status.WriteFault → Rose before.put_faults now.put_faults ⊎ Rose before.note_faults now.note_faults
+  pub refused : given ≡ status.Refused → IfSome before.left BreaksARule
+  pub done : given ≡ status.Done → IfSome before.left (EndsWith status.Done)
+  pub unit_fault : given ≡ status.UnitFault → IfSome before.left (EndsWith status.UnitFault)
+  pub put_greater : before.put_faults < now.put_faults → given ≡ status.WriteFault
+  pub note_greater : before.note_faults < now.note_faults → given ≡ status.WriteFault
+  pub read_greater : before.read_faults < now.read_faults → (given ≡ status.ReadFault) ⊎ Rose before.note_faults now.note_faults
+
+-- Whole-input clause: a run that comes to its end, or that is refused by another rule than the text's length, has
+-- read the source to its end; other words than those of a command read nothing.
+pub record WholeInputClause (words : List (List ℕ)) (before now : Streams) (given : Status) : Type 0 where
+  pub done : given ≡ status.Done → IsAtEnd now.left
+  pub unit_fault : given ≡ status.UnitFault → IsAtEnd now.left
+  pub refused : given ≡ status.Refused → IsAtEnd now.left ⊎ IfSome before.left (λ text. text_limit < size_of text)
+  pub usage : (words ≡ run_words → ⊥) → (now.left ≡ before.left) × (now.read_faults ≡ before.read_faults)
+
+-- A whole text of notes: one of the faults', or the answer's.
+abbrev pub IsNotesText : List (List ℕ) → List ℕ → List ℕ → Type 0
+IsNotesText words text notes =
+    (notes ≡ read_fault_note) ⊎ ((notes ≡ write_fault_note) ⊎ ((notes ≡ no_memory_note) ⊎ ((answer : Answer) → IsAnswer words text answer → notes ≡ answer.notes)))
+
+-- Notes clause: after a fault or want of memory the notes have that status's note alone, where they did not fail
+-- themselves; where they failed, a front of one of the texts that notes may have.
+pub record NotesClause (words : List (List ℕ)) (before now : Streams) (given : Status) : Type 0 where
+  pub read_fault : given ≡ status.ReadFault → Appends before.noted now.noted read_fault_note
+  pub write_fault : given ≡ status.WriteFault → (Rose before.note_faults now.note_faults → ⊥) → Appends before.noted now.noted write_fault_note
+  pub no_memory : given ≡ status.NoMemory → Appends before.noted now.noted no_memory_note
+  pub failed : IfSome before.left (λ text. (notes : List ℕ) × IsNotesText words text notes × AppendsPrefix before.noted now.noted notes)

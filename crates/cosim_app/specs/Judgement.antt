@@ -1,0 +1,79 @@
+-- What a run has put and come to, before its note is told.
+use Rattle.std.specs.Prelude.{◌≡◌, ℕ, ◌<◌, List, Option, IfSome, ⊤, ◌⊎◌}
+use Rattle.std.specs.Io.KnownBytes.{Appends, IsAtEnd}
+use Rattle.unit_text.specs.Reading.{text_limit}
+use Rattle.unit_tree.specs.Lines.{size_of}
+use Rattle.cosim_io.specs.Faults.{Rose}
+use Rattle.cosim_io.specs.Pieces.{AppendsPrefix}
+use Rattle.cosim_app.specs.Answer.{Answer, AnswersRefusal, AnswersRun}
+use Rattle.cosim_app.specs.Notes.{refused_note}
+use Rattle.cosim_app.specs.declared.status.Status.{Status}
+use Rattle.cosim_app.specs.declared.status.Status.TheVariants as status
+use Rattle.cosim_app.specs.declared.verdict.Verdict.{Verdict}
+use Rattle.cosim_app.specs.declared.verdict.Verdict.TheVariants as verdict
+
+-- The answer of `run` for a text.
+abbrev pub RunAnswers : List ℕ → Answer → Type 0
+RunAnswers text answer = AnswersRefusal text answer ⊎ AnswersRun text answer
+
+-- The status and the note are the text's answer, and its bytes were put.
+pub record PutsAnswer (text : List ℕ) (held held' : Option (List ℕ)) (given : Status) (note : List ℕ) : Type 0 where
+  pub answer : Answer
+  pub is : RunAnswers text answer
+  pub out : Appends held held' answer.out
+  pub notes : note ≡ answer.notes
+  pub same_status : given ≡ answer.status
+
+-- What was put begins the text's answer.
+pub record PutsFront (text : List ℕ) (held held' : Option (List ℕ)) : Type 0 where
+  pub answer : Answer
+  pub is : RunAnswers text answer
+  pub front : AppendsPrefix held held' answer.out
+
+-- A status that an answer of `run` has.
+abbrev pub IsOwn : Status → Type 0
+IsOwn status.Done = ⊤
+IsOwn status.Refused = ⊤
+IsOwn status.UnitFault = ⊤
+IsOwn _ = ⊥
+
+-- A run of a whole text has come to the verdict, and done so much to the output.
+abbrev pub JudgesText : List ℕ → Option (List ℕ) → Option (List ℕ) → ℕ → ℕ → Verdict → Type 0
+JudgesText text held held' faults faults' (verdict.Answered given note) =
+    PutsAnswer text held held' given note.items × IsOwn given × (faults' ≡ faults) × (given ≡ status.Refused → held' ≡ held)
+JudgesText text held held' faults faults' verdict.WriteFault = PutsFront text held held' × Rose faults faults'
+JudgesText text held held' faults faults' verdict.NoMemory = PutsFront text held held' × (faults' ≡ faults)
+JudgesText text held held' faults faults' verdict.ReadFault = ⊥
+
+-- A refusal by a line and a rule, or want of memory for its note.
+abbrev pub Refuses : ℕ → ℕ → Verdict → Type 0
+Refuses line rule (verdict.Answered given note) = (given ≡ status.Refused) × (note.items ≡ refused_note line rule)
+Refuses line rule verdict.NoMemory = ⊤
+Refuses line rule _ = ⊥
+
+-- A run has answered its input: put the answer's bytes, with the status and the note of its own, and read the input
+-- to its end, but for a text that is too long.
+pub record AnswersInput (left left' : Option (List ℕ)) (reads reads' : ℕ) (held held' : Option (List ℕ)) (puts puts' : ℕ) (given : Status) (note : List ℕ) : Type 0 where
+  pub gives : IfSome left (λ text. PutsAnswer text held held' given note)
+  pub own : IsOwn given
+  pub same_reads : reads' ≡ reads
+  pub same_puts : puts' ≡ puts
+  pub untouched : given ≡ status.Refused → held' ≡ held
+  pub to_end : IsAtEnd left' ⊎ ((given ≡ status.Refused) × IfSome left (λ text. text_limit < size_of text))
+
+-- A run has read its input and come to the verdict.
+abbrev pub JudgesInput : Option (List ℕ) → Option (List ℕ) → ℕ → ℕ → Option (List ℕ) → Option (List ℕ) → ℕ → ℕ → Verdict → Type 0
+JudgesInput left left' reads reads' held held' puts puts' (verdict.Answered given note) =
+    AnswersInput left left' reads reads' held held' puts puts' given note.items
+JudgesInput left left' reads reads' held held' puts puts' verdict.ReadFault =
+    Rose reads reads' × (held' ≡ held) × (puts' ≡ puts)
+JudgesInput left left' reads reads' held held' puts puts' verdict.WriteFault =
+    IfSome left (λ text. PutsFront text held held') × (reads' ≡ reads) × Rose puts puts'
+JudgesInput left left' reads reads' held held' puts puts' verdict.NoMemory =
+    IfSome left (λ text. PutsFront text held held') × (reads' ≡ reads) × (puts' ≡ puts)
+
+-- A note was told with its status; where telling it failed, the status is a write fault.
+abbrev pub TellsNote : Option (List ℕ) → Option (List ℕ) → ℕ → ℕ → List ℕ → Status → Status → Type 0
+TellsNote noted noted' faults faults' note wanted given =
+    ((given ≡ wanted) × Appends noted noted' note × (faults' ≡ faults))
+    ⊎ ((given ≡ status.WriteFault) × AppendsPrefix noted noted' note × Rose faults faults')

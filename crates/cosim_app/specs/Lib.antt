@@ -1,0 +1,9 @@
+pub mod OneComponent
+pub mod Pieces
+pub mod Runnable
+pub mod TraceText
+pub mod Words
+pub mod Headline
+pub mod Judgement
+pub mod Notes
+pub mod Answer

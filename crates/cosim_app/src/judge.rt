@@ -1,0 +1,86 @@
+//! A run, from the text to its verdict.
+ghost use Rattle.std.specs.Prelude.{◌≡◌, List, ℕ};
+ghost use Rattle.unit_text.specs.Reading.{IsAccepted};
+ghost use Rattle.cosim_app.specs.Answer.{status_of};
+ghost use Rattle.cosim_app.specs.Judgement.{JudgesText, JudgesInput, Refuses};
+ghost use Rattle.cosim_app.specs.Runnable.{IsRunnable};
+
+use crate::fault::RunFault;
+use crate::note;
+use crate::run_system::run_system;
+use crate::status::Status;
+use crate::verdict::Verdict;
+use cosim_io::{ReadEnd, Sink, Source, read_all};
+use std::alloc::Global;
+use unit_text::{TextFault, read_first_form};
+use unit_tree::{Ending, System};
+
+/// The most bytes of a text.
+const LONGEST_TEXT: usize = 1_048_576;
+
+/// The rule that bounds the text.
+const SIZE_RULE: u8 = 2;
+
+/// The status of how a run ended.
+fn status(ending: Ending) -> Status
+    ensures { result ≡ status_of ending }
+{
+    match ending {
+        Ending::Completed => Status::Done,
+        Ending::Faulted { .. } => Status::UnitFault,
+    }
+}
+
+/// The refusal of a text by a line and a rule.
+pub fn refuse(alloc: Global, line: u32, rule: u8) -> Verdict
+    ensures { Refuses line rule result }
+{
+    match note::refusal(alloc, line, rule) {
+        Ok(note) => Verdict::Answered {
+            status: Status::Refused,
+            note,
+        },
+        Err(_) => Verdict::NoMemory,
+    }
+}
+
+/// Runs a system that a text says.
+fn judge_system<O: Sink>(alloc: Global, system: &System, out: &mut O) -> Verdict
+    requires { IsRunnable system.now }
+    ensures { (text : List ℕ) → IsAccepted text system.now → JudgesText text (O.held out.old) (O.held out.new) (O.faults out.old) (O.faults out.new) result }
+{
+    match run_system(alloc, system, out) {
+        Ok(end) => match note::ending(alloc, system, end) {
+            Ok(note) => Verdict::Answered {
+                status: status(end.ending),
+                note,
+            },
+            Err(_) => Verdict::NoMemory,
+        },
+        Err(RunFault::WriteFault) => Verdict::WriteFault,
+        Err(RunFault::NoMemory) => Verdict::NoMemory,
+    }
+}
+
+/// Runs a whole text, or refuses it.
+pub fn judge_text<O: Sink>(alloc: Global, text: &[u8], out: &mut O) -> Verdict
+    ensures { JudgesText text.now (O.held out.old) (O.held out.new) (O.faults out.old) (O.faults out.new) result }
+{
+    match read_first_form(alloc, text) {
+        Ok(system) => judge_system(alloc, &system, out),
+        Err(TextFault::Line { line, rule }) => refuse(alloc, line, rule),
+        Err(TextFault::NoMemory) => Verdict::NoMemory,
+    }
+}
+
+/// Reads the input and runs it.
+pub fn judge<S: Source, O: Sink>(alloc: Global, source: &mut S, out: &mut O) -> Verdict
+    ensures { JudgesInput (S.left source.old) (S.left source.new) (S.faults source.old) (S.faults source.new) (O.held out.old) (O.held out.new) (O.faults out.old) (O.faults out.new) result }
+{
+    match read_all(alloc, source, LONGEST_TEXT) {
+        Ok(text) => judge_text(alloc, &text, out),
+        Err(ReadEnd::TooLong) => refuse(alloc, 1, SIZE_RULE),
+        Err(ReadEnd::Fault) => Verdict::ReadFault,
+        Err(ReadEnd::NoMemory) => Verdict::NoMemory,
+    }
+}

@@ -1,0 +1,106 @@
+//! The notes of the program.
+ghost use Rattle.std.specs.Prelude.{◌≡◌, ◌++◌, IfOk};
+ghost use Rattle.cosim_app.specs.Notes.{fault_number, refused_note, fault_text, ending_note};
+ghost use Rattle.cosim_app.specs.OneComponent.{IsOfFirst};
+ghost use Rattle.cosim_app.specs.Runnable.{IsRunnable};
+
+use crate::fault::RunEnd;
+use crate::pieces::append_all;
+use fixed_words::{Fault, NoMemory};
+use itoa::Buffer;
+use std::alloc::Global;
+use unit_tree::{Ending, Place, Point, System};
+
+/// The number by which notes tell a fault.
+fn number(fault: Fault) -> u8
+    ensures { result ≡ fault_number fault }
+{
+    match fault {
+        Fault::Overflow => 1,
+        Fault::Range => 2,
+        Fault::ZeroDivisor => 3,
+        Fault::Accept => 4,
+        Fault::Max => 5,
+    }
+}
+
+/// The line of the text and the rule that it breaks there.
+pub fn refusal(alloc: Global, line: u32, rule: u8) -> Result<Vec<u8>, NoMemory>
+    ensures { IfOk result (λ note. note.items ≡ refused_note line rule) }
+{
+    let (mut line_text, mut rule_text) = (Buffer::new(), Buffer::new());
+    let mut note = Vec::new(alloc);
+    append_all(
+        &mut note,
+        &[
+            b"cosim: line ",
+            line_text.format(line).as_bytes(),
+            b": rule ",
+            rule_text.format(rule).as_bytes(),
+            b"\n",
+        ],
+    )?;
+    Ok(note)
+}
+
+/// A fault of an instance at a point, in a place of a kind and a name.
+fn fault_note(
+    alloc: Global,
+    instance: &[u8],
+    kind: &[u8],
+    name: &[u8],
+    fault: Fault,
+    point: Point,
+) -> Result<Vec<u8>, NoMemory>
+    ensures { IfOk result (λ note. note.items ≡ fault_text instance.now (kind.now ++ name.now) fault point) }
+{
+    let (mut fault_text, mut time, mut index) = (Buffer::new(), Buffer::new(), Buffer::new());
+    let mut note = Vec::new(alloc);
+    append_all(
+        &mut note,
+        &[
+            b"cosim: fault ",
+            fault_text.format(number(fault)).as_bytes(),
+            b" of ",
+        ],
+    )?;
+    append_all(&mut note, &[instance, kind, name, b" at "])?;
+    append_all(
+        &mut note,
+        &[
+            time.format(point.t).as_bytes(),
+            b",",
+            index.format(point.n).as_bytes(),
+            b"\n",
+        ],
+    )?;
+    Ok(note)
+}
+
+/// How a run ended: nothing where it came to its stop.
+pub fn ending(alloc: Global, system: &System, end: RunEnd) -> Result<Vec<u8>, NoMemory>
+    requires runnable { IsRunnable system.now }
+    requires first { IsOfFirst end.ending }
+    ensures { IfOk result (λ note. note.items ≡ ending_note system.now end.ending end.last) }
+{
+    match end.ending {
+        Ending::Completed => Ok(Vec::new(alloc)),
+        Ending::Faulted { place, fault, .. } => {
+            let instance = system.instances.as_slice()[0].name.as_slice();
+            let output = system.units.as_slice()[0].outputs.as_slice()[0]
+                .name
+                .as_slice();
+            match place {
+                Place::Output(_) => fault_note(
+                    alloc,
+                    instance,
+                    b" output ",
+                    output,
+                    fault,
+                    end.last,
+                ),
+                Place::Step => fault_note(alloc, instance, b" step", b"", fault, end.last),
+            }
+        }
+    }
+}

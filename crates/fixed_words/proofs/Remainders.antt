@@ -1,0 +1,47 @@
+-- What the floor of a quotient leaves, by the signs of both.
+use Rattle.std.proofs.Common.{◌≡◌, ◌≢◌, ℕ, false, true, ltb, zero, suc, ◌+◌, ◌-◌, ◌*◌, ◌/◌, ◌%◌, ◌<◌, ◌≤◌, ◌⊎◌, inl, inr, refl, sym, ap, ◌∙◌, subst, arith, ℤ, pos, negsuc, neg_ℤ, ◌*ℤ◌, ◌-ℤ◌}
+use Rattle.std.specs.Int.{is_negative}
+use Rattle.std.specs.Int.RustNames.{unsigned_abs}
+use Rattle.std.proofs.lemmas.Int.{ints}
+use Rattle.fixed_words.specs.Laws.{left_over, IsFloor}
+
+never_below_zero : (b : ℕ) → ltb b 0 ≡ false
+never_below_zero b = grind arith
+
+positive_by_positive : (a b : ℕ) → left_over (pos a) (pos (suc b)) ≡ pos (a % suc b)
+positive_by_positive a b = simp (never_below_zero) (omega (arith, ints))
+
+negative_by_positive : (a b : ℕ) → left_over (negsuc a) (pos (suc b)) ≡ pos (b - a % suc b)
+negative_by_positive a b = simp (never_below_zero) (omega (arith, ints))
+
+positive_by_negative : (a b : ℕ) → left_over (pos (suc a)) (negsuc b) ≡ neg_ℤ (pos (b - a % suc b))
+positive_by_negative a b = omega (arith, ints)
+
+negative_by_negative : (a b : ℕ) → left_over (negsuc a) (negsuc b) ≡ neg_ℤ (pos (suc a % suc b))
+negative_by_negative a b = omega (arith, ints)
+
+-- what is left of a positive divisor's multiples
+left_positive : (dividend : ℤ) (b left : ℕ) → left_over dividend (pos (suc b)) ≡ pos left → left < suc b → IsFloor dividend (pos (suc b))
+left_positive dividend b left is below = record {
+  smaller = subst (λ rest. unsigned_abs rest < suc b) (sym is) below;
+  sign = inr (ap is_negative is ∙ never_below_zero left ∙ sym (never_below_zero (suc b)));
+}
+
+-- what is left of a negative divisor's multiples
+left_negative : (dividend : ℤ) (b left : ℕ) → left_over dividend (negsuc b) ≡ neg_ℤ (pos left) → left < suc b → IsFloor dividend (negsuc b)
+left_negative dividend b zero is below = record {
+  smaller = subst (λ rest. unsigned_abs rest < suc b) (sym is) below;
+  sign = inl is;
+}
+left_negative dividend b (suc left) is below = record {
+  smaller = subst (λ rest. unsigned_abs rest < suc b) (sym is) below;
+  sign = inr (ap is_negative is);
+}
+
+pub is_floor : (dividend divisor : ℤ) → divisor ≢ pos 0 → IsFloor dividend divisor
+is_floor dividend (pos zero) some = absurd (some refl)
+is_floor (pos a) (pos (suc b)) some = left_positive (pos a) b (a % suc b) (positive_by_positive a b) (omega arith)
+is_floor (negsuc a) (pos (suc b)) some = left_positive (negsuc a) b (b - a % suc b) (negative_by_positive a b) (omega arith)
+is_floor (pos zero) (negsuc b) some = left_negative (pos zero) b 0 (omega (arith, ints)) (omega arith)
+is_floor (pos (suc a)) (negsuc b) some = left_negative (pos (suc a)) b (b - a % suc b) (positive_by_negative a b) (omega arith)
+is_floor (negsuc a) (negsuc b) some = left_negative (negsuc a) b (suc a % suc b) (negative_by_negative a b) (omega arith)

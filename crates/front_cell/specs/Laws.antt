@@ -1,0 +1,32 @@
+-- What the stores of a writer and the reads of a reader come to.
+use Rattle.std.specs.Prelude.{◌≡◌, ◌≤◌, ◌⊎◌, false, List, [], ◌∷◌, AllPairs, IsTrue}
+use Rattle.front_cell.specs.Front.{opening, open_at, closed_at, IsBehind}
+use Rattle.front_cell.specs.declared.front.Front.{Front}
+
+-- each front comes by one such step from the one before it
+abbrev pub Steps : (Front → Front → Type 0) → Front → List Front → Type 0
+Steps step front [] = Unit {0}
+Steps step front (next ∷ later) = step front next × Steps step next later
+
+-- an advance: while the run is open, to as many rows or more
+pub record IsAdvance (front next : Front) : Type 0 where
+  pub still_open : front.closed ≡ false
+  pub forward : front.rows ≤ next.rows
+  pub stored : next ≡ open_at next.rows
+
+-- one store by the writer: an advance, or a close
+abbrev pub IsStore : Front → Front → Type 0
+IsStore front next = IsAdvance front next ⊎ (next ≡ closed_at front)
+
+-- the number has not fallen, and if the run was closed nothing has changed
+pub record IsKept (front later : Front) : Type 0 where
+  pub rows : front.rows ≤ later.rows
+  pub closed : IsTrue front.closed → later ≡ front
+
+-- over all stores from the opening, the number never falls, and after closed nothing changes
+abbrev pub IsWriterForward : Type 0
+IsWriterForward = (stores : List Front) → Steps IsStore opening stores → AllPairs IsKept (opening ∷ stores)
+
+-- over all reads from a split, each of which is not behind the last, none is behind an earlier one or behind the writer's front at the split
+abbrev pub IsReaderForward : Type 0
+IsReaderForward = (split : Front) (fronts : List Front) → Steps IsBehind split fronts → AllPairs IsBehind (split ∷ fronts)

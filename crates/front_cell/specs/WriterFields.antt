@@ -1,0 +1,19 @@
+-- How the fields of a writer are seen.
+use Rattle.std.specs.Prelude.{◌≡◌, ℕ}
+use Rattle.crossbeam_utils.specs.Seq.{cell_view}
+use Rattle.front_cell.specs.Ends.{WriterState}
+use Rattle.front_cell.specs.declared.view.View.{View}
+use Rattle.front_cell.specs.declared.view.View.TheVariants.{Wrote}
+use Rattle.front_cell.specs.declared.writer.Writer.TheInside.{Inside}
+
+-- the loads that a writer's view counts
+abbrev pub joined_of : View → ℕ
+joined_of (Wrote front joined) = joined
+joined_of _ = 0
+
+abbrev pub writer_state : Inside → WriterState
+writer_state w = record { cell = w.pass.table_id; front = w.front; joined = joined_of (cell_view w.pass) }
+
+-- its view has the front that it keeps
+abbrev pub IsWriter : Inside → Type 0
+IsWriter w = (joined : ℕ) × (cell_view w.pass ≡ Wrote w.front joined)

@@ -1,0 +1,54 @@
+// What a cell holds.
+ghost use Rattle.std.specs.Prelude.{◌≡◌};
+
+use crossbeam_utils::atomic::Words;
+
+/// How far a run has come.
+#[derive(Clone, Copy, PartialEq, Eq, Debug)]
+pub struct Front {
+    /// The number of committed rows.
+    pub rows: u64,
+    /// Whether the run is closed: no row will follow.
+    pub closed: bool,
+}
+
+impl Front {
+    ghost use Rattle.front_cell.specs.Front.{open_at, closed_at};
+
+    // This many rows, of an open run.
+    pub(crate) fn open_at(rows: u64) -> Front
+        ensures { result ≡ open_at rows }
+    {
+        Front {
+            rows,
+            closed: false,
+        }
+    }
+
+    // The same rows, of a closed run.
+    pub(crate) fn to_closed(self) -> Front
+        ensures { result ≡ closed_at self }
+    {
+        Front {
+            rows: self.rows,
+            closed: true,
+        }
+    }
+}
+
+impl Words<2> for Front {
+    ghost use Rattle.front_cell.specs.Front.{words_of};
+
+    ghost words = { words_of };
+
+    fn to_words(self) -> [u64; 2] {
+        [self.rows, u64::from(self.closed)]
+    }
+
+    fn from_words(bits: &[u64; 2]) -> Front {
+        Front {
+            rows: bits[0],
+            closed: bits[1] == 1,
+        }
+    }
+}

@@ -1,0 +1,108 @@
+//! A store of snapshots: lists of words, each under an id that the store hands out.
+//!
+//! The layer above saves the words of a component, writes over them at each new point, puts them
+//! back, and lets them go. It sees a store as what each live id holds, and an id as a number that
+//! only a store can make; `specs/Store.antt` has the definitions. Saving alone takes memory.
+#![tactic(auto)]
+
+ghost use Rattle.std.specs.Prelude.{◌≡◌, length, None, Some, IfOk, OnErr};
+ghost use Rattle.std.specs.FinMap as map;
+ghost use Rattle.snap_store.specs.Store.{words_of, IsLive, HasLength, KeepsOthers};
+
+use slab::Slab;
+use std::alloc::{AllocError, Global};
+use std::marker::Model;
+
+/// The id of a snapshot. A store hands it out when it saves the snapshot, and it is live until that
+/// store releases it; later the store may hand it out again.
+#[derive(Clone, Copy, Debug, PartialEq, Eq)]
+pub struct SnapId {
+    key: usize,
+}
+
+impl Model for SnapId {
+    ghost use Rattle.std.specs.Prelude.{ℕ};
+
+    ghost Value = { ℕ };
+
+    ghost view = { λ id. id.key };
+
+    ghost inverse = { λ n. record { key = n } };
+}
+
+/// Snapshots of words under ids.
+#[derive(Drop)]
+pub struct Snaps {
+    slots: Slab<Vec<i64>>,
+}
+
+impl Model for Snaps {
+    ghost use Rattle.std.specs.Prelude.{map};
+    ghost use Rattle.std.specs.Option.{option_map};
+    ghost use Rattle.std.specs.Coded.{coded_ℕ, coded_ℤ, coded_list};
+    ghost use Rattle.std.specs.FinMap as finite;
+    ghost use Rattle.snap_store.specs.Store.{Store};
+    ghost use Rattle.snap_store.specs.View.{stored_from};
+
+    ghost Value = { Store };
+
+    ghost coded = { finite.code coded_ℕ (coded_list coded_ℤ) };
+
+    ghost view = { λ s. stored_from 0 (map (option_map (λ v. v.items)) s.slots.slots) };
+}
+
+impl Snaps {
+    /// A store with no snapshot. It takes no memory yet; `alloc` is where its room comes from later.
+    pub fn new(alloc: Global) -> Snaps
+        ensures empty { result ≡ map.empty }
+    {
+        Snaps {
+            slots: Slab::new(alloc),
+        }
+    }
+
+    /// Keeps a copy of the words under an id that was not live. Where memory is refused the store
+    /// stays as it is.
+    pub fn save(&mut self, alloc: Global, words: &[i64]) -> Result<SnapId, AllocError>
+        ensures new_id { IfOk result (λ id. words_of self.old id ≡ None) }
+        ensures saved { IfOk result (λ id. words_of self.new id ≡ Some words.now) }
+        ensures others { IfOk result (KeepsOthers self.old self.new) }
+        ensures refused { OnErr result (self.new ≡ self.old) }
+    {
+        let copy = Vec::from_slice(alloc, words)?;
+        let key = self.slots.insert(copy)?;
+        Ok(SnapId { key })
+    }
+
+    /// Writes over the words of a live id, with as many words.
+    pub fn overwrite(&mut self, id: SnapId, words: &[i64])
+        requires live { IsLive self.old id }
+        requires same_length { HasLength self.old id (length words.now) }
+        ensures written { words_of self.new id ≡ Some words.now }
+        ensures others { KeepsOthers self.old self.new id }
+    {
+        let held = &mut self.slots[id.key];
+        held.copy_from_slice(words);
+    }
+
+    /// Puts the words of a live id into a list of their length.
+    pub fn restore(&self, id: SnapId, into: &mut [i64])
+        requires live { IsLive self.now id }
+        requires same_length { HasLength self.now id (length into.old) }
+        ensures restored { words_of self.now id ≡ Some into.new }
+    {
+        into.copy_from_slice(&self.slots[id.key]);
+    }
+
+    /// Lets go of a live id and of its words.
+    pub fn release(&mut self, id: SnapId)
+        requires live { IsLive self.old id }
+        ensures released { words_of self.new id ≡ None }
+        ensures others { KeepsOthers self.old self.new id }
+    {
+        self.slots.remove(id.key);
+    }
+}
+
+#[cfg(test)]
+mod tests;

@@ -1,0 +1,2 @@
+pub mod MismatchLemmas
+pub mod GuessLemmas
