@@ -152,7 +152,7 @@ promises_told words before now wanted given note facts (inr failed) =
         unit_fault = λ e. absurd (cc);
         put_greater = λ more. is;
         note_greater = λ more. is;
-        read_greater = λ more. inr failed.2;
+        read_greater = λ more. inr (is, failed.2);
       };
       whole_input = record { done = λ e. absurd (cc); unit_fault = λ e. absurd (cc); refused = λ e. absurd (cc); usage = facts.usage_read };
       notes = record {

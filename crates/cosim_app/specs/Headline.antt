@@ -76,7 +76,7 @@ pub record CauseClause (words : List (List ℕ)) (before now : Streams) (given :
   pub unit_fault : given ≡ status.UnitFault → IfSome before.left (EndsWith status.UnitFault)
   pub put_greater : before.put_faults < now.put_faults → given ≡ status.WriteFault
   pub note_greater : before.note_faults < now.note_faults → given ≡ status.WriteFault
-  pub read_greater : before.read_faults < now.read_faults → (given ≡ status.ReadFault) ⊎ Rose before.note_faults now.note_faults
+  pub read_greater : before.read_faults < now.read_faults → (given ≡ status.ReadFault) ⊎ ((given ≡ status.WriteFault) × Rose before.note_faults now.note_faults)
 
 -- Whole-input clause: a run that comes to its end, or that is refused by another rule than the text's length, has
 -- read the source to its end; other words than those of a command read nothing.

@@ -79,3 +79,69 @@ fn notes_tell_the_end(rt: HostRuntime) -> Result<(), Fail> {
     assert!(rt; notes.bytes() == b"cosim: line 2: rule 4\n".as_slice());
     Ok(())
 }
+
+/// Assignments see what the ones before them assigned; numbers are start values, operands and ends of a run.
+#[test]
+fn texts_and_their_rows(rt: HostRuntime) -> Result<(), Fail> {
+    let pair =
+        "cosim 1\nunit F\nstate a : Int64 = 1\nstate b : Int64 = -1\noutput y : Int64 = b\nstep\n";
+    let ends = "end\nend\ninstance f : F\nend\n";
+    for (body, run, status, rows, told) in [
+        (
+            "a := a + b\nb := a + b\n",
+            "stop 2\nlongest 1\n",
+            Status::Done,
+            "0,0,-1\n1,0,-1\n2,0,-2\n",
+            "",
+        ),
+        (
+            "b := b + 5\n",
+            "stop 3\n",
+            Status::Done,
+            "0,0,-1\n3,0,4\n",
+            "",
+        ),
+        (
+            "b := b + 5\n",
+            "stop 3\nlongest 2\n",
+            Status::Done,
+            "0,0,-1\n2,0,4\n3,0,9\n",
+            "",
+        ),
+        ("b := b + 5\n", "stop 0\n", Status::Done, "0,0,-1\n", ""),
+        ("", "stop 7\n", Status::Done, "0,0,-1\n7,0,-1\n", ""),
+        (
+            "b := 9223372036854775807 + b\nb := b + a\nb := b + a\n",
+            "stop 1\n",
+            Status::UnitFault,
+            "0,0,-1\n",
+            "cosim: fault 1 of f step at 0,0\n",
+        ),
+        (
+            "b := b - 5\n",
+            "stop 3\n",
+            Status::Refused,
+            "",
+            "cosim: line 7: rule 4\n",
+        ),
+        (
+            "b := b + 5\n",
+            "stop 100000\n",
+            Status::Refused,
+            "",
+            "cosim: line 12: rule 4\n",
+        ),
+    ] {
+        let mut text = String::from_str(rt.alloc(), pair)?;
+        for part in [body, ends, run] {
+            text.push_str(part)?;
+        }
+        let (given, out, notes) = call(rt.alloc(), &["run"], text.as_str(), &[], &[], &[])?;
+        assert_eq!(rt; given, status);
+        assert!(rt;
+            out.bytes().strip_prefix(b"time,index,f.y\n").unwrap_or(b"") == rows.as_bytes()
+        );
+        assert!(rt; notes.bytes() == told.as_bytes());
+    }
+    Ok(())
+}
