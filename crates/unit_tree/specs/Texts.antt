@@ -1,0 +1,108 @@
+-- Which system a text says, and at which line and by which rule any other text is refused.
+--
+--   rule 1   a byte before the comment is none that code may hold
+--   rule 2   the text is too long
+--   rule 3   the line is too long
+--   rule 4   a line that is not blank has none of the forms
+--   rule 5   a form stands where it may not
+--   rule 6   a block is open at the end
+--   rule 7   the text does not begin with the header
+use Rattle.std.specs.Prelude.{◌≡◌, ◌≢◌, ◌≤◌, ◌<◌, ◌⊎◌, ℕ, suc, not, nat_le, List, [], ◌∷◌, ◌++◌, length, IsTrue, IsFalse}
+use Rattle.std.specs.List.{filter, list_all, AllZip}
+use Rattle.unit_tree.specs.Blocks.{open_blocks, may_stand, are_placed}
+use Rattle.unit_tree.specs.LineForms.{HasForm}
+use Rattle.unit_tree.specs.Lines.{source_lines, size_of, is_blank_line, has_forbidden_byte}
+use Rattle.unit_tree.specs.Parts.{Part, text_forms, system_of}
+use Rattle.unit_tree.specs.declared.line_form.LineForm.{LineForm}
+use Rattle.unit_tree.specs.declared.line_form.LineForm.TheVariants as form
+use Rattle.unit_tree.specs.declared.system.System.{System}
+
+-- The most bytes of a text, with a LF counted for each line, and the most of a line without its end.
+abbrev pub text_limit : ℕ
+text_limit = 1048576
+
+abbrev pub line_limit : ℕ
+line_limit = 1000
+
+-- The lines that are not blank have the forms, one for one.
+abbrev pub HaveForms : List LineForm → List (List ℕ) → Type 0
+HaveForms forms lines = AllZip HasForm forms (filter (λ line. not (is_blank_line line)) lines)
+
+-- ---- Texts that say a system
+
+-- The text says the system: it and its lines are short enough, and its lines that are not blank have the forms
+-- of the header and of parts which say the system, each where it may stand.
+pub record Reads (text : List ℕ) (system : System) : Type 0 where
+  pub parts : List Part
+  pub says : system_of parts ≡ system
+  pub lines : HaveForms (text_forms parts) (source_lines text)
+  pub placed : IsTrue (are_placed [] (text_forms parts))
+  pub short : size_of text ≤ text_limit
+  pub lines_short : IsTrue (list_all (λ line. nat_le (length line) line_limit) (source_lines text))
+
+-- ---- Lines that break a rule
+
+-- The line has none of the forms.
+abbrev pub HasNoForm : List ℕ → Type 0
+HasNoForm line = IsFalse (is_blank_line line) × ((some : LineForm) → HasForm some line → ⊥)
+
+-- The line has a form that may not stand behind the lines before it.
+pub record IsMisplaced (before : List (List ℕ)) (line : List ℕ) : Type 0 where
+  pub forms : List LineForm
+  pub some : LineForm
+  pub lines : HaveForms forms before
+  pub has_form : HasForm some line
+  pub misplaced : IsFalse (may_stand forms some)
+
+-- The first line that is not blank is not the header.
+pub record LacksHeader (before : List (List ℕ)) (line : List ℕ) : Type 0 where
+  pub before_is_blank : IsTrue (list_all is_blank_line before)
+  pub is_first : IsFalse (is_blank_line line)
+  pub is_other : HasForm form.Header line → ⊥
+
+-- A line, with the lines before it, breaks the rule.
+abbrev pub LineBreaks : ℕ → List (List ℕ) → List ℕ → Type 0
+LineBreaks rule before line =
+    ((rule ≡ 1) × IsTrue (has_forbidden_byte line))
+    ⊎ ((rule ≡ 3) × (line_limit < length line))
+    ⊎ ((rule ≡ 4) × HasNoForm line)
+    ⊎ ((rule ≡ 5) × IsMisplaced before line)
+    ⊎ ((rule ≡ 7) × LacksHeader before line)
+
+-- The line of that number, from 1, breaks the rule.
+pub record BreaksAt (lines : List (List ℕ)) (number rule : ℕ) : Type 0 where
+  pub before : List (List ℕ)
+  pub line : List ℕ
+  pub later : List (List ℕ)
+  pub cut : lines ≡ before ++ (line ∷ later)
+  pub is_number : number ≡ suc (length before)
+  pub breaks : LineBreaks rule before line
+
+-- The lines break the rule at that number: there is such a line, or all are blank and there is no header at
+-- line 1.
+abbrev pub Breaks : List (List ℕ) → ℕ → ℕ → Type 0
+Breaks lines number rule =
+    BreaksAt lines number rule ⊎ (IsTrue (list_all is_blank_line lines) × (number ≡ 1) × (rule ≡ 7))
+
+-- The first line that breaks a rule, with the least rule that it breaks.
+pub record IsFirstBroken (lines : List (List ℕ)) (number rule : ℕ) : Type 0 where
+  pub breaks : Breaks lines number rule
+  pub first : (other by : ℕ) → Breaks lines other by → (number < other) ⊎ ((number ≡ other) × (rule ≤ by))
+
+-- No line breaks a rule, and a block is open at the end: the last line breaks rule 6.
+pub record IsUnended (lines : List (List ℕ)) (number rule : ℕ) : Type 0 where
+  pub forms : List LineForm
+  pub have_forms : HaveForms forms lines
+  pub is_open : open_blocks forms ≢ []
+  pub unbroken : (other by : ℕ) → Breaks lines other by → ⊥
+  pub is_rule : rule ≡ 6
+  pub is_last : number ≡ length lines
+
+-- ---- Texts that are refused
+
+-- The text is refused at the line by the rule. Rule 2 is judged first; then the lines in their order, and at
+-- last whether a block is open.
+abbrev pub IsRefused : List ℕ → ℕ → ℕ → Type 0
+IsRefused text number rule =
+    ((text_limit < size_of text) × (number ≡ 1) × (rule ≡ 2))
+    ⊎ ((size_of text ≤ text_limit) × (IsFirstBroken (source_lines text) number rule ⊎ IsUnended (source_lines text) number rule))

@@ -1,0 +1,56 @@
+use crate::{Expr, Input, Local, Name, Output, Param, PortName, Setting, State, Wire};
+use fixed_words::Literal;
+
+/// What a line of a model text says. A line with a block has no more than its head here: the lines of
+/// the block follow it, up to the block's own [`End`](LineForm::End).
+#[derive(Debug, Drop)]
+pub enum LineForm {
+    /// `cosim 1`
+    Header,
+    /// `unit A`, which opens a block.
+    Unit(Name),
+    /// `resolution E`, by how many decimal places a local tick lies below a second, from 0 to 9.
+    Resolution(u8),
+    /// `param p : T = L`
+    Param(Param),
+    /// `state s : T = L`
+    State(State),
+    /// `local x : T`
+    Local(Local),
+    /// `input u : T = L`
+    Input(Input),
+    /// `output y : T = e`, or `output y : T needs u, v = e`
+    Output(Output),
+    /// `max e`
+    Max(Expr),
+    /// `step`, which opens a block.
+    Step,
+    /// `end`
+    End,
+    /// `x := e`
+    Assign { target: Name, value: Expr },
+    /// `if e`, which opens a block.
+    If(Expr),
+    /// `else`
+    Else,
+    /// `repeat K`, which opens a block; from 1 to 1,000 times.
+    Repeat(u32),
+    /// `accept e`
+    Accept(Expr),
+    /// `instance a : A`, which opens a block.
+    Instance { name: Name, unit: Name },
+    /// `p = L`
+    Setting(Setting),
+    /// `connect a.y -> b.u`
+    Connect(Wire),
+    /// `stop S`, in seconds.
+    Stop(Literal),
+    /// `longest S`, in seconds.
+    Longest(Literal),
+    /// `zero Z`, from 0 to 10,000.
+    Zero(u32),
+    /// `rows R`, from 1 to 100,000.
+    Rows(u32),
+    /// `sample a.y`
+    Sample(PortName),
+}
