@@ -1,0 +1,70 @@
+-- Laws of the language. The first four are proved; the others say what a reader and a printer of the language are
+-- owed, and are not proved.
+use Rattle.std.specs.Prelude.{◌≡◌, ◌≤◌, ◌⊎◌, ◌↔◌, ℕ, List, map, length, Option, Some, None, IsTrue}
+use Rattle.unit_tree.specs.Canonical.{canonical_parts, canonical_forms, canonical_phrase, canonical_text, line_text}
+use Rattle.unit_tree.specs.LineForms.{HasForm}
+use Rattle.unit_tree.specs.Parts.{system_of}
+use Rattle.unit_tree.specs.Phrases.{Whole, stands, tree_of}
+use Rattle.unit_tree.specs.Printable.{IsPrintable, is_unsigned}
+use Rattle.unit_tree.specs.Sites.{sites_of}
+use Rattle.unit_tree.specs.Texts.{Reads, IsRefused}
+use Rattle.unit_tree.specs.WellFormed.{Refusal, IsWellFormed, refusal_of}
+use Rattle.unit_tree.specs.declared.expr.Expr.{Expr}
+use Rattle.unit_tree.specs.declared.line_form.LineForm.{LineForm}
+use Rattle.unit_tree.specs.declared.system.System.{System}
+
+-- ---- Proved
+
+-- Every system is well-formed or refused, and not both.
+abbrev pub IsJudgedOnce : Type 0
+IsJudgedOnce = (system : System) → IsWellFormed system ↔ (refusal_of system ≡ None)
+
+-- The sites that rules speak of are the canonical lines, one for one.
+abbrev pub SitesAreCanonicalLines : Type 0
+SitesAreCanonicalLines = (system : System) → map (λ site. site.line) (sites_of system) ≡ canonical_forms system
+
+-- The canonical parts of a system say this system.
+abbrev pub CanonicalPartsSayTheSystem : Type 0
+CanonicalPartsSayTheSystem = (system : System) → system_of (canonical_parts system) ≡ system
+
+-- The canonical phrase of an expression whose numbers have no sign is one of it, and each of its parts stands
+-- where the grammar allows it.
+pub record CanonicalPhraseIs (value : Expr) : Type 0 where
+  pub is_tree : tree_of (canonical_phrase value) ≡ value
+  pub stands_so : IsTrue (stands Whole (canonical_phrase value))
+
+abbrev pub CanonicalPhrasesAreRight : Type 0
+CanonicalPhrasesAreRight = (value : Expr) → IsTrue (is_unsigned value) → CanonicalPhraseIs value
+
+-- ---- Owed by a reader and a printer
+
+-- A text says one system at most.
+abbrev pub SaysOneSystem : List ℕ → Type 0
+SaysOneSystem text = (one other : System) → Reads text one → Reads text other → one ≡ other
+
+-- A text is refused at one line and by one rule at most.
+abbrev pub IsRefusedOnce : List ℕ → Type 0
+IsRefusedOnce text =
+    (line by other rule : ℕ) → IsRefused text line by → IsRefused text other rule → (line ≡ other) × (by ≡ rule)
+
+-- The text says a system, or it is refused.
+abbrev pub IsAnswered : List ℕ → Type 0
+IsAnswered text = ((system : System) × Reads text system) ⊎ ((line : ℕ) × (rule : ℕ) × IsRefused text line rule)
+
+-- Each text says one system, or is refused at one line by one rule, and not both.
+pub record IsAnsweredOnce (text : List ℕ) : Type 0 where
+  pub answered : IsAnswered text
+  pub one_system : SaysOneSystem text
+  pub one_refusal : IsRefusedOnce text
+  pub not_both : (system : System) (line rule : ℕ) → Reads text system → IsRefused text line rule → ⊥
+
+abbrev pub EveryTextIsAnsweredOnce : Type 0
+EveryTextIsAnsweredOnce = (text : List ℕ) → IsAnsweredOnce text
+
+-- Reading the canonical text of a system gives this system.
+abbrev pub CanonicalTextIsReadBack : Type 0
+CanonicalTextIsReadBack = (system : System) → IsPrintable system → Reads (canonical_text system) system
+
+-- A canonical line is never longer than a line that it came from.
+abbrev pub CanonicalLinesAreShortest : Type 0
+CanonicalLinesAreShortest = (some : LineForm) (line : List ℕ) → HasForm some line → length (line_text some) ≤ length line

@@ -1,0 +1,69 @@
+-- Orders of outputs: a system whose port graph has no cycle has one in which each output comes after all that
+-- it needs. This is rule 15, which is judged last.
+use Rattle.std.specs.Prelude.{◌≡◌, ℕ, List, [], ◌∷◌, ◌++◌, map, Option, Some, None, Contains, ⊤, if◌then◌else◌}
+use Rattle.std.specs.List.{AllByRecursion, flat_map, filter_map}
+use Rattle.unit_tree.specs.Names.{unit_of_instance, output_at, same_port}
+use Rattle.unit_tree.specs.declared.system.Instance.{Instance}
+use Rattle.unit_tree.specs.declared.system.PortName.{PortName}
+use Rattle.unit_tree.specs.declared.system.System.{System}
+use Rattle.unit_tree.specs.declared.system.Wire.{Wire}
+use Rattle.unit_tree.specs.declared.unit.Output.{Output}
+use Rattle.unit_tree.specs.declared.unit.Unit.{Unit}
+
+abbrev pub port_of : Instance → List ℕ → PortName
+port_of instance port = record { instance = instance.name; port = port }
+
+abbrev pub outputs_in : Option Unit → List Output
+outputs_in None = []
+outputs_in (Some unit) = unit.outputs
+
+-- All outputs of a system, by instance and then by declaration.
+abbrev pub outputs_of : System → List PortName
+outputs_of system =
+    flat_map (λ instance. map (λ output. port_of instance output.name) (outputs_in (unit_of_instance system instance))) system.instances
+
+-- The output that is connected to an input.
+abbrev pub source_if : PortName → Wire → Option PortName
+source_if port wire = if same_port wire.to port then Some wire.from else None
+
+abbrev pub sources_of : System → PortName → List PortName
+sources_of system port = filter_map (source_if port) system.wires
+
+-- The inputs that an output names in its needs.
+abbrev pub needs_of : Option Output → List (List ℕ)
+needs_of None = []
+needs_of (Some output) = output.needs
+
+-- The outputs that an output needs: those that are connected to the inputs in its needs.
+abbrev pub needed_by : System → PortName → List PortName
+needed_by system port =
+    flat_map (λ input. sources_of system (record { instance = port.instance; port = input })) (needs_of (output_at system port))
+
+-- An orderly list behind outputs that came before: it holds outputs of the system, each once and after all that
+-- it needs.
+abbrev pub IsOrderlyAfter : System → List PortName → List PortName → Type 0
+IsOrderlyAfter system before [] = ⊤
+IsOrderlyAfter system before (port ∷ later) =
+    Contains (outputs_of system) port
+    × (Contains before port → ⊥)
+    × AllByRecursion (Contains before) (needed_by system port)
+    × IsOrderlyAfter system (before ++ (port ∷ [])) later
+
+abbrev pub IsOrderly : System → List PortName → Type 0
+IsOrderly system order = IsOrderlyAfter system [] order
+
+-- The system has no cycle: one orderly list has all its outputs.
+abbrev pub HasNoCycle : System → Type 0
+HasNoCycle system = (order : List PortName) × IsOrderly system order × AllByRecursion (Contains order) (outputs_of system)
+
+-- An output that stands in no orderly list: it lies on a cycle, or depends on one.
+abbrev pub IsOnCycle : System → PortName → Type 0
+IsOnCycle system port = (order : List PortName) → IsOrderly system order → Contains order port → ⊥
+
+-- The output that rule 15 names: the first that stands in no orderly list.
+pub record IsFirstOnCycle (system : System) (port : PortName) : Type 0 where
+  pub before : List PortName
+  pub later : List PortName
+  pub cut : outputs_of system ≡ before ++ (port ∷ later)
+  pub is_on_cycle : IsOnCycle system port
+  pub is_first : AllByRecursion (λ other. IsOnCycle system other → ⊥) before

@@ -1,0 +1,150 @@
+-- Systems whose numbers are in range, and systems that have a canonical text.
+use Rattle.std.specs.Prelude.{◌≤◌, ℕ, suc, max, Bool, true, false, ◌&&◌, nat_le, not, List, [], ◌∷◌, ◌++◌, map, length, Option, Some, None, IsTrue, ⊤}
+use Rattle.std.specs.Int.{is_negative}
+use Rattle.std.specs.List.{AllByRecursion, list_all, fold}
+use Rattle.fixed_words.specs.Types.{AreDecimals, is_word_of}
+use Rattle.fixed_words.specs.declared.types.Literal.{Literal}
+use Rattle.fixed_words.specs.declared.types.Literal.TheVariants as literal
+use Rattle.fixed_words.specs.declared.types.Ty.TheVariants.{Int64}
+use Rattle.unit_tree.specs.Canonical.{canonical_forms, canonical_phrase, canonical_text, line_text}
+use Rattle.unit_tree.specs.Names.{variables_in, expression_on}
+use Rattle.unit_tree.specs.Phrases.{nesting}
+use Rattle.unit_tree.specs.Texts.{text_limit, line_limit}
+use Rattle.unit_tree.specs.Tokens.{IsWord, IsReserved}
+use Rattle.unit_tree.specs.Values.{is_ranged}
+use Rattle.unit_tree.specs.declared.expr.Expr.{Expr, fold-Expr}
+use Rattle.unit_tree.specs.declared.expr.Expr.TheOpen.{Expr-F}
+use Rattle.unit_tree.specs.declared.line.Line.{Line, fold-Line}
+use Rattle.unit_tree.specs.declared.line.Line.TheOpen.{Line-F}
+use Rattle.unit_tree.specs.declared.line_form.LineForm.{LineForm}
+use Rattle.unit_tree.specs.declared.line_form.LineForm.TheVariants as form
+use Rattle.unit_tree.specs.declared.system.System.{System}
+
+-- ---- In range
+
+abbrev pub names_on_expression : Option Expr → List (List ℕ)
+names_on_expression None = []
+names_on_expression (Some value) = variables_in value
+
+-- The names that stand on a line in front of its expression.
+abbrev pub names_said : LineForm → List (List ℕ)
+names_said (form.Unit name) = name ∷ []
+names_said (form.Param param) = param.name ∷ []
+names_said (form.State state) = state.name ∷ []
+names_said (form.Local local) = local.name ∷ []
+names_said (form.Input input) = input.name ∷ []
+names_said (form.Output output) = output.name ∷ output.needs
+names_said (form.Assign target value) = target ∷ []
+names_said (form.Instance name unit) = name ∷ unit ∷ []
+names_said (form.Setting setting) = setting.name ∷ []
+names_said (form.Connect wire) = wire.from.instance ∷ wire.from.port ∷ wire.to.instance ∷ wire.to.port ∷ []
+names_said (form.Sample port) = port.instance ∷ port.port ∷ []
+names_said _ = []
+
+-- All names on a line.
+abbrev pub names_on : LineForm → List (List ℕ)
+names_on line = names_said line ++ names_on_expression (expression_on line)
+
+-- A literal has at most nine decimals.
+abbrev pub HasDecimals : Literal → Type 0
+HasDecimals (literal.Truth told) = ⊤
+HasDecimals (literal.Number number decimals) = decimals ≤ 9
+
+-- The counts, resolutions and numbers of decimals on a line are those that the language allows.
+abbrev pub IsInRange : LineForm → Type 0
+IsInRange (form.Resolution decimals) = decimals ≤ 9
+IsInRange (form.Param param) = AreDecimals param.ty × HasDecimals param.start
+IsInRange (form.State state) = AreDecimals state.ty × HasDecimals state.start
+IsInRange (form.Local local) = AreDecimals local.ty
+IsInRange (form.Input input) = AreDecimals input.ty × HasDecimals input.start
+IsInRange (form.Output output) = AreDecimals output.ty × IsTrue (is_ranged output.value)
+IsInRange (form.Max value) = IsTrue (is_ranged value)
+IsInRange (form.Assign target value) = IsTrue (is_ranged value)
+IsInRange (form.If cond) = IsTrue (is_ranged cond)
+IsInRange (form.Repeat count) = (1 ≤ count) × (count ≤ 1000)
+IsInRange (form.Accept value) = IsTrue (is_ranged value)
+IsInRange (form.Setting setting) = HasDecimals setting.value
+IsInRange (form.Stop seconds) = HasDecimals seconds
+IsInRange (form.Longest seconds) = HasDecimals seconds
+IsInRange (form.Zero count) = count ≤ 10000
+IsInRange (form.Rows count) = (1 ≤ count) × (count ≤ 100000)
+IsInRange _ = ⊤
+
+-- The system is in range: its names are words, and its lines are in range.
+pub record IsRanged (system : System) : Type 0 where
+  pub names : AllByRecursion (λ line. AllByRecursion IsWord (names_on line)) (canonical_forms system)
+  pub numbers : AllByRecursion IsInRange (canonical_forms system)
+
+-- ---- Printable
+
+-- A name is a word that is not reserved.
+abbrev pub IsName : List ℕ → Type 0
+IsName text = IsWord text × (IsReserved text → ⊥)
+
+-- One node, with whether each part has no negative number in its place.
+abbrev pub node_is_unsigned : Expr-F Bool → Bool
+node_is_unsigned (Expr-F.Number number decimals) = not (is_negative number) && is_word_of Int64 number
+node_is_unsigned (Expr-F.Unary op arg) = arg
+node_is_unsigned (Expr-F.Binary op left right) = left && right
+node_is_unsigned (Expr-F.Clamp value low high) = value && (low && high)
+node_is_unsigned (Expr-F.Choose cond then_part else_part) = cond && (then_part && else_part)
+node_is_unsigned _ = true
+
+-- The numbers of an expression are words from 0 up.
+abbrev pub is_unsigned : Expr → Bool
+is_unsigned = fold-Expr Bool node_is_unsigned
+
+-- The numbers of an expression are words from 0 up, and its canonical text is nested at most 64 levels deep.
+abbrev pub is_writable : Option Expr → Bool
+is_writable None = true
+is_writable (Some value) = is_unsigned value && nat_le (nesting (canonical_phrase value)) 64
+
+-- A literal's number is a word; the numbers of seconds are words from 0 up.
+abbrev pub is_word_literal : Literal → Bool
+is_word_literal (literal.Truth told) = true
+is_word_literal (literal.Number number decimals) = is_word_of Int64 number
+
+abbrev pub is_seconds : Literal → Bool
+is_seconds (literal.Truth told) = false
+is_seconds (literal.Number number decimals) = not (is_negative number) && is_word_of Int64 number
+
+abbrev pub has_word_literal : LineForm → Bool
+has_word_literal (form.Param param) = is_word_literal param.start
+has_word_literal (form.State state) = is_word_literal state.start
+has_word_literal (form.Input input) = is_word_literal input.start
+has_word_literal (form.Setting setting) = is_word_literal setting.value
+has_word_literal (form.Stop seconds) = is_seconds seconds
+has_word_literal (form.Longest seconds) = is_seconds seconds
+has_word_literal _ = true
+
+-- How deep blocks of `if` and `repeat` stand in each other: of lines that are so deep, and of one line with the
+-- depth of each line of its block in its place.
+abbrev pub deepest : List ℕ → ℕ
+deepest depths = fold max 0 depths
+
+abbrev pub else_depth : Option (List ℕ) → ℕ
+else_depth None = 0
+else_depth (Some depths) = deepest depths
+
+abbrev pub block_depth : Line-F ℕ → ℕ
+block_depth (Line-F.If cond then_lines else_lines) = suc (max (deepest then_lines) (else_depth else_lines))
+block_depth (Line-F.Repeat count body) = suc (deepest body)
+block_depth _ = 0
+
+abbrev pub line_depth : Line → ℕ
+line_depth = fold-Line ℕ block_depth
+
+abbrev pub step_depth : Option (List Line) → ℕ
+step_depth None = 0
+step_depth (Some lines) = deepest (map line_depth lines)
+
+-- The system has a canonical text: it is in range, its names are not reserved, its numbers are words with the
+-- signs that the language allows, and its nesting, its blocks, its lines and its text keep their limits.
+pub record IsPrintable (system : System) : Type 0 where
+  pub ranged : IsRanged system
+  pub names : AllByRecursion (λ line. AllByRecursion IsName (names_on line)) (canonical_forms system)
+  pub literals : IsTrue (list_all has_word_literal (canonical_forms system))
+  pub expressions : IsTrue (list_all (λ line. is_writable (expression_on line)) (canonical_forms system))
+  pub blocks : IsTrue (list_all (λ unit. nat_le (step_depth unit.step) 16) system.units)
+  pub lines : IsTrue (list_all (λ line. nat_le (length (line_text line)) line_limit) (canonical_forms system))
+  pub text : length (canonical_text system) ≤ text_limit

@@ -1,0 +1,385 @@
+-- Well-formed systems. For each rule stands the test of a canonical line that breaks it; the rules are judged
+-- in the order of their numbers, each over the whole system and only where all earlier ones hold.
+use Rattle.std.specs.Prelude.{◌≡◌, ℕ, ◌*◌, ◌/◌, ◌%◌, ◌^◌, max, Bool, true, false, not, ◌&&◌, ◌||◌, ◌==◌, nat_le, nat_lt, if◌then◌else◌, unsigned_abs, ℤ, List, [], ◌∷◌, ◌++◌, map, length, Option, Some, None, is_none, Result, Ok, Err}
+use Rattle.std.specs.Int.{is_negative}
+use Rattle.std.specs.List.{AllByRecursion, list_any, list_all, count_by, enumerate_from, filter_map, fold}
+use Rattle.std.specs.Option.{option_map, option_and_then}
+use Rattle.std.specs.Ordering.{int_eq}
+use Rattle.std.specs.Str.{bytes_eq}
+use Rattle.fixed_words.specs.Literals.{word_of_literal}
+use Rattle.fixed_words.specs.Types.{kind_of, lowest, highest}
+use Rattle.fixed_words.specs.declared.types.Kind.{Kind}
+use Rattle.fixed_words.specs.declared.types.Kind.TheVariants as kinds
+use Rattle.fixed_words.specs.declared.types.Literal.{Literal}
+use Rattle.fixed_words.specs.declared.types.Literal.TheVariants as literal
+use Rattle.fixed_words.specs.declared.types.LiteralFault.{LiteralFault}
+use Rattle.fixed_words.specs.declared.types.LiteralFault.TheVariants.{Form, Range}
+use Rattle.fixed_words.specs.declared.types.Ty.{Ty}
+use Rattle.unit_tree.specs.Blocks.{is_unit_line}
+use Rattle.unit_tree.specs.Costs.{expression_call_cost, step_call_cost}
+use Rattle.unit_tree.specs.Kinds.{same_kind, kind_of_expression}
+use Rattle.unit_tree.specs.Names.{names_in, depth_of, expression_on, is_among, are_among, param_names, input_names, output_names, output_uses, max_uses, step_uses, type_in, kinds_in, unit_of_instance, param_named, output_at, input_at, same_port}
+use Rattle.unit_tree.specs.Parts.{first_of}
+use Rattle.unit_tree.specs.Sites.{Site, Scope, Top, InUnit, InStep, InInstance, sites_of}
+use Rattle.unit_tree.specs.Trace.{unit_named}
+use Rattle.unit_tree.specs.declared.expr.Expr.{Expr}
+use Rattle.unit_tree.specs.declared.line.Line.{Line}
+use Rattle.unit_tree.specs.declared.line_form.LineForm.{LineForm}
+use Rattle.unit_tree.specs.declared.line_form.LineForm.TheVariants as form
+use Rattle.unit_tree.specs.declared.system.Instance.{Instance}
+use Rattle.unit_tree.specs.declared.system.PortName.{PortName}
+use Rattle.unit_tree.specs.declared.system.System.{System}
+use Rattle.unit_tree.specs.declared.unit.Output.{Output}
+use Rattle.unit_tree.specs.declared.unit.Unit.{Unit}
+
+-- ---- Lines that say a thing again
+
+abbrev pub is_said : {A : Type 0} → (A → A → Bool) → List A → Option A → Bool
+is_said same before None = false
+is_said same before (Some thing) = list_any (same thing) before
+
+-- An earlier line says the same, by what is asked of a line and when two of it are the same.
+abbrev pub says_again : {A : Type 0} → (A → A → Bool) → (LineForm → Option A) → Site → Bool
+says_again same asked site = is_said same (filter_map asked site.earlier) (asked site.line)
+
+abbrev pub unit_declared : LineForm → Option (List ℕ)
+unit_declared (form.Unit name) = Some name
+unit_declared _ = None
+
+abbrev pub instance_declared : LineForm → Option (List ℕ)
+instance_declared (form.Instance name unit) = Some name
+instance_declared _ = None
+
+abbrev pub name_declared : LineForm → Option (List ℕ)
+name_declared (form.Param param) = Some param.name
+name_declared (form.State state) = Some state.name
+name_declared (form.Local local) = Some local.name
+name_declared (form.Input input) = Some input.name
+name_declared (form.Output output) = Some output.name
+name_declared _ = None
+
+abbrev pub input_connected : LineForm → Option PortName
+input_connected (form.Connect wire) = Some wire.to
+input_connected _ = None
+
+abbrev pub param_set : LineForm → Option (List ℕ)
+param_set (form.Setting setting) = Some setting.name
+param_set _ = None
+
+abbrev pub port_sampled : LineForm → Option PortName
+port_sampled (form.Sample port) = Some port
+port_sampled _ = None
+
+-- ---- Rule 8: two units, two instances, or two names declared in one unit are equal, at the second
+
+abbrev pub redeclares : System → Site → Bool
+redeclares system site =
+    says_again bytes_eq unit_declared site || (says_again bytes_eq instance_declared site || says_again bytes_eq name_declared site)
+
+-- ---- Rule 9: a name is not declared, or is none that may be used there
+
+abbrev pub uses_other : List (List ℕ) → Expr → Bool
+uses_other names value = not (are_among names (names_in value))
+
+abbrev pub is_param_of : Option Unit → List ℕ → Bool
+is_param_of None name = false
+is_param_of (Some unit) name = is_among (param_names unit) name
+
+abbrev pub misnames : System → Scope → LineForm → Bool
+misnames system (InUnit unit) (form.Output output) =
+    uses_other (output_uses unit) output.value || not (are_among (input_names unit) output.needs)
+misnames system (InUnit unit) (form.Max value) = uses_other (max_uses unit) value
+misnames system (InStep unit) (form.Assign target value) = is_none (type_in unit target) || uses_other (step_uses unit) value
+misnames system (InStep unit) (form.If cond) = uses_other (step_uses unit) cond
+misnames system (InStep unit) (form.Accept value) = uses_other (step_uses unit) value
+misnames system (InInstance instance) (form.Setting setting) = not (is_param_of (unit_of_instance system instance) setting.name)
+misnames system Top (form.Instance name unit) = is_none (unit_named system.units unit)
+misnames system Top (form.Connect wire) = is_none (output_at system wire.from) || is_none (input_at system wire.to)
+misnames system Top (form.Sample port) = is_none (output_at system port)
+misnames system _ _ = false
+
+-- ---- Rule 10: a kind is wrong, or a literal has the wrong form for its type
+
+abbrev pub has_kind : Option Kind → Option Kind → Bool
+has_kind (Some asked) (Some kind) = same_kind asked kind
+has_kind _ _ = false
+
+-- The expression does not have the kind that is asked for, or an operand in it has a wrong one.
+abbrev pub is_not_of : Option Kind → Unit → Expr → Bool
+is_not_of asked unit value = not (has_kind asked (kind_of_expression value (kinds_in unit)))
+
+abbrev pub is_misformed : Result ℤ LiteralFault → Bool
+is_misformed (Err Form) = true
+is_misformed _ = false
+
+-- A literal for a parameter that an instance sets.
+abbrev pub setting_word : System → Instance → List ℕ → Literal → Option (Result ℤ LiteralFault)
+setting_word system instance name value =
+    option_map (λ param. word_of_literal param.ty value) (option_and_then (param_named name) (unit_of_instance system instance))
+
+-- The word of the literal on a line, or why it has none.
+abbrev pub literal_on : System → Scope → LineForm → Option (Result ℤ LiteralFault)
+literal_on system scope (form.Param param) = Some (word_of_literal param.ty param.start)
+literal_on system scope (form.State state) = Some (word_of_literal state.ty state.start)
+literal_on system scope (form.Input input) = Some (word_of_literal input.ty input.start)
+literal_on system (InInstance instance) (form.Setting setting) = setting_word system instance setting.name setting.value
+literal_on system scope _ = None
+
+abbrev pub on_literal : (Result ℤ LiteralFault → Bool) → Option (Result ℤ LiteralFault) → Bool
+on_literal test None = false
+on_literal test (Some read) = test read
+
+abbrev pub mistakes_kind : Scope → LineForm → Bool
+mistakes_kind (InUnit unit) (form.Output output) = is_not_of (Some (kind_of output.ty)) unit output.value
+mistakes_kind (InUnit unit) (form.Max value) = is_not_of (Some kinds.Int) unit value
+mistakes_kind (InStep unit) (form.Assign target value) = is_not_of (option_map kind_of (type_in unit target)) unit value
+mistakes_kind (InStep unit) (form.If cond) = is_not_of (Some kinds.Bool) unit cond
+mistakes_kind (InStep unit) (form.Accept value) = is_not_of (Some kinds.Int) unit value
+mistakes_kind _ _ = false
+
+abbrev pub is_of_wrong_kind : System → Site → Bool
+is_of_wrong_kind system site =
+    mistakes_kind site.scope site.line || on_literal is_misformed (literal_on system site.scope site.line)
+
+-- ---- Rule 11: a literal is out of its type's range
+
+abbrev pub is_beyond : Result ℤ LiteralFault → Bool
+is_beyond (Err Range) = true
+is_beyond _ = false
+
+abbrev pub is_out_of_range : System → Site → Bool
+is_out_of_range system site = on_literal is_beyond (literal_on system site.scope site.line)
+
+-- ---- Rule 12: an output uses an input that is not in its needs
+
+abbrev pub hides_need : Scope → LineForm → Bool
+hides_need (InUnit unit) (form.Output output) =
+    list_any (λ name. is_among (input_names unit) name && not (is_among output.needs name)) (names_in output.value)
+hides_need _ _ = false
+
+-- ---- Rule 13: an input is connected twice, at the second
+
+abbrev pub connects_again : System → Site → Bool
+connects_again system site = says_again same_port input_connected site
+
+-- ---- Rule 14: the types of a connection's ends are not equal
+
+-- Types are equal where their kinds and their ranges are.
+abbrev pub same_type : Ty → Ty → Bool
+same_type one other =
+    same_kind (kind_of one) (kind_of other) && (int_eq (lowest one) (lowest other) && int_eq (highest one) (highest other))
+
+abbrev pub differ : Option Ty → Option Ty → Bool
+differ (Some one) (Some other) = not (same_type one other)
+differ _ _ = false
+
+abbrev pub joins_other_types : System → LineForm → Bool
+joins_other_types system (form.Connect wire) =
+    differ (option_map (λ output. output.ty) (output_at system wire.from)) (option_map (λ input. input.ty) (input_at system wire.to))
+joins_other_types system _ = false
+
+-- ---- Rule 16: there are too many of a kind, at the first too many
+
+abbrev pub is_instance_line : LineForm → Bool
+is_instance_line (form.Instance name unit) = true
+is_instance_line _ = false
+
+abbrev pub is_param : LineForm → Bool
+is_param (form.Param param) = true
+is_param _ = false
+
+abbrev pub is_state : LineForm → Bool
+is_state (form.State state) = true
+is_state _ = false
+
+abbrev pub is_local : LineForm → Bool
+is_local (form.Local local) = true
+is_local _ = false
+
+abbrev pub is_input : LineForm → Bool
+is_input (form.Input input) = true
+is_input _ = false
+
+abbrev pub is_output : LineForm → Bool
+is_output (form.Output output) = true
+is_output _ = false
+
+abbrev pub is_connection : LineForm → Bool
+is_connection (form.Connect wire) = true
+is_connection _ = false
+
+abbrev pub is_sample : LineForm → Bool
+is_sample (form.Sample port) = true
+is_sample _ = false
+
+-- As many as the limit came before.
+abbrev pub is_full : ℕ → (LineForm → Bool) → List LineForm → Bool
+is_full limit test earlier = nat_le limit (count_by test earlier)
+
+abbrev pub exceeds : Scope → List LineForm → LineForm → Bool
+exceeds (InStep unit) earlier line = nat_le 500 (length earlier)
+exceeds scope earlier (form.Unit name) = is_full 64 is_unit_line earlier
+exceeds scope earlier (form.Instance name unit) = is_full 64 is_instance_line earlier
+exceeds scope earlier (form.Param param) = is_full 32 is_param earlier
+exceeds scope earlier (form.State state) = is_full 64 is_state earlier
+exceeds scope earlier (form.Local local) = is_full 64 is_local earlier
+exceeds scope earlier (form.Input input) = is_full 32 is_input earlier
+exceeds scope earlier (form.Output output) = is_full 32 is_output earlier
+exceeds scope earlier (form.Connect wire) = is_full 2048 is_connection earlier
+exceeds scope earlier (form.Sample port) = is_full 2048 is_sample earlier
+exceeds scope earlier _ = false
+
+-- ---- Rule 17: an expression is deeper than 32
+
+abbrev pub is_deep : Option Expr → Bool
+is_deep None = false
+is_deep (Some value) = nat_lt 32 (depth_of value)
+
+-- ---- Rule 18: the cost of a call is above 100,000
+
+abbrev pub step_cost : Option (List Line) → ℕ
+step_cost None = 0
+step_cost (Some lines) = step_call_cost lines
+
+abbrev pub costs_too_much : Scope → LineForm → Bool
+costs_too_much (InUnit unit) (form.Output output) = nat_lt 100000 (expression_call_cost output.value)
+costs_too_much (InUnit unit) (form.Max value) = nat_lt 100000 (expression_call_cost value)
+costs_too_much (InUnit unit) form.Step = nat_lt 100000 (step_cost unit.step)
+costs_too_much _ _ = false
+
+-- ---- Rule 19: there is no `stop`, at the header
+
+abbrev pub lacks_stop : System → LineForm → Bool
+lacks_stop system form.Header = is_none system.stop
+lacks_stop system _ = false
+
+-- ---- Rule 20: `stop` or `longest` is no whole number of ticks, or above 10^15 ticks, or `longest` is 0
+
+abbrev pub or_default : Option ℕ → ℕ
+or_default None = 0
+or_default (Some given) = given
+
+abbrev pub unit_resolution : Option Unit → ℕ
+unit_resolution None = 0
+unit_resolution (Some unit) = or_default unit.resolution
+
+-- The resolution of a system: the greatest of its instances' units; 0 where there is no instance. A tick is ten
+-- to the power of minus this many seconds.
+abbrev pub resolution_of : System → ℕ
+resolution_of system = fold max 0 (map (λ instance. unit_resolution (unit_of_instance system instance)) system.instances)
+
+-- A number of seconds in ticks, where it is a whole number of them.
+abbrev pub ticks_in : ℕ → Literal → Option ℕ
+ticks_in resolution (literal.Truth told) = None
+ticks_in resolution (literal.Number number decimals) =
+    if not (is_negative number) && ((unsigned_abs number * 10 ^ resolution) % 10 ^ decimals == 0) then Some (unsigned_abs number * 10 ^ resolution / 10 ^ decimals) else None
+
+-- A number of ticks that a run may have, from the least one.
+abbrev pub is_length : ℕ → Option ℕ → Bool
+is_length least None = false
+is_length least (Some ticks) = nat_le least ticks && nat_le ticks (10 ^ 15)
+
+abbrev pub mistimes : System → LineForm → Bool
+mistimes system (form.Stop seconds) = not (is_length 0 (ticks_in (resolution_of system) seconds))
+mistimes system (form.Longest seconds) = not (is_length 1 (ticks_in (resolution_of system) seconds))
+mistimes system _ = false
+
+-- ---- Rule 21: rows times instances are above 1,000,000
+
+abbrev pub has_too_many_rows : System → LineForm → Bool
+has_too_many_rows system (form.Rows count) = nat_lt 1000000 (count * length system.instances)
+has_too_many_rows system _ = false
+
+-- ---- Rule 22: a parameter, input or output is assigned
+
+abbrev pub assigns_constant : Scope → LineForm → Bool
+assigns_constant (InStep unit) (form.Assign target value) =
+    is_among (param_names unit ++ input_names unit ++ output_names unit) target
+assigns_constant _ _ = false
+
+-- ---- Rule 23: there is no instance, at the header
+
+abbrev pub is_empty : {A : Type 0} → List A → Bool
+is_empty [] = true
+is_empty _ = false
+
+abbrev pub lacks_instance : System → LineForm → Bool
+lacks_instance system form.Header = is_empty system.instances
+lacks_instance system _ = false
+
+-- ---- Rule 24: a parameter is set twice, a port sampled twice, at the second, or a need named twice
+
+abbrev pub has_equals : List (List ℕ) → Bool
+has_equals [] = false
+has_equals (name ∷ names) = is_among names name || has_equals names
+
+abbrev pub repeats_need : LineForm → Bool
+repeats_need (form.Output output) = has_equals output.needs
+repeats_need _ = false
+
+abbrev pub says_twice : System → Site → Bool
+says_twice system site =
+    says_again bytes_eq param_set site || (says_again same_port port_sampled site || repeats_need site.line)
+
+-- ---- The rules
+
+-- A rule, with the test of a line that breaks it.
+pub record Rule : Type 0 where
+  pub number : ℕ
+  pub breaks : System → Site → Bool
+
+abbrev pub rule : ℕ → (System → Site → Bool) → Rule
+rule number breaks = record { number = number; breaks = breaks }
+
+abbrev pub rules : List Rule
+rules =
+    rule 8 redeclares
+    ∷ rule 9 (λ system site. misnames system site.scope site.line)
+    ∷ rule 10 is_of_wrong_kind
+    ∷ rule 11 is_out_of_range
+    ∷ rule 12 (λ system site. hides_need site.scope site.line)
+    ∷ rule 13 connects_again
+    ∷ rule 14 (λ system site. joins_other_types system site.line)
+    ∷ rule 16 (λ system site. exceeds site.scope site.earlier site.line)
+    ∷ rule 17 (λ system site. is_deep (expression_on site.line))
+    ∷ rule 18 (λ system site. costs_too_much site.scope site.line)
+    ∷ rule 19 (λ system site. lacks_stop system site.line)
+    ∷ rule 20 (λ system site. mistimes system site.line)
+    ∷ rule 21 (λ system site. has_too_many_rows system site.line)
+    ∷ rule 22 (λ system site. assigns_constant site.scope site.line)
+    ∷ rule 23 (λ system site. lacks_instance system site.line)
+    ∷ rule 24 says_twice
+    ∷ []
+
+-- The number of a line, from 1, where it breaks the rule.
+abbrev pub number_where : (Site → Bool) → ℕ × Site → Option ℕ
+number_where breaks (number, site) = if breaks site then Some number else None
+
+-- The canonical lines that break a rule, in their order.
+abbrev pub lines_breaking : Rule → System → List ℕ
+lines_breaking broken system = filter_map (number_where (broken.breaks system)) (enumerate_from 1 (sites_of system))
+
+-- The system breaks none of these rules.
+abbrev pub BreaksNone : List Rule → System → Type 0
+BreaksNone judged system = AllByRecursion (λ kept. lines_breaking kept system ≡ []) judged
+
+-- Why a system is refused: the rule, and the canonical line.
+pub record Refusal : Type 0 where
+  pub by : ℕ
+  pub at : ℕ
+
+abbrev pub or_later : Rule → Option Refusal → Option ℕ → Option Refusal
+or_later judged later None = later
+or_later judged later (Some line) = Some (record { by = judged.number; at = line })
+
+-- The least rule that a line breaks, and the first line that breaks it.
+abbrev pub refusal_by : List Rule → System → Option Refusal
+refusal_by [] system = None
+refusal_by (judged ∷ later) system = or_later judged (refusal_by later system) (first_of (lines_breaking judged system))
+
+-- A system is well-formed where no line breaks a rule.
+abbrev pub IsWellFormed : System → Type 0
+IsWellFormed system = BreaksNone rules system
+
+abbrev pub refusal_of : System → Option Refusal
+refusal_of system = refusal_by rules system
