@@ -1,5 +1,9 @@
 pub mod CounterLemmas
 pub mod EffectLemmas
+pub mod JudgementLaws
 pub mod MeaningLemmas
+pub mod PartLaws
+pub mod PhraseLaws
+pub mod SiteLaws
 pub mod TraceLaws
 pub mod ValueLemmas

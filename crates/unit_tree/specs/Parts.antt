@@ -1,7 +1,7 @@
 -- Nesting: the parts of a text, the lines of each, and the system that they say. A system forgets in which
 -- order parts of different kinds stand; each of its lists keeps its own order.
 use Rattle.std.specs.Prelude.{ℕ, List, [], ◌∷◌, ◌++◌, map, Option, Some, None}
-use Rattle.std.specs.List.{filter_map, flat_map}
+use Rattle.std.specs.List.{flat_map}
 use Rattle.fixed_words.specs.declared.types.Literal.{Literal}
 use Rattle.unit_tree.specs.declared.expr.Expr.{Expr}
 use Rattle.unit_tree.specs.declared.line.Line.{Line, fold-Line}
@@ -62,55 +62,35 @@ unit_part_forms (HasOutput output) = form.Output output ∷ []
 unit_part_forms (Max value) = form.Max value ∷ []
 unit_part_forms (Step lines) = form.Step ∷ flat_map line_forms lines ++ (form.End ∷ [])
 
-abbrev pub resolution_in : UnitPart → Option ℕ
-resolution_in (Resolution decimals) = Some decimals
-resolution_in _ = None
+-- A unit of which nothing is said but its name.
+abbrev pub bare_unit : List ℕ → Unit
+bare_unit name = record {
+  name = name;
+  resolution = None;
+  params = [];
+  states = [];
+  locals = [];
+  inputs = [];
+  outputs = [];
+  max = None;
+  step = None;
+}
 
-abbrev pub param_in : UnitPart → Option Param
-param_in (HasParam param) = Some param
-param_in _ = None
-
-abbrev pub state_in : UnitPart → Option State
-state_in (HasState state) = Some state
-state_in _ = None
-
-abbrev pub local_in : UnitPart → Option Local
-local_in (HasLocal local) = Some local
-local_in _ = None
-
-abbrev pub input_in : UnitPart → Option Input
-input_in (HasInput input) = Some input
-input_in _ = None
-
-abbrev pub output_in : UnitPart → Option Output
-output_in (HasOutput output) = Some output
-output_in _ = None
-
-abbrev pub max_in : UnitPart → Option Expr
-max_in (Max value) = Some value
-max_in _ = None
-
-abbrev pub step_in : UnitPart → Option (List Line)
-step_in (Step lines) = Some lines
-step_in _ = None
-
-abbrev pub first_of : {A : Type 0} → List A → Option A
-first_of [] = None
-first_of (first ∷ others) = Some first
+-- What a part says, in front of what the later ones say.
+abbrev pub with_unit_part : UnitPart → Unit → Unit
+with_unit_part (Resolution decimals) unit = record unit { resolution = Some decimals }
+with_unit_part (HasParam param) unit = record unit { params = param ∷ unit.params }
+with_unit_part (HasState state) unit = record unit { states = state ∷ unit.states }
+with_unit_part (HasLocal local) unit = record unit { locals = local ∷ unit.locals }
+with_unit_part (HasInput input) unit = record unit { inputs = input ∷ unit.inputs }
+with_unit_part (HasOutput output) unit = record unit { outputs = output ∷ unit.outputs }
+with_unit_part (Max value) unit = record unit { max = Some value }
+with_unit_part (Step lines) unit = record unit { step = Some lines }
 
 -- The unit that its parts say.
 abbrev pub unit_of : List ℕ → List UnitPart → Unit
-unit_of name parts = record {
-  name = name;
-  resolution = first_of (filter_map resolution_in parts);
-  params = filter_map param_in parts;
-  states = filter_map state_in parts;
-  locals = filter_map local_in parts;
-  inputs = filter_map input_in parts;
-  outputs = filter_map output_in parts;
-  max = first_of (filter_map max_in parts);
-  step = first_of (filter_map step_in parts);
-}
+unit_of name [] = bare_unit name
+unit_of name (part ∷ parts) = with_unit_part part (unit_of name parts)
 
 -- ---- Parts of a text
 
@@ -136,50 +116,34 @@ part_forms (Zero count) = form.Zero count ∷ []
 part_forms (Rows count) = form.Rows count ∷ []
 part_forms (Samples port) = form.Sample port ∷ []
 
-abbrev pub unit_in : Part → Option Unit
-unit_in (HasUnit name parts) = Some (unit_of name parts)
-unit_in _ = None
+-- A system of which nothing is said.
+abbrev pub bare_system : System
+bare_system = record {
+  units = [];
+  instances = [];
+  wires = [];
+  stop = None;
+  longest = None;
+  zero = None;
+  rows = None;
+  samples = [];
+}
 
-abbrev pub instance_in : Part → Option Instance
-instance_in (HasInstance instance) = Some instance
-instance_in _ = None
-
-abbrev pub wire_in : Part → Option Wire
-wire_in (Connects wire) = Some wire
-wire_in _ = None
-
-abbrev pub stop_in : Part → Option Literal
-stop_in (Stop seconds) = Some seconds
-stop_in _ = None
-
-abbrev pub longest_in : Part → Option Literal
-longest_in (Longest seconds) = Some seconds
-longest_in _ = None
-
-abbrev pub zero_in : Part → Option ℕ
-zero_in (Zero count) = Some count
-zero_in _ = None
-
-abbrev pub rows_in : Part → Option ℕ
-rows_in (Rows count) = Some count
-rows_in _ = None
-
-abbrev pub sample_in : Part → Option PortName
-sample_in (Samples port) = Some port
-sample_in _ = None
+-- What a part says, in front of what the later ones say.
+abbrev pub with_part : Part → System → System
+with_part (HasUnit name parts) system = record system { units = unit_of name parts ∷ system.units }
+with_part (HasInstance instance) system = record system { instances = instance ∷ system.instances }
+with_part (Connects wire) system = record system { wires = wire ∷ system.wires }
+with_part (Stop seconds) system = record system { stop = Some seconds }
+with_part (Longest seconds) system = record system { longest = Some seconds }
+with_part (Zero count) system = record system { zero = Some count }
+with_part (Rows count) system = record system { rows = Some count }
+with_part (Samples port) system = record system { samples = port ∷ system.samples }
 
 -- The system that its parts say.
 abbrev pub system_of : List Part → System
-system_of parts = record {
-  units = filter_map unit_in parts;
-  instances = filter_map instance_in parts;
-  wires = filter_map wire_in parts;
-  stop = first_of (filter_map stop_in parts);
-  longest = first_of (filter_map longest_in parts);
-  zero = first_of (filter_map zero_in parts);
-  rows = first_of (filter_map rows_in parts);
-  samples = filter_map sample_in parts;
-}
+system_of [] = bare_system
+system_of (part ∷ parts) = with_part part (system_of parts)
 
 -- The lines of a text: the header, and those of its parts.
 abbrev pub text_forms : List Part → List LineForm

@@ -19,7 +19,6 @@ use Rattle.unit_tree.specs.Blocks.{is_unit_line}
 use Rattle.unit_tree.specs.Costs.{expression_call_cost, step_call_cost}
 use Rattle.unit_tree.specs.Kinds.{same_kind, kind_of_expression}
 use Rattle.unit_tree.specs.Names.{names_in, depth_of, expression_on, is_among, are_among, param_names, input_names, output_names, output_uses, max_uses, step_uses, type_in, kinds_in, unit_of_instance, param_named, output_at, input_at, same_port}
-use Rattle.unit_tree.specs.Parts.{first_of}
 use Rattle.unit_tree.specs.Sites.{Site, Scope, Top, InUnit, InStep, InInstance, sites_of}
 use Rattle.unit_tree.specs.Trace.{unit_named}
 use Rattle.unit_tree.specs.declared.expr.Expr.{Expr}
@@ -368,14 +367,14 @@ pub record Refusal : Type 0 where
   pub by : ℕ
   pub at : ℕ
 
-abbrev pub or_later : Rule → Option Refusal → Option ℕ → Option Refusal
-or_later judged later None = later
-or_later judged later (Some line) = Some (record { by = judged.number; at = line })
+abbrev pub or_later : Rule → Option Refusal → List ℕ → Option Refusal
+or_later judged later [] = later
+or_later judged later (line ∷ lines) = Some (record { by = judged.number; at = line })
 
 -- The least rule that a line breaks, and the first line that breaks it.
 abbrev pub refusal_by : List Rule → System → Option Refusal
 refusal_by [] system = None
-refusal_by (judged ∷ later) system = or_later judged (refusal_by later system) (first_of (lines_breaking judged system))
+refusal_by (judged ∷ later) system = or_later judged (refusal_by later system) (lines_breaking judged system)
 
 -- A system is well-formed where no line breaks a rule.
 abbrev pub IsWellFormed : System → Type 0

@@ -1,5 +1,6 @@
 ghost use Rattle.unit_tree.specs.Laws.{HasOneTrace};
 ghost use Rattle.unit_tree.specs.Counter.{CounterIsWorked};
+ghost use Rattle.unit_tree.specs.Language.{IsJudgedOnce, SitesAreCanonicalLines, CanonicalPartsSayTheSystem, CanonicalPhrasesAreRight};
 
 /// A law: a composition has at most one trace.
 pub fn at_most_one_trace()
@@ -9,4 +10,24 @@ pub fn at_most_one_trace()
 /// The trace of a counter, worked out by hand, is the one that the definitions give.
 pub fn counter_is_worked()
     ensures { CounterIsWorked }
+{}
+
+/// A law: each system is well-formed, or refused by one rule at one canonical line.
+pub fn each_system_is_judged_once()
+    ensures { IsJudgedOnce }
+{}
+
+/// A law: the rules of a system speak of its canonical lines, one for one.
+pub fn sites_are_canonical_lines()
+    ensures { SitesAreCanonicalLines }
+{}
+
+/// A law: the canonical parts of a system say this system.
+pub fn canonical_parts_say_the_system()
+    ensures { CanonicalPartsSayTheSystem }
+{}
+
+/// A law: the canonical phrase of an expression is one of it, and the grammar allows it.
+pub fn canonical_phrases_are_right()
+    ensures { CanonicalPhrasesAreRight }
 {}

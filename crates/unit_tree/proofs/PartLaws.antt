@@ -1,0 +1,122 @@
+-- The canonical parts of a system say this system.
+use Rattle.std.proofs.Common.{◌≡◌, ℕ, List, [], ◌∷◌, ◌++◌, append_assoc, map, Option, Some, None, refl, ap, sym, ◌∙◌}
+use Rattle.std.proofs.lemmas.List.{append-nil}
+use Rattle.fixed_words.specs.declared.types.Literal.{Literal}
+use Rattle.unit_tree.specs.Canonical.{optional, unit_parts, canonical_parts}
+use Rattle.unit_tree.specs.Parts as parts
+use Rattle.unit_tree.specs.Parts.{Part, UnitPart, bare_unit, with_unit_part, unit_of, bare_system, with_part, system_of}
+use Rattle.unit_tree.specs.declared.expr.Expr.{Expr}
+use Rattle.unit_tree.specs.declared.line.Line.{Line}
+use Rattle.unit_tree.specs.declared.system.Instance.{Instance}
+use Rattle.unit_tree.specs.declared.system.PortName.{PortName}
+use Rattle.unit_tree.specs.declared.system.System.{System}
+use Rattle.unit_tree.specs.declared.system.Wire.{Wire}
+use Rattle.unit_tree.specs.declared.unit.Input.{Input}
+use Rattle.unit_tree.specs.declared.unit.Local.{Local}
+use Rattle.unit_tree.specs.declared.unit.Output.{Output}
+use Rattle.unit_tree.specs.declared.unit.Param.{Param}
+use Rattle.unit_tree.specs.declared.unit.State.{State}
+use Rattle.unit_tree.specs.declared.unit.Unit.{Unit}
+
+-- ---- Parts in front of others, of which it is known what they say
+
+-- What parts of one kind say, where each puts its own in front.
+listed : {A P S : Type 0} (of : List P → S) (part : A → P) (put : List A → S → S) → ((s : S) → put [] s ≡ s) → ((x : A) (others : List P) → of (part x ∷ others) ≡ put (x ∷ []) (of others)) → ((x : A) (xs : List A) (s : S) → put (x ∷ []) (put xs s) ≡ put (x ∷ xs) s) → (xs : List A) (rest : List P) (s : S) → of rest ≡ s → of (map part xs ++ rest) ≡ put xs s
+listed of part put none one join [] rest s is = is ∙ sym (none s)
+listed of part put none one join (x ∷ xs) rest s is =
+    one x (map part xs ++ rest) ∙ ap (put (x ∷ [])) (listed of part put none one join xs rest s is) ∙ join x xs s
+
+abbrev or_kept : {A : Type 0} → Option A → Option A → Option A
+or_kept None kept = kept
+or_kept (Some x) kept = Some x
+
+or_none : {A : Type 0} (given : Option A) → or_kept given None ≡ given
+or_none None = refl
+or_none (Some x) = refl
+
+grouped : {A : Type 0} (a b c d e f g h : List A) → a ++ b ++ c ++ d ++ e ++ f ++ g ++ h ≡ a ++ (b ++ (c ++ (d ++ (e ++ (f ++ (g ++ h))))))
+grouped a b c d e f g h = simp append_assoc
+
+-- ---- A unit
+
+resolution_said : (name : List ℕ) (given : Option ℕ) (rest : List UnitPart) (unit : Unit) → unit_of name rest ≡ unit → unit_of name (optional parts.Resolution given ++ rest) ≡ record unit { resolution = or_kept given unit.resolution }
+resolution_said name None rest unit is = is
+resolution_said name (Some x) rest unit is = ap (with_unit_part (parts.Resolution x)) is
+
+params_said : (name : List ℕ) (xs : List Param) (rest : List UnitPart) (unit : Unit) → unit_of name rest ≡ unit → unit_of name (map parts.HasParam xs ++ rest) ≡ record unit { params = xs ++ unit.params }
+params_said name = listed (unit_of name) parts.HasParam (λ xs u. record u { params = xs ++ u.params }) (λ u. refl) (λ x others. refl) (λ x xs u. refl)
+
+states_said : (name : List ℕ) (xs : List State) (rest : List UnitPart) (unit : Unit) → unit_of name rest ≡ unit → unit_of name (map parts.HasState xs ++ rest) ≡ record unit { states = xs ++ unit.states }
+states_said name = listed (unit_of name) parts.HasState (λ xs u. record u { states = xs ++ u.states }) (λ u. refl) (λ x others. refl) (λ x xs u. refl)
+
+locals_said : (name : List ℕ) (xs : List Local) (rest : List UnitPart) (unit : Unit) → unit_of name rest ≡ unit → unit_of name (map parts.HasLocal xs ++ rest) ≡ record unit { locals = xs ++ unit.locals }
+locals_said name = listed (unit_of name) parts.HasLocal (λ xs u. record u { locals = xs ++ u.locals }) (λ u. refl) (λ x others. refl) (λ x xs u. refl)
+
+inputs_said : (name : List ℕ) (xs : List Input) (rest : List UnitPart) (unit : Unit) → unit_of name rest ≡ unit → unit_of name (map parts.HasInput xs ++ rest) ≡ record unit { inputs = xs ++ unit.inputs }
+inputs_said name = listed (unit_of name) parts.HasInput (λ xs u. record u { inputs = xs ++ u.inputs }) (λ u. refl) (λ x others. refl) (λ x xs u. refl)
+
+outputs_said : (name : List ℕ) (xs : List Output) (rest : List UnitPart) (unit : Unit) → unit_of name rest ≡ unit → unit_of name (map parts.HasOutput xs ++ rest) ≡ record unit { outputs = xs ++ unit.outputs }
+outputs_said name = listed (unit_of name) parts.HasOutput (λ xs u. record u { outputs = xs ++ u.outputs }) (λ u. refl) (λ x others. refl) (λ x xs u. refl)
+
+max_said : (name : List ℕ) (given : Option Expr) (rest : List UnitPart) (unit : Unit) → unit_of name rest ≡ unit → unit_of name (optional parts.Max given ++ rest) ≡ record unit { max = or_kept given unit.max }
+max_said name None rest unit is = is
+max_said name (Some x) rest unit is = ap (with_unit_part (parts.Max x)) is
+
+step_said : (name : List ℕ) (given : Option (List Line)) → unit_of name (optional parts.Step given) ≡ record (bare_unit name) { step = given }
+step_said name None = refl
+step_said name (Some lines) = refl
+
+pub unit_is : (unit : Unit) → unit_of unit.name (unit_parts unit) ≡ unit
+unit_is unit =
+    ap (unit_of unit.name) (grouped (optional parts.Resolution unit.resolution) (map parts.HasParam unit.params) (map parts.HasState unit.states) (map parts.HasLocal unit.locals) (map parts.HasInput unit.inputs) (map parts.HasOutput unit.outputs) (optional parts.Max unit.max) (optional parts.Step unit.step))
+    ∙ resolution_said unit.name unit.resolution _ _ (params_said unit.name unit.params _ _ (states_said unit.name unit.states _ _ (locals_said unit.name unit.locals _ _
+    (inputs_said unit.name unit.inputs _ _ (outputs_said unit.name unit.outputs _ _ (max_said unit.name unit.max _ _ (step_said unit.name unit.step)))))))
+    ∙ simp (append-nil, or_none) refl
+
+-- ---- A system
+
+abbrev canonical_unit : Unit → Part
+canonical_unit unit = parts.HasUnit unit.name (unit_parts unit)
+
+abbrev said_unit : Unit → Unit
+said_unit unit = unit_of unit.name (unit_parts unit)
+
+units_are : (units : List Unit) → map said_unit units ≡ units
+units_are [] = refl
+units_are (unit ∷ units) = rw (unit_is unit, units_are units) refl
+
+units_said : (units : List Unit) (rest : List Part) (system : System) → system_of rest ≡ system → system_of (map canonical_unit units ++ rest) ≡ record system { units = map said_unit units ++ system.units }
+units_said = listed system_of canonical_unit (λ units s. record s { units = map said_unit units ++ s.units }) (λ s. refl) (λ x others. refl) (λ x xs s. refl)
+
+instances_said : (xs : List Instance) (rest : List Part) (system : System) → system_of rest ≡ system → system_of (map parts.HasInstance xs ++ rest) ≡ record system { instances = xs ++ system.instances }
+instances_said = listed system_of parts.HasInstance (λ xs s. record s { instances = xs ++ s.instances }) (λ s. refl) (λ x others. refl) (λ x xs s. refl)
+
+wires_said : (xs : List Wire) (rest : List Part) (system : System) → system_of rest ≡ system → system_of (map parts.Connects xs ++ rest) ≡ record system { wires = xs ++ system.wires }
+wires_said = listed system_of parts.Connects (λ xs s. record s { wires = xs ++ s.wires }) (λ s. refl) (λ x others. refl) (λ x xs s. refl)
+
+stop_said : (given : Option Literal) (rest : List Part) (system : System) → system_of rest ≡ system → system_of (optional parts.Stop given ++ rest) ≡ record system { stop = or_kept given system.stop }
+stop_said None rest system is = is
+stop_said (Some x) rest system is = ap (with_part (parts.Stop x)) is
+
+longest_said : (given : Option Literal) (rest : List Part) (system : System) → system_of rest ≡ system → system_of (optional parts.Longest given ++ rest) ≡ record system { longest = or_kept given system.longest }
+longest_said None rest system is = is
+longest_said (Some x) rest system is = ap (with_part (parts.Longest x)) is
+
+zero_said : (given : Option ℕ) (rest : List Part) (system : System) → system_of rest ≡ system → system_of (optional parts.Zero given ++ rest) ≡ record system { zero = or_kept given system.zero }
+zero_said None rest system is = is
+zero_said (Some x) rest system is = ap (with_part (parts.Zero x)) is
+
+rows_said : (given : Option ℕ) (rest : List Part) (system : System) → system_of rest ≡ system → system_of (optional parts.Rows given ++ rest) ≡ record system { rows = or_kept given system.rows }
+rows_said None rest system is = is
+rows_said (Some x) rest system is = ap (with_part (parts.Rows x)) is
+
+samples_said : (samples : List PortName) → system_of (map parts.Samples samples) ≡ record bare_system { samples = samples }
+samples_said [] = refl
+samples_said (port ∷ samples) = ap (with_part (parts.Samples port)) (samples_said samples)
+
+pub system_is : (system : System) → system_of (canonical_parts system) ≡ system
+system_is system =
+    ap system_of (grouped (map canonical_unit system.units) (map parts.HasInstance system.instances) (map parts.Connects system.wires) (optional parts.Stop system.stop) (optional parts.Longest system.longest) (optional parts.Zero system.zero) (optional parts.Rows system.rows) (map parts.Samples system.samples))
+    ∙ units_said system.units _ _ (instances_said system.instances _ _ (wires_said system.wires _ _ (stop_said system.stop _ _ (longest_said system.longest _ _
+    (zero_said system.zero _ _ (rows_said system.rows _ _ (samples_said system.samples)))))))
+    ∙ simp (append-nil, or_none, units_are) refl

@@ -1,0 +1,5 @@
+use Rattle.unit_tree.proofs.SiteLaws.{sites_are}
+use Rattle.unit_tree.proofs.laws.sites_are_canonical_lines.Goals as goal
+
+pub returns : goal.returns
+returns c = sites_are
