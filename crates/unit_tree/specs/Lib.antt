@@ -22,3 +22,4 @@ pub mod Tokens
 pub mod Trace
 pub mod Values
 pub mod WellFormed
+pub mod WorkedPhrases

@@ -1,5 +1,6 @@
 ghost use Rattle.unit_tree.specs.Laws.{HasOneTrace};
 ghost use Rattle.unit_tree.specs.Counter.{CounterIsWorked};
+ghost use Rattle.unit_tree.specs.WorkedPhrases.{PhrasesAreWorked};
 ghost use Rattle.unit_tree.specs.Language.{IsJudgedOnce, SitesAreCanonicalLines, CanonicalPartsSayTheSystem, CanonicalPhrasesAreRight};
 
 /// A law: a composition has at most one trace.
@@ -30,4 +31,9 @@ pub fn canonical_parts_say_the_system()
 /// A law: the canonical phrase of an expression is one of it, and the grammar allows it.
 pub fn canonical_phrases_are_right()
     ensures { CanonicalPhrasesAreRight }
+{}
+
+/// Expressions worked out by hand are those that the definitions give.
+pub fn phrases_are_worked()
+    ensures { PhrasesAreWorked }
 {}

@@ -31,7 +31,7 @@ pub use expr::{BinOp, Expr, UnOp};
 use fixed_words::List;
 pub use laws::{
     at_most_one_trace, canonical_parts_say_the_system, canonical_phrases_are_right, counter_is_worked,
-    each_system_is_judged_once, sites_are_canonical_lines,
+    each_system_is_judged_once, phrases_are_worked, sites_are_canonical_lines,
 };
 pub use line::Line;
 pub use line_form::LineForm;

@@ -1,0 +1,35 @@
+use Rattle.std.proofs.Common.{refl}
+use Rattle.std.specs.Fmt.{digits}
+use Rattle.unit_tree.specs.declared.expr.Expr.{the_lemmas}
+use Rattle.unit_tree.proofs.laws.phrases_are_worked.Goals as goal
+
+pub returns : goal.returns
+unfolding digits
+returns c = record {
+  product_first = record { text_is = refl; grammatical = refl; shortest_is = simp the_lemmas refl };
+  sum_in_parens = record { text_is = refl; grammatical = refl; shortest_is = simp the_lemmas refl };
+  needless_parens = record { text_is = refl; grammatical = refl; shortest_is = simp the_lemmas refl };
+  right_operand = record { text_is = refl; grammatical = refl; shortest_is = simp the_lemmas refl };
+  words_between = record { text_is = refl; grammatical = refl; shortest_is = simp the_lemmas refl };
+  no_sum_in_product = record { text_is = refl; ungrammatical = refl };
+  and_first = record { text_is = refl; grammatical = refl; shortest_is = simp the_lemmas refl };
+  or_in_parens = record { text_is = refl; grammatical = refl; shortest_is = simp the_lemmas refl };
+  not_of_comparison = record { text_is = refl; grammatical = refl; shortest_is = simp the_lemmas refl };
+  no_chain = record { text_is = refl; ungrammatical = refl };
+  minus_first = record { text_is = refl; grammatical = refl; shortest_is = simp the_lemmas refl };
+  minus_of_minus = record { text_is = refl; grammatical = refl; shortest_is = simp the_lemmas refl };
+  minus_of_not = record { text_is = refl; ungrammatical = refl };
+  choice = record { text_is = refl; grammatical = refl; shortest_is = simp the_lemmas refl };
+  choice_in_sum = record { text_is = refl; grammatical = refl; shortest_is = simp the_lemmas refl };
+  no_choice_in_sum = record { text_is = refl; ungrammatical = refl };
+  calls = record { text_is = refl; grammatical = refl; shortest_is = simp the_lemmas refl };
+  scaled = record { text_is = refl; grammatical = refl; shortest_is = simp the_lemmas refl };
+  scaled_too_far = record { text_is = refl; ungrammatical = refl };
+  clocks = record { text_is = refl; grammatical = refl; shortest_is = simp the_lemmas refl };
+  decimals = record { text_is = refl; grammatical = refl; shortest_is = simp the_lemmas refl };
+  greatest = record { text_is = refl; grammatical = refl; shortest_is = simp the_lemmas refl };
+  too_great = record { text_is = refl; ungrammatical = refl };
+  level_64 = refl;
+  level_65 = refl;
+  level_64_inside = refl;
+}
