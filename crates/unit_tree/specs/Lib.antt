@@ -22,4 +22,6 @@ pub mod Tokens
 pub mod Trace
 pub mod Values
 pub mod WellFormed
+pub mod WorkedBlocks
 pub mod WorkedPhrases
+pub mod WorkedSystems

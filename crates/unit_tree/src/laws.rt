@@ -1,6 +1,8 @@
 ghost use Rattle.unit_tree.specs.Laws.{HasOneTrace};
 ghost use Rattle.unit_tree.specs.Counter.{CounterIsWorked};
+ghost use Rattle.unit_tree.specs.WorkedBlocks.{LinesAreWorked, BlocksAreWorked};
 ghost use Rattle.unit_tree.specs.WorkedPhrases.{PhrasesAreWorked};
+ghost use Rattle.unit_tree.specs.WorkedSystems.{SystemsAreWorked};
 ghost use Rattle.unit_tree.specs.Language.{IsJudgedOnce, SitesAreCanonicalLines, CanonicalPartsSayTheSystem, CanonicalPhrasesAreRight};
 
 /// A law: a composition has at most one trace.
@@ -36,4 +38,19 @@ pub fn canonical_phrases_are_right()
 /// Expressions worked out by hand are those that the definitions give.
 pub fn phrases_are_worked()
     ensures { PhrasesAreWorked }
+{}
+
+/// Lines of texts, cut by hand, are those that the definitions give.
+pub fn lines_are_worked()
+    ensures { LinesAreWorked }
+{}
+
+/// Where forms may stand, worked out by hand, is what the definitions say.
+pub fn blocks_are_worked()
+    ensures { BlocksAreWorked }
+{}
+
+/// The canonical lines of a system, and a system for each rule that one can break, worked out by hand.
+pub fn systems_are_worked()
+    ensures { SystemsAreWorked }
 {}

@@ -30,8 +30,8 @@ pub use evaluate::value;
 pub use expr::{BinOp, Expr, UnOp};
 use fixed_words::List;
 pub use laws::{
-    at_most_one_trace, canonical_parts_say_the_system, canonical_phrases_are_right, counter_is_worked,
-    each_system_is_judged_once, phrases_are_worked, sites_are_canonical_lines,
+    at_most_one_trace, blocks_are_worked, canonical_parts_say_the_system, canonical_phrases_are_right, counter_is_worked,
+    each_system_is_judged_once, lines_are_worked, phrases_are_worked, sites_are_canonical_lines, systems_are_worked,
 };
 pub use line::Line;
 pub use line_form::LineForm;
