@@ -1,5 +1,5 @@
 pub mod CounterLemmas
 pub mod EffectLemmas
-pub mod MeaningLemmas
+pub mod FoldLemmas
 pub mod TraceLaws
 pub mod ValueLemmas

@@ -10,3 +10,4 @@ pub mod Steps
 pub mod Tokens
 pub mod Trace
 pub mod Values
+pub mod Worked

@@ -4,10 +4,12 @@
 //! outputs and step lines, instances of them, and wires between their ports. All of it is plain data
 //! to contracts: two systems are equal exactly where their trees are.
 //!
-//! The definitions that every layer above speaks of stand in `specs/`: `Values` (what an expression
-//! is worth), `Effects` (what step lines do), `Components` (initial state, get and step of a unit),
-//! `LocalTime`, `Steps` (proposal, reply, agreed step), `Ports` (the right assignment) and `Trace`
-//! (successor, and the one trace of a system).
+//! The definitions that every layer above speaks of stand in `specs/`: `Lines` and `Tokens` (how a text
+//! is cut, and what its parts are), `Kinds` (which operands an operation takes), `Values` (what an
+//! expression is worth), `Effects` (what step lines do), `Costs` (the static cost of a call),
+//! `Components` (initial state, get and step of a unit), `LocalTime`, `Steps` (proposal, reply, agreed
+//! step) and `Trace` (port assignment, successor, and the one trace of a system). The public functions
+//! without a body, as [`counter_is_worked`], are laws of them.
 #![tactic(auto)]
 
 mod effects;
@@ -28,7 +30,7 @@ pub use environment::{Environment, Value, Variable};
 pub use evaluate::value;
 pub use expr::{BinOp, Expr, UnOp};
 use fixed_words::List;
-pub use laws::{at_most_one_trace, counter_is_worked};
+pub use laws::{at_most_one_trace, counter_is_worked, kinds_and_costs_are_worked};
 pub use line::Line;
 pub use point::Point;
 pub use system::{Column, Instance, PortName, Setting, System, Wire};
