@@ -1,25 +1,23 @@
 -- The worked counter, step by step.
-use Rattle.std.proofs.Common.{◌≡◌, ℕ, ◌==◌, true, cond, ℤ, pos, List, [], ◌∷◌, Option, Some, None, Result, Ok, Err, refl, sym, ap, subst, ◌∙◌, arith}
+use Rattle.std.proofs.Common.{◌≡◌, ℕ, ◌==◌, true, cond, pos, [], ◌∷◌, Some, Result, Ok, Err, ap, ◌∙◌, arith}
 use Rattle.std.specs.Prelude.{codes, unsigned_abs}
-use Rattle.std.specs.List.{filter_map}
-use Rattle.fixed_words.specs.Operations.{Outcome}
 use Rattle.fixed_words.specs.Types.{is_word_of}
 use Rattle.fixed_words.specs.declared.types.Fault.{Fault}
 use Rattle.fixed_words.specs.declared.types.Fault.TheVariants.{Range}
 use Rattle.fixed_words.specs.declared.types.Ty.TheVariants.{Int64}
-use Rattle.unit_tree.specs.Components.{Component, Moved, environment_of, given_as, state_in}
-use Rattle.unit_tree.specs.Counter.{counter, counter_unit, counted, counter_positions, counter_row, increment}
-use Rattle.unit_tree.specs.Effects.{Effect, assigned, effect_of, in_sequence}
+use Rattle.unit_tree.specs.Components.{Component, environment_of, given_as, state_in}
+use Rattle.unit_tree.specs.Counter.{counter, counter_unit, counted, counter_row, increment}
+use Rattle.unit_tree.specs.Effects.{Effect, assigned, effect_of, in_sequence, line_effect}
 use Rattle.unit_tree.specs.LocalTime.{local_step, local_time}
 use Rattle.unit_tree.specs.Steps.{proposal_of}
-use Rattle.unit_tree.specs.Trace.{Composition, Position, Row, Next, goes, ends, composition_of, start_inputs, ports_at, port_fault, row_unless, row_at, unless_fault, onward, moved_on, all_moved, successor}
+use Rattle.unit_tree.specs.Trace.{Composition, Next, ends, composition_of, ports_at, port_fault, row_unless, row_at, unless_fault, onward, moved_on, all_moved, successor}
 use Rattle.unit_tree.specs.Values.{Meaning, ◌>>=◌, node_meaning, binary_value, value_of}
 use Rattle.unit_tree.specs.declared.ending.Ending.TheVariants.{Completed}
 use Rattle.unit_tree.specs.declared.environment.Environment.{Environment}
 use Rattle.unit_tree.specs.declared.expr.BinOp.TheVariants.{Add}
 use Rattle.unit_tree.specs.declared.expr.Expr as expr
 use Rattle.unit_tree.specs.declared.expr.Expr.TheOpen.{Expr-F}
-use Rattle.unit_tree.proofs.MeaningLemmas.{value_of-Number, value_of-Var, value_of-Binary, effect_of-Assign}
+use Rattle.unit_tree.proofs.FoldLemmas.{fold-Number, fold-Var, fold-Binary, fold-Assign}
 
 abbrev pub component : Component
 component = record { unit = counter_unit; params = [] }
@@ -41,7 +39,7 @@ composition_is =
 -- the output shows the state
 ports_are : (k : ℕ) → is_word_of Int64 (pos k) ≡ true → ports_at worked ((pos k ∷ []) ∷ []) ≡ (Ok (pos k) ∷ []) ∷ []
 ports_are k fits =
-    ap (λ (m : Meaning). ((m (environment_of component (pos k ∷ []) [] 0 0) >>= given_as Int64) ∷ []) ∷ []) (value_of-Var (codes "n"))
+    ap (λ (m : Meaning). ((m (environment_of component (pos k ∷ []) [] 0 0) >>= given_as Int64) ∷ []) ∷ []) (fold-Var Meaning node_meaning (codes "n"))
     ∙ ap (λ b. (cond b (Ok (pos k)) (Err Range) ∷ []) ∷ []) fits
 
 pub row_is : (k : ℕ) → is_word_of Int64 (pos k) ≡ true → row_at worked (counted k) ≡ Some (counter_row k)
@@ -55,10 +53,10 @@ incremented env =
 
 increment_is : (env : Environment) → effect_of increment env ≡ incremented env
 increment_is env =
-    ap (λ (effect : Effect). effect env) (effect_of-Assign (codes "n") (expr.Binary Add (expr.Var (codes "n")) (expr.Number (pos 1) 0)))
-    ∙ ap (λ (m : Meaning). m env >>= λ v. assigned (codes "n") v.word env) (value_of-Binary Add (expr.Var (codes "n")) (expr.Number (pos 1) 0))
-    ∙ ap (λ (m : Meaning). (m env >>= λ x. (value_of (expr.Number (pos 1) 0) env >>= λ y. binary_value Add x y)) >>= λ v. assigned (codes "n") v.word env) (value_of-Var (codes "n"))
-    ∙ ap (λ (m : Meaning). (node_meaning (Expr-F.Var (codes "n")) env >>= λ x. (m env >>= λ y. binary_value Add x y)) >>= λ v. assigned (codes "n") v.word env) (value_of-Number (pos 1) 0)
+    ap (λ (effect : Effect). effect env) (fold-Assign Effect line_effect (codes "n") (expr.Binary Add (expr.Var (codes "n")) (expr.Number (pos 1) 0)))
+    ∙ ap (λ (m : Meaning). m env >>= λ v. assigned (codes "n") v.word env) (fold-Binary Meaning node_meaning Add (expr.Var (codes "n")) (expr.Number (pos 1) 0))
+    ∙ ap (λ (m : Meaning). (m env >>= λ x. (value_of (expr.Number (pos 1) 0) env >>= λ y. binary_value Add x y)) >>= λ v. assigned (codes "n") v.word env) (fold-Var Meaning node_meaning (codes "n"))
+    ∙ ap (λ (m : Meaning). (node_meaning (Expr-F.Var (codes "n")) env >>= λ x. (m env >>= λ y. binary_value Add x y)) >>= λ v. assigned (codes "n") v.word env) (fold-Number Meaning node_meaning (pos 1) 0)
 
 -- what follows a position, with the increment written out
 abbrev pub onward_worked : ℕ → Next

@@ -1,5 +1,6 @@
 pub mod CounterLemmas
 pub mod EffectLemmas
+pub mod FoldLemmas
 pub mod JudgementLaws
 pub mod MeaningLemmas
 pub mod PartLaws

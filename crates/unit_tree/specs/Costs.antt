@@ -1,5 +1,5 @@
--- Static cost: a bound on how many instructions a call runs, by the structure of the trees.
-use Rattle.std.specs.Prelude.{ℕ, suc, ◌+◌, ◌*◌, List, [], ◌∷◌, map, Option, Some, None}
+-- Static cost: a number that a call has by the structure of its trees, one for each node and more where lines repeat.
+use Rattle.std.specs.Prelude.{ℕ, ◌+◌, ◌*◌, List, map, Option, Some, None}
 use Rattle.std.specs.List.{sum_by}
 use Rattle.unit_tree.specs.declared.expr.Expr.{Expr, fold-Expr}
 use Rattle.unit_tree.specs.declared.expr.Expr.TheOpen.{Expr-F}

@@ -16,7 +16,7 @@ abbrev pub Effect : Type 0
 Effect = Environment → Result Environment Fault
 
 -- The words of variables with a word stored for the first variable of the name; Range where it is none of
--- its type.
+-- its type. Where no variable has the name, nothing is stored.
 abbrev pub stored : List Variable → List ℤ → List ℕ → ℤ → Result (List ℤ) Fault
 stored (variable ∷ variables) (old ∷ words) name word =
     if bytes_eq variable.name name

@@ -1,5 +1,7 @@
 -- Kind of an expression: what its operands are to be, and what it is then; none where an operand is of a wrong kind.
-use Rattle.std.specs.Prelude.{ℕ, Bool, true, false, ◌&&◌, nat_eq, List, Option, Some, None, if◌then◌else◌}
+-- Step lines have the right kinds where each of their expressions has the kind that its place asks for.
+use Rattle.std.specs.Prelude.{ℕ, Bool, true, false, ◌&&◌, nat_eq, List, map, Option, Some, None, if◌then◌else◌}
+use Rattle.std.specs.List.{list_all}
 use Rattle.std.specs.Option.{option_and_then}
 use Rattle.fixed_words.specs.declared.types.Kind.{Kind}
 use Rattle.fixed_words.specs.declared.types.Kind.TheVariants.{Int, Bool as Truth, Fixed}
@@ -10,6 +12,8 @@ use Rattle.unit_tree.specs.declared.expr.Expr.{Expr, fold-Expr}
 use Rattle.unit_tree.specs.declared.expr.Expr.TheOpen.{Expr-F}
 use Rattle.unit_tree.specs.declared.expr.UnOp.{UnOp}
 use Rattle.unit_tree.specs.declared.expr.UnOp.TheVariants as of
+use Rattle.unit_tree.specs.declared.line.Line.{Line, fold-Line}
+use Rattle.unit_tree.specs.declared.line.Line.TheOpen.{Line-F}
 
 -- Whether two kinds are one. Int and fixed point without decimals are two.
 abbrev pub same_kind : Kind → Kind → Bool
@@ -76,3 +80,37 @@ node_kind (Expr-F.Choose cond then_part else_part) names =
 -- The kind of an expression, where each operand has the kind that its operation asks for.
 abbrev pub kind_of_expression : Expr → Kinding
 kind_of_expression = fold-Expr Kinding node_kind
+
+-- ---- Step lines
+
+-- Whether there are two kinds and they are one. A name that is not declared has none.
+abbrev pub is_of_kind : Option Kind → Option Kind → Bool
+is_of_kind (Some x) (Some y) = same_kind x y
+is_of_kind _ _ = false
+
+-- Whether lines have the right kinds, for the kinds of names.
+abbrev pub KindTest : Type 0
+KindTest = KindsOfNames → Bool
+
+abbrev pub all_kinded : List KindTest → KindTest
+all_kinded tests names = list_all (λ test. test names) tests
+
+abbrev pub else_kinded : Option (List KindTest) → KindTest
+else_kinded None names = true
+else_kinded (Some tests) names = all_kinded tests names
+
+-- One line, with the test of each line of its blocks in its place: the value of an assignment has its target's
+-- kind, a condition is Bool, and what is accepted is Int.
+abbrev pub part_kinded : Line-F KindTest → KindTest
+part_kinded (Line-F.Assign target value) names = is_of_kind (kind_of_expression value names) (names target)
+part_kinded (Line-F.If cond then_lines else_lines) names =
+    is_of_kind (kind_of_expression cond names) (Some Truth) && (all_kinded then_lines names && else_kinded else_lines names)
+part_kinded (Line-F.Repeat count body) names = all_kinded body names
+part_kinded (Line-F.Accept value) names = is_of_kind (kind_of_expression value names) (Some Int)
+
+abbrev pub line_is_kinded : Line → KindTest
+line_is_kinded = fold-Line KindTest part_kinded
+
+-- Whether every line of a step has the right kinds, those of its blocks too.
+abbrev pub lines_are_kinded : List Line → KindTest
+lines_are_kinded lines = all_kinded (map line_is_kinded lines)

@@ -1,7 +1,8 @@
 -- The trace of a system: the one list of positions from the start, each the successor of the one before.
 --
 -- These definitions are of systems whose components have one resolution and no connections, no `max` and
--- no `accept`: every step that is proposed is accepted whole.
+-- no `accept`: every step that is proposed is accepted whole. The longest step is at least 1, so that no step has
+-- the length zero, and the number of rows is not bounded.
 use Rattle.std.specs.Prelude.{◌≡◌, ℕ, suc, ◌+◌, ◌==◌, ℤ, unsigned_abs, List, [], ◌∷◌, ◌++◌, map, if◌then◌else◌, Option, Some, None, Result, Ok, Err}
 use Rattle.std.specs.List.{zip, filter_map}
 use Rattle.std.specs.Str.{bytes_eq}
@@ -38,15 +39,17 @@ component_with settings None = None
 component_with settings (Some unit) =
     Some (record { unit = unit; params = map (λ param. start_word param.ty (literal_set settings param)) unit.params })
 
--- The components of a system, in the order of its instances.
+-- The components of a system, in the order of its instances. An instance of a unit that is not declared is left out.
 abbrev pub components_of : System → List Component
 components_of system = filter_map (λ instance. component_with instance.settings (unit_named system.units instance.unit)) system.instances
 
--- A number of seconds in ticks of one second each; 0 where none is given.
+-- A number of seconds in ticks of one second each: its digits are the ticks, without the sign and wherever its
+-- point stands. A truth value is 0 ticks.
 abbrev pub ticks_of : Literal → ℕ
 ticks_of (literal.Number word decimals) = unsigned_abs word
 ticks_of (literal.Truth told) = 0
 
+-- The ticks that are given, or else the default.
 abbrev pub ticks_or : ℕ → Option Literal → ℕ
 ticks_or default None = default
 ticks_or default (Some given) = ticks_of given
@@ -195,7 +198,8 @@ row_at run position = row_unless (port_fault 0 (ports_at run position.states)) p
 abbrev pub rows_of : Composition → List Position → List Row
 rows_of run positions = filter_map (row_at run) positions
 
--- The point at which a trace ends.
-abbrev pub last_point : Position → List Position → Point
-last_point position [] = position.point
-last_point position (later ∷ others) = last_point later others
+-- The point at which a trace ends: that of its last position. Without positions it is the first point of time.
+abbrev pub last_point : List Position → Point
+last_point [] = record { t = 0; n = 0 }
+last_point (position ∷ []) = position.point
+last_point (position ∷ later ∷ others) = last_point (later ∷ others)

@@ -42,7 +42,8 @@ abbrev pub kind_of_number : ℕ → Kind
 kind_of_number zero = kinds.Int
 kind_of_number decimals = kinds.Fixed decimals
 
--- The value of a name: the word of the first variable that has it, in its type's kind.
+-- The value of a name: the word of the first variable that has it, in its type's kind. A name that no variable
+-- has is the Int 0.
 abbrev pub value_of_name : List Variable → List ℤ → List ℕ → Value
 value_of_name (variable ∷ variables) (word ∷ words) name =
     if bytes_eq variable.name name then record { kind = kind_of variable.ty; word = word } else value_of_name variables words name

@@ -1,13 +1,14 @@
-ghost use Rattle.unit_tree.specs.Laws.{HasOneTrace};
+ghost use Rattle.unit_tree.specs.Laws.{HasAtMostOneTrace};
 ghost use Rattle.unit_tree.specs.Counter.{CounterIsWorked};
 ghost use Rattle.unit_tree.specs.WorkedBlocks.{LinesAreWorked, BlocksAreWorked};
 ghost use Rattle.unit_tree.specs.WorkedPhrases.{PhrasesAreWorked};
 ghost use Rattle.unit_tree.specs.WorkedSystems.{SystemsAreWorked};
 ghost use Rattle.unit_tree.specs.Language.{IsJudgedOnce, SitesAreCanonicalLines, CanonicalPartsSayTheSystem, CanonicalPhrasesAreRight};
+ghost use Rattle.unit_tree.specs.Worked.{KindsAreWorked, LineKindsAreWorked, CostsAreWorked};
 
 /// A law: a composition has at most one trace.
 pub fn at_most_one_trace()
-    ensures { HasOneTrace }
+    ensures { HasAtMostOneTrace }
 {}
 
 /// The trace of a counter, worked out by hand, is the one that the definitions give.
@@ -53,4 +54,11 @@ pub fn blocks_are_worked()
 /// The canonical lines of a system, and a system for each rule that one can break, worked out by hand.
 pub fn systems_are_worked()
     ensures { SystemsAreWorked }
+{}
+
+/// Kinds and costs of expressions and step lines, worked out by hand, are those that the definitions give.
+pub fn kinds_and_costs_are_worked()
+    ensures kinds { KindsAreWorked }
+    ensures line_kinds { LineKindsAreWorked }
+    ensures costs { CostsAreWorked }
 {}

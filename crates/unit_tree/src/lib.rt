@@ -4,10 +4,12 @@
 //! outputs and step lines, instances of them, and wires between their ports. All of it is plain data
 //! to contracts: two systems are equal exactly where their trees are.
 //!
-//! The definitions that every layer above speaks of stand in `specs/`: `Values` (what an expression
-//! is worth), `Effects` (what step lines do), `Components` (initial state, get and step of a unit),
-//! `LocalTime`, `Steps` (proposal, reply, agreed step), `Ports` (the right assignment) and `Trace`
-//! (successor, and the one trace of a system).
+//! The definitions that every layer above speaks of stand in `specs/`: `Lines` and `Tokens` (how a text
+//! is cut, and what its parts are), `Kinds` (which operands an operation takes), `Values` (what an
+//! expression is worth), `Effects` (what step lines do), `Costs` (the static cost of a call),
+//! `Components` (initial state, get and step of a unit), `LocalTime`, `Steps` (proposal, reply, agreed
+//! step) and `Trace` (port assignment, successor, and the one trace of a system). The public functions
+//! without a body, as [`counter_is_worked`], are laws of them.
 #![tactic(auto)]
 
 mod effects;
@@ -30,8 +32,10 @@ pub use evaluate::value;
 pub use expr::{BinOp, Expr, UnOp};
 use fixed_words::List;
 pub use laws::{
-    at_most_one_trace, blocks_are_worked, canonical_parts_say_the_system, canonical_phrases_are_right, counter_is_worked,
-    each_system_is_judged_once, lines_are_worked, phrases_are_worked, sites_are_canonical_lines, systems_are_worked,
+    at_most_one_trace, blocks_are_worked, canonical_parts_say_the_system,
+    canonical_phrases_are_right, counter_is_worked, each_system_is_judged_once,
+    kinds_and_costs_are_worked, lines_are_worked, phrases_are_worked, sites_are_canonical_lines,
+    systems_are_worked,
 };
 pub use line::Line;
 pub use line_form::LineForm;

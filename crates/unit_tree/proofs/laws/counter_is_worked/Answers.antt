@@ -1,7 +1,6 @@
-use Rattle.std.proofs.Common.{◌≡◌, List, [], ◌∷◌, refl, sym, ap, subst, ◌∙◌}
-use Rattle.std.specs.List.{cons_option}
+use Rattle.std.proofs.Common.{◌≡◌, [], ◌∷◌, refl, sym, ap, subst, ◌∙◌}
 use Rattle.unit_tree.specs.Counter.{counter_positions, counter_row}
-use Rattle.unit_tree.specs.Trace.{Composition, Row, rows_of, IsTrace}
+use Rattle.unit_tree.specs.Trace.{Composition, rows_of, IsTrace}
 use Rattle.unit_tree.specs.declared.ending.Ending.TheVariants.{Completed}
 use Rattle.unit_tree.proofs.CounterLemmas.{worked, composition_is, row_is, successor_is}
 use Rattle.unit_tree.proofs.laws.counter_is_worked.Goals as goal

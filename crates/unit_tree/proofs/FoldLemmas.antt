@@ -1,0 +1,36 @@
+-- What a fold makes of one node of a tree: what its step gives for what it makes of the parts.
+use Rattle.std.proofs.Common.{◌≡◌, ℕ, ℤ, List, Some, map, sym, ap, ◌∙◌}
+use Rattle.unit_tree.specs.declared.expr.BinOp.{BinOp}
+use Rattle.unit_tree.specs.declared.expr.Expr as expr
+use Rattle.unit_tree.specs.declared.expr.Expr.{Expr, fold-Expr, the_lemmas as expr_lemmas}
+use Rattle.unit_tree.specs.declared.expr.Expr.TheFolds.{fold-roll-Expr}
+use Rattle.unit_tree.specs.declared.expr.Expr.TheOpen.{Expr-F}
+use Rattle.unit_tree.specs.declared.expr.Expr.TheVariants.{rolls-Number, rolls-Var, rolls-Binary}
+use Rattle.unit_tree.specs.declared.line.Line as line
+use Rattle.unit_tree.specs.declared.line.Line.{Line, fold-Line, the_lemmas as line_lemmas}
+use Rattle.unit_tree.specs.declared.line.Line.TheFolds.{fold-roll-Line}
+use Rattle.unit_tree.specs.declared.line.Line.TheOpen.{Line-F}
+use Rattle.unit_tree.specs.declared.line.Line.TheVariants.{rolls-Assign, rolls-If}
+
+-- ---- Expressions
+
+pub fold-Number : (A : Type 0) (step : Expr-F A → A) (word : ℤ) (decimals : ℕ) → fold-Expr A step (expr.Number word decimals) ≡ step (Expr-F.Number word decimals)
+fold-Number A step word decimals = ap (fold-Expr A step) (sym (rolls-Number word decimals)) ∙ fold-roll-Expr A step (Expr-F.Number word decimals)
+
+pub fold-Var : (A : Type 0) (step : Expr-F A → A) (name : List ℕ) → fold-Expr A step (expr.Var name) ≡ step (Expr-F.Var name)
+fold-Var A step name = ap (fold-Expr A step) (sym (rolls-Var name)) ∙ fold-roll-Expr A step (Expr-F.Var name)
+
+pub fold-Binary : (A : Type 0) (step : Expr-F A → A) (op : BinOp) (left right : Expr) → fold-Expr A step (expr.Binary op left right) ≡ step (Expr-F.Binary op (fold-Expr A step left) (fold-Expr A step right))
+fold-Binary A step op left right = ap (fold-Expr A step) (sym (rolls-Binary op left right)) ∙ fold-roll-Expr A step (Expr-F.Binary op left right)
+
+-- ---- Step lines
+
+pub fold-Assign : (A : Type 0) (step : Line-F A → A) (target : List ℕ) (value : Expr) → fold-Line A step (line.Assign target value) ≡ step (Line-F.Assign target value)
+fold-Assign A step target value = ap (fold-Line A step) (sym (rolls-Assign target value)) ∙ fold-roll-Line A step (Line-F.Assign target value)
+
+pub fold-IfElse : (A : Type 0) (step : Line-F A → A) (cond : Expr) (then_lines else_lines : List Line) → fold-Line A step (line.If cond then_lines (Some else_lines)) ≡ step (Line-F.If cond (map (fold-Line A step) then_lines) (Some (map (fold-Line A step) else_lines)))
+fold-IfElse A step cond then_lines else_lines =
+    ap (fold-Line A step) (sym (rolls-If cond then_lines (Some else_lines))) ∙ fold-roll-Line A step (Line-F.If cond then_lines (Some else_lines))
+
+-- What takes folds of expressions and lines apart down to their leaves.
+pub ruleset fold_laws = (expr_lemmas, line_lemmas)
