@@ -1,6 +1,6 @@
 -- Word operations: the integer that each means, or its fault. All integers here are unbounded.
 use Rattle.std.specs.Prelude.{ℕ, zero, ◌^◌, Bool, true, false, ℤ, pos, ◌+ℤ◌, ◌-ℤ◌, ◌*ℤ◌, neg_ℤ, unsigned_abs, if◌then◌else◌, Result, Ok, Err}
-use Rattle.std.specs.Int.{int_div_euclid, is_negative, int_min, int_max}
+use Rattle.std.specs.Int.{int_div_euclid, int_min, int_max}
 use Rattle.fixed_words.specs.Types.{is_word_of}
 use Rattle.fixed_words.specs.declared.types.Ty.TheVariants.{Int64}
 use Rattle.fixed_words.specs.declared.types.Fault.{Fault}
@@ -19,10 +19,10 @@ abbrev pub is_zero : ℤ → Bool
 is_zero (pos zero) = true
 is_zero _ = false
 
--- The quotient rounded towards minus infinity, whatever the signs; the divisor is not zero.
+-- The quotient rounded towards minus infinity, whatever the signs; the divisor is not zero. It is the Euclidean quotient
+-- of the dividend times the divisor by the divisor's square, which is never negative: there Euclidean division is the floor.
 abbrev pub floor_quotient : ℤ → ℤ → ℤ
-floor_quotient dividend divisor =
-    if is_negative divisor then int_div_euclid (neg_ℤ dividend) (neg_ℤ divisor) else int_div_euclid dividend divisor
+floor_quotient dividend divisor = int_div_euclid (dividend *ℤ divisor) (divisor *ℤ divisor)
 
 -- The power of ten by which a fixed-point word of so many decimals is scaled.
 abbrev pub ten_to : ℕ → ℤ
