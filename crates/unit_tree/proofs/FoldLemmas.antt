@@ -1,11 +1,12 @@
 -- What a fold makes of one node of a tree: what its step gives for what it makes of the parts.
-use Rattle.std.proofs.Common.{◌≡◌, ℕ, ℤ, List, Some, map, sym, ap, ◌∙◌}
+use Rattle.std.proofs.Common.{◌≡◌, ℕ, ℤ, Bool, List, Some, map, sym, ap, ◌∙◌}
 use Rattle.unit_tree.specs.declared.expr.BinOp.{BinOp}
 use Rattle.unit_tree.specs.declared.expr.Expr as expr
 use Rattle.unit_tree.specs.declared.expr.Expr.{Expr, fold-Expr, the_lemmas as expr_lemmas}
 use Rattle.unit_tree.specs.declared.expr.Expr.TheFolds.{fold-roll-Expr}
 use Rattle.unit_tree.specs.declared.expr.Expr.TheOpen.{Expr-F}
-use Rattle.unit_tree.specs.declared.expr.Expr.TheVariants.{rolls-Number, rolls-Var, rolls-Binary}
+use Rattle.unit_tree.specs.declared.expr.Expr.TheVariants.{rolls-Number, rolls-Truth, rolls-Var, rolls-Unary, rolls-Binary, rolls-Clamp, rolls-Choose}
+use Rattle.unit_tree.specs.declared.expr.UnOp.{UnOp}
 use Rattle.unit_tree.specs.declared.line.Line as line
 use Rattle.unit_tree.specs.declared.line.Line.{Line, fold-Line, the_lemmas as line_lemmas}
 use Rattle.unit_tree.specs.declared.line.Line.TheFolds.{fold-roll-Line}
@@ -22,6 +23,18 @@ fold-Var A step name = ap (fold-Expr A step) (sym (rolls-Var name)) ∙ fold-rol
 
 pub fold-Binary : (A : Type 0) (step : Expr-F A → A) (op : BinOp) (left right : Expr) → fold-Expr A step (expr.Binary op left right) ≡ step (Expr-F.Binary op (fold-Expr A step left) (fold-Expr A step right))
 fold-Binary A step op left right = ap (fold-Expr A step) (sym (rolls-Binary op left right)) ∙ fold-roll-Expr A step (Expr-F.Binary op left right)
+
+pub fold-Truth : (A : Type 0) (step : Expr-F A → A) (told : Bool) → fold-Expr A step (expr.Truth told) ≡ step (Expr-F.Truth told)
+fold-Truth A step told = ap (fold-Expr A step) (sym (rolls-Truth told)) ∙ fold-roll-Expr A step (Expr-F.Truth told)
+
+pub fold-Unary : (A : Type 0) (step : Expr-F A → A) (op : UnOp) (arg : Expr) → fold-Expr A step (expr.Unary op arg) ≡ step (Expr-F.Unary op (fold-Expr A step arg))
+fold-Unary A step op arg = ap (fold-Expr A step) (sym (rolls-Unary op arg)) ∙ fold-roll-Expr A step (Expr-F.Unary op arg)
+
+pub fold-Clamp : (A : Type 0) (step : Expr-F A → A) (value low high : Expr) → fold-Expr A step (expr.Clamp value low high) ≡ step (Expr-F.Clamp (fold-Expr A step value) (fold-Expr A step low) (fold-Expr A step high))
+fold-Clamp A step value low high = ap (fold-Expr A step) (sym (rolls-Clamp value low high)) ∙ fold-roll-Expr A step (Expr-F.Clamp value low high)
+
+pub fold-Choose : (A : Type 0) (step : Expr-F A → A) (cond then_part else_part : Expr) → fold-Expr A step (expr.Choose cond then_part else_part) ≡ step (Expr-F.Choose (fold-Expr A step cond) (fold-Expr A step then_part) (fold-Expr A step else_part))
+fold-Choose A step cond then_part else_part = ap (fold-Expr A step) (sym (rolls-Choose cond then_part else_part)) ∙ fold-roll-Expr A step (Expr-F.Choose cond then_part else_part)
 
 -- ---- Step lines
 

@@ -2,7 +2,7 @@ pub mod CounterLemmas
 pub mod EffectLemmas
 pub mod FoldLemmas
 pub mod JudgementLaws
-pub mod MeaningLemmas
+pub mod KindLemmas
 pub mod PartLaws
 pub mod PhraseLaws
 pub mod SiteLaws

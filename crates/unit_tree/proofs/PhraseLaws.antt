@@ -13,10 +13,11 @@ use Rattle.unit_tree.specs.declared.expr.BinOp.{BinOp}
 use Rattle.unit_tree.specs.declared.expr.Expr as expr
 use Rattle.unit_tree.specs.declared.expr.Expr.{Expr, the_lemmas}
 use Rattle.unit_tree.specs.declared.expr.Expr.TheVariants.{rolls-Number, rolls-Unary, rolls-Binary, rolls-Clamp, rolls-Choose}
-use Rattle.unit_tree.specs.declared.expr.Expr.TheFolds.{fold-roll-Expr, ind-Expr, map-Expr}
+use Rattle.unit_tree.specs.declared.expr.Expr.TheFolds.{ind-Expr, map-Expr}
 use Rattle.unit_tree.specs.declared.expr.Expr.TheViews.{roll-Expr}
 use Rattle.unit_tree.specs.declared.expr.Expr.TheOpen.{Expr-F}
 use Rattle.unit_tree.specs.declared.expr.UnOp.{UnOp}
+use Rattle.unit_tree.proofs.FoldLemmas.{fold-Number, fold-Unary, fold-Binary, fold-Clamp, fold-Choose}
 
 -- The weakest level allows every other, and the strongest stands everywhere.
 all_in_whole : (level : Level) → allows Whole level ≡ true
@@ -79,88 +80,58 @@ tree_placed asked inner = tree_by (allows asked (level_of inner)) inner
 
 -- ---- One node
 
-phrase-Number : (number : ℤ) (decimals : ℕ) → canonical_phrase (expr.Number number decimals) ≡ phrase.Number (unsigned_abs number) decimals
-phrase-Number number decimals = ap canonical_phrase (sym (rolls-Number number decimals)) ∙ fold-roll-Expr Phrase node_phrase (Expr-F.Number number decimals)
-
-unsigned-Number : (number : ℤ) (decimals : ℕ) → is_unsigned (expr.Number number decimals) ≡ (not (is_negative number) && is_word_of Int64 number)
-unsigned-Number number decimals = ap is_unsigned (sym (rolls-Number number decimals)) ∙ fold-roll-Expr Bool node_is_unsigned (Expr-F.Number number decimals)
-
 right-Number : (number : ℤ) (decimals : ℕ) → Claim (expr.Number number decimals)
 right-Number number decimals unsigned =
-    let sign = and_parts (not (is_negative number)) (is_word_of Int64 number) (sym (unsigned-Number number decimals) ∙ unsigned) in
+    let sign = and_parts (not (is_negative number)) (is_word_of Int64 number) (sym (fold-Number Bool node_is_unsigned number decimals) ∙ unsigned) in
     record {
-      is_tree = ap tree_of (phrase-Number number decimals) ∙ ap (λ n. expr.Number n decimals) (unsigned_pos number sign.0);
-      stands_so = ap (stands Whole) (phrase-Number number decimals);
+      is_tree = ap tree_of (fold-Number Phrase node_phrase number decimals) ∙ ap (λ n. expr.Number n decimals) (unsigned_pos number sign.0);
+      stands_so = ap (stands Whole) (fold-Number Phrase node_phrase number decimals);
     }
-
-phrase-Unary : (op : UnOp) (arg : Expr) → canonical_phrase (expr.Unary op arg) ≡ phrase.Unary op (placed (operand_level (unary_level op)) (canonical_phrase arg))
-phrase-Unary op arg = ap canonical_phrase (sym (rolls-Unary op arg)) ∙ fold-roll-Expr Phrase node_phrase (Expr-F.Unary op arg)
-
-unsigned-Unary : (op : UnOp) (arg : Expr) → is_unsigned (expr.Unary op arg) ≡ is_unsigned arg
-unsigned-Unary op arg = ap is_unsigned (sym (rolls-Unary op arg)) ∙ fold-roll-Expr Bool node_is_unsigned (Expr-F.Unary op arg)
 
 right-Unary : (op : UnOp) (arg : Expr) → Claim arg → Claim (expr.Unary op arg)
 right-Unary op arg given unsigned =
-    let is = given (sym (unsigned-Unary op arg) ∙ unsigned) in
+    let is = given (sym (fold-Unary Bool node_is_unsigned op arg) ∙ unsigned) in
     record {
-      is_tree = ap tree_of (phrase-Unary op arg) ∙ ap (expr.Unary op) (tree_placed (operand_level (unary_level op)) (canonical_phrase arg) ∙ is.is_tree);
-      stands_so = ap (stands Whole) (phrase-Unary op arg) ∙ rw (all_in_whole (unary_level op)) (placed_stands (operand_level (unary_level op)) (canonical_phrase arg) is.stands_so);
+      is_tree = ap tree_of (fold-Unary Phrase node_phrase op arg) ∙ ap (expr.Unary op) (tree_placed (operand_level (unary_level op)) (canonical_phrase arg) ∙ is.is_tree);
+      stands_so = ap (stands Whole) (fold-Unary Phrase node_phrase op arg) ∙ rw (all_in_whole (unary_level op)) (placed_stands (operand_level (unary_level op)) (canonical_phrase arg) is.stands_so);
     }
-
-phrase-Binary : (op : BinOp) (left right : Expr) → canonical_phrase (expr.Binary op left right) ≡ phrase.Binary op (placed (left_level (binary_level op)) (canonical_phrase left)) (placed (right_level (binary_level op)) (canonical_phrase right))
-phrase-Binary op left right = ap canonical_phrase (sym (rolls-Binary op left right)) ∙ fold-roll-Expr Phrase node_phrase (Expr-F.Binary op left right)
-
-unsigned-Binary : (op : BinOp) (left right : Expr) → is_unsigned (expr.Binary op left right) ≡ (is_unsigned left && is_unsigned right)
-unsigned-Binary op left right = ap is_unsigned (sym (rolls-Binary op left right)) ∙ fold-roll-Expr Bool node_is_unsigned (Expr-F.Binary op left right)
 
 right-Binary : (op : BinOp) (left right : Expr) → Claim left → Claim right → Claim (expr.Binary op left right)
 right-Binary op left right on_left on_right unsigned =
-    let both = and_parts (is_unsigned left) (is_unsigned right) (sym (unsigned-Binary op left right) ∙ unsigned) in
+    let both = and_parts (is_unsigned left) (is_unsigned right) (sym (fold-Binary Bool node_is_unsigned op left right) ∙ unsigned) in
     let l = on_left both.0 in
     let r = on_right both.1 in
     let left_tree = tree_placed (left_level (binary_level op)) (canonical_phrase left) ∙ l.is_tree in
     let right_tree = tree_placed (right_level (binary_level op)) (canonical_phrase right) ∙ r.is_tree in
     record {
-      is_tree = ap tree_of (phrase-Binary op left right) ∙ ap (λ e. expr.Binary op e (tree_of (placed (right_level (binary_level op)) (canonical_phrase right)))) left_tree ∙ ap (λ e. expr.Binary op left e) right_tree;
+      is_tree = ap tree_of (fold-Binary Phrase node_phrase op left right) ∙ ap (λ e. expr.Binary op e (tree_of (placed (right_level (binary_level op)) (canonical_phrase right)))) left_tree ∙ ap (λ e. expr.Binary op left e) right_tree;
       stands_so =
-        ap (stands Whole) (phrase-Binary op left right)
+        ap (stands Whole) (fold-Binary Phrase node_phrase op left right)
         ∙ rw (all_in_whole (binary_level op), placed_stands (left_level (binary_level op)) (canonical_phrase left) l.stands_so) (placed_stands (right_level (binary_level op)) (canonical_phrase right) r.stands_so);
     }
 
-phrase-Clamp : (value low high : Expr) → canonical_phrase (expr.Clamp value low high) ≡ phrase.Clamp (canonical_phrase value) (canonical_phrase low) (canonical_phrase high)
-phrase-Clamp value low high = ap canonical_phrase (sym (rolls-Clamp value low high)) ∙ fold-roll-Expr Phrase node_phrase (Expr-F.Clamp value low high)
-
-unsigned-Clamp : (value low high : Expr) → is_unsigned (expr.Clamp value low high) ≡ (is_unsigned value && (is_unsigned low && is_unsigned high))
-unsigned-Clamp value low high = ap is_unsigned (sym (rolls-Clamp value low high)) ∙ fold-roll-Expr Bool node_is_unsigned (Expr-F.Clamp value low high)
-
 right-Clamp : (value low high : Expr) → Claim value → Claim low → Claim high → Claim (expr.Clamp value low high)
 right-Clamp value low high on_value on_low on_high unsigned =
-    let all = and_parts (is_unsigned value) (is_unsigned low && is_unsigned high) (sym (unsigned-Clamp value low high) ∙ unsigned) in
+    let all = and_parts (is_unsigned value) (is_unsigned low && is_unsigned high) (sym (fold-Clamp Bool node_is_unsigned value low high) ∙ unsigned) in
     let bounds = and_parts (is_unsigned low) (is_unsigned high) all.1 in
     let v = on_value all.0 in
     let l = on_low bounds.0 in
     let h = on_high bounds.1 in
     record {
-      is_tree = ap tree_of (phrase-Clamp value low high) ∙ rw (v.is_tree, l.is_tree, h.is_tree) refl;
-      stands_so = ap (stands Whole) (phrase-Clamp value low high) ∙ rw (v.stands_so, l.stands_so) h.stands_so;
+      is_tree = ap tree_of (fold-Clamp Phrase node_phrase value low high) ∙ rw (v.is_tree, l.is_tree, h.is_tree) refl;
+      stands_so = ap (stands Whole) (fold-Clamp Phrase node_phrase value low high) ∙ rw (v.stands_so, l.stands_so) h.stands_so;
     }
-
-phrase-Choose : (condition chosen other : Expr) → canonical_phrase (expr.Choose condition chosen other) ≡ phrase.Choose (canonical_phrase condition) (canonical_phrase chosen) (canonical_phrase other)
-phrase-Choose condition chosen other = ap canonical_phrase (sym (rolls-Choose condition chosen other)) ∙ fold-roll-Expr Phrase node_phrase (Expr-F.Choose condition chosen other)
-
-unsigned-Choose : (condition chosen other : Expr) → is_unsigned (expr.Choose condition chosen other) ≡ (is_unsigned condition && (is_unsigned chosen && is_unsigned other))
-unsigned-Choose condition chosen other = ap is_unsigned (sym (rolls-Choose condition chosen other)) ∙ fold-roll-Expr Bool node_is_unsigned (Expr-F.Choose condition chosen other)
 
 right-Choose : (condition chosen other : Expr) → Claim condition → Claim chosen → Claim other → Claim (expr.Choose condition chosen other)
 right-Choose condition chosen other on_condition on_chosen on_other unsigned =
-    let all = and_parts (is_unsigned condition) (is_unsigned chosen && is_unsigned other) (sym (unsigned-Choose condition chosen other) ∙ unsigned) in
+    let all = and_parts (is_unsigned condition) (is_unsigned chosen && is_unsigned other) (sym (fold-Choose Bool node_is_unsigned condition chosen other) ∙ unsigned) in
     let parts = and_parts (is_unsigned chosen) (is_unsigned other) all.1 in
     let c = on_condition all.0 in
     let y = on_chosen parts.0 in
     let n = on_other parts.1 in
     record {
-      is_tree = ap tree_of (phrase-Choose condition chosen other) ∙ rw (c.is_tree, y.is_tree, n.is_tree) refl;
-      stands_so = ap (stands Whole) (phrase-Choose condition chosen other) ∙ rw (c.stands_so, y.stands_so) n.stands_so;
+      is_tree = ap tree_of (fold-Choose Phrase node_phrase condition chosen other) ∙ rw (c.is_tree, y.is_tree, n.is_tree) refl;
+      stands_so = ap (stands Whole) (fold-Choose Phrase node_phrase condition chosen other) ∙ rw (c.stands_so, y.stands_so) n.stands_so;
     }
 
 node : (y : Expr-F Proved) → Claim (roll-Expr (map-Expr Proved Expr bare y))

@@ -92,6 +92,10 @@ is_of_kind _ _ = false
 abbrev pub KindTest : Type 0
 KindTest = KindsOfNames → Bool
 
+-- Whether an expression has the kind that is asked for, and each operand in it the kind that its operation asks for.
+abbrev pub has_kind : Option Kind → Expr → KindTest
+has_kind asked value names = is_of_kind (kind_of_expression value names) asked
+
 abbrev pub all_kinded : List KindTest → KindTest
 all_kinded tests names = list_all (λ test. test names) tests
 
@@ -102,11 +106,11 @@ else_kinded (Some tests) names = all_kinded tests names
 -- One line, with the test of each line of its blocks in its place: the value of an assignment has its target's
 -- kind, a condition is Bool, and what is accepted is Int.
 abbrev pub part_kinded : Line-F KindTest → KindTest
-part_kinded (Line-F.Assign target value) names = is_of_kind (kind_of_expression value names) (names target)
+part_kinded (Line-F.Assign target value) names = has_kind (names target) value names
 part_kinded (Line-F.If cond then_lines else_lines) names =
-    is_of_kind (kind_of_expression cond names) (Some Truth) && (all_kinded then_lines names && else_kinded else_lines names)
+    has_kind (Some Truth) cond names && (all_kinded then_lines names && else_kinded else_lines names)
 part_kinded (Line-F.Repeat count body) names = all_kinded body names
-part_kinded (Line-F.Accept value) names = is_of_kind (kind_of_expression value names) (Some Int)
+part_kinded (Line-F.Accept value) names = has_kind (Some Int) value names
 
 abbrev pub line_is_kinded : Line → KindTest
 line_is_kinded = fold-Line KindTest part_kinded

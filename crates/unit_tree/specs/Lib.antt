@@ -22,7 +22,7 @@ pub mod Tokens
 pub mod Trace
 pub mod Values
 pub mod WellFormed
-pub mod Worked
 pub mod WorkedBlocks
+pub mod WorkedKinds
 pub mod WorkedPhrases
 pub mod WorkedSystems

@@ -17,7 +17,7 @@ use Rattle.fixed_words.specs.declared.types.LiteralFault.TheVariants.{Form, Rang
 use Rattle.fixed_words.specs.declared.types.Ty.{Ty}
 use Rattle.unit_tree.specs.Blocks.{is_unit_line}
 use Rattle.unit_tree.specs.Costs.{expression_call_cost, step_call_cost}
-use Rattle.unit_tree.specs.Kinds.{same_kind, kind_of_expression}
+use Rattle.unit_tree.specs.Kinds.{same_kind, has_kind}
 use Rattle.unit_tree.specs.Names.{names_in, depth_of, expression_on, is_among, are_among, param_names, input_names, output_names, output_uses, max_uses, step_uses, type_in, kinds_in, unit_of_instance, param_named, output_at, input_at, same_port}
 use Rattle.unit_tree.specs.Sites.{Site, Scope, Top, InUnit, InStep, InInstance, sites_of}
 use Rattle.unit_tree.specs.Trace.{unit_named}
@@ -99,13 +99,9 @@ misnames system _ _ = false
 
 -- ---- Rule 10: a kind is wrong, or a literal has the wrong form for its type
 
-abbrev pub has_kind : Option Kind → Option Kind → Bool
-has_kind (Some asked) (Some kind) = same_kind asked kind
-has_kind _ _ = false
-
 -- The expression does not have the kind that is asked for, or an operand in it has a wrong one.
 abbrev pub is_not_of : Option Kind → Unit → Expr → Bool
-is_not_of asked unit value = not (has_kind asked (kind_of_expression value (kinds_in unit)))
+is_not_of asked unit value = not (has_kind asked value (kinds_in unit))
 
 abbrev pub is_misformed : Result ℤ LiteralFault → Bool
 is_misformed (Err Form) = true

@@ -4,7 +4,7 @@ ghost use Rattle.unit_tree.specs.WorkedBlocks.{LinesAreWorked, BlocksAreWorked};
 ghost use Rattle.unit_tree.specs.WorkedPhrases.{PhrasesAreWorked};
 ghost use Rattle.unit_tree.specs.WorkedSystems.{SystemsAreWorked};
 ghost use Rattle.unit_tree.specs.Language.{IsJudgedOnce, SitesAreCanonicalLines, CanonicalPartsSayTheSystem, CanonicalPhrasesAreRight};
-ghost use Rattle.unit_tree.specs.Worked.{KindsAreWorked, LineKindsAreWorked, CostsAreWorked};
+ghost use Rattle.unit_tree.specs.WorkedKinds.{KindsAreWorked, LineKindsAreWorked, CostsAreWorked};
 
 /// A law: a composition has at most one trace.
 pub fn at_most_one_trace()

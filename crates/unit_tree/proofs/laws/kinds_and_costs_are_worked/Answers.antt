@@ -1,6 +1,6 @@
 use Rattle.std.proofs.Common.{◌∷◌, [], rules}
 use Rattle.unit_tree.specs.Kinds.{KindTest, part_kinded}
-use Rattle.unit_tree.specs.Worked.{count_up, p, x}
+use Rattle.unit_tree.specs.WorkedKinds.{count_up, p, x}
 use Rattle.unit_tree.specs.declared.line.Line as line
 use Rattle.unit_tree.proofs.FoldLemmas.{fold_laws, fold-IfElse}
 use Rattle.unit_tree.proofs.laws.kinds_and_costs_are_worked.Goals as goal
