@@ -15,7 +15,7 @@ none_broken (first ∷ later) system kept =
     rw (kept.0) rest
 
 none_refused : (judged : List Rule) (system : System) → refusal_by judged system ≡ None → BreaksNone judged system
-none_refused [] system none = search rules
+none_refused [] system none = _
 none_refused (first ∷ later) system none =
     let both = unrefused first (refusal_by later system) (lines_breaking first system) none in
     (both.0, none_refused later system both.1)

@@ -3,6 +3,7 @@ pub mod EffectLemmas
 pub mod FoldLemmas
 pub mod JudgementLaws
 pub mod KindLemmas
+pub mod OrderLaws
 pub mod PartLaws
 pub mod PhraseLaws
 pub mod SiteLaws

@@ -1,8 +1,9 @@
--- Laws of the language. The first four are proved; the others say what a reader and a printer of the language are
+-- Laws of the language. The first five are proved; the others say what a reader and a printer of the language are
 -- owed, and are not proved.
 use Rattle.std.specs.Prelude.{◌≡◌, ◌≤◌, ◌⊎◌, ◌↔◌, ℕ, List, map, length, Option, Some, None, IsTrue}
 use Rattle.unit_tree.specs.Canonical.{canonical_parts, canonical_forms, canonical_phrase, canonical_text, line_text}
 use Rattle.unit_tree.specs.LineForms.{HasForm}
+use Rattle.unit_tree.specs.Orders.{DependsOn, IsOnCycle}
 use Rattle.unit_tree.specs.Parts.{system_of}
 use Rattle.unit_tree.specs.Phrases.{Whole, stands, tree_of}
 use Rattle.unit_tree.specs.Printable.{IsPrintable, is_unsigned}
@@ -11,6 +12,7 @@ use Rattle.unit_tree.specs.Texts.{Reads, IsRefused}
 use Rattle.unit_tree.specs.WellFormed.{Refusal, IsWellFormed, refusal_of}
 use Rattle.unit_tree.specs.declared.expr.Expr.{Expr}
 use Rattle.unit_tree.specs.declared.line_form.LineForm.{LineForm}
+use Rattle.unit_tree.specs.declared.system.PortName.{PortName}
 use Rattle.unit_tree.specs.declared.system.System.{System}
 
 -- ---- Proved
@@ -35,6 +37,12 @@ pub record CanonicalPhraseIs (value : Expr) : Type 0 where
 
 abbrev pub CanonicalPhrasesAreRight : Type 0
 CanonicalPhrasesAreRight = (value : Expr) → IsTrue (is_unsigned value) → CanonicalPhraseIs value
+
+-- An output that depends on itself lies on a cycle: it stands in no orderly list, and nor does any output that
+-- depends on such a one.
+pub record CyclesHaveNoOrder : Type 0 where
+  pub on_cycle : (system : System) (port : PortName) → DependsOn system port port → IsOnCycle system port
+  pub behind_cycle : (system : System) (port other : PortName) → DependsOn system port other → IsOnCycle system other → IsOnCycle system port
 
 -- ---- Owed by a reader and a printer
 

@@ -1,6 +1,6 @@
 -- Orders of outputs: a system whose port graph has no cycle has one in which each output comes after all that
 -- it needs. This is rule 15, which is judged last.
-use Rattle.std.specs.Prelude.{◌≡◌, ℕ, List, [], ◌∷◌, ◌++◌, map, Option, Some, None, Contains, ⊤, if◌then◌else◌}
+use Rattle.std.specs.Prelude.{◌≡◌, ℕ, List, [], ◌∷◌, ◌++◌, map, Option, Some, None, ◌⊎◌, ⊤, if◌then◌else◌}
 use Rattle.std.specs.List.{AllByRecursion, flat_map, filter_map}
 use Rattle.unit_tree.specs.Names.{unit_of_instance, output_at, same_port}
 use Rattle.unit_tree.specs.declared.system.Instance.{Instance}
@@ -39,14 +39,24 @@ abbrev pub needed_by : System → PortName → List PortName
 needed_by system port =
     flat_map (λ input. sources_of system (record { instance = port.instance; port = input })) (needs_of (output_at system port))
 
+-- A port stands in a list.
+abbrev pub IsIn : List PortName → PortName → Type 0
+IsIn [] port = ⊥
+IsIn (first ∷ others) port = (first ≡ port) ⊎ IsIn others port
+
+-- An output depends on another one where it needs it, or needs one that depends on it.
+pub data DependsOn (system : System) : PortName → PortName → Type 0 where
+  needs : (port other : PortName) → IsIn (needed_by system port) other → DependsOn system port other
+  through : (port between other : PortName) → IsIn (needed_by system port) between → DependsOn system between other → DependsOn system port other
+
 -- An orderly list behind outputs that came before: it holds outputs of the system, each once and after all that
 -- it needs.
 abbrev pub IsOrderlyAfter : System → List PortName → List PortName → Type 0
 IsOrderlyAfter system before [] = ⊤
 IsOrderlyAfter system before (port ∷ later) =
-    Contains (outputs_of system) port
-    × (Contains before port → ⊥)
-    × AllByRecursion (Contains before) (needed_by system port)
+    IsIn (outputs_of system) port
+    × (IsIn before port → ⊥)
+    × AllByRecursion (IsIn before) (needed_by system port)
     × IsOrderlyAfter system (before ++ (port ∷ [])) later
 
 abbrev pub IsOrderly : System → List PortName → Type 0
@@ -54,11 +64,11 @@ IsOrderly system order = IsOrderlyAfter system [] order
 
 -- The system has no cycle: one orderly list has all its outputs.
 abbrev pub HasNoCycle : System → Type 0
-HasNoCycle system = (order : List PortName) × IsOrderly system order × AllByRecursion (Contains order) (outputs_of system)
+HasNoCycle system = (order : List PortName) × IsOrderly system order × AllByRecursion (IsIn order) (outputs_of system)
 
 -- An output that stands in no orderly list: it lies on a cycle, or depends on one.
 abbrev pub IsOnCycle : System → PortName → Type 0
-IsOnCycle system port = (order : List PortName) → IsOrderly system order → Contains order port → ⊥
+IsOnCycle system port = (order : List PortName) → IsOrderly system order → IsIn order port → ⊥
 
 -- The output that rule 15 names: the first that stands in no orderly list.
 pub record IsFirstOnCycle (system : System) (port : PortName) : Type 0 where

@@ -1,4 +1,4 @@
--- Worked systems: the canonical lines of two, and one for each rule that a system can break.
+-- Worked systems: the canonical lines of one, a system for each rule that one can break, and orders of outputs.
 use Rattle.std.specs.Prelude.{◌≡◌, ℕ, true, false, zero, suc, pos, neg_ℤ, List, [], ◌∷◌, ◌++◌, map, codes, Some, None}
 use Rattle.std.specs.List.{repeat}
 use Rattle.fixed_words.specs.declared.types.Literal.{Literal}
@@ -6,6 +6,7 @@ use Rattle.fixed_words.specs.declared.types.Literal.TheVariants as literal
 use Rattle.fixed_words.specs.declared.types.Ty.{Ty}
 use Rattle.fixed_words.specs.declared.types.Ty.TheVariants as types
 use Rattle.unit_tree.specs.Canonical.{canonical_forms, line_text}
+use Rattle.unit_tree.specs.Orders.{IsOrderly, HasNoCycle, IsFirstOnCycle}
 use Rattle.unit_tree.specs.Parts as parts
 use Rattle.unit_tree.specs.Parts.{Part, UnitPart, unit_of, system_of}
 use Rattle.unit_tree.specs.Sites.{Top, InStep}
@@ -223,3 +224,30 @@ pub record SystemsAreWorked : Type 0 where
   pub set_twice : Refused (unit_a (param_k types.Int64 (number 1) ∷ []) ∷ instance_with (codes "a") (record { name = codes "k"; value = number 1 } ∷ record { name = codes "k"; value = number 1 } ∷ []) ∷ stop ∷ []) 24 7
   pub sampled_twice : Refused (parts.Samples (port (codes "a") (codes "y")) ∷ parts.Samples (port (codes "a") (codes "y")) ∷ run_of counts) 24 10
   pub needed_twice : Refused (run_of (input_u ∷ output_y types.Int64 (codes "u" ∷ codes "u" ∷ []) u ∷ [])) 24 4
+
+-- ---- Orders
+
+abbrev pub y_of : List ℕ → PortName
+y_of name = port name (codes "y")
+
+abbrev pub joins : List ℕ → List ℕ → Part
+joins from to = wire (y_of from) (port to (codes "u"))
+
+-- Two instances whose outputs need each other, and a third one in front of them that needs the first.
+abbrev pub ring : List Part
+ring = pair_with (joins (codes "a") (codes "b") ∷ joins (codes "b") (codes "a") ∷ [])
+
+abbrev pub behind_ring : List Part
+behind_ring = instance (codes "c") ∷ joins (codes "a") (codes "c") ∷ ring
+
+-- The same two, whose outputs need nothing: the instances form a ring, and their ports do not.
+abbrev pub ring_of_instances : List Part
+ring_of_instances =
+    unit_a (input_u ∷ output_y types.Int64 [] one ∷ []) ∷ instance (codes "a") ∷ instance (codes "b") ∷ joins (codes "a") (codes "b") ∷ joins (codes "b") (codes "a") ∷ stop ∷ []
+
+pub record OrdersAreWorked : Type 0 where
+  pub chain : IsOrderly (system_of (pair_with (joins (codes "b") (codes "a") ∷ []))) (y_of (codes "b") ∷ y_of (codes "a") ∷ [])
+  pub chain_has_all : HasNoCycle (system_of (pair_with (joins (codes "b") (codes "a") ∷ [])))
+  pub instances_only : HasNoCycle (system_of ring_of_instances)
+  pub first_of_ring : IsFirstOnCycle (system_of ring) (y_of (codes "a"))
+  pub first_behind_ring : IsFirstOnCycle (system_of behind_ring) (y_of (codes "c"))

@@ -2,8 +2,8 @@ ghost use Rattle.unit_tree.specs.Laws.{HasAtMostOneTrace};
 ghost use Rattle.unit_tree.specs.Counter.{CounterIsWorked};
 ghost use Rattle.unit_tree.specs.WorkedBlocks.{LinesAreWorked, BlocksAreWorked};
 ghost use Rattle.unit_tree.specs.WorkedPhrases.{PhrasesAreWorked};
-ghost use Rattle.unit_tree.specs.WorkedSystems.{SystemsAreWorked};
-ghost use Rattle.unit_tree.specs.Language.{IsJudgedOnce, SitesAreCanonicalLines, CanonicalPartsSayTheSystem, CanonicalPhrasesAreRight};
+ghost use Rattle.unit_tree.specs.WorkedSystems.{SystemsAreWorked, OrdersAreWorked};
+ghost use Rattle.unit_tree.specs.Language.{IsJudgedOnce, SitesAreCanonicalLines, CanonicalPartsSayTheSystem, CanonicalPhrasesAreRight, CyclesHaveNoOrder};
 ghost use Rattle.unit_tree.specs.WorkedKinds.{KindsAreWorked, LineKindsAreWorked, CostsAreWorked};
 
 /// A law: a composition has at most one trace.
@@ -36,6 +36,11 @@ pub fn canonical_phrases_are_right()
     ensures { CanonicalPhrasesAreRight }
 {}
 
+/// A law: an output that depends on itself, or on one that does, stands in no orderly list.
+pub fn cycles_have_no_order()
+    ensures { CyclesHaveNoOrder }
+{}
+
 /// Expressions worked out by hand are those that the definitions give.
 pub fn phrases_are_worked()
     ensures { PhrasesAreWorked }
@@ -61,4 +66,9 @@ pub fn kinds_and_costs_are_worked()
     ensures kinds { KindsAreWorked }
     ensures line_kinds { LineKindsAreWorked }
     ensures costs { CostsAreWorked }
+{}
+
+/// Orders of outputs, and the output that none has, worked out by hand.
+pub fn orders_are_worked()
+    ensures { OrdersAreWorked }
 {}
