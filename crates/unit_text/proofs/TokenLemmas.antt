@@ -405,7 +405,7 @@ token_at_shorter bytes first rest e =
 
 -- ---- all tokens of a line
 
-begins_with_first : (line : List ℕ) (first : Token) (rest : List ℕ) → token_at (behind_blanks line) ≡ Some (first, rest) → BeginsWith line first rest
+pub begins_with_first : (line : List ℕ) (first : Token) (rest : List ℕ) → token_at (behind_blanks line) ≡ Some (first, rest) → BeginsWith line first rest
 begins_with_first line first rest e =
     let front = token_at_is (behind_blanks line) first rest e in
     let blanks = take (prefix_len is_blank line) line in
@@ -423,7 +423,7 @@ blank_line line blank =
     let n : prefix_len is_blank (line ++ []) ≡ length line = prefix_len-front is_blank line [] blank refl in
     drop_all (prefix_len is_blank line) line (omega (arith, ap (prefix_len is_blank) (append-nil line)))
 
-line_blank : (line : List ℕ) → behind_blanks line ≡ [] → list_all is_blank line ≡ true
+pub line_blank : (line : List ℕ) → behind_blanks line ≡ [] → list_all is_blank line ≡ true
 line_blank line none =
     let parts : take (prefix_len is_blank line) line ++ behind_blanks line ≡ line = take-append-drop (prefix_len is_blank line) line in
     let whole : take (prefix_len is_blank line) line ≡ line = sym (append-nil (take (prefix_len is_blank line) line)) ∙ (rw none at parts) in

@@ -3,3 +3,4 @@ pub mod Forms
 pub mod Nesting
 pub mod Reading
 pub mod Scanning
+pub mod WorkedTexts

@@ -1,0 +1,119 @@
+-- Worked texts of the whole language: what system each says, or at which line and by which rule it is refused.
+use Rattle.std.specs.Prelude.{ℕ, List, [], ◌∷◌, ◌++◌, codes, pos, neg_ℤ, true, false, Some, None}
+use Rattle.std.specs.List.{flat_map, repeat}
+use Rattle.fixed_words.specs.declared.types.Literal.TheVariants as literal
+use Rattle.fixed_words.specs.declared.types.Ty.TheVariants as types
+use Rattle.unit_tree.specs.Counter.{counter}
+use Rattle.unit_tree.specs.Texts.{Reads, IsRefused}
+use Rattle.unit_tree.specs.declared.expr.BinOp.TheVariants as by
+use Rattle.unit_tree.specs.declared.expr.Expr as expr
+use Rattle.unit_tree.specs.declared.expr.UnOp.TheVariants as of
+use Rattle.unit_tree.specs.declared.system.System.{System}
+use Rattle.unit_tree.specs.declared.unit.Unit.{Unit}
+
+-- Lines, each ended by LF.
+abbrev pub text_of : List (List ℕ) → List ℕ
+text_of lines = flat_map (λ line. line ++ (10 ∷ [])) lines
+
+-- A CR behind a line.
+abbrev pub returned : List ℕ → List ℕ
+returned line = line ++ (13 ∷ [])
+
+-- ---- Texts that say a system
+
+-- The counter of the worked trace, with ends by CR and LF, comments, blank lines, indentation and needless zeros.
+abbrev pub commented_counter : List ℕ
+commented_counter = text_of (
+    returned (codes "cosim 01")
+    ∷ returned (codes "# 20 C")
+    ∷ returned []
+    ∷ codes "unit Counter # one state"
+    ∷ codes "  state n : Int64 = 00"
+    ∷ codes "  output y : Int64 = n"
+    ∷ codes "  step"
+    ∷ codes "    n := (n) + 1"
+    ∷ codes "  end"
+    ∷ codes "end"
+    ∷ codes "instance a : Counter"
+    ∷ codes "end"
+    ∷ codes "stop 3"
+    ∷ [])
+    ++ codes "longest 1"
+
+-- Parts in another order than the canonical one; a literal `-0`, whose sign is lost; needs; a decimal number.
+abbrev pub thermal_unit : Unit
+thermal_unit = record {
+  name = codes "A";
+  resolution = Some 1;
+  params = [];
+  states = record { name = codes "n"; ty = types.Fixed 1; start = literal.Number (pos 0) 1 } ∷ [];
+  locals = [];
+  inputs = record { name = codes "u"; ty = types.Int64; start = literal.Number (neg_ℤ (pos 9223372036854775808)) 0 } ∷ [];
+  outputs = record { name = codes "y"; ty = types.Bool; needs = codes "u" ∷ []; value = expr.Binary by.And (expr.Truth true) (expr.Unary of.Not (expr.Binary by.Lt (expr.Var (codes "n")) (expr.Number (pos 5) 1))) } ∷ [];
+  max = Some (expr.Var (codes "u"));
+  step = None;
+}
+
+abbrev pub thermal : System
+thermal = record {
+  units = thermal_unit ∷ [];
+  instances = record { name = codes "a"; unit = codes "A"; settings = record { name = codes "k"; value = literal.Truth false } ∷ [] } ∷ [];
+  wires = record { from = record { instance = codes "a"; port = codes "y" }; to = record { instance = codes "b"; port = codes "u" } } ∷ [];
+  stop = Some (literal.Number (pos 5) 1);
+  longest = None;
+  zero = Some 0;
+  rows = Some 100000;
+  samples = record { instance = codes "a"; port = codes "y" } ∷ [];
+}
+
+abbrev pub thermal_text : List ℕ
+thermal_text = text_of (
+    codes "cosim 1"
+    ∷ codes "sample a.y"
+    ∷ codes "stop 0.5"
+    ∷ codes "zero 0"
+    ∷ codes "unit A"
+    ∷ codes "max(u)"
+    ∷ codes "output y:Bool needs u=true and not n<0.5"
+    ∷ codes "input u:Int64=-9223372036854775808"
+    ∷ codes "state n:Fixed 01=- 0.0"
+    ∷ codes "resolution 1"
+    ∷ codes "end"
+    ∷ codes "rows 100000"
+    ∷ codes "connect a.y->b.u"
+    ∷ codes "instance a:A"
+    ∷ codes "k=false"
+    ∷ codes "end"
+    ∷ [])
+
+pub record TextsAreRead : Type 0 where
+  pub counter_is_read : Reads commented_counter counter
+  pub thermal_is_read : Reads thermal_text thermal
+
+-- ---- Texts that are refused
+
+-- A letter so many times.
+abbrev pub letters : ℕ → List ℕ
+letters count = repeat count (codes "a")
+
+pub record TextsAreRefused : Type 0 where
+  -- 7 at line 1 where there is nothing but blank lines
+  pub empty : IsRefused [] 1 7
+  pub blank : IsRefused (text_of ([] ∷ codes "# nothing" ∷ [])) 1 7
+  -- 1: a byte that code may not hold; a second CR is one
+  pub forbidden : IsRefused (200 ∷ []) 1 1
+  pub two_returns : IsRefused (text_of (returned (returned (codes "cosim 1")) ∷ [])) 1 1
+  -- 3: more than 1,000 bytes without the end
+  pub long_comment : IsRefused (text_of ((codes "#" ++ letters 1000) ∷ [])) 1 3
+  -- 4: no form; a number that goes on as a word, and the header with decimals
+  pub hello : IsRefused (codes "hello") 1 4
+  pub two_ends : IsRefused (codes "end end") 1 4
+  pub number_word : IsRefused (codes "1a") 1 4
+  pub decimal_header : IsRefused (codes "cosim 1.0") 1 4
+  -- 5 before 7: a form that may not stand there
+  pub stray_end : IsRefused (codes "end") 1 5
+  pub second_header : IsRefused (text_of (codes "cosim 1" ∷ codes "cosim 1" ∷ [])) 2 5
+  -- 7: another form than the header first
+  pub no_header : IsRefused (text_of ([] ∷ codes "unit A" ∷ [])) 2 7
+  -- 6: a block is open at the end, at the last line, which may be blank
+  pub unended : IsRefused (text_of (codes "cosim 1" ∷ codes "unit A" ∷ [] ∷ [])) 3 6
