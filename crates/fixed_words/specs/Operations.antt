@@ -19,8 +19,8 @@ abbrev pub is_zero : ℤ → Bool
 is_zero (pos zero) = true
 is_zero _ = false
 
--- The quotient rounded towards minus infinity, whatever the signs; the divisor is not zero. It is the Euclidean quotient
--- of the dividend times the divisor by the divisor's square, which is never negative: there Euclidean division is the floor.
+-- The quotient rounded towards minus infinity, whatever the signs; the divisor b is not zero. Since a/b is ab/b², it
+-- is the Euclidean quotient of these two: b² is never negative, and by such a divisor Euclidean division is the floor.
 abbrev pub floor_quotient : ℤ → ℤ → ℤ
 floor_quotient dividend divisor = int_div_euclid (dividend *ℤ divisor) (divisor *ℤ divisor)
 

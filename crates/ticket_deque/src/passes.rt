@@ -7,7 +7,8 @@ use std::alloc::{AllocError, Global};
 /// The pass of a reach, with those of the reaches that it took in, so that what they took stays known.
 ///
 /// A pass has no bytes. A reach that is taken in hangs its passes below those of the other, beside the ones that hang
-/// there, so joining moves two pointers and takes no memory.
+/// there, so joining moves two pointers and takes no memory. Joins thus chain the boxes, and dropping a reach recurses
+/// down them: at most one level for each join that went into it.
 #[derive(Drop)]
 pub struct Passes<T> {
     pub own: EndPass<T>,
