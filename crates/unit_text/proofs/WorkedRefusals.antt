@@ -1,11 +1,11 @@
 -- Worked texts are refused.
-use Rattle.std.proofs.Common.{◌≡◌, ℕ, List, [], ◌∷◌, ◌++◌, length, inl, inr, refl, sym, ap, subst, ◌∙◌, arith, true, false, ◌<◌, ◌≤◌, rules}
+use Rattle.std.proofs.Common.{◌≡◌, ℕ, zero, suc, ◌+◌, List, [], ◌∷◌, ◌++◌, length, inl, inr, refl, sym, ap, subst, ◌∙◌, arith, true, false, ◌<◌, ◌≤◌, rules}
 use Rattle.std.specs.Prelude.{codes, IsTrue, IsFalse}
-use Rattle.std.proofs.lemmas.Bool.{leb-true}
-use Rattle.std.specs.List.{AllZip}
+use Rattle.std.proofs.lemmas.Bool.{leb-true, ltb-true}
+use Rattle.std.specs.List.{AllZip, sum_by}
 use Rattle.unit_tree.specs.Blocks.{may_stand}
 use Rattle.unit_tree.specs.LineForms.{HasForm, WritesForm}
-use Rattle.unit_tree.specs.Lines.{source_lines, size_of, code_of, is_blank_line, has_forbidden_byte}
+use Rattle.unit_tree.specs.Lines.{lines_of, source_lines, size_of, code_of, is_blank_line, has_forbidden_byte}
 use Rattle.unit_tree.specs.Texts.{line_limit, text_limit, HaveForms, HasNoForm, IsMisplaced, LacksHeader, LineBreaks, Breaks, IsFirstBroken, IsUnended, IsRefused}
 use Rattle.unit_tree.specs.Tokens.{Spells}
 use Rattle.unit_tree.specs.declared.line_form.LineForm.{LineForm}
@@ -16,7 +16,7 @@ use Rattle.unit_tree.specs.declared.token.Token.TheVariants as token
 use Rattle.unit_text.specs.Scanning.{keyword_of, symbol_of, word_at, number_at, symbol_at, number_token, bounded_number, token_at}
 use Rattle.unit_text.specs.WorkedTexts.{text_of, returned, letters}
 use Rattle.unit_text.proofs.FirstTokens.{no_tokens, name_alone, after_cosim, after_end, after_unit}
-use Rattle.unit_text.proofs.Refusing.{IsUnbroken, unbroken, least, first_broken, no_break}
+use Rattle.unit_text.proofs.Refusing.{IsUnbroken, unbroken, least, first_broken, no_break, all_blank}
 use Rattle.unit_text.proofs.Spelled.{spells, tokens_in}
 use Rattle.unit_text.proofs.TokenLemmas.{spells_one, tokens_none}
 use Rattle.unit_text.proofs.WorkedForms.{plain_header, unit_a, end_line}
@@ -156,3 +156,25 @@ unended_is =
       is_rule = refl;
       is_last = refl;
     }))
+
+-- ---- Texts and lines that are too long
+
+one_line : (count : ℕ) → lines_of (letters (suc count)) ≡ letters (suc count) ∷ []
+one_line zero = refl
+one_line (suc count) = rw (one_line count) refl
+
+so_many : (count : ℕ) → length (letters count) ≡ count
+so_many zero = refl
+so_many (suc count) = ap suc (so_many count)
+
+size_of_letters : (count : ℕ) → size_of (letters (suc count)) ≡ suc (suc count)
+size_of_letters count = ap (λ lines. sum_by (λ line. length line + 1) lines) (one_line count) ∙ omega (arith, so_many (suc count))
+
+too_long_by : (count : ℕ) → text_limit ≤ suc count → text_limit < size_of (letters (suc count))
+too_long_by count long = omega (arith, size_of_letters count)
+
+pub long_text_is : IsRefused (letters (suc 1048575)) 1 2
+long_text_is = inl (too_long_by 1048575 (omega arith), refl, refl)
+
+pub long_line_is : IsRefused (text_of ((codes "cosim 1#" ++ letters 993) ∷ [])) 1 3
+long_line_is = inr (leb-true (size_of (text_of ((codes "cosim 1#" ++ letters 993) ∷ []))) text_limit refl, inl (at_first (codes "cosim 1#" ++ letters 993) 3 (inr (inl (refl, ltb-true line_limit (length (codes "cosim 1#" ++ letters 993)) refl))) (λ less. refl) (λ less. absurd (omega arith)) (λ less. absurd (omega arith)) (omega arith) refl))

@@ -97,6 +97,8 @@ abbrev pub letters : ℕ → List ℕ
 letters count = repeat count (codes "a")
 
 pub record TextsAreRefused : Type 0 where
+  -- 2: a LF is counted that the last line lacks
+  pub long_text : IsRefused (letters 1048576) 1 2
   -- 7 at line 1 where there is nothing but blank lines
   pub empty : IsRefused [] 1 7
   pub blank : IsRefused (text_of ([] ∷ codes "# nothing" ∷ [])) 1 7
@@ -104,7 +106,7 @@ pub record TextsAreRefused : Type 0 where
   pub forbidden : IsRefused (200 ∷ []) 1 1
   pub two_returns : IsRefused (text_of (returned (returned (codes "cosim 1")) ∷ [])) 1 1
   -- 3: more than 1,000 bytes without the end
-  pub long_comment : IsRefused (text_of ((codes "#" ++ letters 1000) ∷ [])) 1 3
+  pub long_line : IsRefused (text_of ((codes "cosim 1#" ++ letters 993) ∷ [])) 1 3
   -- 4: no form; a number that goes on as a word, and the header with decimals
   pub hello : IsRefused (codes "hello") 1 4
   pub two_ends : IsRefused (codes "end end") 1 4

@@ -20,7 +20,9 @@ mod system;
 #[cfg(test)]
 mod tests;
 mod tokens;
+mod worked;
 
 pub use fault::TextFault;
 pub use form::{Assignment, Declared, LineForm, Operand, Source, WholeNumber};
 pub use reading::{answers_agree, every_text_is_answered, read_first_form};
+pub use worked::texts_are_worked;

@@ -1,0 +1,24 @@
+use Rattle.unit_text.proofs.WorkedReads as read
+use Rattle.unit_text.proofs.WorkedRefusals as refusal
+use Rattle.unit_text.proofs.worked.texts_are_worked.Goals as goal
+
+pub returns-clause-read : goal.returns-clause-read
+returns-clause-read c = record { counter_is_read = read.counter_is_read; thermal_is_read = read.thermal_is_read }
+
+pub returns-clause-refused : goal.returns-clause-refused
+returns-clause-refused c = record {
+  long_text = refusal.long_text_is;
+  empty = refusal.empty_is;
+  blank = refusal.blank_is;
+  forbidden = refusal.forbidden_is;
+  two_returns = refusal.two_returns_are;
+  long_line = refusal.long_line_is;
+  hello = refusal.hello_is;
+  two_ends = refusal.two_ends_are;
+  number_word = refusal.number_word_is;
+  decimal_header = refusal.decimal_header_is;
+  stray_end = refusal.stray_end_is;
+  second_header = refusal.second_header_is;
+  no_header = refusal.no_header_is;
+  unended = refusal.unended_is;
+}
