@@ -1,5 +1,5 @@
 -- The five clauses of a call, from what its parts have done.
-use Rattle.std.proofs.Common.{◌≡◌, ℕ, ◌+◌, ◌<◌, ◌≤◌, ◌⊎◌, List, [], Option, Some, None, refl, sym, ap, subst, ◌∙◌, inl, inr, arith}
+use Rattle.std.proofs.Common.{◌≡◌, ℕ, ◌<◌, ◌⊎◌, List, Option, Some, None, refl, sym, ap, subst, ◌∙◌, inl, inr, arith}
 use Rattle.std.specs.Prelude.{IfSome}
 use Rattle.std.specs.Io.KnownBytes.{Appends, IsAtEnd}
 use Rattle.std.proofs.KnownBytes.{Appends-nil}
@@ -9,25 +9,16 @@ use Rattle.unit_tree.proofs.TraceLaws.{traces_same}
 use Rattle.cosim_io.specs.Faults.{Rose}
 use Rattle.cosim_io.specs.Pieces.{AppendsPrefix}
 use Rattle.cosim_io.proofs.PieceLemmas.{AppendsPrefix-nil, AppendsPrefix-whole}
-use Rattle.cosim_app.specs.Answer.{Answer, AnswersRefusal, AnswersRun, IsAnswer, run_words, run_answer, refused_answer, usage_answer, status_of}
-use Rattle.cosim_app.specs.Headline.{Streams, IsQuiet, Gives, AnswerClause, PrefixClause, EndsWith, BreaksARule, CauseClause, WholeInputClause, IsNotesText, NotesClause}
-use Rattle.cosim_app.specs.Judgement.{RunAnswers, PutsAnswer, PutsFront, IsOwn, AnswersInput, TellsNote}
-use Rattle.cosim_app.specs.Notes.{usage_note, read_fault_note, write_fault_note, no_memory_note, refused_note}
+use Rattle.cosim_app.specs.Answer.{Answer, AnswersRun, RunAnswers, IsAnswer, run_words, run_answer, refused_answer, usage_answer}
+use Rattle.cosim_app.specs.Headline.{Streams, Gives, PutsNothing, EndsWith, BreaksARule, IsNotesText, Promises}
+use Rattle.cosim_app.specs.Judgement.{PutsAnswer, PutsFront, IsOwn, AnswersInput, TellsNote}
+use Rattle.cosim_app.specs.Notes.{usage_note, read_fault_note, write_fault_note, no_memory_note}
 use Rattle.cosim_app.specs.declared.status.Status.{Status}
 use Rattle.cosim_app.specs.declared.status.Status.TheVariants as status
 use Rattle.unit_tree.specs.Lines.{size_of}
-use Rattle.unit_tree.specs.Trace.{Composition, Position, composition_of, IsTrace}
-use Rattle.unit_tree.specs.declared.ending.Ending.{Ending}
+use Rattle.unit_tree.specs.Trace.{composition_of, IsTrace}
 use Rattle.unit_tree.specs.declared.system.System.{System}
 use Rattle.cosim_app.proofs.JudgeLaws.{ends_unrefused}
-
--- all that a call promises
-pub record Promises (words : List (List ℕ)) (before now : Streams) (given : Status) : Type 0 where
-  pub answer : AnswerClause words before now given
-  pub prefix : PrefixClause words before now given
-  pub cause : CauseClause words before now given
-  pub whole_input : WholeInputClause words before now given
-  pub notes : NotesClause words before now given
 
 -- ---- One answer
 
@@ -70,7 +61,7 @@ fronts_of words (Some text) held held' is puts = front_of words text held held' 
 -- what stands before the note is told: which status and which text it is, and why
 pub record Facts (words : List (List ℕ)) (before now : Streams) (wanted : Status) (text_of_note : List ℕ) : Type 0 where
   pub front : IfSome before.left (λ text. (answer : Answer) → IsAnswer words text answer → AppendsPrefix before.held now.held answer.out)
-  pub untouched : (wanted ≡ status.Usage) ⊎ ((wanted ≡ status.Refused) ⊎ (wanted ≡ status.ReadFault)) → now.held ≡ before.held
+  pub untouched : (wanted ≡ status.Usage) ⊎ ((wanted ≡ status.Refused) ⊎ (wanted ≡ status.ReadFault)) → PutsNothing before now
   pub answers : (Rose before.read_faults now.read_faults → ⊥) → (Rose before.put_faults now.put_faults → ⊥) → (wanted ≡ status.NoMemory → ⊥) → IfSome before.left (λ text. (answer : Answer) → IsAnswer words text answer → Appends before.held now.held answer.out × (text_of_note ≡ answer.notes) × (wanted ≡ answer.status))
   pub is_text : IfSome before.left (λ text. IsNotesText words text text_of_note)
   pub usage : wanted ≡ status.Usage → words ≡ run_words → ⊥
@@ -182,7 +173,7 @@ usage_text words (Some text) not = inr (inr (inr (λ answer found. ap (λ (a : A
 pub facts_usage : (words : List (List ℕ)) (before now : Streams) → (words ≡ run_words → ⊥) → now.left ≡ before.left → now.read_faults ≡ before.read_faults → now.held ≡ before.held → now.put_faults ≡ before.put_faults → Facts words before now status.Usage usage_note
 facts_usage words before now not left reads held puts = record {
   front = subst (λ (h : Option (List ℕ)). IfSome before.left (λ text. (answer : Answer) → IsAnswer words text answer → AppendsPrefix before.held h answer.out)) (sym held) (usage_front words before.left before.held not);
-  untouched = λ _. held;
+  untouched = λ _. record { held = held; faults = puts };
   answers = λ _ _ _. subst (λ (h : Option (List ℕ)). IfSome before.left (λ text. (answer : Answer) → IsAnswer words text answer → Appends before.held h answer.out × (usage_note ≡ answer.notes) × (status.Usage ≡ answer.status))) (sym held) (usage_answers words before.left before.held not);
   is_text = usage_text words before.left not;
   usage = λ _ is. not is;
@@ -220,7 +211,7 @@ fixed_text_is words (Some text) note is = is text
 pub facts_read_fault : (words : List (List ℕ)) (before now : Streams) → words ≡ run_words → IfSome before.left (λ text. PutsFront text before.held before.held) → Rose before.read_faults now.read_faults → now.held ≡ before.held → now.put_faults ≡ before.put_faults → Facts words before now status.ReadFault read_fault_note
 facts_read_fault words before now is_run nothing rose held puts = record {
   front = subst (λ (h : Option (List ℕ)). IfSome before.left (λ text. (answer : Answer) → IsAnswer words text answer → AppendsPrefix before.held h answer.out)) (sym held) (fronts_of words before.left before.held before.held is_run nothing);
-  untouched = λ _. held;
+  untouched = λ _. record { held = held; faults = puts };
   answers = λ quiet _ _. absurd (quiet rose);
   is_text = fixed_text_is words before.left read_fault_note (λ text. inl refl);
   usage = λ e. absurd (cc);
@@ -344,7 +335,7 @@ facts_answered words before now given note is_run a =
     let puts = a.same_puts in
     record {
       front = own_prefix words before.left before.held now.held given note answers;
-      untouched = own_untouched given a.own a.untouched;
+      untouched = own_untouched given a.own (λ refused. record { held = a.untouched refused; faults = puts });
       answers = λ _ _ _. answers;
       is_text = own_text words before.left before.held now.held given note answers;
       usage = λ e. absurd (own_is_other given status.Usage a.own (λ x. x) e);

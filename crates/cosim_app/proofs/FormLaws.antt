@@ -1,33 +1,24 @@
 -- A system that a text of the first form says is runnable.
-use Rattle.std.proofs.Common.{◌≡◌, ℕ, zero, suc, ◌<◌, ◌≤◌, ◌^◌, ◌⊎◌, Bool, true, false, ◌&&◌, ℤ, pos, List, [], ◌∷◌, ◌++◌, map, Option, Some, None, Result, Ok, Err, refl, sym, ap, subst, ◌∙◌, inl, inr, arith, append-nil}
-use Rattle.std.specs.Prelude.{IsTrue, unsigned_abs, ⊤}
-use Rattle.std.specs.List.{AllByRecursion, list_all}
-use Rattle.fixed_words.specs.Operations.{Outcome}
+use Rattle.std.proofs.Common.{◌≡◌, ℕ, zero, suc, ◌≤◌, ◌⊎◌, Bool, true, ◌&&◌, ℤ, pos, List, [], ◌∷◌, ◌++◌, map, Option, Some, None, Result, Ok, Err, refl, sym, ap, subst, ◌∙◌, inl, inr, arith, append-nil}
+use Rattle.std.specs.Prelude.{unsigned_abs}
+use Rattle.std.specs.List.{AllByRecursion}
 use Rattle.fixed_words.specs.declared.types.Fault.{Fault}
 use Rattle.fixed_words.specs.declared.types.Ty.TheVariants.{Int64}
 use Rattle.unit_tree.specs.Lines.{lines_of}
 use Rattle.unit_tree.specs.Trace.{ticks_or}
-use Rattle.unit_tree.specs.Components.{variable, variables_of}
-use Rattle.unit_tree.specs.Effects.{Effect, stored, assigned, effect_of, effect_of_lines, in_sequence, line_effect, part_is_ranged, line_is_ranged, lines_are_ranged}
+use Rattle.unit_tree.specs.Components.{variable}
+use Rattle.unit_tree.specs.Effects.{Effect, stored, assigned, effect_of, effect_of_lines, in_sequence, line_effect, part_is_ranged, lines_are_ranged}
 use Rattle.unit_tree.specs.Values.{◌>>=◌, AreTyped, node_is_ranged, is_ranged, value_of}
 use Rattle.unit_tree.specs.declared.environment.Environment.{Environment}
 use Rattle.unit_tree.specs.declared.environment.Value.{Value}
-use Rattle.unit_tree.specs.declared.environment.Variable.{Variable}
 use Rattle.unit_tree.specs.declared.expr.BinOp.TheVariants.{Add}
 use Rattle.unit_tree.specs.declared.expr.Expr as expr
 use Rattle.unit_tree.specs.declared.expr.Expr.{Expr, the_lemmas as expr_lemmas}
-use Rattle.unit_tree.specs.declared.expr.Expr.TheFolds.{fold-roll-Expr}
-use Rattle.unit_tree.specs.declared.expr.Expr.TheOpen.{Expr-F}
-use Rattle.unit_tree.specs.declared.expr.Expr.TheVariants.{rolls-Binary}
-use Rattle.unit_tree.specs.declared.line.Line as line
-use Rattle.unit_tree.specs.declared.line.Line.{Line}
-use Rattle.unit_tree.specs.declared.line.Line.TheFolds.{fold-roll-Line}
-use Rattle.unit_tree.specs.declared.line.Line.TheOpen.{Line-F}
-use Rattle.unit_tree.specs.declared.line.Line.TheVariants.{rolls-Assign}
 use Rattle.unit_tree.specs.declared.system.System.{System}
 use Rattle.unit_tree.specs.declared.unit.State.{State}
-use Rattle.unit_text.specs.FirstForm.{expression_of, line_of, state_of, unit_of, system_of, optional_literal, forms_of, longest_line, IsInRange, IsOfForm}
-use Rattle.unit_text.specs.Reading.{HasForm, HaveForms, Reads, IsAccepted}
+use Rattle.unit_tree.proofs.FoldLemmas.{fold-Binary, fold-Assign}
+use Rattle.unit_text.specs.FirstForm.{expression_of, line_of, state_of, unit_of, system_of, optional_literal, forms_of, longest_line, IsInRange}
+use Rattle.unit_text.specs.Reading.{HaveForms, IsAccepted}
 use Rattle.unit_text.specs.declared.form.Assignment.{Assignment}
 use Rattle.unit_text.specs.declared.form.Declared.{Declared}
 use Rattle.unit_text.specs.declared.form.LineForm.{LineForm}
@@ -36,7 +27,7 @@ use Rattle.unit_text.specs.declared.form.Operand.{Operand}
 use Rattle.unit_text.specs.declared.form.Operand.TheVariants as operand
 use Rattle.unit_text.specs.declared.form.Source.{Source}
 use Rattle.cosim_app.specs.OneComponent.{IsPlain, AreDeclared}
-use Rattle.cosim_app.specs.Runnable.{IsRunnable, stop_of, longest_of}
+use Rattle.cosim_app.specs.Runnable.{IsRunnable}
 
 -- ---- Its expressions and lines
 
@@ -44,26 +35,17 @@ operand_ranged : (o : Operand) → is_ranged (expression_of o) ≡ true
 operand_ranged (operand.Name name) = simp expr_lemmas refl
 operand_ranged (operand.Number number) = simp expr_lemmas refl
 
-binary_ranged : (e f : Expr) → is_ranged (expr.Binary Add e f) ≡ (is_ranged e && is_ranged f)
-binary_ranged e f = ap is_ranged (sym (rolls-Binary Add e f)) ∙ fold-roll-Expr Bool node_is_ranged (Expr-F.Binary Add e f)
-
 sum_ranged : (l r : Operand) → is_ranged (expr.Binary Add (expression_of l) (expression_of r)) ≡ true
 sum_ranged l r =
-    binary_ranged (expression_of l) (expression_of r)
+    fold-Binary Bool node_is_ranged Add (expression_of l) (expression_of r)
     ∙ ap (λ b. b && is_ranged (expression_of r)) (operand_ranged l)
     ∙ operand_ranged r
-
-assign_ranged : (name : List ℕ) (e : Expr) → line_is_ranged (line.Assign name e) ≡ is_ranged e
-assign_ranged name e = ap line_is_ranged (sym (rolls-Assign name e)) ∙ fold-roll-Line Bool part_is_ranged (Line-F.Assign name e)
 
 lines_ranged : (sums : List Assignment) → lines_are_ranged (map line_of sums) ≡ true
 lines_ranged [] = refl
 lines_ranged (sum ∷ sums) =
-    ap (λ b. b && lines_are_ranged (map line_of sums)) (assign_ranged sum.target (expr.Binary Add (expression_of sum.left) (expression_of sum.right)) ∙ sum_ranged sum.left sum.right)
+    ap (λ b. b && lines_are_ranged (map line_of sums)) (fold-Assign Bool part_is_ranged sum.target (expr.Binary Add (expression_of sum.left) (expression_of sum.right)) ∙ sum_ranged sum.left sum.right)
     ∙ lines_ranged sums
-
-assign_effect : (name : List ℕ) (e : Expr) (env : Environment) → effect_of (line.Assign name e) env ≡ (value_of e env >>= λ v. assigned name v.word env)
-assign_effect name e env = ap (λ (effect : Effect). effect env) (ap effect_of (sym (rolls-Assign name e)) ∙ fold-roll-Line Effect line_effect (Line-F.Assign name e))
 
 -- ---- No assignment accepts less than the whole step
 
@@ -80,7 +62,7 @@ value_whole name env after (Err fault) is = absurd (cc)
 line_whole : (sum : Assignment) (env after : Environment) → effect_of (line_of sum) env ≡ Ok after → after.accepted ≡ env.accepted
 line_whole sum env after is =
     let e = expr.Binary Add (expression_of sum.left) (expression_of sum.right) in
-    value_whole sum.target env after (value_of e env) (sym (assign_effect sum.target e env) ∙ is)
+    value_whole sum.target env after (value_of e env) (sym (ap (λ (effect : Effect). effect env) (fold-Assign Effect line_effect sum.target e)) ∙ is)
 
 then_whole : (env after : Environment) (effects : List Effect) (tried : Result Environment Fault) → ((mid : Environment) → tried ≡ Ok mid → mid.accepted ≡ env.accepted) → ((mid : Environment) → in_sequence effects mid ≡ Ok after → after.accepted ≡ mid.accepted) → (tried >>= in_sequence effects) ≡ Ok after → after.accepted ≡ env.accepted
 then_whole env after effects (Ok mid) first others is = others mid is ∙ first mid refl

@@ -1,12 +1,10 @@
 -- A run of one component that stands at a position of a trace, with the text of the rows before it.
-use Rattle.std.proofs.Common.{◌≡◌, ℕ, suc, ℤ, List, [], ◌∷◌, ◌++◌, Option, Some, None, refl, sym, ap, subst, ◌∙◌, append_assoc, append-nil}
-use Rattle.std.specs.List.{filter_map, flat_map}
+use Rattle.std.proofs.Common.{◌≡◌, ℕ, suc, ℤ, List, [], ◌∷◌, ◌++◌, Some, None, refl, sym, ap, subst, ◌∙◌, append_assoc, append-nil}
+use Rattle.std.specs.List.{flat_map}
 use Rattle.std.proofs.lemmas.List.Elements.{filter_map-append}
 use Rattle.std.proofs.lemmas.Grind.{flat_map-append}
-use Rattle.unit_tree.specs.Trace.{Composition, Position, Row, Next, goes, ends, first_position, row_at, rows_of, successor, Follows, IsTrace}
+use Rattle.unit_tree.specs.Trace.{Composition, Position, Row, goes, ends, first_position, row_at, rows_of, successor, Follows, IsTrace, last_point}
 use Rattle.unit_tree.specs.declared.ending.Ending.{Ending}
-use Rattle.unit_tree.specs.declared.point.Point.{Point}
-use Rattle.cosim_app.specs.Answer.{last_point}
 use Rattle.cosim_app.specs.OneComponent.{at, text_of_rows}
 
 -- a run that stands at a time with these words, after the text of the rows before

@@ -1,7 +1,6 @@
 -- What a run has put and come to, as the answer of its text.
-use Rattle.std.proofs.Common.{◌≡◌, ℕ, ◌+◌, ◌<◌, List, [], ◌++◌, length, length-append, arith, Option, Some, None, Result, Ok, Err, refl, sym, ap, subst, ◌∙◌, inl, inr, ◌⊎◌}
+use Rattle.std.proofs.Common.{◌≡◌, ℕ, ◌+◌, ◌<◌, List, length, length-append, arith, Option, Some, None, Result, Ok, Err, refl, sym, ap, subst, ◌∙◌, inl, inr}
 use Rattle.std.specs.Prelude.{IfSome}
-use Rattle.std.specs.Io.KnownBytes.{Appends}
 use Rattle.std.proofs.KnownBytes.{Appends-nil}
 use Rattle.unit_text.specs.Reading.{IsAccepted, IsRefused, IsAnswered, text_limit}
 use Rattle.unit_text.proofs.AnswerLemmas.{answered}
@@ -11,12 +10,12 @@ use Rattle.unit_tree.specs.Lines.{size_of}
 use Rattle.unit_tree.specs.declared.ending.Ending.{Ending}
 use Rattle.unit_tree.specs.declared.ending.Ending.TheVariants.{Completed, Faulted}
 use Rattle.unit_tree.specs.declared.system.System.{System}
-use Rattle.cosim_io.specs.Pieces.{AppendsPrefix, ConsumesExactly}
+use Rattle.cosim_io.specs.Pieces.{ConsumesExactly}
 use Rattle.cosim_io.proofs.PieceLemmas.{AppendsPrefix-nil, AppendsPrefix-whole}
-use Rattle.cosim_app.specs.Answer.{Answer, last_point, run_answer, refused_answer, status_of}
-use Rattle.cosim_app.specs.Judgement.{RunAnswers, PutsAnswer, PutsFront, IsOwn, JudgesText, JudgesInput, Refuses}
+use Rattle.cosim_app.specs.Answer.{Answer, RunAnswers, run_answer, refused_answer, status_of}
+use Rattle.cosim_app.specs.Judgement.{PutsAnswer, PutsFront, IsOwn, JudgesText, JudgesInput, Refuses}
 use Rattle.cosim_app.specs.Notes.{ending_note, refused_note}
-use Rattle.cosim_app.specs.Runnable.{IsRunnable, PutsTrace}
+use Rattle.cosim_app.specs.Runnable.{PutsTrace}
 use Rattle.cosim_app.specs.declared.fault.RunEnd.{RunEnd}
 use Rattle.cosim_app.specs.declared.fault.RunFault.{RunFault}
 use Rattle.cosim_app.specs.declared.status.Status.{Status}

@@ -1,19 +1,17 @@
 -- The successor of a position of one component.
-use Rattle.std.proofs.Common.{◌≡◌, ℕ, suc, ◌+◌, ◌-◌, ◌/◌, ◌==◌, min, Bool, true, false, cond, ℤ, List, [], ◌∷◌, ◌++◌, map, length, take, Option, Some, None, Result, Ok, Err, refl, sym, ap, subst, ◌∙◌, arith, append-nil}
+use Rattle.std.proofs.Common.{◌≡◌, ℕ, suc, ◌+◌, ◌-◌, ◌/◌, ◌==◌, min, true, false, cond, ℤ, List, [], ◌∷◌, ◌++◌, map, length, take, Option, Some, None, Result, Ok, Err, ap, ◌∙◌, arith, append-nil}
 use Rattle.std.proofs.lemmas.List.{take_all}
 use Rattle.fixed_words.specs.Operations.{Outcome}
 use Rattle.fixed_words.specs.declared.types.Fault.{Fault}
-use Rattle.unit_tree.specs.Components.{Component, Moved, variables_of, environment_of, words_of, given_as, get_of, state_in, moved_by}
+use Rattle.unit_tree.specs.Components.{Component, Moved, environment_of, words_of, given_as, get_of, state_in, moved_by}
 use Rattle.unit_tree.specs.Effects.{effect_of_lines}
-use Rattle.unit_tree.specs.LocalTime.{local_step}
 use Rattle.unit_tree.specs.Steps.{reply_of}
-use Rattle.unit_tree.specs.Trace.{Composition, Position, Row, Next, goes, ends, start_inputs, ports_at, port_fault, row_unless, row_at, unless_fault, onward, stepped, moved_on, all_moved, step_at, successor}
+use Rattle.unit_tree.specs.Trace.{Row, goes, ends, start_inputs, ports_at, port_fault, row_unless, row_at, unless_fault, onward, stepped, moved_on, all_moved, step_at, successor}
 use Rattle.unit_tree.specs.Values.{◌>>=◌, value_of}
 use Rattle.unit_tree.specs.declared.ending.Ending.TheVariants.{Completed, Faulted}
 use Rattle.unit_tree.specs.declared.ending.Place.TheVariants as place
 use Rattle.unit_tree.specs.declared.environment.Environment.{Environment}
 use Rattle.unit_tree.specs.declared.line.Line.{Line}
-use Rattle.unit_tree.specs.declared.point.Point.{Point}
 use Rattle.unit_tree.specs.declared.unit.Output.{Output}
 use Rattle.unit_tree.specs.declared.unit.Unit.{Unit}
 use Rattle.cosim_app.specs.OneComponent.{at, one, IsPlain, given_in, plain_env}

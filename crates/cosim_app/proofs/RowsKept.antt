@@ -1,5 +1,5 @@
 -- What a run of one component keeps from row to row.
-use Rattle.std.proofs.Common.{◌≡◌, ℕ, ◌≤◌, ℤ, List, length, Option}
+use Rattle.std.proofs.Common.{◌≡◌, ℕ, ◌≤◌, ℤ, List, Option}
 use Rattle.std.specs.Io.KnownBytes.{Appends}
 use Rattle.unit_tree.specs.Components.{variables_of}
 use Rattle.unit_tree.specs.Trace.{Composition, Position, Row, IsTrace}

@@ -1,5 +1,5 @@
 -- What each way through a run's loop has put, in terms of its trace.
-use Rattle.std.proofs.Common.{◌≡◌, ℕ, suc, ◌+◌, ◌-◌, ◌≤◌, ◌==◌, min, true, false, ℤ, List, [], ◌∷◌, ◌++◌, length, Option, Some, None, Result, Ok, Err, refl, sym, ap, subst, ◌∙◌, arith, append_assoc, length-append}
+use Rattle.std.proofs.Common.{◌≡◌, ℕ, suc, ◌+◌, ◌-◌, ◌==◌, min, false, ℤ, List, [], ◌∷◌, ◌++◌, length, Option, Some, None, Result, Ok, Err, sym, ap, subst, ◌∙◌, arith, append_assoc, length-append}
 use Rattle.std.specs.Prelude.{IsErr}
 use Rattle.std.specs.Io.KnownBytes.{Appends}
 use Rattle.std.proofs.lemmas.List.{length-map}
@@ -8,24 +8,22 @@ use Rattle.fixed_words.specs.Operations.{Outcome}
 use Rattle.fixed_words.specs.declared.types.Fault.{Fault}
 use Rattle.unit_tree.specs.Components.{variables_of}
 use Rattle.unit_tree.specs.Effects.{effect_of_lines}
-use Rattle.unit_tree.specs.Trace.{Composition, Position, Row, goes, ends, first_position, row_at, successor, IsTrace}
+use Rattle.unit_tree.specs.Trace.{Composition, Row, goes, ends, first_position, row_at, successor}
 use Rattle.unit_tree.specs.Values.{IsSound}
 use Rattle.unit_tree.specs.declared.ending.Ending.{Ending}
-use Rattle.unit_tree.specs.declared.ending.Ending.TheVariants.{Completed, Faulted}
-use Rattle.unit_tree.specs.declared.ending.Place.TheVariants as place
 use Rattle.unit_tree.specs.declared.environment.Environment.{Environment}
 use Rattle.unit_tree.specs.declared.line.Line.{Line}
 use Rattle.unit_tree.specs.declared.unit.Output.{Output}
 use Rattle.unit_tree.specs.declared.unit.Unit.{Unit}
 use Rattle.cosim_io.specs.Pieces.{AppendsPrefix}
 use Rattle.cosim_io.proofs.PieceLemmas.{AppendsPrefix-whole, AppendsPrefix-after, AppendsPrefix-longer}
-use Rattle.cosim_app.specs.OneComponent.{at, one, one_column, IsPlain, PutsRows, StandsAtStart, given_in, plain_env, text_of_rows}
+use Rattle.cosim_app.specs.OneComponent.{at, one, one_column, IsPlain, PutsRows, StandsAtStart, given_in, plain_env}
 use Rattle.cosim_app.specs.TraceText.{row_text}
 use Rattle.cosim_app.specs.declared.fault.RunEnd.{RunEnd}
 use Rattle.cosim_app.specs.declared.fault.RunFault.{RunFault}
-use Rattle.cosim_app.proofs.Going.{Going, going_first, going_on, going_ends, going_breaks, going_front, going_front_row}
-use Rattle.cosim_app.proofs.OneLemmas.{given, row_is, row_is_none, output_fault_ends, stop_ends, step_fault_ends, step_goes}
-use Rattle.cosim_app.proofs.RowsKept.{PutSoFar, Standing, Kept}
+use Rattle.cosim_app.proofs.Going.{going_first, going_on, going_ends, going_breaks, going_front, going_front_row}
+use Rattle.cosim_app.proofs.OneLemmas.{given, row_is, step_goes}
+use Rattle.cosim_app.proofs.RowsKept.{Standing, Kept}
 
 -- at the start nothing was put
 pub stands_first : (run : Composition) (line : Row → List ℕ) (words : List ℤ) (held : Option (List ℕ)) → first_position run ≡ at 0 words 0 → Standing run line 0 words held held

@@ -1,22 +1,21 @@
 -- A runnable system as one component, and the text of its trace.
-use Rattle.std.proofs.Common.{◌≡◌, ℕ, true, List, [], ◌∷◌, ◌++◌, map, Option, Some, None, Result, Ok, Err, refl, sym, ap, eq-eqb, append-nil, append_assoc, subst, ◌∙◌}
+use Rattle.std.proofs.Common.{◌≡◌, ℕ, true, List, [], ◌∷◌, ◌++◌, map, Option, Some, None, Result, Ok, Err, refl, sym, ap, eq-eqb, subst, ◌∙◌}
 use Rattle.std.specs.Prelude.{IsErr, cond}
 use Rattle.std.specs.List.{filter_map, flat_map}
 use Rattle.std.specs.Str.{bytes_eq}
 use Rattle.std.specs.Io.KnownBytes.{Appends}
-use Rattle.std.proofs.KnownBytes.{Appends-nil, Appends-trans}
+use Rattle.std.proofs.KnownBytes.{Appends-trans}
 use Rattle.unit_tree.specs.Components.{start_word}
-use Rattle.unit_tree.specs.Trace.{Composition, Position, Row, components_of, component_with, composition_of, unit_named, rows_of, IsTrace, literal_set}
-use Rattle.unit_tree.specs.declared.ending.Ending.{Ending}
+use Rattle.unit_tree.specs.Trace.{Composition, Position, components_of, component_with, composition_of, unit_named, rows_of, IsTrace, literal_set}
 use Rattle.unit_tree.specs.declared.system.Instance.{Instance}
 use Rattle.unit_tree.specs.declared.system.System.{System}
 use Rattle.unit_tree.specs.declared.unit.Output.{Output}
 use Rattle.unit_tree.specs.declared.unit.Unit.{Unit}
 use Rattle.cosim_io.specs.Pieces.{AppendsPrefix}
-use Rattle.cosim_io.proofs.PieceLemmas.{AppendsPrefix-nil, AppendsPrefix-after, AppendsPrefix-longer}
+use Rattle.cosim_io.proofs.PieceLemmas.{AppendsPrefix-after, AppendsPrefix-longer}
 use Rattle.cosim_app.specs.OneComponent.{one, one_column, text_of_rows, PutsRows}
 use Rattle.cosim_app.specs.Runnable.{IsRunnable, PutsTrace, stop_of, longest_of}
-use Rattle.cosim_app.specs.TraceText.{Column, columns_in, columns_of, header_text, row_text, trace_text}
+use Rattle.cosim_app.specs.TraceText.{columns_in, columns_of, header_text, row_text, trace_text}
 use Rattle.cosim_app.specs.declared.fault.RunEnd.{RunEnd}
 use Rattle.cosim_app.specs.declared.fault.RunFault.{RunFault}
 

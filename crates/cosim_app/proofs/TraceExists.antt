@@ -1,10 +1,10 @@
 -- A runnable system has a trace.
-use Rattle.std.proofs.Common.{◌≡◌, ℕ, zero, suc, ◌+◌, ◌-◌, ◌<◌, ◌≤◌, ◌==◌, ◌⊎◌, min, Bool, true, false, ℤ, List, [], ◌∷◌, length, take, Result, Ok, Err, refl, sym, ap, subst, ◌∙◌, inl, inr, arith}
+use Rattle.std.proofs.Common.{◌≡◌, ℕ, zero, suc, ◌+◌, ◌-◌, ◌<◌, ◌≤◌, ◌==◌, ◌⊎◌, min, Bool, true, false, ℤ, List, [], ◌∷◌, length, take, Result, Ok, Err, refl, sym, subst, arith}
 use Rattle.fixed_words.specs.Operations.{Outcome}
 use Rattle.fixed_words.specs.declared.types.Fault.{Fault}
 use Rattle.unit_tree.specs.Components.{initial}
 use Rattle.unit_tree.specs.Effects.{effect_of_lines}
-use Rattle.unit_tree.specs.Trace.{Composition, Position, composition_of, first_position, successor, Follows, IsTrace}
+use Rattle.unit_tree.specs.Trace.{Composition, Position, composition_of, Follows, IsTrace}
 use Rattle.unit_tree.specs.declared.ending.Ending.{Ending}
 use Rattle.unit_tree.specs.declared.ending.Ending.TheVariants.{Completed, Faulted}
 use Rattle.unit_tree.specs.declared.ending.Place.TheVariants as place

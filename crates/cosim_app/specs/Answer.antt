@@ -2,10 +2,9 @@
 -- of its input.
 use Rattle.std.specs.Prelude.{◌≡◌, ℕ, List, [], ◌∷◌, codes, ◌⊎◌}
 use Rattle.unit_text.specs.Reading.{IsAccepted, IsRefused}
-use Rattle.unit_tree.specs.Trace.{Position, composition_of, IsTrace}
+use Rattle.unit_tree.specs.Trace.{Position, composition_of, IsTrace, last_point}
 use Rattle.unit_tree.specs.declared.ending.Ending.{Ending}
 use Rattle.unit_tree.specs.declared.ending.Ending.TheVariants.{Completed, Faulted}
-use Rattle.unit_tree.specs.declared.point.Point.{Point}
 use Rattle.unit_tree.specs.declared.system.System.{System}
 use Rattle.cosim_app.specs.TraceText.{trace_text}
 use Rattle.cosim_app.specs.Notes.{usage_note, refused_note, ending_note}
@@ -31,12 +30,6 @@ abbrev pub status_of : Ending → Status
 status_of Completed = status.Done
 status_of (Faulted instance place fault) = status.UnitFault
 
--- The point of the last position.
-abbrev pub last_point : List Position → Point
-last_point [] = record { t = 0; n = 0 }
-last_point (position ∷ []) = position.point
-last_point (position ∷ later ∷ others) = last_point (later ∷ others)
-
 -- The trace's text, and how it ended.
 abbrev pub run_answer : System → List Position → Ending → Answer
 run_answer system positions ending =
@@ -58,9 +51,13 @@ pub record AnswersRun (text : List ℕ) (answer : Answer) : Type 0 where
   pub trace : IsTrace (composition_of system) positions ending
   pub is : answer ≡ run_answer system positions ending
 
+-- The answer of `run` for a text.
+abbrev pub RunAnswers : List ℕ → Answer → Type 0
+RunAnswers text answer = AnswersRefusal text answer ⊎ AnswersRun text answer
+
 -- The answer for the words and the input: `run` on a text that is refused or accepted; any other words have
 -- no form, and the input does not matter.
 abbrev pub IsAnswer : List (List ℕ) → List ℕ → Answer → Type 0
 IsAnswer words text answer =
-    ((words ≡ run_words) × (AnswersRefusal text answer ⊎ AnswersRun text answer))
+    ((words ≡ run_words) × RunAnswers text answer)
     ⊎ ((words ≡ run_words → ⊥) × (answer ≡ usage_answer))

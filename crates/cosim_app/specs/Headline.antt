@@ -41,13 +41,18 @@ abbrev pub AnswerClause : List (List ℕ) → Streams → Streams → Status →
 AnswerClause words before now given =
     IsQuiet before now → (given ≡ status.NoMemory → ⊥) → IfSome before.left (λ text. (answer : Answer) → IsAnswer words text answer → Gives before now given answer)
 
+-- Nothing was put: the output holds what it held, and no put failed.
+pub record PutsNothing (before now : Streams) : Type 0 where
+  pub held : now.held ≡ before.held
+  pub faults : now.put_faults ≡ before.put_faults
+
 -- Prefix clause: in every case what was appended to the output begins the answer's, and a call that is answered
 -- by Usage, Refused or ReadFault put nothing.
 pub record PrefixClause (words : List (List ℕ)) (before now : Streams) (given : Status) : Type 0 where
   pub front : IfSome before.left (λ text. (answer : Answer) → IsAnswer words text answer → AppendsPrefix before.held now.held answer.out)
-  pub usage : given ≡ status.Usage → now.held ≡ before.held
-  pub refused : given ≡ status.Refused → now.held ≡ before.held
-  pub read_fault : given ≡ status.ReadFault → now.held ≡ before.held
+  pub usage : given ≡ status.Usage → PutsNothing before now
+  pub refused : given ≡ status.Refused → PutsNothing before now
+  pub read_fault : given ≡ status.ReadFault → PutsNothing before now
 
 -- The text is accepted, and its trace ends so that the status is this one.
 pub record EndsWith (given : Status) (text : List ℕ) : Type 0 where
@@ -98,6 +103,14 @@ pub record NotesClause (words : List (List ℕ)) (before now : Streams) (given :
   pub write_fault : given ≡ status.WriteFault → (Rose before.note_faults now.note_faults → ⊥) → Appends before.noted now.noted write_fault_note
   pub no_memory : given ≡ status.NoMemory → Appends before.noted now.noted no_memory_note
   pub failed : IfSome before.left (λ text. (notes : List ℕ) × IsNotesText words text notes × AppendsPrefix before.noted now.noted notes)
+
+-- What a call promises of its words, of the streams before and after it, and of its status: the five clauses.
+pub record Promises (words : List (List ℕ)) (before now : Streams) (given : Status) : Type 0 where
+  pub answer : AnswerClause words before now given
+  pub prefix : PrefixClause words before now given
+  pub cause : CauseClause words before now given
+  pub whole_input : WholeInputClause words before now given
+  pub notes : NotesClause words before now given
 
 -- The streams at a moment.
 abbrev pub streams : Option (List ℕ) → ℕ → Option (List ℕ) → ℕ → Option (List ℕ) → ℕ → Streams

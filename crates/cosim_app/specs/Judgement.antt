@@ -5,16 +5,12 @@ use Rattle.unit_text.specs.Reading.{text_limit}
 use Rattle.unit_tree.specs.Lines.{size_of}
 use Rattle.cosim_io.specs.Faults.{Rose}
 use Rattle.cosim_io.specs.Pieces.{AppendsPrefix}
-use Rattle.cosim_app.specs.Answer.{Answer, AnswersRefusal, AnswersRun}
+use Rattle.cosim_app.specs.Answer.{Answer, RunAnswers}
 use Rattle.cosim_app.specs.Notes.{refused_note}
 use Rattle.cosim_app.specs.declared.status.Status.{Status}
 use Rattle.cosim_app.specs.declared.status.Status.TheVariants as status
 use Rattle.cosim_app.specs.declared.verdict.Verdict.{Verdict}
 use Rattle.cosim_app.specs.declared.verdict.Verdict.TheVariants as verdict
-
--- The answer of `run` for a text.
-abbrev pub RunAnswers : List ℕ → Answer → Type 0
-RunAnswers text answer = AnswersRefusal text answer ⊎ AnswersRun text answer
 
 -- The status and the note are the text's answer, and its bytes were put.
 pub record PutsAnswer (text : List ℕ) (held held' : Option (List ℕ)) (given : Status) (note : List ℕ) : Type 0 where

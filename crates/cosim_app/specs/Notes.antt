@@ -1,5 +1,5 @@
 -- Notes: the line that the program writes beside its output, for each way to end.
-use Rattle.std.specs.Prelude.{ℕ, suc, List, [], ◌∷◌, ◌++◌, codes, Option, Some, None, slice_get}
+use Rattle.std.specs.Prelude.{ℕ, List, [], ◌++◌, codes, Option, Some, None, slice_get}
 use Rattle.std.specs.Option.{option_and_then}
 use Rattle.std.specs.Fmt.{decimal}
 use Rattle.fixed_words.specs.declared.types.Fault.{Fault}
@@ -10,10 +10,7 @@ use Rattle.unit_tree.specs.declared.ending.Ending.TheVariants.{Completed, Faulte
 use Rattle.unit_tree.specs.declared.ending.Place.{Place}
 use Rattle.unit_tree.specs.declared.ending.Place.TheVariants as place
 use Rattle.unit_tree.specs.declared.point.Point.{Point}
-use Rattle.unit_tree.specs.declared.system.Instance.{Instance}
 use Rattle.unit_tree.specs.declared.system.System.{System}
-use Rattle.unit_tree.specs.declared.unit.Output.{Output}
-use Rattle.unit_tree.specs.declared.unit.Unit.{Unit}
 use Rattle.cosim_app.specs.TraceText.{line_end}
 
 -- One line of the program's own.

@@ -1,20 +1,18 @@
 -- A run of one component without parameters, inputs and locals, that has one output and always a step.
-use Rattle.std.specs.Prelude.{◌≡◌, ℕ, ℤ, List, [], ◌∷◌, Some, length, Option, Result, ◌≤◌, IsTrue, Ok, Err, IfOk, OnErr, ⊤}
+use Rattle.std.specs.Prelude.{◌≡◌, ℕ, ℤ, List, [], ◌∷◌, Some, Option, Result, ◌≤◌, IsTrue, Ok, Err, IfOk, OnErr, ⊤}
 use Rattle.fixed_words.specs.Operations.{Outcome}
 use Rattle.fixed_words.specs.Types.{AreDecimals}
 use Rattle.fixed_words.specs.declared.types.Ty.TheVariants.{Int64}
 use Rattle.unit_tree.specs.Components.{initial, variables_of, given_as}
 use Rattle.unit_tree.specs.Effects.{effect_of_lines, lines_are_ranged}
-use Rattle.unit_tree.specs.Trace.{Composition, Position, Row, rows_of, IsTrace}
+use Rattle.unit_tree.specs.Trace.{Composition, Position, Row, rows_of, IsTrace, last_point}
 use Rattle.unit_tree.specs.declared.ending.Ending.{Ending}
 use Rattle.unit_tree.specs.declared.ending.Ending.TheVariants.{Completed, Faulted}
 use Rattle.unit_tree.specs.declared.ending.Place.TheVariants as place
-use Rattle.unit_tree.specs.declared.point.Point.{Point}
 use Rattle.std.specs.List.{flat_map}
 use Rattle.std.specs.Io.KnownBytes.{Appends}
 use Rattle.cosim_io.specs.Faults.{Rose}
 use Rattle.cosim_io.specs.Pieces.{AppendsPrefix}
-use Rattle.cosim_app.specs.Answer.{last_point}
 use Rattle.cosim_app.specs.TraceText.{Column}
 use Rattle.cosim_app.specs.declared.fault.RunFault.{RunFault}
 use Rattle.cosim_app.specs.declared.fault.RunFault.TheVariants.{WriteFault}

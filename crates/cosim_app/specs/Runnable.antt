@@ -1,7 +1,7 @@
 -- Which systems are run: those of one plain component, and what a run of one puts.
 use Rattle.std.specs.Prelude.{◌≡◌, ℕ, ◌<◌, ◌≤◌, ◌^◌, List, [], ◌∷◌, Option, Result, IfOk, OnErr, ◌⊎◌}
 use Rattle.std.specs.Io.KnownBytes.{Appends}
-use Rattle.unit_tree.specs.Trace.{Position, composition_of, ticks_or, IsTrace}
+use Rattle.unit_tree.specs.Trace.{Position, composition_of, ticks_or, IsTrace, last_point}
 use Rattle.unit_tree.specs.declared.ending.Ending.{Ending}
 use Rattle.unit_tree.specs.declared.line.Line.{Line}
 use Rattle.unit_tree.specs.declared.system.Instance.{Instance}
@@ -9,7 +9,6 @@ use Rattle.unit_tree.specs.declared.system.System.{System}
 use Rattle.unit_tree.specs.declared.unit.Output.{Output}
 use Rattle.unit_tree.specs.declared.unit.Unit.{Unit}
 use Rattle.cosim_io.specs.Pieces.{AppendsPrefix}
-use Rattle.cosim_app.specs.Answer.{last_point}
 use Rattle.cosim_app.specs.OneComponent.{IsPlain, AreDeclared}
 use Rattle.cosim_app.specs.TraceText.{trace_text}
 use Rattle.cosim_app.specs.declared.fault.RunEnd.{RunEnd}

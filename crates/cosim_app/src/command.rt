@@ -1,7 +1,7 @@
 //! The commands of the program.
 ghost use Rattle.std.specs.Prelude.{◌≡◌, ◌↔◌, IsTrue};
 ghost use Rattle.cosim_app.specs.Answer.{run_words};
-ghost use Rattle.cosim_app.specs.Headline.{AnswerClause, PrefixClause, CauseClause, WholeInputClause, NotesClause, streams};
+ghost use Rattle.cosim_app.specs.Headline.{Promises, streams};
 ghost use Rattle.cosim_app.specs.Judgement.{TellsNote};
 ghost use Rattle.cosim_app.specs.Laws.{EveryCallIsAnswered, NoCallIsAnsweredTwice};
 ghost use Rattle.cosim_app.specs.Words.{bytes_of};
@@ -48,11 +48,10 @@ pub fn cosim_alone<S: Source, O: Sink, N: Sink>(
     out: &mut O,
     notes: &mut N,
 ) -> Status
-    ensures answer { AnswerClause (bytes_of words.now) (streams (S.left source.old) (S.faults source.old) (O.held out.old) (O.faults out.old) (N.held notes.old) (N.faults notes.old)) (streams (S.left source.new) (S.faults source.new) (O.held out.new) (O.faults out.new) (N.held notes.new) (N.faults notes.new)) result }
-    ensures prefix { PrefixClause (bytes_of words.now) (streams (S.left source.old) (S.faults source.old) (O.held out.old) (O.faults out.old) (N.held notes.old) (N.faults notes.old)) (streams (S.left source.new) (S.faults source.new) (O.held out.new) (O.faults out.new) (N.held notes.new) (N.faults notes.new)) result }
-    ensures cause { CauseClause (bytes_of words.now) (streams (S.left source.old) (S.faults source.old) (O.held out.old) (O.faults out.old) (N.held notes.old) (N.faults notes.old)) (streams (S.left source.new) (S.faults source.new) (O.held out.new) (O.faults out.new) (N.held notes.new) (N.faults notes.new)) result }
-    ensures whole_input { WholeInputClause (bytes_of words.now) (streams (S.left source.old) (S.faults source.old) (O.held out.old) (O.faults out.old) (N.held notes.old) (N.faults notes.old)) (streams (S.left source.new) (S.faults source.new) (O.held out.new) (O.faults out.new) (N.held notes.new) (N.faults notes.new)) result }
-    ensures notes { NotesClause (bytes_of words.now) (streams (S.left source.old) (S.faults source.old) (O.held out.old) (O.faults out.old) (N.held notes.old) (N.faults notes.old)) (streams (S.left source.new) (S.faults source.new) (O.held out.new) (O.faults out.new) (N.held notes.new) (N.faults notes.new)) result }
+    ensures { Promises (bytes_of words.now)
+        (streams (S.left source.old) (S.faults source.old) (O.held out.old) (O.faults out.old) (N.held notes.old) (N.faults notes.old))
+        (streams (S.left source.new) (S.faults source.new) (O.held out.new) (O.faults out.new) (N.held notes.new) (N.faults notes.new))
+        result }
 {
     if !is_run(words) {
         return tell(notes, b"cosim: usage\n", Status::Usage);
@@ -74,11 +73,10 @@ pub fn cosim<R: Threads + Wait + Copy + Send, S: Source, O: Sink, N: Sink>(
     out: &mut O,
     notes: &mut N,
 ) -> Status
-    ensures answer { AnswerClause (bytes_of words.now) (streams (S.left source.old) (S.faults source.old) (O.held out.old) (O.faults out.old) (N.held notes.old) (N.faults notes.old)) (streams (S.left source.new) (S.faults source.new) (O.held out.new) (O.faults out.new) (N.held notes.new) (N.faults notes.new)) result }
-    ensures prefix { PrefixClause (bytes_of words.now) (streams (S.left source.old) (S.faults source.old) (O.held out.old) (O.faults out.old) (N.held notes.old) (N.faults notes.old)) (streams (S.left source.new) (S.faults source.new) (O.held out.new) (O.faults out.new) (N.held notes.new) (N.faults notes.new)) result }
-    ensures cause { CauseClause (bytes_of words.now) (streams (S.left source.old) (S.faults source.old) (O.held out.old) (O.faults out.old) (N.held notes.old) (N.faults notes.old)) (streams (S.left source.new) (S.faults source.new) (O.held out.new) (O.faults out.new) (N.held notes.new) (N.faults notes.new)) result }
-    ensures whole_input { WholeInputClause (bytes_of words.now) (streams (S.left source.old) (S.faults source.old) (O.held out.old) (O.faults out.old) (N.held notes.old) (N.faults notes.old)) (streams (S.left source.new) (S.faults source.new) (O.held out.new) (O.faults out.new) (N.held notes.new) (N.faults notes.new)) result }
-    ensures notes { NotesClause (bytes_of words.now) (streams (S.left source.old) (S.faults source.old) (O.held out.old) (O.faults out.old) (N.held notes.old) (N.faults notes.old)) (streams (S.left source.new) (S.faults source.new) (O.held out.new) (O.faults out.new) (N.held notes.new) (N.faults notes.new)) result }
+    ensures { Promises (bytes_of words.now)
+        (streams (S.left source.old) (S.faults source.old) (O.held out.old) (O.faults out.old) (N.held notes.old) (N.faults notes.old))
+        (streams (S.left source.new) (S.faults source.new) (O.held out.new) (O.faults out.new) (N.held notes.new) (N.faults notes.new))
+        result }
 {
     let _unused = rt;
     cosim_alone(alloc, words, source, out, notes)

@@ -12,14 +12,8 @@ use crate::status::Status;
 use crate::verdict::Verdict;
 use cosim_io::{ReadEnd, Sink, Source, read_all};
 use std::alloc::Global;
-use unit_text::{TextFault, read_first_form};
+use unit_text::{LONGEST_TEXT, SIZE_RULE, TextFault, read_first_form};
 use unit_tree::{Ending, System};
-
-/// The most bytes of a text.
-const LONGEST_TEXT: usize = 1_048_576;
-
-/// The rule that bounds the text.
-const SIZE_RULE: u8 = 2;
 
 /// The status of how a run ended.
 fn status(ending: Ending) -> Status

@@ -80,7 +80,7 @@ abbrev pub RefusalIs : List ℕ → TextFault → Type 0
 RefusalIs text (fault.Line line rule) = IsRefused text line rule
 RefusalIs text fault.NoMemory = ⊤
 
--- Each number of the text is one that its line may have.
+-- Each number of the text is no greater than its line allows. That `longest` is at least 1 is no part of it.
 pub record AreInRange (source : Source) : Type 0 where
   pub starts : All (λ state. IsStart state.start) source.states
   pub left : All (λ sum. IsOperand sum.left) source.assignments

@@ -1,8 +1,9 @@
 //! Reading of model texts: from bytes to the tree of a system, or the line and the rule by which the
 //! text is refused.
 //!
-//! The layer above uses [`read_first_form`] and its [`TextFault`], and two laws of the definitions:
-//! [`answers_agree`] (a text has one answer at most) and [`every_text_is_answered`].
+//! The layer above uses [`read_first_form`] and its [`TextFault`], the bound of a text's length
+//! ([`LONGEST_TEXT`], [`SIZE_RULE`]), and two laws of the definitions: [`answers_agree`] (a text has one
+//! answer at most) and [`every_text_is_answered`].
 //!
 //! Definitions: `specs/FirstForm.antt` (the lines of a text, and the system that it says),
 //! `specs/Reading.antt` (which texts are accepted, and where the others are refused). How the reader
@@ -24,5 +25,7 @@ mod worked;
 
 pub use fault::TextFault;
 pub use form::{Assignment, Declared, LineForm, Operand, Source, WholeNumber};
-pub use reading::{answers_agree, every_text_is_answered, read_first_form};
+pub use reading::{
+    LONGEST_TEXT, SIZE_RULE, answers_agree, every_text_is_answered, read_first_form,
+};
 pub use worked::texts_are_worked;

@@ -15,10 +15,10 @@ use std::alloc::Global;
 use unit_tree::System;
 
 /// The most bytes of a text, with an end counted for each line.
-const LONGEST_TEXT: usize = 1_048_576;
+pub const LONGEST_TEXT: usize = 1_048_576;
 
 /// The rule that bounds the text.
-const SIZE_RULE: u8 = 2;
+pub const SIZE_RULE: u8 = 2;
 
 /// The rule that each line has its form, and that no line lacks.
 const FORM_RULE: u8 = 4;

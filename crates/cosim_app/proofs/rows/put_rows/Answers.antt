@@ -1,4 +1,4 @@
-use Rattle.std.proofs.Common.{◌≡◌, ◌<◌, ◌==◌, ◌-◌, min, Bool, SFits, w64, true, false, List, ℕ, ℤ, Ok, Err, refl, sym, ap, subst, ◌∙◌, arith, rules}
+use Rattle.std.proofs.Common.{◌≡◌, ◌==◌, ◌-◌, min, SFits, w64, true, false, List, ℕ, Ok, Err, refl, sym, ap, subst, ◌∙◌, arith, rules}
 use Rattle.std.proofs.lemmas.Int.{to_z-of_z}
 use Rattle.std.specs.Io.KnownBytes.{Appends}
 use Rattle.unit_tree.specs.Effects.{effect_of_lines}
@@ -6,7 +6,7 @@ use Rattle.unit_tree.specs.declared.ending.Ending.TheVariants.{Completed, Faulte
 use Rattle.unit_tree.specs.declared.ending.Place.TheVariants as place
 use Rattle.cosim_io.specs.Pieces.{AppendsPrefix}
 use Rattle.cosim_app.specs.TraceText.{row_text}
-use Rattle.cosim_app.specs.OneComponent.{one, one_column, plain_env, PutsRows}
+use Rattle.cosim_app.specs.OneComponent.{one, one_column, plain_env}
 use Rattle.cosim_app.proofs.OneLemmas.{given, row_is, row_is_none, output_fault_ends, stop_ends, step_fault_ends}
 use Rattle.cosim_app.proofs.RowsLaws.{stands_first, first_is, given_is, tried_is, kept_on, one_row, puts_all, puts_before, puts_front_err, puts_front_row_err}
 use Rattle.cosim_app.proofs.rows.put_rows.Goals as goal

@@ -6,9 +6,9 @@ use Rattle.unit_tree.specs.declared.unit.Output.{Output}
 use Rattle.unit_tree.specs.declared.unit.Unit.{Unit}
 use Rattle.cosim_io.specs.Pieces.{AppendsPrefix}
 use Rattle.cosim_io.proofs.PieceLemmas.{AppendsPrefix-nil}
-use Rattle.cosim_app.specs.OneComponent.{one, one_column, PutsRows}
+use Rattle.cosim_app.specs.OneComponent.{one_column}
 use Rattle.cosim_app.specs.Runnable.{stop_of, longest_of}
-use Rattle.cosim_app.specs.TraceText.{header_text, row_text}
+use Rattle.cosim_app.specs.TraceText.{header_text}
 use Rattle.cosim_app.proofs.RunnableLaws.{puts_trace, puts_header_front, puts_rows_of}
 use Rattle.cosim_app.proofs.run_system.run_system.Goals as goal
 
