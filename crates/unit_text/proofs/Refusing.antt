@@ -38,11 +38,11 @@ least rule before line known byte short formed placed other broken =
     elim (cases_lt other rule) [
       | inr within ↦ within
       | inl below ↦ absurd (by_rule other before line broken
-        (λ is told. let allowed : has_forbidden_byte line ≡ false = byte (omega arith) in absurd (cc (told, allowed)))
-        (λ is long. omega (arith, short (omega arith), long))
-        (λ is none. formed (omega arith) none)
-        (λ is off. placed (omega arith) off)
-        (λ is lacks. omega arith))
+          (λ is told. let allowed : has_forbidden_byte line ≡ false = byte (omega arith) in absurd (cc (told, allowed)))
+          (λ is long. omega (arith, short (omega arith), long))
+          (λ is none. formed (omega arith) none)
+          (λ is off. placed (omega arith) off)
+          (λ is lacks. omega arith))
     ]
 
 -- ---- The first broken line
@@ -61,7 +61,7 @@ not_before rule by done (y ∷ before) (x ∷ before') line line' later later' s
     let rest : before ++ (line ∷ later) ≡ before' ++ (line' ∷ later') = cc in
     let least_here : IsLeast rule ((done ++ (y ∷ [])) ++ before) line = subst (λ d. IsLeast rule d line) (sym (append_assoc done (y ∷ []) before)) is_least in
     let broken_here : LineBreaks by ((done ++ (y ∷ [])) ++ before') line' =
-        subst (λ d. LineBreaks by d line') (sym (append_assoc done (y ∷ []) before')) (subst (λ d. LineBreaks by (done ++ (d ++ before')) line') here broken) in
+    subst (λ d. LineBreaks by d line') (sym (append_assoc done (y ∷ []) before')) (subst (λ d. LineBreaks by (done ++ (d ++ before')) line') here broken) in
     elim (not_before rule by (done ++ (y ∷ [])) before before' line line' later later' rest kept.1 least_here broken_here) [
       | inl less ↦ inl (omega arith)
       | inr same_place ↦ inr (ap suc same_place.0, same_place.1)
@@ -72,9 +72,9 @@ first_broken before line later rule kept broken is_least not_blank = record {
   breaks = inl (record { before = before; line = line; later = later; cut = refl; is_number = refl; breaks = broken });
   first = λ other by found. elim found [
     | inl at ↦ elim (not_before rule by [] before at.before line at.line later at.later at.cut kept is_least at.breaks) [
-        | inl less ↦ inl (omega (arith, at.is_number))
-        | inr same ↦ inr (ap suc same.0 ∙ sym at.is_number, same.1)
-      ]
+      | inl less ↦ inl (omega (arith, at.is_number))
+      | inr same ↦ inr (ap suc same.0 ∙ sym at.is_number, same.1)
+    ]
     | inr blank ↦ absurd (cc (blank.0, not_blank))
   ];
 }

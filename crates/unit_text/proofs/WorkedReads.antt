@@ -22,10 +22,10 @@ use Rattle.unit_text.proofs.WorkedForms.{header, unit_line, state_line, output_l
 abbrev counter_parts : List Part
 counter_parts =
     parts.HasUnit (codes "Counter") (
-        parts.HasState (record { name = codes "n"; ty = types.Int64; start = literal.Number (pos 0) 0 })
-        ∷ parts.HasOutput (record { name = codes "y"; ty = types.Int64; needs = []; value = expr.Var (codes "n") })
-        ∷ parts.Step (increment ∷ [])
-        ∷ [])
+    parts.HasState (record { name = codes "n"; ty = types.Int64; start = literal.Number (pos 0) 0 })
+    ∷ parts.HasOutput (record { name = codes "y"; ty = types.Int64; needs = []; value = expr.Var (codes "n") })
+    ∷ parts.Step (increment ∷ [])
+    ∷ [])
     ∷ parts.HasInstance (record { name = codes "a"; unit = codes "Counter"; settings = [] })
     ∷ parts.Stop (literal.Number (pos 3) 0)
     ∷ parts.Longest (literal.Number (pos 1) 0)
@@ -69,12 +69,12 @@ thermal_parts =
     ∷ parts.Stop (literal.Number (pos 5) 1)
     ∷ parts.Zero 0
     ∷ parts.HasUnit (codes "A") (
-        parts.Max (expr.Var (codes "u"))
-        ∷ parts.HasOutput (record { name = codes "y"; ty = types.Bool; needs = codes "u" ∷ []; value = expr.Binary by.And (expr.Truth true) (expr.Unary of.Not (expr.Binary by.Lt (expr.Var (codes "n")) (expr.Number (pos 5) 1))) })
-        ∷ parts.HasInput (record { name = codes "u"; ty = types.Int64; start = literal.Number (neg_ℤ (pos 9223372036854775808)) 0 })
-        ∷ parts.HasState (record { name = codes "n"; ty = types.Fixed 1; start = literal.Number (pos 0) 1 })
-        ∷ parts.Resolution 1
-        ∷ [])
+    parts.Max (expr.Var (codes "u"))
+    ∷ parts.HasOutput (record { name = codes "y"; ty = types.Bool; needs = codes "u" ∷ []; value = expr.Binary by.And (expr.Truth true) (expr.Unary of.Not (expr.Binary by.Lt (expr.Var (codes "n")) (expr.Number (pos 5) 1))) })
+    ∷ parts.HasInput (record { name = codes "u"; ty = types.Int64; start = literal.Number (neg_ℤ (pos 9223372036854775808)) 0 })
+    ∷ parts.HasState (record { name = codes "n"; ty = types.Fixed 1; start = literal.Number (pos 0) 1 })
+    ∷ parts.Resolution 1
+    ∷ [])
     ∷ parts.Rows 100000
     ∷ parts.Connects (record { from = record { instance = codes "a"; port = codes "y" }; to = record { instance = codes "b"; port = codes "u" } })
     ∷ parts.HasInstance (record { name = codes "a"; unit = codes "A"; settings = record { name = codes "k"; value = literal.Truth false } ∷ [] })

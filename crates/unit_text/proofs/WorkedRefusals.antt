@@ -129,33 +129,39 @@ stray_end_is = inr (leb-true (size_of (codes "end")) text_limit refl, inl (at_fi
 
 pub second_header_is : IsRefused (text_of (codes "cosim 1" ∷ codes "cosim 1" ∷ [])) 2 5
 second_header_is =
-    inr (leb-true (size_of (text_of (codes "cosim 1" ∷ codes "cosim 1" ∷ []))) text_limit refl,
-    inl (first_broken (codes "cosim 1" ∷ []) (codes "cosim 1") [] 5 (header_kept, _)
-    (inr (inr (inr (inl (refl, record { forms = form.Header ∷ []; some = form.Header; lines = (plain_header, _); has_form = plain_header; misplaced = refl })))))
-    (least 5 (codes "cosim 1" ∷ []) (codes "cosim 1") (omega arith) (λ less. refl) (λ less. omega arith) (λ less none. none.1 form.Header plain_header) (λ less. absurd (omega arith))) refl))
+    inr (
+      leb-true (size_of (text_of (codes "cosim 1" ∷ codes "cosim 1" ∷ []))) text_limit refl,
+      inl (first_broken (codes "cosim 1" ∷ []) (codes "cosim 1") [] 5 (header_kept, _)
+          (inr (inr (inr (inl (refl, record { forms = form.Header ∷ []; some = form.Header; lines = (plain_header, _); has_form = plain_header; misplaced = refl })))))
+          (least 5 (codes "cosim 1" ∷ []) (codes "cosim 1") (omega arith) (λ less. refl) (λ less. omega arith) (λ less none. none.1 form.Header plain_header) (λ less. absurd (omega arith))) refl),
+    )
 
 not_header : HasForm form.Header (codes "unit A") → ⊥
 not_header has = let same : form.Header ≡ form.Unit (codes "A") = unit_only form.Header has in absurd (cc same)
 
 pub no_header_is : IsRefused (text_of ([] ∷ codes "unit A" ∷ [])) 2 7
 no_header_is =
-    inr (leb-true (size_of (text_of ([] ∷ codes "unit A" ∷ []))) text_limit refl,
-    inl (first_broken ([] ∷ []) (codes "unit A") [] 7 (blank_kept [] [] refl refl refl (omega arith), _)
-    (inr (inr (inr (inr (refl, record { before_is_blank = refl; is_first = refl; is_other = not_header })))))
-    (least 7 ([] ∷ []) (codes "unit A") (omega arith) (λ less. refl) (λ less. omega arith) (λ less none. none.1 (form.Unit (codes "A")) unit_a)
-    (λ less. placed ([] ∷ []) (codes "unit A") [] (form.Unit (codes "A")) no_forms unit_only refl)) refl))
+    inr (
+      leb-true (size_of (text_of ([] ∷ codes "unit A" ∷ []))) text_limit refl,
+      inl (first_broken ([] ∷ []) (codes "unit A") [] 7 (blank_kept [] [] refl refl refl (omega arith), _)
+          (inr (inr (inr (inr (refl, record { before_is_blank = refl; is_first = refl; is_other = not_header })))))
+          (least 7 ([] ∷ []) (codes "unit A") (omega arith) (λ less. refl) (λ less. omega arith) (λ less none. none.1 (form.Unit (codes "A")) unit_a)
+          (λ less. placed ([] ∷ []) (codes "unit A") [] (form.Unit (codes "A")) no_forms unit_only refl)) refl),
+    )
 
 pub unended_is : IsRefused (text_of (codes "cosim 1" ∷ codes "unit A" ∷ [] ∷ [])) 3 6
 unended_is =
-    inr (leb-true (size_of (text_of (codes "cosim 1" ∷ codes "unit A" ∷ [] ∷ []))) text_limit refl,
-    inr (record {
-      forms = form.Header ∷ form.Unit (codes "A") ∷ [];
-      have_forms = (plain_header, (unit_a, _));
-      is_open = λ none. absurd (cc none);
-      unbroken = no_break (codes "cosim 1" ∷ codes "unit A" ∷ [] ∷ []) (header_kept, (unit_kept, (blank_kept (codes "cosim 1" ∷ codes "unit A" ∷ []) [] refl refl refl (omega arith), _))) refl;
-      is_rule = refl;
-      is_last = refl;
-    }))
+    inr (
+      leb-true (size_of (text_of (codes "cosim 1" ∷ codes "unit A" ∷ [] ∷ []))) text_limit refl,
+      inr (record {
+        forms = form.Header ∷ form.Unit (codes "A") ∷ [];
+        have_forms = (plain_header, (unit_a, _));
+        is_open = λ none. absurd (cc none);
+        unbroken = no_break (codes "cosim 1" ∷ codes "unit A" ∷ [] ∷ []) (header_kept, (unit_kept, (blank_kept (codes "cosim 1" ∷ codes "unit A" ∷ []) [] refl refl refl (omega arith), _))) refl;
+        is_rule = refl;
+        is_last = refl;
+      }),
+    )
 
 -- ---- Texts and lines that are too long
 

@@ -9,6 +9,9 @@
 //! `specs/Reading.antt` (which texts are accepted, and where the others are refused). How the reader
 //! goes about it stands in `specs/Scanning.antt` (tokens of a line), `specs/Forms.antt` (the form of
 //! tokens) and `specs/Nesting.antt` (one line after the other).
+//!
+//! [`texts_are_worked`] is a law on the whole language, which no reader reads yet: texts of
+//! `specs/WorkedTexts.antt` are read and refused as its definitions in `unit_tree` say.
 #![tactic(auto)]
 
 mod draft;

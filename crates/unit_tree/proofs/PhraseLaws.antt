@@ -106,8 +106,8 @@ right-Binary op left right on_left on_right unsigned =
     record {
       is_tree = ap tree_of (fold-Binary Phrase node_phrase op left right) ∙ ap (λ e. expr.Binary op e (tree_of (placed (right_level (binary_level op)) (canonical_phrase right)))) left_tree ∙ ap (λ e. expr.Binary op left e) right_tree;
       stands_so =
-        ap (stands Whole) (fold-Binary Phrase node_phrase op left right)
-        ∙ rw (all_in_whole (binary_level op), placed_stands (left_level (binary_level op)) (canonical_phrase left) l.stands_so) (placed_stands (right_level (binary_level op)) (canonical_phrase right) r.stands_so);
+          ap (stands Whole) (fold-Binary Phrase node_phrase op left right)
+          ∙ rw (all_in_whole (binary_level op), placed_stands (left_level (binary_level op)) (canonical_phrase left) l.stands_so) (placed_stands (right_level (binary_level op)) (canonical_phrase right) r.stands_so);
     }
 
 right-Clamp : (value low high : Expr) → Claim value → Claim low → Claim high → Claim (expr.Clamp value low high)
@@ -136,10 +136,10 @@ right-Choose condition chosen other on_condition on_chosen on_other unsigned =
 
 node : (y : Expr-F Proved) → Claim (roll-Expr (map-Expr Proved Expr bare y))
 node (Expr-F.Number number decimals) = subst Claim (sym (rolls-Number number decimals)) (right-Number number decimals)
-node (Expr-F.Truth told) = λ unsigned. record { is_tree = simp the_lemmas ; stands_so = simp the_lemmas }
-node (Expr-F.Var name) = λ unsigned. record { is_tree = simp the_lemmas ; stands_so = simp the_lemmas }
-node Expr-F.Time = λ unsigned. record { is_tree = simp the_lemmas ; stands_so = simp the_lemmas }
-node Expr-F.Step = λ unsigned. record { is_tree = simp the_lemmas ; stands_so = simp the_lemmas }
+node (Expr-F.Truth told) = λ unsigned. record { is_tree = simp the_lemmas; stands_so = simp the_lemmas }
+node (Expr-F.Var name) = λ unsigned. record { is_tree = simp the_lemmas; stands_so = simp the_lemmas }
+node Expr-F.Time = λ unsigned. record { is_tree = simp the_lemmas; stands_so = simp the_lemmas }
+node Expr-F.Step = λ unsigned. record { is_tree = simp the_lemmas; stands_so = simp the_lemmas }
 node (Expr-F.Unary op arg) = subst Claim (sym (rolls-Unary op (bare arg))) (right-Unary op (bare arg) arg.1)
 node (Expr-F.Binary op left right) = subst Claim (sym (rolls-Binary op (bare left) (bare right))) (right-Binary op (bare left) (bare right) left.1 right.1)
 node (Expr-F.Clamp value low high) =

@@ -95,16 +95,16 @@ thermostat =
     stop
     ∷ instance_with (codes "room") (record { name = codes "k"; value = literal.Number (pos 250) 2 } ∷ [])
     ∷ parts.HasUnit (codes "A") (
-        parts.Step (
-          line.If (expr.Binary by.Lt n (expr.Number (pos 0) 1)) (line.Repeat 2 (set (codes "n") (sum n (expr.Unary (of.ToFix 1) one)) ∷ []) ∷ []) (Some (line.Accept (expr.Unary of.ToInt (expr.Var (codes "k"))) ∷ []))
-          ∷ [])
-        ∷ parts.Max (sum expr.Time one)
-        ∷ output_y (types.Fixed 1) (codes "u" ∷ codes "v" ∷ []) (expr.Unary of.Neg (sum n n))
-        ∷ state_n (types.Fixed 1) (literal.Number (neg_ℤ (pos 5)) 1)
-        ∷ parts.Resolution 3
-        ∷ input_u
-        ∷ parts.HasLocal (record { name = codes "x"; ty = types.Bool })
-        ∷ [])
+    parts.Step (
+    line.If (expr.Binary by.Lt n (expr.Number (pos 0) 1)) (line.Repeat 2 (set (codes "n") (sum n (expr.Unary (of.ToFix 1) one)) ∷ []) ∷ []) (Some (line.Accept (expr.Unary of.ToInt (expr.Var (codes "k"))) ∷ []))
+    ∷ [])
+    ∷ parts.Max (sum expr.Time one)
+    ∷ output_y (types.Fixed 1) (codes "u" ∷ codes "v" ∷ []) (expr.Unary of.Neg (sum n n))
+    ∷ state_n (types.Fixed 1) (literal.Number (neg_ℤ (pos 5)) 1)
+    ∷ parts.Resolution 3
+    ∷ input_u
+    ∷ parts.HasLocal (record { name = codes "x"; ty = types.Bool })
+    ∷ [])
     ∷ parts.Samples (port (codes "room") (codes "y"))
     ∷ parts.Rows 10
     ∷ parts.Longest (literal.Number (pos 25) 2)

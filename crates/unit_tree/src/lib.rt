@@ -4,12 +4,18 @@
 //! outputs and step lines, instances of them, and wires between their ports. All of it is plain data
 //! to contracts: two systems are equal exactly where their trees are.
 //!
-//! The definitions that every layer above speaks of stand in `specs/`: `Lines` and `Tokens` (how a text
-//! is cut, and what its parts are), `Kinds` (which operands an operation takes), `Values` (what an
-//! expression is worth), `Effects` (what step lines do), `Costs` (the static cost of a call),
-//! `Components` (initial state, get and step of a unit), `LocalTime`, `Steps` (proposal, reply, agreed
-//! step) and `Trace` (port assignment, successor, and the one trace of a system). The public functions
-//! without a body, as [`counter_is_worked`], are laws of them.
+//! The definitions that every layer above speaks of stand in `specs/`. What a tree means: `Kinds` (which
+//! operands an operation takes), `Values` (what an expression is worth), `Effects` (what step lines do),
+//! `Costs` (the static cost of a call), `Components` (initial state, get and step of a unit), `LocalTime`,
+//! `Steps` (proposal, reply, agreed step) and `Trace` (port assignment, successor, and the one trace of a
+//! system). How a system is written: `Lines` and `Tokens` (how a text is cut), `Phrases` (the grammar of
+//! expressions), `LineForms` (the forms of lines, each a [`LineForm`]), `Blocks` (where a form may stand),
+//! `Parts` and `Texts` (which text says which system, and where any other is refused), `Canonical` and
+//! `Printable` (the one printed text of a system). Which systems may run: `Names`, `Sites` and `WellFormed`
+//! (the lines that break each rule), and `Orders` (outputs without a cycle).
+//!
+//! `Language` has the laws of the language. The public functions without a body, as [`counter_is_worked`],
+//! are laws of these definitions; those of the files `Worked..` keep them honest on small cases.
 #![tactic(auto)]
 
 mod effects;
@@ -33,9 +39,9 @@ pub use expr::{BinOp, Expr, UnOp};
 use fixed_words::List;
 pub use laws::{
     at_most_one_trace, blocks_are_worked, canonical_parts_say_the_system,
-    canonical_phrases_are_right, counter_is_worked, cycles_have_no_order, each_system_is_judged_once,
-    kinds_and_costs_are_worked, lines_are_worked, orders_are_worked, phrases_are_worked, sites_are_canonical_lines,
-    systems_are_worked,
+    canonical_phrases_are_right, counter_is_worked, cycles_have_no_order,
+    each_system_is_judged_once, kinds_and_costs_are_worked, lines_are_worked, orders_are_worked,
+    phrases_are_worked, sites_are_canonical_lines, systems_are_worked,
 };
 pub use line::Line;
 pub use line_form::LineForm;

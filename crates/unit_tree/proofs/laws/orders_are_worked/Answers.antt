@@ -41,8 +41,8 @@ returns c = record {
     later = y_of (codes "a") ∷ y_of (codes "b") ∷ [];
     cut = refl;
     is_on_cycle =
-      behind_cycle (system_of behind_ring) (y_of (codes "c")) (y_of (codes "a")) (needs (y_of (codes "c")) (y_of (codes "a")) (inl refl))
-      (on_cycle (system_of behind_ring) (y_of (codes "a")) ring_is_there);
+        behind_cycle (system_of behind_ring) (y_of (codes "c")) (y_of (codes "a")) (needs (y_of (codes "c")) (y_of (codes "a")) (inl refl))
+        (on_cycle (system_of behind_ring) (y_of (codes "a")) ring_is_there);
     is_first = _;
   };
 }
