@@ -25,7 +25,7 @@ fn is_run(words: &[String]) -> bool
 }
 
 /// Tells a note, where there is one, with the status that it is for.
-fn tell<N: Sink>(notes: &mut N, note: &[u8], status: Status) -> Status
+pub fn tell<N: Sink>(notes: &mut N, note: &[u8], status: Status) -> Status
     ensures { TellsNote (N.held notes.old) (N.held notes.new) (N.faults notes.old) (N.faults notes.new) note.now status result }
 {
     if note.is_empty() {
