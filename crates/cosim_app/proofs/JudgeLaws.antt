@@ -4,7 +4,7 @@ use Rattle.std.specs.Prelude.{IfSome}
 use Rattle.std.proofs.KnownBytes.{Appends-nil}
 use Rattle.unit_text.specs.Reading.{IsAccepted, IsRefused, IsAnswered, text_limit}
 use Rattle.unit_text.proofs.AnswerLemmas.{answered}
-use Rattle.unit_text.proofs.LineLemmas.{length_le_size_of}
+use Rattle.unit_tokens.proofs.LineLemmas.{length_le_size_of}
 use Rattle.unit_text.proofs.ReadingLemmas.{refused_long}
 use Rattle.unit_tree.specs.Lines.{size_of}
 use Rattle.unit_tree.specs.declared.ending.Ending.{Ending}

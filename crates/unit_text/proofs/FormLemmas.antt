@@ -14,14 +14,14 @@ use Rattle.unit_tree.specs.declared.token.Token.TheVariants as token
 use Rattle.unit_text.specs.FirstForm.{whole, number_tokens, operand_token, typed, tokens_of, IsStart, IsOperand, IsInRange}
 use Rattle.unit_text.specs.Forms.{◌>>=◌, name_at, whole_at, same_symbol, after_symbol, sign_at, number_at, typed_at, operand_at, last, header_form, unit_form, is_start, state_form, output_form, assign_form, instance_form, stop_form, longest_form, keyword_form, form_of}
 use Rattle.unit_text.specs.Reading.{HasForm, FormIs}
-use Rattle.unit_text.specs.Scanning.{symbol_of, TokensAre}
-use Rattle.unit_text.proofs.TokenLemmas.{spells_one, tokens_decided}
+use Rattle.unit_tokens.specs.Scanning.{symbol_of, TokensAre}
+use Rattle.unit_tokens.proofs.TokenLemmas.{spells_one, tokens_decided}
 use Rattle.unit_text.specs.declared.form.LineForm.{LineForm}
 use Rattle.unit_text.specs.declared.form.LineForm.TheVariants as form
 use Rattle.unit_text.specs.declared.form.Operand.{Operand}
 use Rattle.unit_text.specs.declared.form.Operand.TheVariants as operand
 use Rattle.unit_text.specs.declared.form.WholeNumber.{WholeNumber}
-use Rattle.unit_text.proofs.TableLemmas.{symbol_of-symbol_text}
+use Rattle.unit_tokens.proofs.TableLemmas.{symbol_of-symbol_text}
 
 -- ---- what has a form's tokens is read as the form
 

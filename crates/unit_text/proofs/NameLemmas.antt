@@ -10,11 +10,11 @@ use Rattle.std.proofs.lemmas.Slice.Eq.{bytes_eq-Decides}
 use Rattle.unit_tree.specs.Tokens.{IsWord, IsReserved, is_letter, is_word_byte}
 use Rattle.unit_text.specs.FirstForm.{AreDistinct, IsDeclared}
 use Rattle.unit_text.specs.Nesting.{names_state, is_declared}
-use Rattle.unit_text.specs.Scanning.{keyword_of}
+use Rattle.unit_tokens.specs.Scanning.{keyword_of}
 use Rattle.unit_text.specs.declared.form.Declared.{Declared}
 use Rattle.unit_text.specs.declared.form.Operand.{Operand}
 use Rattle.unit_text.specs.declared.form.Operand.TheVariants as operand
-use Rattle.unit_text.proofs.TableLemmas.{is_word_text, keyword_of_none}
+use Rattle.unit_tokens.proofs.TableLemmas.{is_word_text, keyword_of_none}
 
 abbrev pub names : List Declared → List (List ℕ)
 names states = map (λ state. state.name) states

@@ -9,10 +9,10 @@ use Rattle.unit_tree.specs.declared.system.System.{System}
 use Rattle.unit_text.specs.FirstForm.{longest_line, forms_of, IsStart, IsOperand, IsInRange, system_of}
 use Rattle.unit_text.specs.Nesting.{no_lines, with_line, whole_source, NextIs}
 use Rattle.unit_text.specs.Reading.{HasForm, HaveForms, StopsAt, LacksEnd, text_limit, IsRefused, IsAccepted, IsSource, AreInRange}
-use Rattle.unit_text.specs.Scanning.{ReadsAs, Gives}
+use Rattle.unit_tokens.specs.Scanning.{ReadsAs, Gives}
 use Rattle.unit_text.specs.declared.draft.Draft.{Draft}
-use Rattle.unit_text.specs.declared.fault.Unread.{Unread}
-use Rattle.unit_text.specs.declared.fault.Unread.TheVariants as unread
+use Rattle.unit_tokens.specs.declared.fault.Unread.{Unread}
+use Rattle.unit_tokens.specs.declared.fault.Unread.TheVariants as unread
 use Rattle.unit_text.specs.declared.form.Assignment.{Assignment}
 use Rattle.unit_text.specs.declared.form.Declared.{Declared}
 use Rattle.unit_text.specs.declared.form.LineForm.{LineForm}

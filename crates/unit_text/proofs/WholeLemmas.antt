@@ -21,7 +21,7 @@ use Rattle.unit_text.specs.declared.form.Source.{Source}
 use Rattle.unit_text.proofs.DraftLemmas.{run, run-append, opening, begun, IsEmpty, IsOpen, IsSound, Holds, holds_none, holds_more}
 use Rattle.unit_text.proofs.FormLemmas.{one_form}
 use Rattle.unit_text.proofs.NameLemmas.{names, IsName, bytes_eq-same, names_state_again, names_state_not, is_declared_again, distinct_middle, some_name, int64_is, letter_is}
-use Rattle.unit_text.proofs.TableLemmas.{is_symbol_text, symbol_is_text}
+use Rattle.unit_tokens.proofs.TableLemmas.{is_symbol_text, symbol_is_text}
 
 -- ---- a whole text is read
 

@@ -17,8 +17,8 @@ use Rattle.unit_tree.specs.declared.token.Keyword.TheVariants as word
 use Rattle.unit_tree.specs.declared.token.Symbol.TheVariants as sign
 use Rattle.unit_tree.specs.declared.token.Token.{Token}
 use Rattle.unit_tree.specs.declared.token.Token.TheVariants as token
-use Rattle.unit_text.specs.Scanning.{keyword_of, symbol_of, word_at, number_at, symbol_at, number_token, bounded_number, token_at}
-use Rattle.unit_text.proofs.Spelled.{spells, tokens_in}
+use Rattle.unit_tokens.specs.Scanning.{keyword_of, symbol_of, word_at, number_at, symbol_at, number_token, bounded_number, token_at}
+use Rattle.unit_tokens.proofs.Spelled.{spells, tokens_in}
 
 -- A line of at most thirty tokens has the form that they write.
 has_form : (some : LineForm) (line : List ℕ) (tokens : List Token) → tokens_in 30 (code_of line) ≡ Some tokens → WritesForm some tokens → HasForm some line

@@ -13,12 +13,12 @@ use Rattle.unit_tree.specs.declared.line_form.LineForm.TheVariants as form
 use Rattle.unit_tree.specs.declared.token.Keyword.TheVariants as word
 use Rattle.unit_tree.specs.declared.token.Token.{Token}
 use Rattle.unit_tree.specs.declared.token.Token.TheVariants as token
-use Rattle.unit_text.specs.Scanning.{keyword_of, symbol_of, word_at, number_at, symbol_at, number_token, bounded_number, token_at}
+use Rattle.unit_tokens.specs.Scanning.{keyword_of, symbol_of, word_at, number_at, symbol_at, number_token, bounded_number, token_at}
 use Rattle.unit_text.specs.WorkedTexts.{text_of, returned, letters}
 use Rattle.unit_text.proofs.FirstTokens.{no_tokens, name_alone, after_cosim, after_end, after_unit}
 use Rattle.unit_text.proofs.Refusing.{IsUnbroken, unbroken, least, first_broken, no_break, all_blank}
-use Rattle.unit_text.proofs.Spelled.{spells, tokens_in}
-use Rattle.unit_text.proofs.TokenLemmas.{spells_one, tokens_none}
+use Rattle.unit_tokens.proofs.Spelled.{spells, tokens_in}
+use Rattle.unit_tokens.proofs.TokenLemmas.{spells_one, tokens_none}
 use Rattle.unit_text.proofs.WorkedForms.{plain_header, unit_a, end_line}
 
 -- ---- The forms that some lines may have

@@ -9,8 +9,8 @@ use Rattle.unit_tree.specs.declared.token.Symbol.{Symbol}
 use Rattle.unit_tree.specs.declared.token.Symbol.TheVariants as sign
 use Rattle.unit_tree.specs.declared.token.Token.{Token}
 use Rattle.unit_tree.specs.declared.token.Token.TheVariants as token
-use Rattle.unit_text.specs.declared.fault.Unread.{Unread}
-use Rattle.unit_text.specs.declared.fault.Unread.TheVariants as unread
+use Rattle.unit_tokens.specs.declared.fault.Unread.{Unread}
+use Rattle.unit_tokens.specs.declared.fault.Unread.TheVariants as unread
 use Rattle.unit_text.specs.declared.form.LineForm.{LineForm}
 use Rattle.unit_text.specs.declared.form.LineForm.TheVariants as form
 use Rattle.unit_text.specs.declared.form.Operand.{Operand}

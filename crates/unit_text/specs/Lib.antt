@@ -2,5 +2,4 @@ pub mod FirstForm
 pub mod Forms
 pub mod Nesting
 pub mod Reading
-pub mod Scanning
 pub mod WorkedTexts

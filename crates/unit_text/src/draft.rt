@@ -1,11 +1,11 @@
 ghost use Rattle.std.specs.Prelude.{◌≡◌};
-ghost use Rattle.unit_text.specs.Scanning.{Gives};
+ghost use Rattle.unit_tokens.specs.Scanning.{Gives};
 ghost use Rattle.unit_text.specs.Nesting.{no_lines, names_state, is_declared, after_start, after_header, after_states, after_output, after_step, after_step_end, after_unit_end, after_instance, after_instance_end, after_stop, with_line, is_whole, whole_source};
 
-use crate::fault::Unread;
 use crate::form::{Declared, LineForm, Operand, Source};
 use fixed_words::List;
 use std::alloc::Global;
+use unit_tokens::Unread;
 use unit_tree::Name;
 
 /// The most states of a unit.

@@ -22,21 +22,3 @@ impl From<NoMemory> for TextFault {
         TextFault::NoMemory
     }
 }
-
-/// Why a part of a text is not read.
-#[derive(Clone, Copy, Debug, PartialEq, Eq)]
-pub enum Unread {
-    /// It has no form that may stand there.
-    NoForm,
-    NoMemory,
-}
-
-impl From<NoMemory> for Unread {
-    ghost use Rattle.unit_text.specs.declared.fault.Unread.TheVariants.{NoMemory};
-
-    ghost from_gives = { λ _ unread. unread ≡ NoMemory };
-
-    fn from(_: NoMemory) -> Unread {
-        Unread::NoMemory
-    }
-}

@@ -18,12 +18,10 @@ mod draft;
 mod fault;
 mod form;
 mod line_form;
-mod lines;
 mod reading;
 mod system;
 #[cfg(test)]
 mod tests;
-mod tokens;
 mod worked;
 
 pub use fault::TextFault;

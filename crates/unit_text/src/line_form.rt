@@ -1,13 +1,12 @@
 ghost use Rattle.std.specs.Prelude.{◌≡◌};
-ghost use Rattle.unit_text.specs.Scanning.{Gives, GivesFront, ReadsAs};
+ghost use Rattle.unit_tokens.specs.Scanning.{Gives, GivesFront, ReadsAs};
 ghost use Rattle.unit_text.specs.Reading.{FormIs};
 ghost use Rattle.unit_text.specs.Forms.{GivesRest, name_at, whole_at, after_symbol, sign_at, number_at, typed_at, operand_at, last, header_form, unit_form, is_start, state_form, output_form, assign_form, instance_form, stop_form, longest_form, keyword_form, form_of};
 
-use crate::fault::Unread;
 use crate::form::{Assignment, Declared, LineForm, Operand, WholeNumber};
-use crate::tokens::tokens;
 use fixed_words::List;
 use std::alloc::Global;
+use unit_tokens::{Unread, tokens};
 use unit_tree::{Keyword, Name, Symbol, Token};
 
 /// The one type of the form.

@@ -1,17 +1,17 @@
 ghost use Rattle.std.specs.Prelude.{◌≡◌, ◌≤◌, IfOk, IfErr, ℕ, List};
 ghost use Rattle.unit_tree.specs.Lines.{lines_of, size_of};
 ghost use Rattle.unit_text.specs.FirstForm.{IsOfForm, forms_of, system_of};
-ghost use Rattle.unit_text.specs.Scanning.{ReadsAs};
+ghost use Rattle.unit_tokens.specs.Scanning.{ReadsAs};
 ghost use Rattle.unit_text.specs.Nesting.{NextIs};
 ghost use Rattle.unit_text.specs.Reading.{IsSource, RefusalIs, IsAccepted, text_limit, SaysOne, IsNotBoth, IsRefusedOnce, IsAnswered};
 
 use crate::draft::Draft;
-use crate::fault::{TextFault, Unread};
+use crate::fault::TextFault;
 use crate::form::Source;
 use crate::line_form::line_form;
-use crate::lines::{cut_line, size};
 use crate::system::system_of;
 use std::alloc::Global;
+use unit_tokens::{Unread, cut_line, size};
 use unit_tree::System;
 
 /// The most bytes of a text, with an end counted for each line.
@@ -33,7 +33,7 @@ fn next_draft(alloc: Global, draft: Draft, line: &[u8]) -> Result<Draft, Unread>
 }
 
 /// The text as it is written, where it is short enough.
-#[tactic(auto, using(crate::proofs::LineLemmas::length_le_size_of, crate::proofs::ReadingLemmas::reached_none, crate::proofs::ReadingLemmas::reached_next, crate::proofs::ReadingLemmas::reached_end, crate::proofs::ReadingLemmas::refused_at, crate::proofs::ReadingLemmas::refused_end))]
+#[tactic(auto, using(unit_tokens::proofs::LineLemmas::length_le_size_of, crate::proofs::ReadingLemmas::reached_none, crate::proofs::ReadingLemmas::reached_next, crate::proofs::ReadingLemmas::reached_end, crate::proofs::ReadingLemmas::refused_at, crate::proofs::ReadingLemmas::refused_end))]
 fn read_source(alloc: Global, text: &[u8]) -> Result<Source, TextFault>
     requires { size_of text.now ≤ text_limit }
     ensures read { IfOk result (IsSource text.now) }

@@ -4,7 +4,7 @@ use Rattle.std.proofs.lemmas.List.{at_drop_more}
 use Rattle.std.proofs.lemmas.Bool.{cond-true, cond-false}
 use Rattle.std.proofs.lemmas.Bool.Decides.{nat_tests}
 use Rattle.unit_tree.specs.Tokens.{number_from}
-use Rattle.unit_text.specs.Scanning.{bounded_number}
+use Rattle.unit_tokens.specs.Scanning.{bounded_number}
 
 pub number_from_grows : (before : ℕ) (digits : List ℕ) → before ≤ number_from before digits
 number_from_grows before [] = omega arith

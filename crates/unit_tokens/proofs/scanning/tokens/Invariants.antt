@@ -1,6 +1,6 @@
 use Rattle.std.proofs.Common.{length}
-use Rattle.unit_text.proofs.TokenLemmas.{Completes}
-use Rattle.unit_text.proofs.tokens.tokens.Given as goal
+use Rattle.unit_tokens.proofs.TokenLemmas.{Completes}
+use Rattle.unit_tokens.proofs.scanning.tokens.Given as goal
 
 abbrev pub invariant-loop-rest : goal.invariant-loop-rest
 invariant-loop-rest l = Completes l.line l.tokens l.rest

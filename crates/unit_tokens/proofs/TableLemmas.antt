@@ -10,8 +10,8 @@ use Rattle.unit_tree.specs.declared.token.Keyword.{Keyword}
 use Rattle.unit_tree.specs.declared.token.Keyword.TheVariants as word
 use Rattle.unit_tree.specs.declared.token.Symbol.{Symbol}
 use Rattle.unit_tree.specs.declared.token.Symbol.TheVariants as sign
-use Rattle.unit_text.specs.Scanning.{keyword_of, symbol_of}
-use Rattle.unit_text.specs.declared.tokens.TheConstants.{KEYWORDS, SYMBOLS}
+use Rattle.unit_tokens.specs.Scanning.{keyword_of, symbol_of}
+use Rattle.unit_tokens.specs.declared.scanning.TheConstants.{KEYWORDS, SYMBOLS}
 
 -- what is found passes the test, and what each element passes
 find_passes_case : {X : Type 0} (test : X → Bool) (y : X) (ys : List X) (x : X) (b : Bool) → test y ≡ b → (find test ys ≡ Some x → test x ≡ true) → cond b (Some y) (find test ys) ≡ Some x → test x ≡ true

@@ -11,10 +11,10 @@ use Rattle.unit_tree.specs.declared.token.Keyword.{Keyword}
 use Rattle.unit_tree.specs.declared.token.Symbol.{Symbol}
 use Rattle.unit_tree.specs.declared.token.Token.{Token}
 use Rattle.unit_tree.specs.declared.token.Token.TheVariants as token
-use Rattle.unit_text.specs.Scanning.{keyword_of, symbol_of, named, word_token, word_at, bounded_number, fraction_of, number_token, number_at, symbol_token, or_else, symbol_at, token_at, with_rest, TokensAre}
-use Rattle.unit_text.proofs.FrontLemmas.{front_passes, front_stops, prefix_len-none, prefix_len-front, prefix_len-some}
-use Rattle.unit_text.proofs.NumberLemmas.{number_from_grows, number_from-append, bounded_number_within, bounded_number_is}
-use Rattle.unit_text.proofs.TableLemmas.{keyword_of-keyword_text, keyword_of_is, keyword_of_none, is_word_text, keyword_is_word, symbol_of-symbol_text, symbol_of_is, is_symbol_text, symbol_is_text}
+use Rattle.unit_tokens.specs.Scanning.{keyword_of, symbol_of, named, word_token, word_at, bounded_number, fraction_of, number_token, number_at, symbol_token, or_else, symbol_at, token_at, with_rest, TokensAre}
+use Rattle.unit_tokens.proofs.FrontLemmas.{front_passes, front_stops, prefix_len-none, prefix_len-front, prefix_len-some}
+use Rattle.unit_tokens.proofs.NumberLemmas.{number_from_grows, number_from-append, bounded_number_within, bounded_number_is}
+use Rattle.unit_tokens.proofs.TableLemmas.{keyword_of-keyword_text, keyword_of_is, keyword_of_none, is_word_text, keyword_is_word, symbol_of-symbol_text, symbol_of_is, is_symbol_text, symbol_is_text}
 
 -- ---- what is spelled is read
 

@@ -8,9 +8,9 @@ use Rattle.unit_tree.specs.declared.token.Keyword.{Keyword}
 use Rattle.unit_tree.specs.declared.token.Symbol.{Symbol}
 use Rattle.unit_tree.specs.declared.token.Token.{Token}
 use Rattle.unit_tree.specs.declared.token.Token.TheVariants as token
-use Rattle.unit_text.specs.declared.fault.Unread.{Unread}
-use Rattle.unit_text.specs.declared.fault.Unread.TheVariants as unread
-use Rattle.unit_text.specs.declared.tokens.TheConstants.{KEYWORDS, SYMBOLS}
+use Rattle.unit_tokens.specs.declared.fault.Unread.{Unread}
+use Rattle.unit_tokens.specs.declared.fault.Unread.TheVariants as unread
+use Rattle.unit_tokens.specs.declared.scanning.TheConstants.{KEYWORDS, SYMBOLS}
 
 -- What a reading says of its answer: it holds of what was read, and of none only where nothing may be read.
 -- Want of memory says nothing.

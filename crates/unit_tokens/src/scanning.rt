@@ -1,7 +1,7 @@
 ghost use Rattle.std.specs.Prelude.{◌≡◌, ◌≤◌, ◌<◌, ◌+◌, ◌-◌, ◌*◌, ◌^◌, ◌∷◌, length, take, drop, IfOk};
 ghost use Rattle.std.specs.List.{prefix_len};
 ghost use Rattle.unit_tree.specs.Tokens.{is_blank, is_letter, is_digit, is_word_byte, keyword_text, symbol_text, number_from, begins_with};
-ghost use Rattle.unit_text.specs.Scanning.{Gives, GivesFront, ReadsAs, keyword_of, symbol_of, word_token, word_at, bounded_number, fraction_of, number_token, number_at, symbol_at, token_at, TokensAre};
+ghost use Rattle.unit_tokens.specs.Scanning.{Gives, GivesFront, ReadsAs, keyword_of, symbol_of, word_token, word_at, bounded_number, fraction_of, number_token, number_at, symbol_at, token_at, TokensAre};
 
 use crate::fault::Unread;
 use fixed_words::List;

@@ -3,8 +3,8 @@ use Rattle.std.proofs.Common.{◌≡◌, ℕ, suc, zero, List, [], ◌∷◌, Op
 use Rattle.std.specs.Option.{option_map}
 use Rattle.unit_tree.specs.Tokens.{Spells}
 use Rattle.unit_tree.specs.declared.token.Token.{Token}
-use Rattle.unit_text.specs.Scanning.{token_at}
-use Rattle.unit_text.proofs.TokenLemmas.{behind_blanks, begins_with_first, line_blank}
+use Rattle.unit_tokens.specs.Scanning.{token_at}
+use Rattle.unit_tokens.proofs.TokenLemmas.{behind_blanks, begins_with_first, line_blank}
 
 abbrev then_more : (List ℕ → Option (List Token)) → Option (Token × List ℕ) → Option (List Token)
 then_more more None = None

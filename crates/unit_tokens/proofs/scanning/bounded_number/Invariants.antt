@@ -1,6 +1,6 @@
 use Rattle.std.proofs.Common.{◌≡◌, ◌≤◌, ◌^◌, drop}
 use Rattle.unit_tree.specs.Tokens.{number_from}
-use Rattle.unit_text.proofs.tokens.bounded_number.Given as goal
+use Rattle.unit_tokens.proofs.scanning.bounded_number.Given as goal
 
 abbrev pub invariant-loop-digit : goal.invariant-loop-digit
 invariant-loop-digit l =
