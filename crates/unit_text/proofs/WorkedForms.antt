@@ -26,100 +26,100 @@ has_form some line tokens is written = record { tokens = tokens; spelled = spell
 
 pub header : HasForm form.Header (codes "cosim 01")
 unfolding tokens_in keyword_of symbol_of word_at number_at symbol_at number_token bounded_number token_at
-header = has_form form.Header (codes "cosim 01") (token.Keyword word.Cosim ∷ token.Number 1 0 ∷ []) refl refl
+header = has_form form.Header (codes "cosim 01") (token.Keyword word.Cosim ∷ token.Number 1 0 ∷ []) refl (record { tail = []; spelled = refl; tail_is = refl; counts = _ })
 
 pub unit_line : HasForm (form.Unit (codes "Counter")) (codes "unit Counter # one state")
 unfolding tokens_in keyword_of symbol_of word_at number_at symbol_at number_token bounded_number token_at
-unit_line = has_form (form.Unit (codes "Counter")) (codes "unit Counter # one state") (token.Keyword word.Unit ∷ token.Name (codes "Counter") ∷ []) refl refl
+unit_line = has_form (form.Unit (codes "Counter")) (codes "unit Counter # one state") (token.Keyword word.Unit ∷ token.Name (codes "Counter") ∷ []) refl (record { tail = []; spelled = refl; tail_is = refl; counts = _ })
 
 pub state_line : HasForm (form.State (record { name = codes "n"; ty = types.Int64; start = literal.Number (pos 0) 0 })) (codes "  state n : Int64 = 00")
 unfolding tokens_in keyword_of symbol_of word_at number_at symbol_at number_token bounded_number token_at
-state_line = has_form (form.State (record { name = codes "n"; ty = types.Int64; start = literal.Number (pos 0) 0 })) (codes "  state n : Int64 = 00") (token.Keyword word.State ∷ token.Name (codes "n") ∷ token.Symbol sign.Colon ∷ token.Name (codes "Int64") ∷ token.Symbol sign.Is ∷ token.Number 0 0 ∷ []) refl (token.Number 0 0 ∷ [], refl, _, record { negative = false; digits = 0; spelled = refl; value = refl; fits = refl })
+state_line = has_form (form.State (record { name = codes "n"; ty = types.Int64; start = literal.Number (pos 0) 0 })) (codes "  state n : Int64 = 00") (token.Keyword word.State ∷ token.Name (codes "n") ∷ token.Symbol sign.Colon ∷ token.Name (codes "Int64") ∷ token.Symbol sign.Is ∷ token.Number 0 0 ∷ []) refl (record { tail = token.Number 0 0 ∷ []; spelled = refl; tail_is = record { negative = false; digits = 0; spelled = refl; value = refl; fits = refl }; counts = _ })
 
 pub output_line : HasForm (form.Output (record { name = codes "y"; ty = types.Int64; needs = []; value = expr.Var (codes "n") })) (codes "  output y : Int64 = n")
 unfolding tokens_in keyword_of symbol_of word_at number_at symbol_at number_token bounded_number token_at
-output_line = has_form (form.Output (record { name = codes "y"; ty = types.Int64; needs = []; value = expr.Var (codes "n") })) (codes "  output y : Int64 = n") (token.Keyword word.Output ∷ token.Name (codes "y") ∷ token.Symbol sign.Colon ∷ token.Name (codes "Int64") ∷ token.Symbol sign.Is ∷ token.Name (codes "n") ∷ []) refl (token.Name (codes "n") ∷ [], refl, _, record { phrase = phrase.Var (codes "n"); is_tree = refl; spelled = refl; is_grammatical = refl })
+output_line = has_form (form.Output (record { name = codes "y"; ty = types.Int64; needs = []; value = expr.Var (codes "n") })) (codes "  output y : Int64 = n") (token.Keyword word.Output ∷ token.Name (codes "y") ∷ token.Symbol sign.Colon ∷ token.Name (codes "Int64") ∷ token.Symbol sign.Is ∷ token.Name (codes "n") ∷ []) refl (record { tail = token.Name (codes "n") ∷ []; spelled = refl; tail_is = record { phrase = phrase.Var (codes "n"); is_tree = refl; spelled = refl; is_grammatical = refl }; counts = _ })
 
 pub step_line : HasForm form.Step (codes "  step")
 unfolding tokens_in keyword_of symbol_of word_at number_at symbol_at number_token bounded_number token_at
-step_line = has_form form.Step (codes "  step") (token.Keyword word.Step ∷ []) refl refl
+step_line = has_form form.Step (codes "  step") (token.Keyword word.Step ∷ []) refl (record { tail = []; spelled = refl; tail_is = refl; counts = _ })
 
 pub assign_line : HasForm (form.Assign (codes "n") (expr.Binary by.Add (expr.Var (codes "n")) (expr.Number (pos 1) 0))) (codes "    n := (n) + 1")
 unfolding tokens_in keyword_of symbol_of word_at number_at symbol_at number_token bounded_number token_at
-assign_line = has_form (form.Assign (codes "n") (expr.Binary by.Add (expr.Var (codes "n")) (expr.Number (pos 1) 0))) (codes "    n := (n) + 1") (token.Name (codes "n") ∷ token.Symbol sign.Assign ∷ token.Symbol sign.Open ∷ token.Name (codes "n") ∷ token.Symbol sign.Close ∷ token.Symbol sign.Plus ∷ token.Number 1 0 ∷ []) refl (token.Symbol sign.Open ∷ token.Name (codes "n") ∷ token.Symbol sign.Close ∷ token.Symbol sign.Plus ∷ token.Number 1 0 ∷ [], refl, record { phrase = phrase.Binary by.Add (phrase.Parens (phrase.Var (codes "n"))) (phrase.Number 1 0); is_tree = refl; spelled = refl; is_grammatical = refl })
+assign_line = has_form (form.Assign (codes "n") (expr.Binary by.Add (expr.Var (codes "n")) (expr.Number (pos 1) 0))) (codes "    n := (n) + 1") (token.Name (codes "n") ∷ token.Symbol sign.Assign ∷ token.Symbol sign.Open ∷ token.Name (codes "n") ∷ token.Symbol sign.Close ∷ token.Symbol sign.Plus ∷ token.Number 1 0 ∷ []) refl (record { tail = token.Symbol sign.Open ∷ token.Name (codes "n") ∷ token.Symbol sign.Close ∷ token.Symbol sign.Plus ∷ token.Number 1 0 ∷ []; spelled = refl; tail_is = record { phrase = phrase.Binary by.Add (phrase.Parens (phrase.Var (codes "n"))) (phrase.Number 1 0); is_tree = refl; spelled = refl; is_grammatical = refl }; counts = _ })
 
 pub step_end : HasForm form.End (codes "  end")
 unfolding tokens_in keyword_of symbol_of word_at number_at symbol_at number_token bounded_number token_at
-step_end = has_form form.End (codes "  end") (token.Keyword word.End ∷ []) refl refl
+step_end = has_form form.End (codes "  end") (token.Keyword word.End ∷ []) refl (record { tail = []; spelled = refl; tail_is = refl; counts = _ })
 
 pub end_line : HasForm form.End (codes "end")
 unfolding tokens_in keyword_of symbol_of word_at number_at symbol_at number_token bounded_number token_at
-end_line = has_form form.End (codes "end") (token.Keyword word.End ∷ []) refl refl
+end_line = has_form form.End (codes "end") (token.Keyword word.End ∷ []) refl (record { tail = []; spelled = refl; tail_is = refl; counts = _ })
 
 pub instance_line : HasForm (form.Instance (codes "a") (codes "Counter")) (codes "instance a : Counter")
 unfolding tokens_in keyword_of symbol_of word_at number_at symbol_at number_token bounded_number token_at
-instance_line = has_form (form.Instance (codes "a") (codes "Counter")) (codes "instance a : Counter") (token.Keyword word.Instance ∷ token.Name (codes "a") ∷ token.Symbol sign.Colon ∷ token.Name (codes "Counter") ∷ []) refl refl
+instance_line = has_form (form.Instance (codes "a") (codes "Counter")) (codes "instance a : Counter") (token.Keyword word.Instance ∷ token.Name (codes "a") ∷ token.Symbol sign.Colon ∷ token.Name (codes "Counter") ∷ []) refl (record { tail = []; spelled = refl; tail_is = refl; counts = _ })
 
 pub stop_line : HasForm (form.Stop (literal.Number (pos 3) 0)) (codes "stop 3")
 unfolding tokens_in keyword_of symbol_of word_at number_at symbol_at number_token bounded_number token_at
-stop_line = has_form (form.Stop (literal.Number (pos 3) 0)) (codes "stop 3") (token.Keyword word.Stop ∷ token.Number 3 0 ∷ []) refl (token.Number 3 0 ∷ [], refl, (3, omega arith, refl, refl))
+stop_line = has_form (form.Stop (literal.Number (pos 3) 0)) (codes "stop 3") (token.Keyword word.Stop ∷ token.Number 3 0 ∷ []) refl (record { tail = token.Number 3 0 ∷ []; spelled = refl; tail_is = (3, omega arith, refl, refl); counts = _ })
 
 pub longest_line : HasForm (form.Longest (literal.Number (pos 1) 0)) (codes "longest 1")
 unfolding tokens_in keyword_of symbol_of word_at number_at symbol_at number_token bounded_number token_at
-longest_line = has_form (form.Longest (literal.Number (pos 1) 0)) (codes "longest 1") (token.Keyword word.Longest ∷ token.Number 1 0 ∷ []) refl (token.Number 1 0 ∷ [], refl, (1, omega arith, refl, refl))
+longest_line = has_form (form.Longest (literal.Number (pos 1) 0)) (codes "longest 1") (token.Keyword word.Longest ∷ token.Number 1 0 ∷ []) refl (record { tail = token.Number 1 0 ∷ []; spelled = refl; tail_is = (1, omega arith, refl, refl); counts = _ })
 
 pub plain_header : HasForm form.Header (codes "cosim 1")
 unfolding tokens_in keyword_of symbol_of word_at number_at symbol_at number_token bounded_number token_at
-plain_header = has_form form.Header (codes "cosim 1") (token.Keyword word.Cosim ∷ token.Number 1 0 ∷ []) refl refl
+plain_header = has_form form.Header (codes "cosim 1") (token.Keyword word.Cosim ∷ token.Number 1 0 ∷ []) refl (record { tail = []; spelled = refl; tail_is = refl; counts = _ })
 
 pub sample_line : HasForm (form.Sample (record { instance = codes "a"; port = codes "y" })) (codes "sample a.y")
 unfolding tokens_in keyword_of symbol_of word_at number_at symbol_at number_token bounded_number token_at
-sample_line = has_form (form.Sample (record { instance = codes "a"; port = codes "y" })) (codes "sample a.y") (token.Keyword word.Sample ∷ token.Name (codes "a") ∷ token.Symbol sign.Point ∷ token.Name (codes "y") ∷ []) refl refl
+sample_line = has_form (form.Sample (record { instance = codes "a"; port = codes "y" })) (codes "sample a.y") (token.Keyword word.Sample ∷ token.Name (codes "a") ∷ token.Symbol sign.Point ∷ token.Name (codes "y") ∷ []) refl (record { tail = []; spelled = refl; tail_is = refl; counts = _ })
 
 pub half_stop : HasForm (form.Stop (literal.Number (pos 5) 1)) (codes "stop 0.5")
 unfolding tokens_in keyword_of symbol_of word_at number_at symbol_at number_token bounded_number token_at
-half_stop = has_form (form.Stop (literal.Number (pos 5) 1)) (codes "stop 0.5") (token.Keyword word.Stop ∷ token.Number 5 1 ∷ []) refl (token.Number 5 1 ∷ [], refl, (5, omega arith, refl, refl))
+half_stop = has_form (form.Stop (literal.Number (pos 5) 1)) (codes "stop 0.5") (token.Keyword word.Stop ∷ token.Number 5 1 ∷ []) refl (record { tail = token.Number 5 1 ∷ []; spelled = refl; tail_is = (5, omega arith, refl, refl); counts = _ })
 
 pub zero_line : HasForm (form.Zero 0) (codes "zero 0")
 unfolding tokens_in keyword_of symbol_of word_at number_at symbol_at number_token bounded_number token_at
-zero_line = has_form (form.Zero 0) (codes "zero 0") (token.Keyword word.Zero ∷ token.Number 0 0 ∷ []) refl (refl, omega arith, omega arith)
+zero_line = has_form (form.Zero 0) (codes "zero 0") (token.Keyword word.Zero ∷ token.Number 0 0 ∷ []) refl (record { tail = []; spelled = refl; tail_is = refl; counts = omega arith })
 
 pub unit_a : HasForm (form.Unit (codes "A")) (codes "unit A")
 unfolding tokens_in keyword_of symbol_of word_at number_at symbol_at number_token bounded_number token_at
-unit_a = has_form (form.Unit (codes "A")) (codes "unit A") (token.Keyword word.Unit ∷ token.Name (codes "A") ∷ []) refl refl
+unit_a = has_form (form.Unit (codes "A")) (codes "unit A") (token.Keyword word.Unit ∷ token.Name (codes "A") ∷ []) refl (record { tail = []; spelled = refl; tail_is = refl; counts = _ })
 
 pub max_line : HasForm (form.Max (expr.Var (codes "u"))) (codes "max(u)")
 unfolding tokens_in keyword_of symbol_of word_at number_at symbol_at number_token bounded_number token_at
-max_line = has_form (form.Max (expr.Var (codes "u"))) (codes "max(u)") (token.Keyword word.Max ∷ token.Symbol sign.Open ∷ token.Name (codes "u") ∷ token.Symbol sign.Close ∷ []) refl (token.Symbol sign.Open ∷ token.Name (codes "u") ∷ token.Symbol sign.Close ∷ [], refl, record { phrase = phrase.Parens (phrase.Var (codes "u")); is_tree = refl; spelled = refl; is_grammatical = refl })
+max_line = has_form (form.Max (expr.Var (codes "u"))) (codes "max(u)") (token.Keyword word.Max ∷ token.Symbol sign.Open ∷ token.Name (codes "u") ∷ token.Symbol sign.Close ∷ []) refl (record { tail = token.Symbol sign.Open ∷ token.Name (codes "u") ∷ token.Symbol sign.Close ∷ []; spelled = refl; tail_is = record { phrase = phrase.Parens (phrase.Var (codes "u")); is_tree = refl; spelled = refl; is_grammatical = refl }; counts = _ })
 
 pub bool_output : HasForm (form.Output (record { name = codes "y"; ty = types.Bool; needs = codes "u" ∷ []; value = expr.Binary by.And (expr.Truth true) (expr.Unary of.Not (expr.Binary by.Lt (expr.Var (codes "n")) (expr.Number (pos 5) 1))) })) (codes "output y:Bool needs u=true and not n<0.5")
 unfolding tokens_in keyword_of symbol_of word_at number_at symbol_at number_token bounded_number token_at
-bool_output = has_form (form.Output (record { name = codes "y"; ty = types.Bool; needs = codes "u" ∷ []; value = expr.Binary by.And (expr.Truth true) (expr.Unary of.Not (expr.Binary by.Lt (expr.Var (codes "n")) (expr.Number (pos 5) 1))) })) (codes "output y:Bool needs u=true and not n<0.5") (token.Keyword word.Output ∷ token.Name (codes "y") ∷ token.Symbol sign.Colon ∷ token.Name (codes "Bool") ∷ token.Keyword word.Needs ∷ token.Name (codes "u") ∷ token.Symbol sign.Is ∷ token.Keyword word.True ∷ token.Keyword word.And ∷ token.Keyword word.Not ∷ token.Name (codes "n") ∷ token.Symbol sign.Less ∷ token.Number 5 1 ∷ []) refl (token.Keyword word.True ∷ token.Keyword word.And ∷ token.Keyword word.Not ∷ token.Name (codes "n") ∷ token.Symbol sign.Less ∷ token.Number 5 1 ∷ [], refl, _, record { phrase = phrase.Binary by.And (phrase.Truth true) (phrase.Unary of.Not (phrase.Binary by.Lt (phrase.Var (codes "n")) (phrase.Number 5 1))); is_tree = refl; spelled = refl; is_grammatical = refl })
+bool_output = has_form (form.Output (record { name = codes "y"; ty = types.Bool; needs = codes "u" ∷ []; value = expr.Binary by.And (expr.Truth true) (expr.Unary of.Not (expr.Binary by.Lt (expr.Var (codes "n")) (expr.Number (pos 5) 1))) })) (codes "output y:Bool needs u=true and not n<0.5") (token.Keyword word.Output ∷ token.Name (codes "y") ∷ token.Symbol sign.Colon ∷ token.Name (codes "Bool") ∷ token.Keyword word.Needs ∷ token.Name (codes "u") ∷ token.Symbol sign.Is ∷ token.Keyword word.True ∷ token.Keyword word.And ∷ token.Keyword word.Not ∷ token.Name (codes "n") ∷ token.Symbol sign.Less ∷ token.Number 5 1 ∷ []) refl (record { tail = token.Keyword word.True ∷ token.Keyword word.And ∷ token.Keyword word.Not ∷ token.Name (codes "n") ∷ token.Symbol sign.Less ∷ token.Number 5 1 ∷ []; spelled = refl; tail_is = record { phrase = phrase.Binary by.And (phrase.Truth true) (phrase.Unary of.Not (phrase.Binary by.Lt (phrase.Var (codes "n")) (phrase.Number 5 1))); is_tree = refl; spelled = refl; is_grammatical = refl }; counts = _ })
 
 pub input_line : HasForm (form.Input (record { name = codes "u"; ty = types.Int64; start = literal.Number (neg_ℤ (pos 9223372036854775808)) 0 })) (codes "input u:Int64=-9223372036854775808")
 unfolding tokens_in keyword_of symbol_of word_at number_at symbol_at number_token bounded_number token_at
-input_line = has_form (form.Input (record { name = codes "u"; ty = types.Int64; start = literal.Number (neg_ℤ (pos 9223372036854775808)) 0 })) (codes "input u:Int64=-9223372036854775808") (token.Keyword word.Input ∷ token.Name (codes "u") ∷ token.Symbol sign.Colon ∷ token.Name (codes "Int64") ∷ token.Symbol sign.Is ∷ token.Symbol sign.Minus ∷ token.Number 9223372036854775808 0 ∷ []) refl (token.Symbol sign.Minus ∷ token.Number 9223372036854775808 0 ∷ [], refl, _, record { negative = true; digits = 9223372036854775808; spelled = refl; value = refl; fits = refl })
+input_line = has_form (form.Input (record { name = codes "u"; ty = types.Int64; start = literal.Number (neg_ℤ (pos 9223372036854775808)) 0 })) (codes "input u:Int64=-9223372036854775808") (token.Keyword word.Input ∷ token.Name (codes "u") ∷ token.Symbol sign.Colon ∷ token.Name (codes "Int64") ∷ token.Symbol sign.Is ∷ token.Symbol sign.Minus ∷ token.Number 9223372036854775808 0 ∷ []) refl (record { tail = token.Symbol sign.Minus ∷ token.Number 9223372036854775808 0 ∷ []; spelled = refl; tail_is = record { negative = true; digits = 9223372036854775808; spelled = refl; value = refl; fits = refl }; counts = _ })
 
 pub fixed_state : HasForm (form.State (record { name = codes "n"; ty = types.Fixed 1; start = literal.Number (pos 0) 1 })) (codes "state n:Fixed 01=- 0.0")
 unfolding tokens_in keyword_of symbol_of word_at number_at symbol_at number_token bounded_number token_at
-fixed_state = has_form (form.State (record { name = codes "n"; ty = types.Fixed 1; start = literal.Number (pos 0) 1 })) (codes "state n:Fixed 01=- 0.0") (token.Keyword word.State ∷ token.Name (codes "n") ∷ token.Symbol sign.Colon ∷ token.Name (codes "Fixed") ∷ token.Number 1 0 ∷ token.Symbol sign.Is ∷ token.Symbol sign.Minus ∷ token.Number 0 1 ∷ []) refl (token.Symbol sign.Minus ∷ token.Number 0 1 ∷ [], refl, omega arith, record { negative = true; digits = 0; spelled = refl; value = refl; fits = refl })
+fixed_state = has_form (form.State (record { name = codes "n"; ty = types.Fixed 1; start = literal.Number (pos 0) 1 })) (codes "state n:Fixed 01=- 0.0") (token.Keyword word.State ∷ token.Name (codes "n") ∷ token.Symbol sign.Colon ∷ token.Name (codes "Fixed") ∷ token.Number 1 0 ∷ token.Symbol sign.Is ∷ token.Symbol sign.Minus ∷ token.Number 0 1 ∷ []) refl (record { tail = token.Symbol sign.Minus ∷ token.Number 0 1 ∷ []; spelled = refl; tail_is = record { negative = true; digits = 0; spelled = refl; value = refl; fits = refl }; counts = omega arith })
 
 pub resolution_line : HasForm (form.Resolution 1) (codes "resolution 1")
 unfolding tokens_in keyword_of symbol_of word_at number_at symbol_at number_token bounded_number token_at
-resolution_line = has_form (form.Resolution 1) (codes "resolution 1") (token.Keyword word.Resolution ∷ token.Number 1 0 ∷ []) refl (refl, omega arith, omega arith)
+resolution_line = has_form (form.Resolution 1) (codes "resolution 1") (token.Keyword word.Resolution ∷ token.Number 1 0 ∷ []) refl (record { tail = []; spelled = refl; tail_is = refl; counts = omega arith })
 
 pub rows_line : HasForm (form.Rows 100000) (codes "rows 100000")
 unfolding tokens_in keyword_of symbol_of word_at number_at symbol_at number_token bounded_number token_at
-rows_line = has_form (form.Rows 100000) (codes "rows 100000") (token.Keyword word.Rows ∷ token.Number 100000 0 ∷ []) refl (refl, omega arith, omega arith)
+rows_line = has_form (form.Rows 100000) (codes "rows 100000") (token.Keyword word.Rows ∷ token.Number 100000 0 ∷ []) refl (record { tail = []; spelled = refl; tail_is = refl; counts = (omega arith, omega arith) })
 
 pub connect_line : HasForm (form.Connect (record { from = record { instance = codes "a"; port = codes "y" }; to = record { instance = codes "b"; port = codes "u" } })) (codes "connect a.y->b.u")
 unfolding tokens_in keyword_of symbol_of word_at number_at symbol_at number_token bounded_number token_at
-connect_line = has_form (form.Connect (record { from = record { instance = codes "a"; port = codes "y" }; to = record { instance = codes "b"; port = codes "u" } })) (codes "connect a.y->b.u") (token.Keyword word.Connect ∷ token.Name (codes "a") ∷ token.Symbol sign.Point ∷ token.Name (codes "y") ∷ token.Symbol sign.Arrow ∷ token.Name (codes "b") ∷ token.Symbol sign.Point ∷ token.Name (codes "u") ∷ []) refl refl
+connect_line = has_form (form.Connect (record { from = record { instance = codes "a"; port = codes "y" }; to = record { instance = codes "b"; port = codes "u" } })) (codes "connect a.y->b.u") (token.Keyword word.Connect ∷ token.Name (codes "a") ∷ token.Symbol sign.Point ∷ token.Name (codes "y") ∷ token.Symbol sign.Arrow ∷ token.Name (codes "b") ∷ token.Symbol sign.Point ∷ token.Name (codes "u") ∷ []) refl (record { tail = []; spelled = refl; tail_is = refl; counts = _ })
 
 pub instance_a : HasForm (form.Instance (codes "a") (codes "A")) (codes "instance a:A")
 unfolding tokens_in keyword_of symbol_of word_at number_at symbol_at number_token bounded_number token_at
-instance_a = has_form (form.Instance (codes "a") (codes "A")) (codes "instance a:A") (token.Keyword word.Instance ∷ token.Name (codes "a") ∷ token.Symbol sign.Colon ∷ token.Name (codes "A") ∷ []) refl refl
+instance_a = has_form (form.Instance (codes "a") (codes "A")) (codes "instance a:A") (token.Keyword word.Instance ∷ token.Name (codes "a") ∷ token.Symbol sign.Colon ∷ token.Name (codes "A") ∷ []) refl (record { tail = []; spelled = refl; tail_is = refl; counts = _ })
 
 pub setting_line : HasForm (form.Setting (record { name = codes "k"; value = literal.Truth false })) (codes "k=false")
 unfolding tokens_in keyword_of symbol_of word_at number_at symbol_at number_token bounded_number token_at
-setting_line = has_form (form.Setting (record { name = codes "k"; value = literal.Truth false })) (codes "k=false") (token.Name (codes "k") ∷ token.Symbol sign.Is ∷ token.Keyword word.False ∷ []) refl (token.Keyword word.False ∷ [], refl, refl)
+setting_line = has_form (form.Setting (record { name = codes "k"; value = literal.Truth false })) (codes "k=false") (token.Name (codes "k") ∷ token.Symbol sign.Is ∷ token.Keyword word.False ∷ []) refl (record { tail = token.Keyword word.False ∷ []; spelled = refl; tail_is = refl; counts = _ })

@@ -5,7 +5,7 @@ use Rattle.unit_tree.specs.declared.expr.Expr as expr
 use Rattle.unit_tree.specs.declared.expr.Expr.{Expr, fold-Expr, the_lemmas as expr_lemmas}
 use Rattle.unit_tree.specs.declared.expr.Expr.TheFolds.{fold-roll-Expr}
 use Rattle.unit_tree.specs.declared.expr.Expr.TheOpen.{Expr-F}
-use Rattle.unit_tree.specs.declared.expr.Expr.TheVariants.{rolls-Number, rolls-Truth, rolls-Var, rolls-Unary, rolls-Binary, rolls-Clamp, rolls-Choose}
+use Rattle.unit_tree.specs.declared.expr.Expr.TheVariants.{rolls-Number, rolls-Truth, rolls-Var, rolls-Time, rolls-Step, rolls-Unary, rolls-Binary, rolls-Clamp, rolls-Choose}
 use Rattle.unit_tree.specs.declared.expr.UnOp.{UnOp}
 use Rattle.unit_tree.specs.declared.line.Line as line
 use Rattle.unit_tree.specs.declared.line.Line.{Line, fold-Line, the_lemmas as line_lemmas}
@@ -26,6 +26,12 @@ fold-Binary A step op left right = ap (fold-Expr A step) (sym (rolls-Binary op l
 
 pub fold-Truth : (A : Type 0) (step : Expr-F A → A) (told : Bool) → fold-Expr A step (expr.Truth told) ≡ step (Expr-F.Truth told)
 fold-Truth A step told = ap (fold-Expr A step) (sym (rolls-Truth told)) ∙ fold-roll-Expr A step (Expr-F.Truth told)
+
+pub fold-Time : (A : Type 0) (step : Expr-F A → A) → fold-Expr A step expr.Time ≡ step Expr-F.Time
+fold-Time A step = ap (fold-Expr A step) (sym rolls-Time) ∙ fold-roll-Expr A step Expr-F.Time
+
+pub fold-Step : (A : Type 0) (step : Expr-F A → A) → fold-Expr A step expr.Step ≡ step Expr-F.Step
+fold-Step A step = ap (fold-Expr A step) (sym rolls-Step) ∙ fold-roll-Expr A step Expr-F.Step
 
 pub fold-Unary : (A : Type 0) (step : Expr-F A → A) (op : UnOp) (arg : Expr) → fold-Expr A step (expr.Unary op arg) ≡ step (Expr-F.Unary op (fold-Expr A step arg))
 fold-Unary A step op arg = ap (fold-Expr A step) (sym (rolls-Unary op arg)) ∙ fold-roll-Expr A step (Expr-F.Unary op arg)

@@ -1,7 +1,7 @@
 -- Each system is judged once.
-use Rattle.std.proofs.Common.{◌≡◌, ℕ, List, [], ◌∷◌, Option, Some, None, refl}
+use Rattle.std.proofs.Common.{◌≡◌, ℕ, List, [], ◌∷◌, Option, Some, None, refl, ap}
 use Rattle.std.specs.Prelude.{◌↔◌}
-use Rattle.unit_tree.specs.WellFormed.{Rule, Refusal, BreaksNone, lines_breaking, or_later, refusal_by, rules}
+use Rattle.unit_tree.specs.WellFormed.{Rule, Refusal, BreaksNone, IsRefusal, lines_breaking, or_later, refusal_by, rules}
 use Rattle.unit_tree.specs.declared.system.System.{System}
 
 unrefused : (judged : Rule) (later : Option Refusal) (lines : List ℕ) → or_later judged later lines ≡ None → (lines ≡ []) × (later ≡ None)
@@ -20,5 +20,39 @@ none_refused (first ∷ later) system none =
     let both = unrefused first (refusal_by later system) (lines_breaking first system) none in
     (both.0, none_refused later system both.1)
 
-pub judged_once : (system : System) → BreaksNone rules system ↔ (refusal_by rules system ≡ None)
-judged_once system = (none_broken rules system, none_refused rules system)
+pub well_formed : (system : System) → BreaksNone rules system ↔ (refusal_by rules system ≡ None)
+well_formed system = (none_broken rules system, none_refused rules system)
+
+refused_here : (first : Rule) (later : List Rule) (system : System) (refusal : Refusal) (lines : List ℕ) → ((refusal_by later system ≡ Some refusal) → IsRefusal later system refusal) → lines_breaking first system ≡ lines → or_later first (refusal_by later system) lines ≡ Some refusal → IsRefusal (first ∷ later) system refusal
+refused_here first later system refusal [] by_later kept is =
+    let rest = by_later is in
+    record {
+      kept = first ∷ rest.kept;
+      broken = rest.broken;
+      later = rest.later;
+      others = rest.others;
+      cut = ap (λ all. first ∷ all) rest.cut;
+      none_before = (kept, rest.none_before);
+      by = rest.by;
+      lines = rest.lines;
+    }
+refused_here first later system refusal (line ∷ lines) by_later broken is =
+    let here : record { by = first.number; at = line } ≡ refusal = cc in
+    record {
+      kept = [];
+      broken = first;
+      later = later;
+      others = lines;
+      cut = refl;
+      none_before = _;
+      by = ap (λ r. r.by) here;
+      lines = rw (← here) broken;
+    }
+
+refused_by : (judged : List Rule) (system : System) (refusal : Refusal) → refusal_by judged system ≡ Some refusal → IsRefusal judged system refusal
+refused_by [] system refusal is = absurd (cc)
+refused_by (first ∷ later) system refusal is =
+    refused_here first later system refusal (lines_breaking first system) (refused_by later system refusal) refl is
+
+pub refused : (system : System) (refusal : Refusal) → refusal_by rules system ≡ Some refusal → IsRefusal rules system refusal
+refused system refusal is = refused_by rules system refusal is

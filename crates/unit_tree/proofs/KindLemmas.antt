@@ -6,7 +6,7 @@ use Rattle.unit_tree.specs.declared.expr.Expr as expr
 use Rattle.unit_tree.specs.declared.expr.Expr.{Expr}
 use Rattle.unit_tree.specs.declared.expr.Expr.TheOpen.{Expr-F}
 use Rattle.unit_tree.specs.declared.expr.UnOp.{UnOp}
-use Rattle.unit_tree.proofs.FoldLemmas.{fold-Number, fold-Truth, fold-Var, fold-Unary, fold-Binary}
+use Rattle.unit_tree.proofs.FoldLemmas.{fold-Number, fold-Truth, fold-Var, fold-Time, fold-Step, fold-Unary, fold-Binary, fold-Clamp, fold-Choose}
 
 pub kind-Number : (number : ℤ) (decimals : ℕ) (names : KindsOfNames) → kind_of_expression (expr.Number number decimals) names ≡ node_kind (Expr-F.Number number decimals) names
 kind-Number number decimals names = ap (λ (kinding : Kinding). kinding names) (fold-Number Kinding node_kind number decimals)
@@ -23,4 +23,16 @@ kind-Unary op arg names = ap (λ (kinding : Kinding). kinding names) (fold-Unary
 pub kind-Binary : (op : BinOp) (left right : Expr) (names : KindsOfNames) → kind_of_expression (expr.Binary op left right) names ≡ node_kind (Expr-F.Binary op (kind_of_expression left) (kind_of_expression right)) names
 kind-Binary op left right names = ap (λ (kinding : Kinding). kinding names) (fold-Binary Kinding node_kind op left right)
 
-pub ruleset kind_laws = (kind-Number, kind-Truth, kind-Var, kind-Unary, kind-Binary)
+pub kind-Time : (names : KindsOfNames) → kind_of_expression expr.Time names ≡ node_kind Expr-F.Time names
+kind-Time names = ap (λ (kinding : Kinding). kinding names) (fold-Time Kinding node_kind)
+
+pub kind-Step : (names : KindsOfNames) → kind_of_expression expr.Step names ≡ node_kind Expr-F.Step names
+kind-Step names = ap (λ (kinding : Kinding). kinding names) (fold-Step Kinding node_kind)
+
+pub kind-Clamp : (value low high : Expr) (names : KindsOfNames) → kind_of_expression (expr.Clamp value low high) names ≡ node_kind (Expr-F.Clamp (kind_of_expression value) (kind_of_expression low) (kind_of_expression high)) names
+kind-Clamp value low high names = ap (λ (kinding : Kinding). kinding names) (fold-Clamp Kinding node_kind value low high)
+
+pub kind-Choose : (cond then_part else_part : Expr) (names : KindsOfNames) → kind_of_expression (expr.Choose cond then_part else_part) names ≡ node_kind (Expr-F.Choose (kind_of_expression cond) (kind_of_expression then_part) (kind_of_expression else_part)) names
+kind-Choose cond then_part else_part names = ap (λ (kinding : Kinding). kinding names) (fold-Choose Kinding node_kind cond then_part else_part)
+
+pub ruleset kind_laws = (kind-Number, kind-Truth, kind-Var, kind-Time, kind-Step, kind-Unary, kind-Binary, kind-Clamp, kind-Choose)

@@ -2,7 +2,7 @@
 use Rattle.std.proofs.Common.{◌≡◌, List, [], ◌∷◌, ◌++◌, append_assoc, ◌⊎◌, inl, inr, refl, ap, sym, subst, ◌∙◌}
 use Rattle.std.specs.List.{AllByRecursion}
 use Rattle.std.proofs.lemmas.List.{append-nil}
-use Rattle.unit_tree.specs.Orders.{IsIn, DependsOn, needs, through, IsOrderlyAfter, IsOrderly, IsOnCycle, needed_by}
+use Rattle.unit_tree.specs.Orders.{IsIn, DependsOn, needs, through, IsOrderlyAfter, IsOrderly, HasNoOrder, needed_by}
 use Rattle.unit_tree.specs.declared.system.PortName.{PortName}
 use Rattle.unit_tree.specs.declared.system.System.{System}
 
@@ -79,12 +79,12 @@ comes_before system port other (through port' between other' direct later) order
     }
 
 -- A port that depends on one which stands in no orderly list stands in none.
-pub behind_cycle : (system : System) (port other : PortName) → DependsOn system port other → IsOnCycle system other → IsOnCycle system port
+pub behind_cycle : (system : System) (port other : PortName) → DependsOn system port other → HasNoOrder system other → HasNoOrder system port
 behind_cycle system port other depends on_it order orderly stands =
     let before = comes_before system port other depends order orderly stands in
     on_it before.front (front_is_orderly system [] before.front before.behind (subst (IsOrderly system) before.cut orderly)) before.holds
 
-pub on_cycle : (system : System) (port : PortName) → DependsOn system port port → IsOnCycle system port
+pub on_cycle : (system : System) (port : PortName) → DependsOn system port port → HasNoOrder system port
 on_cycle system port itself order orderly stands =
     let before = comes_before system port port itself order orderly stands in
     before.apart before.holds

@@ -1,6 +1,7 @@
 -- Blocks: which are open behind lines, and which lines may stand there.
 use Rattle.std.specs.Prelude.{◌≡◌, ℕ, Bool, true, false, not, ◌&&◌, nat_lt, List, [], ◌∷◌, ◌++◌, drop}
 use Rattle.std.specs.List.{fold, list_any, count_by, after_last}
+use Rattle.unit_tree.specs.LineForms.{are_alike}
 use Rattle.unit_tree.specs.declared.line_form.LineForm.{LineForm}
 use Rattle.unit_tree.specs.declared.line_form.LineForm.TheVariants as form
 
@@ -30,25 +31,25 @@ open_blocks forms = fold behind [] forms
 
 -- ---- Which lines a block may hold
 
-abbrev pub is_top : List Block → Bool
-is_top [] = true
-is_top _ = false
+abbrev pub at_top : List Block → Bool
+at_top [] = true
+at_top _ = false
 
-abbrev pub is_unit : List Block → Bool
-is_unit (InUnit ∷ blocks) = true
-is_unit _ = false
+abbrev pub in_unit : List Block → Bool
+in_unit (InUnit ∷ blocks) = true
+in_unit _ = false
 
-abbrev pub is_instance : List Block → Bool
-is_instance (InInstance ∷ blocks) = true
-is_instance _ = false
+abbrev pub in_instance : List Block → Bool
+in_instance (InInstance ∷ blocks) = true
+in_instance _ = false
 
 -- Step lines stand in a `step`, and in the blocks of `if` and `repeat` in it.
-abbrev pub is_step : List Block → Bool
-is_step (InStep ∷ blocks) = true
-is_step (InIf ∷ blocks) = true
-is_step (InElse ∷ blocks) = true
-is_step (InRepeat ∷ blocks) = true
-is_step _ = false
+abbrev pub in_step : List Block → Bool
+in_step (InStep ∷ blocks) = true
+in_step (InIf ∷ blocks) = true
+in_step (InElse ∷ blocks) = true
+in_step (InRepeat ∷ blocks) = true
+in_step _ = false
 
 abbrev pub lacks_else : List Block → Bool
 lacks_else (InIf ∷ blocks) = true
@@ -56,77 +57,48 @@ lacks_else _ = false
 
 -- The innermost block holds lines of the form.
 abbrev pub holds_form : List Block → LineForm → Bool
-holds_form blocks (form.Resolution decimals) = is_unit blocks
-holds_form blocks (form.Param param) = is_unit blocks
-holds_form blocks (form.State state) = is_unit blocks
-holds_form blocks (form.Local local) = is_unit blocks
-holds_form blocks (form.Input input) = is_unit blocks
-holds_form blocks (form.Output output) = is_unit blocks
-holds_form blocks (form.Max value) = is_unit blocks
-holds_form blocks form.Step = is_unit blocks
-holds_form blocks form.End = not (is_top blocks)
-holds_form blocks (form.Assign target value) = is_step blocks
-holds_form blocks (form.If cond) = is_step blocks
+holds_form blocks (form.Resolution decimals) = in_unit blocks
+holds_form blocks (form.Param param) = in_unit blocks
+holds_form blocks (form.State state) = in_unit blocks
+holds_form blocks (form.Local local) = in_unit blocks
+holds_form blocks (form.Input input) = in_unit blocks
+holds_form blocks (form.Output output) = in_unit blocks
+holds_form blocks (form.Max value) = in_unit blocks
+holds_form blocks form.Step = in_unit blocks
+holds_form blocks form.End = not (at_top blocks)
+holds_form blocks (form.Assign target value) = in_step blocks
+holds_form blocks (form.If cond) = in_step blocks
 holds_form blocks form.Else = lacks_else blocks
-holds_form blocks (form.Repeat count) = is_step blocks
-holds_form blocks (form.Accept value) = is_step blocks
-holds_form blocks (form.Setting setting) = is_instance blocks
-holds_form blocks _ = is_top blocks
+holds_form blocks (form.Repeat count) = in_step blocks
+holds_form blocks (form.Accept value) = in_step blocks
+holds_form blocks (form.Setting setting) = in_instance blocks
+holds_form blocks _ = at_top blocks
 
 -- ---- Lines that stand once
 
-abbrev pub is_header : LineForm → Bool
-is_header form.Header = true
-is_header _ = false
-
-abbrev pub is_unit_line : LineForm → Bool
-is_unit_line (form.Unit name) = true
-is_unit_line _ = false
-
-abbrev pub is_resolution : LineForm → Bool
-is_resolution (form.Resolution decimals) = true
-is_resolution _ = false
-
-abbrev pub is_max : LineForm → Bool
-is_max (form.Max value) = true
-is_max _ = false
-
-abbrev pub is_step_line : LineForm → Bool
-is_step_line form.Step = true
-is_step_line _ = false
-
-abbrev pub is_stop : LineForm → Bool
-is_stop (form.Stop seconds) = true
-is_stop _ = false
-
-abbrev pub is_longest : LineForm → Bool
-is_longest (form.Longest seconds) = true
-is_longest _ = false
-
-abbrev pub is_zero_line : LineForm → Bool
-is_zero_line (form.Zero count) = true
-is_zero_line _ = false
-
-abbrev pub is_rows : LineForm → Bool
-is_rows (form.Rows count) = true
-is_rows _ = false
+abbrev pub opens_unit : LineForm → Bool
+opens_unit (form.Unit name) = true
+opens_unit _ = false
 
 -- The lines behind the last `unit`.
 abbrev pub in_this_unit : List LineForm → List LineForm
-in_this_unit before = after_last is_unit_line before
+in_this_unit before = after_last opens_unit before
 
--- One like it came before. `resolution`, `max` and `step` stand once in a unit; the header, `stop`, `longest`,
--- `zero` and `rows` once in a text.
+-- Among which of the lines before it none may be like a line: `resolution`, `max` and `step` stand once in a unit;
+-- the header, `stop`, `longest`, `zero` and `rows` once in a text.
+abbrev pub rivals : List LineForm → LineForm → List LineForm
+rivals before (form.Resolution decimals) = in_this_unit before
+rivals before (form.Max value) = in_this_unit before
+rivals before form.Step = in_this_unit before
+rivals before form.Header = before
+rivals before (form.Stop seconds) = before
+rivals before (form.Longest seconds) = before
+rivals before (form.Zero count) = before
+rivals before (form.Rows count) = before
+rivals before _ = []
+
 abbrev pub came_before : List LineForm → LineForm → Bool
-came_before before form.Header = list_any is_header before
-came_before before (form.Resolution decimals) = list_any is_resolution (in_this_unit before)
-came_before before (form.Max value) = list_any is_max (in_this_unit before)
-came_before before form.Step = list_any is_step_line (in_this_unit before)
-came_before before (form.Stop seconds) = list_any is_stop before
-came_before before (form.Longest seconds) = list_any is_longest before
-came_before before (form.Zero count) = list_any is_zero_line before
-came_before before (form.Rows count) = list_any is_rows before
-came_before before _ = false
+came_before before line = list_any (are_alike line) (rivals before line)
 
 -- ---- Blocks in blocks
 

@@ -1,23 +1,20 @@
--- Canonical text: the one spelling of a system, in which every text of it can be printed.
+-- Canonical text: of all the texts that say a system, the one that a printer writes.
 use Rattle.std.specs.Prelude.{ℕ, Bool, false, ◌&&◌, if◌then◌else◌, unsigned_abs, List, [], ◌∷◌, ◌++◌, map, Option, Some, None}
 use Rattle.std.specs.Int.{is_negative}
 use Rattle.std.specs.List.{flat_map, last_or}
 use Rattle.fixed_words.specs.Texts.{fixed_text}
 use Rattle.fixed_words.specs.declared.types.Literal.{Literal}
 use Rattle.fixed_words.specs.declared.types.Literal.TheVariants as literal
-use Rattle.unit_tree.specs.LineForms.{declaration_tokens, needs_tokens, port_tokens, sign_tokens}
+use Rattle.unit_tree.specs.LineForms.{Tail, Nothing, OfLiteral, OfSeconds, OfExpression, front_tokens, tail_of, sign_tokens}
 use Rattle.unit_tree.specs.Parts as parts
 use Rattle.unit_tree.specs.Parts.{Part, UnitPart, text_forms}
 use Rattle.unit_tree.specs.Phrases as phrase
-use Rattle.unit_tree.specs.Phrases.{Phrase, Level, Whole, level_of, operand_level, left_level, right_level, unary_level, binary_level, allows, phrase_tokens, keyword, symbol, whole, truth_word}
+use Rattle.unit_tree.specs.Phrases.{Phrase, Level, Whole, level_of, operand_level, left_level, right_level, unary_level, binary_level, allows, phrase_tokens, keyword, truth_word}
 use Rattle.unit_tree.specs.Tokens.{is_word_byte, begins_with, keyword_text, symbol_text}
 use Rattle.unit_tree.specs.declared.expr.Expr.{Expr, fold-Expr}
 use Rattle.unit_tree.specs.declared.expr.Expr.TheOpen.{Expr-F}
 use Rattle.unit_tree.specs.declared.line_form.LineForm.{LineForm}
-use Rattle.unit_tree.specs.declared.line_form.LineForm.TheVariants as form
 use Rattle.unit_tree.specs.declared.system.System.{System}
-use Rattle.unit_tree.specs.declared.token.Keyword.TheVariants as word
-use Rattle.unit_tree.specs.declared.token.Symbol.TheVariants as sign
 use Rattle.unit_tree.specs.declared.token.Token.{Token}
 use Rattle.unit_tree.specs.declared.token.Token.TheVariants as token
 use Rattle.unit_tree.specs.declared.unit.Unit.{Unit}
@@ -88,33 +85,15 @@ literal_tokens (literal.Truth told) = keyword (truth_word told) ∷ []
 literal_tokens (literal.Number number decimals) =
     sign_tokens (is_negative number) ++ (token.Number (unsigned_abs number) decimals ∷ [])
 
+abbrev pub tail_tokens : Tail → List Token
+tail_tokens Nothing = []
+tail_tokens (OfLiteral value) = literal_tokens value
+tail_tokens (OfSeconds seconds) = literal_tokens seconds
+tail_tokens (OfExpression value) = expression_tokens value
+
 -- The tokens of a line.
 abbrev pub form_tokens : LineForm → List Token
-form_tokens form.Header = keyword word.Cosim ∷ whole 1 ∷ []
-form_tokens (form.Unit name) = keyword word.Unit ∷ token.Name name ∷ []
-form_tokens (form.Resolution decimals) = keyword word.Resolution ∷ whole decimals ∷ []
-form_tokens (form.Param param) = declaration_tokens word.Param param.name param.ty ++ (symbol sign.Is ∷ literal_tokens param.start)
-form_tokens (form.State state) = declaration_tokens word.State state.name state.ty ++ (symbol sign.Is ∷ literal_tokens state.start)
-form_tokens (form.Local local) = declaration_tokens word.Local local.name local.ty
-form_tokens (form.Input input) = declaration_tokens word.Input input.name input.ty ++ (symbol sign.Is ∷ literal_tokens input.start)
-form_tokens (form.Output output) =
-    declaration_tokens word.Output output.name output.ty ++ needs_tokens output.needs ++ (symbol sign.Is ∷ expression_tokens output.value)
-form_tokens (form.Max value) = keyword word.Max ∷ expression_tokens value
-form_tokens form.Step = keyword word.Step ∷ []
-form_tokens form.End = keyword word.End ∷ []
-form_tokens (form.Assign target value) = token.Name target ∷ symbol sign.Assign ∷ expression_tokens value
-form_tokens (form.If cond) = keyword word.If ∷ expression_tokens cond
-form_tokens form.Else = keyword word.Else ∷ []
-form_tokens (form.Repeat count) = keyword word.Repeat ∷ whole count ∷ []
-form_tokens (form.Accept value) = keyword word.Accept ∷ expression_tokens value
-form_tokens (form.Instance name unit) = keyword word.Instance ∷ token.Name name ∷ symbol sign.Colon ∷ token.Name unit ∷ []
-form_tokens (form.Setting setting) = token.Name setting.name ∷ symbol sign.Is ∷ literal_tokens setting.value
-form_tokens (form.Connect wire) = keyword word.Connect ∷ port_tokens wire.from ++ (symbol sign.Arrow ∷ port_tokens wire.to)
-form_tokens (form.Stop seconds) = keyword word.Stop ∷ literal_tokens seconds
-form_tokens (form.Longest seconds) = keyword word.Longest ∷ literal_tokens seconds
-form_tokens (form.Zero count) = keyword word.Zero ∷ whole count ∷ []
-form_tokens (form.Rows count) = keyword word.Rows ∷ whole count ∷ []
-form_tokens (form.Sample port) = keyword word.Sample ∷ port_tokens port
+form_tokens some = front_tokens some ++ tail_tokens (tail_of some)
 
 -- ---- Bytes
 

@@ -1,10 +1,11 @@
--- Kind of an expression: what its operands are to be, and what it is then; none where an operand is of a wrong kind.
--- Step lines have the right kinds where each of their expressions has the kind that its place asks for.
-use Rattle.std.specs.Prelude.{ℕ, Bool, true, false, ◌&&◌, nat_eq, List, map, Option, Some, None, if◌then◌else◌}
-use Rattle.std.specs.List.{list_all}
+-- Kinds: which kinds the operands of an operation have to have, and which one it then gives. An expression has no
+-- kind where an operand in it has a wrong one.
+use Rattle.std.specs.Prelude.{ℕ, Bool, true, false, ◌&&◌, nat_eq, List, Option, Some, None, if◌then◌else◌}
+use Rattle.std.specs.List.{list_all, flat_map}
 use Rattle.std.specs.Option.{option_and_then}
 use Rattle.fixed_words.specs.declared.types.Kind.{Kind}
 use Rattle.fixed_words.specs.declared.types.Kind.TheVariants.{Int, Bool as Truth, Fixed}
+use Rattle.unit_tree.specs.Parts.{line_forms}
 use Rattle.unit_tree.specs.Values.{kind_of_number}
 use Rattle.unit_tree.specs.declared.expr.BinOp.{BinOp}
 use Rattle.unit_tree.specs.declared.expr.BinOp.TheVariants as by
@@ -12,8 +13,9 @@ use Rattle.unit_tree.specs.declared.expr.Expr.{Expr, fold-Expr}
 use Rattle.unit_tree.specs.declared.expr.Expr.TheOpen.{Expr-F}
 use Rattle.unit_tree.specs.declared.expr.UnOp.{UnOp}
 use Rattle.unit_tree.specs.declared.expr.UnOp.TheVariants as of
-use Rattle.unit_tree.specs.declared.line.Line.{Line, fold-Line}
-use Rattle.unit_tree.specs.declared.line.Line.TheOpen.{Line-F}
+use Rattle.unit_tree.specs.declared.line.Line.{Line}
+use Rattle.unit_tree.specs.declared.line_form.LineForm.{LineForm}
+use Rattle.unit_tree.specs.declared.line_form.LineForm.TheVariants as form
 
 -- Whether two kinds are one. Int and fixed point without decimals are two.
 abbrev pub same_kind : Kind → Kind → Bool
@@ -96,25 +98,14 @@ KindTest = KindsOfNames → Bool
 abbrev pub has_kind : Option Kind → Expr → KindTest
 has_kind asked value names = is_of_kind (kind_of_expression value names) asked
 
-abbrev pub all_kinded : List KindTest → KindTest
-all_kinded tests names = list_all (λ test. test names) tests
-
-abbrev pub else_kinded : Option (List KindTest) → KindTest
-else_kinded None names = true
-else_kinded (Some tests) names = all_kinded tests names
-
--- One line, with the test of each line of its blocks in its place: the value of an assignment has its target's
--- kind, a condition is Bool, and what is accepted is Int.
-abbrev pub part_kinded : Line-F KindTest → KindTest
-part_kinded (Line-F.Assign target value) names = has_kind (names target) value names
-part_kinded (Line-F.If cond then_lines else_lines) names =
-    has_kind (Some Truth) cond names && (all_kinded then_lines names && else_kinded else_lines names)
-part_kinded (Line-F.Repeat count body) names = all_kinded body names
-part_kinded (Line-F.Accept value) names = has_kind (Some Int) value names
-
-abbrev pub line_is_kinded : Line → KindTest
-line_is_kinded = fold-Line KindTest part_kinded
+-- Whether a step line has the right kinds: the value of an assignment its target's kind, a condition Bool, and what is
+-- accepted Int.
+abbrev pub line_is_kinded : LineForm → KindTest
+line_is_kinded (form.Assign target value) names = has_kind (names target) value names
+line_is_kinded (form.If cond) names = has_kind (Some Truth) cond names
+line_is_kinded (form.Accept value) names = has_kind (Some Int) value names
+line_is_kinded _ names = true
 
 -- Whether every line of a step has the right kinds, those of its blocks too.
 abbrev pub lines_are_kinded : List Line → KindTest
-lines_are_kinded lines = all_kinded (map line_is_kinded lines)
+lines_are_kinded lines names = list_all (λ line. line_is_kinded line names) (flat_map line_forms lines)

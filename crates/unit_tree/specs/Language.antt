@@ -1,25 +1,30 @@
--- Laws of the language. The first five are proved; the others say what a reader and a printer of the language are
--- owed, and are not proved.
-use Rattle.std.specs.Prelude.{◌≡◌, ◌≤◌, ◌⊎◌, ◌↔◌, ℕ, List, map, length, Option, Some, None, IsTrue}
+-- Laws of the language. Those of the first part are proved; those of the second say what a reader, a checker and a
+-- printer of the language owe, and are not proved yet.
+use Rattle.std.specs.Prelude.{◌≡◌, ◌≤◌, ◌⊎◌, ◌↔◌, ℕ, List, [], ◌∷◌, map, length, Option, Some, None, IsTrue}
+use Rattle.unit_tree.specs.Blocks.{open_blocks, are_placed}
 use Rattle.unit_tree.specs.Canonical.{canonical_parts, canonical_forms, canonical_phrase, canonical_text, line_text}
 use Rattle.unit_tree.specs.LineForms.{HasForm}
-use Rattle.unit_tree.specs.Orders.{DependsOn, IsOnCycle}
-use Rattle.unit_tree.specs.Parts.{system_of}
+use Rattle.unit_tree.specs.Lines.{source_lines}
+use Rattle.unit_tree.specs.Orders.{DependsOn, HasNoOrder, HasNoCycle, IsFirstWithoutOrder}
+use Rattle.unit_tree.specs.Parts.{Part, text_forms, system_of}
 use Rattle.unit_tree.specs.Phrases.{Whole, stands, tree_of}
 use Rattle.unit_tree.specs.Printable.{IsPrintable, is_unsigned}
 use Rattle.unit_tree.specs.Sites.{sites_of}
-use Rattle.unit_tree.specs.Texts.{Reads, IsRefused}
-use Rattle.unit_tree.specs.WellFormed.{Refusal, IsWellFormed, refusal_of}
+use Rattle.unit_tree.specs.Texts.{HaveForms, Reads, IsRefused}
+use Rattle.unit_tree.specs.WellFormed.{Refusal, IsWellFormed, IsRefusal, refusal_of, rules}
 use Rattle.unit_tree.specs.declared.expr.Expr.{Expr}
 use Rattle.unit_tree.specs.declared.line_form.LineForm.{LineForm}
+use Rattle.unit_tree.specs.declared.line_form.LineForm.TheVariants as form
 use Rattle.unit_tree.specs.declared.system.PortName.{PortName}
 use Rattle.unit_tree.specs.declared.system.System.{System}
 
 -- ---- Proved
 
--- Every system is well-formed or refused, and not both.
-abbrev pub IsJudgedOnce : Type 0
-IsJudgedOnce = (system : System) → IsWellFormed system ↔ (refusal_of system ≡ None)
+-- Every system is well-formed or refused, and not both: there is no refusal exactly where it is well-formed, and a
+-- refusal names the least rule that a line breaks, and the first line that breaks it.
+pub record IsJudgedOnce : Type 0 where
+  pub well_formed : (system : System) → IsWellFormed system ↔ (refusal_of system ≡ None)
+  pub refused : (system : System) (refusal : Refusal) → refusal_of system ≡ Some refusal → IsRefusal rules system refusal
 
 -- The sites that rules speak of are the canonical lines, one for one.
 abbrev pub SitesAreCanonicalLines : Type 0
@@ -41,12 +46,16 @@ CanonicalPhrasesAreRight = (value : Expr) → IsTrue (is_unsigned value) → Can
 -- An output that depends on itself lies on a cycle: it stands in no orderly list, and nor does any output that
 -- depends on such a one.
 pub record CyclesHaveNoOrder : Type 0 where
-  pub on_cycle : (system : System) (port : PortName) → DependsOn system port port → IsOnCycle system port
-  pub behind_cycle : (system : System) (port other : PortName) → DependsOn system port other → IsOnCycle system other → IsOnCycle system port
+  pub on_cycle : (system : System) (port : PortName) → DependsOn system port port → HasNoOrder system port
+  pub behind_cycle : (system : System) (port other : PortName) → DependsOn system port other → HasNoOrder system other → HasNoOrder system port
 
--- ---- Owed by a reader and a printer
+-- ---- Owed
 
--- A text says one system at most.
+-- A text is written with one list of parts at most, and so says one system at most.
+abbrev pub HasOneReading : List ℕ → Type 0
+HasOneReading text =
+    (one other : List Part) → HaveForms (text_forms one) (source_lines text) → HaveForms (text_forms other) (source_lines text) → one ≡ other
+
 abbrev pub SaysOneSystem : List ℕ → Type 0
 SaysOneSystem text = (one other : System) → Reads text one → Reads text other → one ≡ other
 
@@ -62,12 +71,23 @@ IsAnswered text = ((system : System) × Reads text system) ⊎ ((line : ℕ) × 
 -- Each text says one system, or is refused at one line by one rule, and not both.
 pub record IsAnsweredOnce (text : List ℕ) : Type 0 where
   pub answered : IsAnswered text
+  pub one_reading : HasOneReading text
   pub one_system : SaysOneSystem text
   pub one_refusal : IsRefusedOnce text
   pub not_both : (system : System) (line rule : ℕ) → Reads text system → IsRefused text line rule → ⊥
 
 abbrev pub EveryTextIsAnsweredOnce : Type 0
 EveryTextIsAnsweredOnce = (text : List ℕ) → IsAnsweredOnce text
+
+-- Lines nest exactly where they are those of parts: the header and lines that may stand behind it, with no block
+-- open at the end, are the lines of some parts.
+abbrev pub NestingIsByParts : Type 0
+NestingIsByParts =
+    (forms : List LineForm) → IsTrue (are_placed [] (form.Header ∷ forms)) → (open_blocks (form.Header ∷ forms) ≡ []) ↔ ((parts : List Part) × (form.Header ∷ forms ≡ text_forms parts))
+
+-- What a text says has a canonical text, and is in range.
+abbrev pub WhatIsReadIsPrintable : Type 0
+WhatIsReadIsPrintable = (text : List ℕ) (system : System) → Reads text system → IsPrintable system
 
 -- Reading the canonical text of a system gives this system.
 abbrev pub CanonicalTextIsReadBack : Type 0
@@ -76,3 +96,8 @@ CanonicalTextIsReadBack = (system : System) → IsPrintable system → Reads (ca
 -- A canonical line is never longer than a line that it came from.
 abbrev pub CanonicalLinesAreShortest : Type 0
 CanonicalLinesAreShortest = (some : LineForm) (line : List ℕ) → HasForm some line → length (line_text some) ≤ length line
+
+-- A well-formed system has an order of all its outputs, or an output that is the first without one.
+abbrev pub CyclesAreJudgedOnce : Type 0
+CyclesAreJudgedOnce =
+    (system : System) → IsWellFormed system → (HasNoCycle system → (port : PortName) → IsFirstWithoutOrder system port → ⊥) × (HasNoCycle system ⊎ ((port : PortName) × IsFirstWithoutOrder system port))

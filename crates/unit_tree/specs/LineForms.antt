@@ -1,5 +1,6 @@
--- The forms of lines: the tokens that write each of them, and the numbers that it may hold.
-use Rattle.std.specs.Prelude.{◌≡◌, ◌≢◌, ℕ, ◌^◌, ◌≤◌, ◌<◌, Bool, true, false, ℤ, pos, List, [], ◌∷◌, ◌++◌, codes, IsTrue, if◌then◌else◌}
+-- The forms of lines: which tokens write each of them.
+use Rattle.std.specs.Prelude.{◌≡◌, ℕ, ◌^◌, ◌≤◌, ◌<◌, Bool, ℤ, pos, List, [], ◌∷◌, ◌++◌, codes, IsTrue, if◌then◌else◌, ⊤}
+use Rattle.std.specs.Str.{bytes_eq}
 use Rattle.fixed_words.specs.Literals.{with_sign}
 use Rattle.fixed_words.specs.Types.{AreDecimals, is_word_of}
 use Rattle.fixed_words.specs.declared.types.Literal.{Literal}
@@ -8,7 +9,7 @@ use Rattle.fixed_words.specs.declared.types.Ty.{Ty}
 use Rattle.fixed_words.specs.declared.types.Ty.TheVariants as types
 use Rattle.unit_tree.specs.Lines.{code_of}
 use Rattle.unit_tree.specs.Phrases.{keyword, symbol, whole, truth_word, Writes}
-use Rattle.unit_tree.specs.Tokens.{Spells}
+use Rattle.unit_tree.specs.Tokens.{Spells, keyword_text}
 use Rattle.unit_tree.specs.declared.expr.Expr.{Expr}
 use Rattle.unit_tree.specs.declared.line_form.LineForm.{LineForm}
 use Rattle.unit_tree.specs.declared.line_form.LineForm.TheVariants as form
@@ -18,9 +19,8 @@ use Rattle.unit_tree.specs.declared.token.Keyword.TheVariants as word
 use Rattle.unit_tree.specs.declared.token.Symbol.TheVariants as sign
 use Rattle.unit_tree.specs.declared.token.Token.{Token}
 use Rattle.unit_tree.specs.declared.token.Token.TheVariants as token
-use Rattle.unit_tree.specs.declared.unit.Output.{Output}
 
--- ---- Parts of a line
+-- ---- The front of a line
 
 -- A type by its name, which is no reserved word.
 abbrev pub type_tokens : Ty → List Token
@@ -33,6 +33,87 @@ type_tokens types.UInt32 = token.Name (codes "UInt32") ∷ []
 type_tokens types.Int64 = token.Name (codes "Int64") ∷ []
 type_tokens types.Bool = token.Name (codes "Bool") ∷ []
 type_tokens (types.Fixed decimals) = token.Name (codes "Fixed") ∷ whole decimals ∷ []
+
+-- `a.y`
+abbrev pub port_tokens : PortName → List Token
+port_tokens port = token.Name port.instance ∷ symbol sign.Point ∷ token.Name port.port ∷ []
+
+-- `p : T`, behind a keyword.
+abbrev pub declaration : Keyword → List ℕ → Ty → List Token
+declaration declared name ty = keyword declared ∷ token.Name name ∷ symbol sign.Colon ∷ type_tokens ty
+
+-- Names with a comma between any two.
+abbrev pub names_tokens : List (List ℕ) → List Token
+names_tokens [] = []
+names_tokens (name ∷ []) = token.Name name ∷ []
+names_tokens (name ∷ next ∷ names) = token.Name name ∷ symbol sign.Comma ∷ names_tokens (next ∷ names)
+
+-- `needs u, v`; nothing where nothing is needed.
+abbrev pub needs_tokens : List (List ℕ) → List Token
+needs_tokens [] = []
+needs_tokens (name ∷ names) = keyword word.Needs ∷ names_tokens (name ∷ names)
+
+abbrev pub equals : List Token
+equals = symbol sign.Is ∷ []
+
+-- The tokens of a form in front of its literal or expression; all of them where it has none.
+abbrev pub front_tokens : LineForm → List Token
+front_tokens form.Header = keyword word.Cosim ∷ whole 1 ∷ []
+front_tokens (form.Unit name) = keyword word.Unit ∷ token.Name name ∷ []
+front_tokens (form.Resolution decimals) = keyword word.Resolution ∷ whole decimals ∷ []
+front_tokens (form.Param param) = declaration word.Param param.name param.ty ++ equals
+front_tokens (form.State state) = declaration word.State state.name state.ty ++ equals
+front_tokens (form.Local local) = declaration word.Local local.name local.ty
+front_tokens (form.Input input) = declaration word.Input input.name input.ty ++ equals
+front_tokens (form.Output output) = declaration word.Output output.name output.ty ++ needs_tokens output.needs ++ equals
+front_tokens (form.Max value) = keyword word.Max ∷ []
+front_tokens form.Step = keyword word.Step ∷ []
+front_tokens form.End = keyword word.End ∷ []
+front_tokens (form.Assign target value) = token.Name target ∷ symbol sign.Assign ∷ []
+front_tokens (form.If cond) = keyword word.If ∷ []
+front_tokens form.Else = keyword word.Else ∷ []
+front_tokens (form.Repeat count) = keyword word.Repeat ∷ whole count ∷ []
+front_tokens (form.Accept value) = keyword word.Accept ∷ []
+front_tokens (form.Instance name unit) = keyword word.Instance ∷ token.Name name ∷ symbol sign.Colon ∷ token.Name unit ∷ []
+front_tokens (form.Setting setting) = token.Name setting.name ∷ equals
+front_tokens (form.Connect wire) = keyword word.Connect ∷ port_tokens wire.from ++ (symbol sign.Arrow ∷ port_tokens wire.to)
+front_tokens (form.Stop seconds) = keyword word.Stop ∷ []
+front_tokens (form.Longest seconds) = keyword word.Longest ∷ []
+front_tokens (form.Zero count) = keyword word.Zero ∷ whole count ∷ []
+front_tokens (form.Rows count) = keyword word.Rows ∷ whole count ∷ []
+front_tokens (form.Sample port) = keyword word.Sample ∷ port_tokens port
+
+-- The keyword that a line begins with; no text where it begins with a name.
+abbrev pub first_keyword : List Token → List ℕ
+first_keyword (token.Keyword spelled ∷ tokens) = keyword_text spelled
+first_keyword _ = []
+
+-- Lines are alike where they begin with the same keyword.
+abbrev pub are_alike : LineForm → LineForm → Bool
+are_alike one other = bytes_eq (first_keyword (front_tokens one)) (first_keyword (front_tokens other))
+
+-- ---- The tail of a line
+
+-- What a form ends with: nothing more, a literal, a number of seconds, which has no sign, or an expression.
+pub data Tail : Type 0 where
+  Nothing : Tail
+  OfLiteral : Literal → Tail
+  OfSeconds : Literal → Tail
+  OfExpression : Expr → Tail
+
+abbrev pub tail_of : LineForm → Tail
+tail_of (form.Param param) = OfLiteral param.start
+tail_of (form.State state) = OfLiteral state.start
+tail_of (form.Input input) = OfLiteral input.start
+tail_of (form.Setting setting) = OfLiteral setting.value
+tail_of (form.Stop seconds) = OfSeconds seconds
+tail_of (form.Longest seconds) = OfSeconds seconds
+tail_of (form.Output output) = OfExpression output.value
+tail_of (form.Max value) = OfExpression value
+tail_of (form.Assign target value) = OfExpression value
+tail_of (form.If cond) = OfExpression cond
+tail_of (form.Accept value) = OfExpression value
+tail_of _ = Nothing
 
 -- `-` in front of a negative number, which may also stand in front of 0.
 abbrev pub sign_tokens : Bool → List Token
@@ -58,79 +139,34 @@ WritesSeconds (literal.Truth told) tokens = ⊥
 WritesSeconds (literal.Number number decimals) tokens =
     (digits : ℕ) × (digits < 2 ^ 63) × (number ≡ pos digits) × (tokens ≡ token.Number digits decimals ∷ [])
 
--- `a.y`
-abbrev pub port_tokens : PortName → List Token
-port_tokens port = token.Name port.instance ∷ symbol sign.Point ∷ token.Name port.port ∷ []
-
--- `p : T`, behind a keyword.
-abbrev pub declaration_tokens : Keyword → List ℕ → Ty → List Token
-declaration_tokens declared name ty = keyword declared ∷ token.Name name ∷ symbol sign.Colon ∷ type_tokens ty
-
--- `p : T = L`, behind a keyword.
-abbrev pub WritesStart : Keyword → List ℕ → Ty → Literal → List Token → Type 0
-WritesStart declared name ty start tokens =
-    (value : List Token)
-    × (tokens ≡ declaration_tokens declared name ty ++ (symbol sign.Is ∷ value))
-    × AreDecimals ty
-    × WritesLiteral start value
-
--- Names with a comma between any two.
-abbrev pub names_tokens : List (List ℕ) → List Token
-names_tokens [] = []
-names_tokens (name ∷ []) = token.Name name ∷ []
-names_tokens (name ∷ next ∷ names) = token.Name name ∷ symbol sign.Comma ∷ names_tokens (next ∷ names)
-
--- `needs u, v`; nothing where nothing is needed.
-abbrev pub needs_tokens : List (List ℕ) → List Token
-needs_tokens [] = []
-needs_tokens (name ∷ names) = keyword word.Needs ∷ names_tokens (name ∷ names)
-
--- `output y : T needs u, v = e`
-abbrev pub WritesOutput : Output → List Token → Type 0
-WritesOutput output tokens =
-    (value : List Token)
-    × (tokens ≡ declaration_tokens word.Output output.name output.ty ++ needs_tokens output.needs ++ (symbol sign.Is ∷ value))
-    × AreDecimals output.ty
-    × Writes output.value value
-
--- The tokens in front, and then those of an expression.
-abbrev pub WritesBehind : List Token → Expr → List Token → Type 0
-WritesBehind front value tokens = (behind : List Token) × (tokens ≡ front ++ behind) × Writes value behind
-
--- A keyword, and a whole number between two others, both ends allowed.
-abbrev pub WritesCount : Keyword → ℕ → ℕ → ℕ → List Token → Type 0
-WritesCount counted least greatest count tokens =
-    (tokens ≡ keyword counted ∷ whole count ∷ []) × (least ≤ count) × (count ≤ greatest)
+-- The tokens write the tail.
+abbrev pub WritesTail : Tail → List Token → Type 0
+WritesTail Nothing tokens = tokens ≡ []
+WritesTail (OfLiteral value) tokens = WritesLiteral value tokens
+WritesTail (OfSeconds seconds) tokens = WritesSeconds seconds tokens
+WritesTail (OfExpression value) tokens = Writes value tokens
 
 -- ---- Lines
 
+-- The count, the resolution and the decimals of the type on a line are those that the language allows.
+abbrev pub HasCounts : LineForm → Type 0
+HasCounts (form.Resolution decimals) = decimals ≤ 9
+HasCounts (form.Param param) = AreDecimals param.ty
+HasCounts (form.State state) = AreDecimals state.ty
+HasCounts (form.Local local) = AreDecimals local.ty
+HasCounts (form.Input input) = AreDecimals input.ty
+HasCounts (form.Output output) = AreDecimals output.ty
+HasCounts (form.Repeat count) = (1 ≤ count) × (count ≤ 1000)
+HasCounts (form.Zero count) = count ≤ 10000
+HasCounts (form.Rows count) = (1 ≤ count) × (count ≤ 100000)
+HasCounts _ = ⊤
+
 -- The tokens write the form.
-abbrev pub WritesForm : LineForm → List Token → Type 0
-WritesForm form.Header tokens = tokens ≡ keyword word.Cosim ∷ whole 1 ∷ []
-WritesForm (form.Unit name) tokens = tokens ≡ keyword word.Unit ∷ token.Name name ∷ []
-WritesForm (form.Resolution decimals) tokens = WritesCount word.Resolution 0 9 decimals tokens
-WritesForm (form.Param param) tokens = WritesStart word.Param param.name param.ty param.start tokens
-WritesForm (form.State state) tokens = WritesStart word.State state.name state.ty state.start tokens
-WritesForm (form.Local local) tokens = (tokens ≡ declaration_tokens word.Local local.name local.ty) × AreDecimals local.ty
-WritesForm (form.Input input) tokens = WritesStart word.Input input.name input.ty input.start tokens
-WritesForm (form.Output output) tokens = WritesOutput output tokens
-WritesForm (form.Max value) tokens = WritesBehind (keyword word.Max ∷ []) value tokens
-WritesForm form.Step tokens = tokens ≡ keyword word.Step ∷ []
-WritesForm form.End tokens = tokens ≡ keyword word.End ∷ []
-WritesForm (form.Assign target value) tokens = WritesBehind (token.Name target ∷ symbol sign.Assign ∷ []) value tokens
-WritesForm (form.If cond) tokens = WritesBehind (keyword word.If ∷ []) cond tokens
-WritesForm form.Else tokens = tokens ≡ keyword word.Else ∷ []
-WritesForm (form.Repeat count) tokens = WritesCount word.Repeat 1 1000 count tokens
-WritesForm (form.Accept value) tokens = WritesBehind (keyword word.Accept ∷ []) value tokens
-WritesForm (form.Instance name unit) tokens = tokens ≡ keyword word.Instance ∷ token.Name name ∷ symbol sign.Colon ∷ token.Name unit ∷ []
-WritesForm (form.Setting setting) tokens =
-    (value : List Token) × (tokens ≡ token.Name setting.name ∷ symbol sign.Is ∷ value) × WritesLiteral setting.value value
-WritesForm (form.Connect wire) tokens = tokens ≡ keyword word.Connect ∷ port_tokens wire.from ++ (symbol sign.Arrow ∷ port_tokens wire.to)
-WritesForm (form.Stop seconds) tokens = (value : List Token) × (tokens ≡ keyword word.Stop ∷ value) × WritesSeconds seconds value
-WritesForm (form.Longest seconds) tokens = (value : List Token) × (tokens ≡ keyword word.Longest ∷ value) × WritesSeconds seconds value
-WritesForm (form.Zero count) tokens = WritesCount word.Zero 0 10000 count tokens
-WritesForm (form.Rows count) tokens = WritesCount word.Rows 1 100000 count tokens
-WritesForm (form.Sample port) tokens = tokens ≡ keyword word.Sample ∷ port_tokens port
+pub record WritesForm (some : LineForm) (tokens : List Token) : Type 0 where
+  pub tail : List Token
+  pub spelled : tokens ≡ front_tokens some ++ tail
+  pub tail_is : WritesTail (tail_of some) tail
+  pub counts : HasCounts some
 
 -- The line has the form: its code spells tokens that write it.
 pub record HasForm (form : LineForm) (line : List ℕ) : Type 0 where

@@ -1,5 +1,5 @@
 -- The names of a unit, which of them an expression may use where, and how deep an expression is.
-use Rattle.std.specs.Prelude.{ℕ, suc, max, Bool, ◌&&◌, List, [], ◌∷◌, ◌++◌, map, Option, Some, None}
+use Rattle.std.specs.Prelude.{ℕ, suc, max, Bool, true, false, not, ◌&&◌, ◌||◌, List, [], ◌∷◌, ◌++◌, map, Option, Some, None}
 use Rattle.std.specs.List.{list_any, list_all, find}
 use Rattle.std.specs.Option.{option_map, option_and_then}
 use Rattle.std.specs.Str.{bytes_eq}
@@ -7,17 +7,15 @@ use Rattle.fixed_words.specs.Types.{kind_of}
 use Rattle.fixed_words.specs.declared.types.Ty.{Ty}
 use Rattle.unit_tree.specs.Components.{variable, variables_of}
 use Rattle.unit_tree.specs.Kinds.{KindsOfNames}
-use Rattle.unit_tree.specs.Tokens.{keyword_text}
+use Rattle.unit_tree.specs.LineForms.{Tail, OfExpression, tail_of}
 use Rattle.unit_tree.specs.Trace.{unit_named}
 use Rattle.unit_tree.specs.declared.environment.Variable.{Variable}
 use Rattle.unit_tree.specs.declared.expr.Expr.{Expr, fold-Expr}
 use Rattle.unit_tree.specs.declared.expr.Expr.TheOpen.{Expr-F}
 use Rattle.unit_tree.specs.declared.line_form.LineForm.{LineForm}
-use Rattle.unit_tree.specs.declared.line_form.LineForm.TheVariants as form
 use Rattle.unit_tree.specs.declared.system.Instance.{Instance}
 use Rattle.unit_tree.specs.declared.system.PortName.{PortName}
 use Rattle.unit_tree.specs.declared.system.System.{System}
-use Rattle.unit_tree.specs.declared.token.Keyword.TheVariants as word
 use Rattle.unit_tree.specs.declared.unit.Input.{Input}
 use Rattle.unit_tree.specs.declared.unit.Output.{Output}
 use Rattle.unit_tree.specs.declared.unit.Param.{Param}
@@ -25,33 +23,49 @@ use Rattle.unit_tree.specs.declared.unit.Unit.{Unit}
 
 -- ---- Expressions
 
--- One node, with the names that are used in each part in its place, and with those that `t` and `h` count as.
-abbrev pub node_names : List (List ℕ) → List (List ℕ) → Expr-F (List (List ℕ)) → List (List ℕ)
-node_names time step (Expr-F.Var name) = name ∷ []
-node_names time step Expr-F.Time = time
-node_names time step Expr-F.Step = step
-node_names time step (Expr-F.Unary op arg) = arg
-node_names time step (Expr-F.Binary op left right) = left ++ right
-node_names time step (Expr-F.Clamp value low high) = value ++ low ++ high
-node_names time step (Expr-F.Choose cond then_part else_part) = cond ++ then_part ++ else_part
-node_names time step _ = []
-
 -- The names of variables in an expression.
-abbrev pub variables_in : Expr → List (List ℕ)
-variables_in = fold-Expr (List (List ℕ)) (node_names [] [])
+abbrev pub node_names : Expr-F (List (List ℕ)) → List (List ℕ)
+node_names (Expr-F.Var name) = name ∷ []
+node_names (Expr-F.Unary op arg) = arg
+node_names (Expr-F.Binary op left right) = left ++ right
+node_names (Expr-F.Clamp value low high) = value ++ low ++ high
+node_names (Expr-F.Choose cond then_part else_part) = cond ++ then_part ++ else_part
+node_names _ = []
 
--- All names that an expression uses, `t` and `h` among them, which are no variable's.
 abbrev pub names_in : Expr → List (List ℕ)
-names_in = fold-Expr (List (List ℕ)) (node_names (keyword_text word.Time ∷ []) (keyword_text word.Length ∷ []))
+names_in = fold-Expr (List (List ℕ)) node_names
+
+-- Which of the two clocks are used: `t`, and `h`.
+pub record Clocks : Type 0 where
+  pub time : Bool
+  pub step : Bool
+
+abbrev pub no_clock : Clocks
+no_clock = record { time = false; step = false }
+
+abbrev pub either : Clocks → Clocks → Clocks
+either one other = record { time = one.time || other.time; step = one.step || other.step }
+
+-- The clocks that an expression uses.
+abbrev pub node_clocks : Expr-F Clocks → Clocks
+node_clocks Expr-F.Time = record { time = true; step = false }
+node_clocks Expr-F.Step = record { time = false; step = true }
+node_clocks (Expr-F.Unary op arg) = arg
+node_clocks (Expr-F.Binary op left right) = either left right
+node_clocks (Expr-F.Clamp value low high) = either value (either low high)
+node_clocks (Expr-F.Choose cond then_part else_part) = either cond (either then_part else_part)
+node_clocks _ = no_clock
+
+abbrev pub clocks_in : Expr → Clocks
+clocks_in = fold-Expr Clocks node_clocks
+
+abbrev pub expression_in : Tail → Option Expr
+expression_in (OfExpression value) = Some value
+expression_in _ = None
 
 -- The expression that stands on a line.
 abbrev pub expression_on : LineForm → Option Expr
-expression_on (form.Output output) = Some output.value
-expression_on (form.Max value) = Some value
-expression_on (form.Assign target value) = Some value
-expression_on (form.If cond) = Some cond
-expression_on (form.Accept value) = Some value
-expression_on _ = None
+expression_on line = expression_in (tail_of line)
 
 -- The depth of a tree: 1 for a leaf, and else one more than its deepest part.
 abbrev pub node_depth : Expr-F ℕ → ℕ
@@ -81,17 +95,35 @@ input_names unit = map (λ input. input.name) unit.inputs
 abbrev pub output_names : Unit → List (List ℕ)
 output_names unit = map (λ output. output.name) unit.outputs
 
--- What an output may use: parameters, states and inputs.
-abbrev pub output_uses : Unit → List (List ℕ)
-output_uses unit = param_names unit ++ map (λ state. state.name) unit.states ++ input_names unit
+-- What an expression may use: names, and perhaps `t` and `h`.
+pub record Uses : Type 0 where
+  pub names : List (List ℕ)
+  pub clocks : Clocks
 
--- What `max` may use: these, and `t`.
-abbrev pub max_uses : Unit → List (List ℕ)
-max_uses unit = keyword_text word.Time ∷ output_uses unit
+-- An output may use parameters, states and inputs.
+abbrev pub shared_names : Unit → List (List ℕ)
+shared_names unit = param_names unit ++ map (λ state. state.name) unit.states ++ input_names unit
 
--- What a step may use: these, locals, and `h`.
-abbrev pub step_uses : Unit → List (List ℕ)
-step_uses unit = keyword_text word.Length ∷ map (λ local. local.name) unit.locals ++ max_uses unit
+abbrev pub output_uses : Unit → Uses
+output_uses unit = record { names = shared_names unit; clocks = no_clock }
+
+-- `max` may use these, and `t`.
+abbrev pub max_uses : Unit → Uses
+max_uses unit = record { names = shared_names unit; clocks = record { time = true; step = false } }
+
+-- A step may use these, locals, `t` and `h`.
+abbrev pub step_uses : Unit → Uses
+step_uses unit = record {
+  names = map (λ local. local.name) unit.locals ++ shared_names unit;
+  clocks = record { time = true; step = true };
+}
+
+abbrev pub runs : Clocks → Clocks → Bool
+runs allowed used = (allowed.time || not used.time) && (allowed.step || not used.step)
+
+-- The expression uses nothing else.
+abbrev pub keeps_to : Uses → Expr → Bool
+keeps_to uses value = are_among uses.names (names_in value) && runs uses.clocks (clocks_in value)
 
 -- All that is declared in a unit, with its type.
 abbrev pub declared_in : Unit → List Variable

@@ -1,8 +1,13 @@
 -- Orders of outputs: a system whose port graph has no cycle has one in which each output comes after all that
 -- it needs. This is rule 15, which is judged last.
-use Rattle.std.specs.Prelude.{◌≡◌, ℕ, List, [], ◌∷◌, ◌++◌, map, Option, Some, None, ◌⊎◌, ⊤, if◌then◌else◌}
-use Rattle.std.specs.List.{AllByRecursion, flat_map, filter_map}
-use Rattle.unit_tree.specs.Names.{unit_of_instance, output_at, same_port}
+use Rattle.std.specs.Prelude.{◌≡◌, ℕ, Bool, false, ◌&&◌, List, [], ◌∷◌, ◌++◌, map, Option, Some, None, ◌⊎◌, ⊤, if◌then◌else◌}
+use Rattle.std.specs.List.{AllByRecursion, flat_map, filter_map, find, enumerate_from}
+use Rattle.std.specs.Option.{option_map}
+use Rattle.std.specs.Str.{bytes_eq}
+use Rattle.unit_tree.specs.Names.{unit_of_instance, unit_at, output_at, same_port}
+use Rattle.unit_tree.specs.Sites.{Scope, UnitScope, sites_of}
+use Rattle.unit_tree.specs.declared.line_form.LineForm.{LineForm}
+use Rattle.unit_tree.specs.declared.line_form.LineForm.TheVariants as form
 use Rattle.unit_tree.specs.declared.system.Instance.{Instance}
 use Rattle.unit_tree.specs.declared.system.PortName.{PortName}
 use Rattle.unit_tree.specs.declared.system.System.{System}
@@ -66,14 +71,24 @@ IsOrderly system order = IsOrderlyAfter system [] order
 abbrev pub HasNoCycle : System → Type 0
 HasNoCycle system = (order : List PortName) × IsOrderly system order × AllByRecursion (IsIn order) (outputs_of system)
 
--- An output that stands in no orderly list: it lies on a cycle, or depends on one.
-abbrev pub IsOnCycle : System → PortName → Type 0
-IsOnCycle system port = (order : List PortName) → IsOrderly system order → IsIn order port → ⊥
+-- An output has no order where it stands in no orderly list: it lies on a cycle, or depends on one that does.
+abbrev pub HasNoOrder : System → PortName → Type 0
+HasNoOrder system port = (order : List PortName) → IsOrderly system order → IsIn order port → ⊥
 
 -- The output that rule 15 names: the first that stands in no orderly list.
-pub record IsFirstOnCycle (system : System) (port : PortName) : Type 0 where
+pub record IsFirstWithoutOrder (system : System) (port : PortName) : Type 0 where
   pub before : List PortName
   pub later : List PortName
   pub cut : outputs_of system ≡ before ++ (port ∷ later)
-  pub is_on_cycle : IsOnCycle system port
-  pub is_first : AllByRecursion (λ other. IsOnCycle system other → ⊥) before
+  pub has_no_order : HasNoOrder system port
+  pub is_first : AllByRecursion (λ other. HasNoOrder system other → ⊥) before
+
+-- Whether a site is that of the output which a port names: the line of its unit that declares it.
+abbrev pub declares_output : List ℕ → Option Unit → Scope → LineForm → Bool
+declares_output name (Some unit) (UnitScope other) (form.Output output) = bytes_eq other.name unit.name && bytes_eq output.name name
+declares_output name _ _ _ = false
+
+-- The canonical line of an output, at which rule 15 refuses the system.
+abbrev pub line_of_output : System → PortName → Option ℕ
+line_of_output system port =
+    option_map (λ at. at.0) (find (λ at. declares_output port.port (unit_at system port) at.1.scope at.1.line) (enumerate_from 1 (sites_of system)))

@@ -2,12 +2,13 @@
 use Rattle.std.specs.Prelude.{◌≤◌, ℕ, suc, max, Bool, true, false, ◌&&◌, nat_le, not, List, [], ◌∷◌, ◌++◌, map, length, Option, Some, None, IsTrue, ⊤}
 use Rattle.std.specs.Int.{is_negative}
 use Rattle.std.specs.List.{AllByRecursion, list_all, fold}
-use Rattle.fixed_words.specs.Types.{AreDecimals, is_word_of}
+use Rattle.fixed_words.specs.Types.{is_word_of}
 use Rattle.fixed_words.specs.declared.types.Literal.{Literal}
 use Rattle.fixed_words.specs.declared.types.Literal.TheVariants as literal
 use Rattle.fixed_words.specs.declared.types.Ty.TheVariants.{Int64}
 use Rattle.unit_tree.specs.Canonical.{canonical_forms, canonical_phrase, canonical_text, line_text}
-use Rattle.unit_tree.specs.Names.{variables_in, expression_on}
+use Rattle.unit_tree.specs.LineForms.{Tail, Nothing, OfLiteral, OfSeconds, OfExpression, tail_of, HasCounts}
+use Rattle.unit_tree.specs.Names.{names_in, expression_on}
 use Rattle.unit_tree.specs.Phrases.{nesting}
 use Rattle.unit_tree.specs.Texts.{text_limit, line_limit}
 use Rattle.unit_tree.specs.Tokens.{IsWord, IsReserved}
@@ -24,7 +25,7 @@ use Rattle.unit_tree.specs.declared.system.System.{System}
 
 abbrev pub names_on_expression : Option Expr → List (List ℕ)
 names_on_expression None = []
-names_on_expression (Some value) = variables_in value
+names_on_expression (Some value) = names_in value
 
 -- The names that stand on a line in front of its expression.
 abbrev pub names_said : LineForm → List (List ℕ)
@@ -45,30 +46,20 @@ names_said _ = []
 abbrev pub names_on : LineForm → List (List ℕ)
 names_on line = names_said line ++ names_on_expression (expression_on line)
 
--- A literal has at most nine decimals.
+-- A literal, and the numbers of an expression, have at most nine decimals.
 abbrev pub HasDecimals : Literal → Type 0
 HasDecimals (literal.Truth told) = ⊤
 HasDecimals (literal.Number number decimals) = decimals ≤ 9
 
--- The counts, resolutions and numbers of decimals on a line are those that the language allows.
+abbrev pub TailHasDecimals : Tail → Type 0
+TailHasDecimals Nothing = ⊤
+TailHasDecimals (OfLiteral value) = HasDecimals value
+TailHasDecimals (OfSeconds seconds) = HasDecimals seconds
+TailHasDecimals (OfExpression value) = IsTrue (is_ranged value)
+
+-- The counts and the numbers of decimals on a line are those that the language allows.
 abbrev pub IsInRange : LineForm → Type 0
-IsInRange (form.Resolution decimals) = decimals ≤ 9
-IsInRange (form.Param param) = AreDecimals param.ty × HasDecimals param.start
-IsInRange (form.State state) = AreDecimals state.ty × HasDecimals state.start
-IsInRange (form.Local local) = AreDecimals local.ty
-IsInRange (form.Input input) = AreDecimals input.ty × HasDecimals input.start
-IsInRange (form.Output output) = AreDecimals output.ty × IsTrue (is_ranged output.value)
-IsInRange (form.Max value) = IsTrue (is_ranged value)
-IsInRange (form.Assign target value) = IsTrue (is_ranged value)
-IsInRange (form.If cond) = IsTrue (is_ranged cond)
-IsInRange (form.Repeat count) = (1 ≤ count) × (count ≤ 1000)
-IsInRange (form.Accept value) = IsTrue (is_ranged value)
-IsInRange (form.Setting setting) = HasDecimals setting.value
-IsInRange (form.Stop seconds) = HasDecimals seconds
-IsInRange (form.Longest seconds) = HasDecimals seconds
-IsInRange (form.Zero count) = count ≤ 10000
-IsInRange (form.Rows count) = (1 ≤ count) × (count ≤ 100000)
-IsInRange _ = ⊤
+IsInRange line = HasCounts line × TailHasDecimals (tail_of line)
 
 -- The system is in range: its names are words, and its lines are in range.
 pub record IsRanged (system : System) : Type 0 where
@@ -94,12 +85,8 @@ node_is_unsigned _ = true
 abbrev pub is_unsigned : Expr → Bool
 is_unsigned = fold-Expr Bool node_is_unsigned
 
--- The numbers of an expression are words from 0 up, and its canonical text is nested at most 64 levels deep.
-abbrev pub is_writable : Option Expr → Bool
-is_writable None = true
-is_writable (Some value) = is_unsigned value && nat_le (nesting (canonical_phrase value)) 64
-
--- A literal's number is a word; the numbers of seconds are words from 0 up.
+-- A literal's number is a word; the numbers of seconds are words from 0 up; those of an expression too, and its
+-- canonical text is nested at most 64 levels deep.
 abbrev pub is_word_literal : Literal → Bool
 is_word_literal (literal.Truth told) = true
 is_word_literal (literal.Number number decimals) = is_word_of Int64 number
@@ -108,14 +95,11 @@ abbrev pub is_seconds : Literal → Bool
 is_seconds (literal.Truth told) = false
 is_seconds (literal.Number number decimals) = not (is_negative number) && is_word_of Int64 number
 
-abbrev pub has_word_literal : LineForm → Bool
-has_word_literal (form.Param param) = is_word_literal param.start
-has_word_literal (form.State state) = is_word_literal state.start
-has_word_literal (form.Input input) = is_word_literal input.start
-has_word_literal (form.Setting setting) = is_word_literal setting.value
-has_word_literal (form.Stop seconds) = is_seconds seconds
-has_word_literal (form.Longest seconds) = is_seconds seconds
-has_word_literal _ = true
+abbrev pub is_writable : Tail → Bool
+is_writable Nothing = true
+is_writable (OfLiteral value) = is_word_literal value
+is_writable (OfSeconds seconds) = is_seconds seconds
+is_writable (OfExpression value) = is_unsigned value && nat_le (nesting (canonical_phrase value)) 64
 
 -- How deep blocks of `if` and `repeat` stand in each other: of lines that are so deep, and of one line with the
 -- depth of each line of its block in its place.
@@ -143,8 +127,7 @@ step_depth (Some lines) = deepest (map line_depth lines)
 pub record IsPrintable (system : System) : Type 0 where
   pub ranged : IsRanged system
   pub names : AllByRecursion (λ line. AllByRecursion IsName (names_on line)) (canonical_forms system)
-  pub literals : IsTrue (list_all has_word_literal (canonical_forms system))
-  pub expressions : IsTrue (list_all (λ line. is_writable (expression_on line)) (canonical_forms system))
+  pub tails : IsTrue (list_all (λ line. is_writable (tail_of line)) (canonical_forms system))
   pub blocks : IsTrue (list_all (λ unit. nat_le (step_depth unit.step) 16) system.units)
   pub lines : IsTrue (list_all (λ line. nat_le (length (line_text line)) line_limit) (canonical_forms system))
   pub text : length (canonical_text system) ≤ text_limit

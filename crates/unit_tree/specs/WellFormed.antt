@@ -1,9 +1,9 @@
--- Well-formed systems. For each rule stands the test of a canonical line that breaks it; the rules are judged
--- in the order of their numbers, each over the whole system and only where all earlier ones hold.
+-- Well-formed systems. Each rule has a test, which a canonical line passes where it breaks the rule. The rules are
+-- judged in the order of their numbers, each over the whole system and only where all earlier ones hold.
 use Rattle.std.specs.Prelude.{◌≡◌, ℕ, ◌*◌, ◌/◌, ◌%◌, ◌^◌, max, Bool, true, false, not, ◌&&◌, ◌||◌, ◌==◌, nat_le, nat_lt, if◌then◌else◌, unsigned_abs, ℤ, List, [], ◌∷◌, ◌++◌, map, length, Option, Some, None, is_none, Result, Ok, Err}
 use Rattle.std.specs.Int.{is_negative}
 use Rattle.std.specs.List.{AllByRecursion, list_any, list_all, count_by, enumerate_from, filter_map, fold}
-use Rattle.std.specs.Option.{option_map, option_and_then}
+use Rattle.std.specs.Option.{option_map, option_and_then, unwrap_or}
 use Rattle.std.specs.Ordering.{int_eq}
 use Rattle.std.specs.Str.{bytes_eq}
 use Rattle.fixed_words.specs.Literals.{word_of_literal}
@@ -15,11 +15,11 @@ use Rattle.fixed_words.specs.declared.types.Literal.TheVariants as literal
 use Rattle.fixed_words.specs.declared.types.LiteralFault.{LiteralFault}
 use Rattle.fixed_words.specs.declared.types.LiteralFault.TheVariants.{Form, Range}
 use Rattle.fixed_words.specs.declared.types.Ty.{Ty}
-use Rattle.unit_tree.specs.Blocks.{is_unit_line}
 use Rattle.unit_tree.specs.Costs.{expression_call_cost, step_call_cost}
-use Rattle.unit_tree.specs.Kinds.{same_kind, has_kind}
-use Rattle.unit_tree.specs.Names.{names_in, depth_of, expression_on, is_among, are_among, param_names, input_names, output_names, output_uses, max_uses, step_uses, type_in, kinds_in, unit_of_instance, param_named, output_at, input_at, same_port}
-use Rattle.unit_tree.specs.Sites.{Site, Scope, Top, InUnit, InStep, InInstance, sites_of}
+use Rattle.unit_tree.specs.Kinds.{same_kind, has_kind, line_is_kinded}
+use Rattle.unit_tree.specs.LineForms.{are_alike}
+use Rattle.unit_tree.specs.Names.{names_in, depth_of, expression_on, is_among, are_among, param_names, input_names, output_names, output_uses, max_uses, step_uses, keeps_to, type_in, kinds_in, unit_of_instance, param_named, output_at, input_at, same_port}
+use Rattle.unit_tree.specs.Sites.{Site, Scope, TopScope, UnitScope, StepScope, InstanceScope, sites_of}
 use Rattle.unit_tree.specs.Trace.{unit_named}
 use Rattle.unit_tree.specs.declared.expr.Expr.{Expr}
 use Rattle.unit_tree.specs.declared.line.Line.{Line}
@@ -77,24 +77,21 @@ redeclares system site =
 
 -- ---- Rule 9: a name is not declared, or is none that may be used there
 
-abbrev pub uses_other : List (List ℕ) → Expr → Bool
-uses_other names value = not (are_among names (names_in value))
-
 abbrev pub is_param_of : Option Unit → List ℕ → Bool
 is_param_of None name = false
 is_param_of (Some unit) name = is_among (param_names unit) name
 
 abbrev pub misnames : System → Scope → LineForm → Bool
-misnames system (InUnit unit) (form.Output output) =
-    uses_other (output_uses unit) output.value || not (are_among (input_names unit) output.needs)
-misnames system (InUnit unit) (form.Max value) = uses_other (max_uses unit) value
-misnames system (InStep unit) (form.Assign target value) = is_none (type_in unit target) || uses_other (step_uses unit) value
-misnames system (InStep unit) (form.If cond) = uses_other (step_uses unit) cond
-misnames system (InStep unit) (form.Accept value) = uses_other (step_uses unit) value
-misnames system (InInstance instance) (form.Setting setting) = not (is_param_of (unit_of_instance system instance) setting.name)
-misnames system Top (form.Instance name unit) = is_none (unit_named system.units unit)
-misnames system Top (form.Connect wire) = is_none (output_at system wire.from) || is_none (input_at system wire.to)
-misnames system Top (form.Sample port) = is_none (output_at system port)
+misnames system (UnitScope unit) (form.Output output) =
+    not (keeps_to (output_uses unit) output.value) || not (are_among (input_names unit) output.needs)
+misnames system (UnitScope unit) (form.Max value) = not (keeps_to (max_uses unit) value)
+misnames system (StepScope unit) (form.Assign target value) = is_none (type_in unit target) || not (keeps_to (step_uses unit) value)
+misnames system (StepScope unit) (form.If cond) = not (keeps_to (step_uses unit) cond)
+misnames system (StepScope unit) (form.Accept value) = not (keeps_to (step_uses unit) value)
+misnames system (InstanceScope instance) (form.Setting setting) = not (is_param_of (unit_of_instance system instance) setting.name)
+misnames system TopScope (form.Instance name unit) = is_none (unit_named system.units unit)
+misnames system TopScope (form.Connect wire) = is_none (output_at system wire.from) || is_none (input_at system wire.to)
+misnames system TopScope (form.Sample port) = is_none (output_at system port)
 misnames system _ _ = false
 
 -- ---- Rule 10: a kind is wrong, or a literal has the wrong form for its type
@@ -117,7 +114,7 @@ abbrev pub literal_on : System → Scope → LineForm → Option (Result ℤ Lit
 literal_on system scope (form.Param param) = Some (word_of_literal param.ty param.start)
 literal_on system scope (form.State state) = Some (word_of_literal state.ty state.start)
 literal_on system scope (form.Input input) = Some (word_of_literal input.ty input.start)
-literal_on system (InInstance instance) (form.Setting setting) = setting_word system instance setting.name setting.value
+literal_on system (InstanceScope instance) (form.Setting setting) = setting_word system instance setting.name setting.value
 literal_on system scope _ = None
 
 abbrev pub on_literal : (Result ℤ LiteralFault → Bool) → Option (Result ℤ LiteralFault) → Bool
@@ -125,11 +122,9 @@ on_literal test None = false
 on_literal test (Some read) = test read
 
 abbrev pub mistakes_kind : Scope → LineForm → Bool
-mistakes_kind (InUnit unit) (form.Output output) = is_not_of (Some (kind_of output.ty)) unit output.value
-mistakes_kind (InUnit unit) (form.Max value) = is_not_of (Some kinds.Int) unit value
-mistakes_kind (InStep unit) (form.Assign target value) = is_not_of (option_map kind_of (type_in unit target)) unit value
-mistakes_kind (InStep unit) (form.If cond) = is_not_of (Some kinds.Bool) unit cond
-mistakes_kind (InStep unit) (form.Accept value) = is_not_of (Some kinds.Int) unit value
+mistakes_kind (UnitScope unit) (form.Output output) = is_not_of (Some (kind_of output.ty)) unit output.value
+mistakes_kind (UnitScope unit) (form.Max value) = is_not_of (Some kinds.Int) unit value
+mistakes_kind (StepScope unit) line = not (line_is_kinded line (kinds_in unit))
 mistakes_kind _ _ = false
 
 abbrev pub is_of_wrong_kind : System → Site → Bool
@@ -148,7 +143,7 @@ is_out_of_range system site = on_literal is_beyond (literal_on system site.scope
 -- ---- Rule 12: an output uses an input that is not in its needs
 
 abbrev pub hides_need : Scope → LineForm → Bool
-hides_need (InUnit unit) (form.Output output) =
+hides_need (UnitScope unit) (form.Output output) =
     list_any (λ name. is_among (input_names unit) name && not (is_among output.needs name)) (names_in output.value)
 hides_need _ _ = false
 
@@ -175,54 +170,28 @@ joins_other_types system _ = false
 
 -- ---- Rule 16: there are too many of a kind, at the first too many
 
-abbrev pub is_instance_line : LineForm → Bool
-is_instance_line (form.Instance name unit) = true
-is_instance_line _ = false
-
-abbrev pub is_param : LineForm → Bool
-is_param (form.Param param) = true
-is_param _ = false
-
-abbrev pub is_state : LineForm → Bool
-is_state (form.State state) = true
-is_state _ = false
-
-abbrev pub is_local : LineForm → Bool
-is_local (form.Local local) = true
-is_local _ = false
-
-abbrev pub is_input : LineForm → Bool
-is_input (form.Input input) = true
-is_input _ = false
-
-abbrev pub is_output : LineForm → Bool
-is_output (form.Output output) = true
-is_output _ = false
-
-abbrev pub is_connection : LineForm → Bool
-is_connection (form.Connect wire) = true
-is_connection _ = false
-
-abbrev pub is_sample : LineForm → Bool
-is_sample (form.Sample port) = true
-is_sample _ = false
+-- How many there may be in one scope.
+abbrev pub limit_of : LineForm → Option ℕ
+limit_of (form.Unit name) = Some 64
+limit_of (form.Instance name unit) = Some 64
+limit_of (form.Param param) = Some 32
+limit_of (form.State state) = Some 64
+limit_of (form.Local local) = Some 64
+limit_of (form.Input input) = Some 32
+limit_of (form.Output output) = Some 32
+limit_of (form.Connect wire) = Some 2048
+limit_of (form.Sample port) = Some 2048
+limit_of _ = None
 
 -- As many as the limit came before.
-abbrev pub is_full : ℕ → (LineForm → Bool) → List LineForm → Bool
-is_full limit test earlier = nat_le limit (count_by test earlier)
+abbrev pub is_full : Option ℕ → ℕ → Bool
+is_full None came = false
+is_full (Some limit) came = nat_le limit came
 
+-- All lines between `step` and its own `end` count as step lines, of which there may be 500.
 abbrev pub exceeds : Scope → List LineForm → LineForm → Bool
-exceeds (InStep unit) earlier line = nat_le 500 (length earlier)
-exceeds scope earlier (form.Unit name) = is_full 64 is_unit_line earlier
-exceeds scope earlier (form.Instance name unit) = is_full 64 is_instance_line earlier
-exceeds scope earlier (form.Param param) = is_full 32 is_param earlier
-exceeds scope earlier (form.State state) = is_full 64 is_state earlier
-exceeds scope earlier (form.Local local) = is_full 64 is_local earlier
-exceeds scope earlier (form.Input input) = is_full 32 is_input earlier
-exceeds scope earlier (form.Output output) = is_full 32 is_output earlier
-exceeds scope earlier (form.Connect wire) = is_full 2048 is_connection earlier
-exceeds scope earlier (form.Sample port) = is_full 2048 is_sample earlier
-exceeds scope earlier _ = false
+exceeds (StepScope unit) earlier line = nat_le 500 (length earlier)
+exceeds scope earlier line = is_full (limit_of line) (count_by (are_alike line) earlier)
 
 -- ---- Rule 17: an expression is deeper than 32
 
@@ -237,9 +206,9 @@ step_cost None = 0
 step_cost (Some lines) = step_call_cost lines
 
 abbrev pub costs_too_much : Scope → LineForm → Bool
-costs_too_much (InUnit unit) (form.Output output) = nat_lt 100000 (expression_call_cost output.value)
-costs_too_much (InUnit unit) (form.Max value) = nat_lt 100000 (expression_call_cost value)
-costs_too_much (InUnit unit) form.Step = nat_lt 100000 (step_cost unit.step)
+costs_too_much (UnitScope unit) (form.Output output) = nat_lt 100000 (expression_call_cost output.value)
+costs_too_much (UnitScope unit) (form.Max value) = nat_lt 100000 (expression_call_cost value)
+costs_too_much (UnitScope unit) form.Step = nat_lt 100000 (step_cost unit.step)
 costs_too_much _ _ = false
 
 -- ---- Rule 19: there is no `stop`, at the header
@@ -250,13 +219,9 @@ lacks_stop system _ = false
 
 -- ---- Rule 20: `stop` or `longest` is no whole number of ticks, or above 10^15 ticks, or `longest` is 0
 
-abbrev pub or_default : Option ℕ → ℕ
-or_default None = 0
-or_default (Some given) = given
-
 abbrev pub unit_resolution : Option Unit → ℕ
 unit_resolution None = 0
-unit_resolution (Some unit) = or_default unit.resolution
+unit_resolution (Some unit) = unwrap_or unit.resolution 0
 
 -- The resolution of a system: the greatest of its instances' units; 0 where there is no instance. A tick is ten
 -- to the power of minus this many seconds.
@@ -287,10 +252,10 @@ has_too_many_rows system _ = false
 
 -- ---- Rule 22: a parameter, input or output is assigned
 
-abbrev pub assigns_constant : Scope → LineForm → Bool
-assigns_constant (InStep unit) (form.Assign target value) =
+abbrev pub assigns_read_only : Scope → LineForm → Bool
+assigns_read_only (StepScope unit) (form.Assign target value) =
     is_among (param_names unit ++ input_names unit ++ output_names unit) target
-assigns_constant _ _ = false
+assigns_read_only _ _ = false
 
 -- ---- Rule 23: there is no instance, at the header
 
@@ -312,8 +277,8 @@ abbrev pub repeats_need : LineForm → Bool
 repeats_need (form.Output output) = has_equals output.needs
 repeats_need _ = false
 
-abbrev pub says_twice : System → Site → Bool
-says_twice system site =
+abbrev pub repeats_itself : System → Site → Bool
+repeats_itself system site =
     says_again bytes_eq param_set site || (says_again same_port port_sampled site || repeats_need site.line)
 
 -- ---- The rules
@@ -341,9 +306,9 @@ rules =
     ∷ rule 19 (λ system site. lacks_stop system site.line)
     ∷ rule 20 (λ system site. mistimes system site.line)
     ∷ rule 21 (λ system site. has_too_many_rows system site.line)
-    ∷ rule 22 (λ system site. assigns_constant site.scope site.line)
+    ∷ rule 22 (λ system site. assigns_read_only site.scope site.line)
     ∷ rule 23 (λ system site. lacks_instance system site.line)
-    ∷ rule 24 says_twice
+    ∷ rule 24 repeats_itself
     ∷ []
 
 -- The number of a line, from 1, where it breaks the rule.
@@ -371,6 +336,17 @@ or_later judged later (line ∷ lines) = Some (record { by = judged.number; at =
 abbrev pub refusal_by : List Rule → System → Option Refusal
 refusal_by [] system = None
 refusal_by (judged ∷ later) system = or_later judged (refusal_by later system) (lines_breaking judged system)
+
+-- The refusal is by the first of the rules that a line breaks, and at the first line that breaks it.
+pub record IsRefusal (judged : List Rule) (system : System) (refusal : Refusal) : Type 0 where
+  pub kept : List Rule
+  pub broken : Rule
+  pub later : List Rule
+  pub others : List ℕ
+  pub cut : judged ≡ kept ++ (broken ∷ later)
+  pub none_before : BreaksNone kept system
+  pub by : broken.number ≡ refusal.by
+  pub lines : lines_breaking broken system ≡ refusal.at ∷ others
 
 -- A system is well-formed where no line breaks a rule.
 abbrev pub IsWellFormed : System → Type 0

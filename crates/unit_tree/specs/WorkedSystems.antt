@@ -6,10 +6,10 @@ use Rattle.fixed_words.specs.declared.types.Literal.TheVariants as literal
 use Rattle.fixed_words.specs.declared.types.Ty.{Ty}
 use Rattle.fixed_words.specs.declared.types.Ty.TheVariants as types
 use Rattle.unit_tree.specs.Canonical.{canonical_forms, line_text}
-use Rattle.unit_tree.specs.Orders.{IsOrderly, HasNoCycle, IsFirstOnCycle}
+use Rattle.unit_tree.specs.Orders.{IsOrderly, HasNoCycle, IsFirstWithoutOrder}
 use Rattle.unit_tree.specs.Parts as parts
 use Rattle.unit_tree.specs.Parts.{Part, UnitPart, unit_of, system_of}
-use Rattle.unit_tree.specs.Sites.{Top, InStep}
+use Rattle.unit_tree.specs.Sites.{TopScope, StepScope}
 use Rattle.unit_tree.specs.WellFormed.{Refusal, exceeds, refusal_of}
 use Rattle.unit_tree.specs.declared.expr.BinOp.TheVariants as by
 use Rattle.unit_tree.specs.declared.expr.Expr.{Expr}
@@ -201,10 +201,10 @@ pub record SystemsAreWorked : Type 0 where
   pub connected_twice : Refused (pair_with (a_to_b ∷ a_to_b ∷ [])) 13 11
   pub other_type : Refused (unit_a (input_u ∷ output_y types.Int32 [] one ∷ []) ∷ instance (codes "a") ∷ instance (codes "b") ∷ a_to_b ∷ stop ∷ []) 14 10
   -- 16: the first too many
-  pub line_500 : exceeds (InStep (unit_of (codes "A") counts)) (repeat 499 (form.End ∷ [])) form.End ≡ false
-  pub line_501 : exceeds (InStep (unit_of (codes "A") counts)) (repeat 500 (form.End ∷ [])) form.End ≡ true
-  pub unit_65 : exceeds Top (repeat 64 (form.Unit (codes "A") ∷ form.End ∷ [])) (form.Unit (codes "B")) ≡ true
-  pub unit_64 : exceeds Top (repeat 63 (form.Unit (codes "A") ∷ form.End ∷ [])) (form.Unit (codes "B")) ≡ false
+  pub line_500 : exceeds (StepScope (unit_of (codes "A") counts)) (repeat 499 (form.End ∷ [])) form.End ≡ false
+  pub line_501 : exceeds (StepScope (unit_of (codes "A") counts)) (repeat 500 (form.End ∷ [])) form.End ≡ true
+  pub unit_65 : exceeds TopScope (repeat 64 (form.Unit (codes "A") ∷ form.End ∷ [])) (form.Unit (codes "B")) ≡ true
+  pub unit_64 : exceeds TopScope (repeat 63 (form.Unit (codes "A") ∷ form.End ∷ [])) (form.Unit (codes "B")) ≡ false
   -- 17: the depth of a tree, a leaf counted
   pub depth_32 : Accepted (run_of (state_n types.Int64 (number 0) ∷ output_y types.Int64 [] (minuses 31) ∷ []))
   pub depth_33 : Refused (run_of (state_n types.Int64 (number 0) ∷ output_y types.Int64 [] (minuses 32) ∷ [])) 17 4
@@ -249,5 +249,5 @@ pub record OrdersAreWorked : Type 0 where
   pub chain : IsOrderly (system_of (pair_with (joins (codes "b") (codes "a") ∷ []))) (y_of (codes "b") ∷ y_of (codes "a") ∷ [])
   pub chain_has_all : HasNoCycle (system_of (pair_with (joins (codes "b") (codes "a") ∷ [])))
   pub instances_only : HasNoCycle (system_of ring_of_instances)
-  pub first_of_ring : IsFirstOnCycle (system_of ring) (y_of (codes "a"))
-  pub first_behind_ring : IsFirstOnCycle (system_of behind_ring) (y_of (codes "c"))
+  pub first_of_ring : IsFirstWithoutOrder (system_of ring) (y_of (codes "a"))
+  pub first_behind_ring : IsFirstWithoutOrder (system_of behind_ring) (y_of (codes "c"))

@@ -33,14 +33,14 @@ returns c = record {
     before = [];
     later = y_of (codes "b") ∷ [];
     cut = refl;
-    is_on_cycle = on_cycle (system_of ring) (y_of (codes "a")) ring_is;
+    has_no_order = on_cycle (system_of ring) (y_of (codes "a")) ring_is;
     is_first = _;
   };
   first_behind_ring = record {
     before = [];
     later = y_of (codes "a") ∷ y_of (codes "b") ∷ [];
     cut = refl;
-    is_on_cycle =
+    has_no_order =
         behind_cycle (system_of behind_ring) (y_of (codes "c")) (y_of (codes "a")) (needs (y_of (codes "c")) (y_of (codes "a")) (inl refl))
         (on_cycle (system_of behind_ring) (y_of (codes "a")) ring_is_there);
     is_first = _;
