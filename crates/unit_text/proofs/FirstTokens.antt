@@ -8,7 +8,7 @@ use Rattle.unit_tree.specs.declared.token.Keyword.TheVariants as word
 use Rattle.unit_tree.specs.declared.token.Token.{Token}
 use Rattle.unit_tree.specs.declared.token.Token.TheVariants as token
 
--- No form is written with no tokens, and none with a name alone.
+-- No form is written with no tokens, none with a name alone, and none with a number in front.
 pub no_tokens : (some : LineForm) → WritesForm some [] → ⊥
 no_tokens form.Header written = absurd (cc written.spelled)
 no_tokens (form.Unit name) written = absurd (cc written.spelled)
@@ -60,6 +60,32 @@ name_alone (form.Longest seconds) said written = absurd (cc written.spelled)
 name_alone (form.Zero count) said written = absurd (cc written.spelled)
 name_alone (form.Rows count) said written = absurd (cc written.spelled)
 name_alone (form.Sample port) said written = absurd (cc written.spelled)
+
+pub number_first : (some : LineForm) (digits decimals : ℕ) (rest : List Token) → WritesForm some (token.Number digits decimals ∷ rest) → ⊥
+number_first form.Header digits decimals rest written = absurd (cc written.spelled)
+number_first (form.Unit name) digits decimals rest written = absurd (cc written.spelled)
+number_first (form.Resolution n) digits decimals rest written = absurd (cc written.spelled)
+number_first (form.Param param) digits decimals rest written = absurd (cc written.spelled)
+number_first (form.State state) digits decimals rest written = absurd (cc written.spelled)
+number_first (form.Local local) digits decimals rest written = absurd (cc written.spelled)
+number_first (form.Input input) digits decimals rest written = absurd (cc written.spelled)
+number_first (form.Output output) digits decimals rest written = absurd (cc written.spelled)
+number_first (form.Max value) digits decimals rest written = absurd (cc written.spelled)
+number_first form.Step digits decimals rest written = absurd (cc written.spelled)
+number_first form.End digits decimals rest written = absurd (cc written.spelled)
+number_first (form.Assign target value) digits decimals rest written = absurd (cc written.spelled)
+number_first (form.If condition) digits decimals rest written = absurd (cc written.spelled)
+number_first form.Else digits decimals rest written = absurd (cc written.spelled)
+number_first (form.Repeat count) digits decimals rest written = absurd (cc written.spelled)
+number_first (form.Accept value) digits decimals rest written = absurd (cc written.spelled)
+number_first (form.Instance name unit) digits decimals rest written = absurd (cc written.spelled)
+number_first (form.Setting setting) digits decimals rest written = absurd (cc written.spelled)
+number_first (form.Connect ends) digits decimals rest written = absurd (cc written.spelled)
+number_first (form.Stop seconds) digits decimals rest written = absurd (cc written.spelled)
+number_first (form.Longest seconds) digits decimals rest written = absurd (cc written.spelled)
+number_first (form.Zero count) digits decimals rest written = absurd (cc written.spelled)
+number_first (form.Rows count) digits decimals rest written = absurd (cc written.spelled)
+number_first (form.Sample port) digits decimals rest written = absurd (cc written.spelled)
 
 -- `cosim` begins the header, `end` the end of a block, and `unit` a unit.
 pub after_cosim : (some : LineForm) (rest : List Token) → WritesForm some (keyword word.Cosim ∷ rest) → (some ≡ form.Header) × (rest ≡ whole 1 ∷ [])

@@ -1,23 +1,32 @@
 -- Worked texts say their systems.
-use Rattle.std.proofs.Common.{◌≡◌, List, [], ◌∷◌, refl, sym, subst, false, true}
-use Rattle.std.specs.Prelude.{codes, pos, neg_ℤ, IsTrue}
+use Rattle.std.proofs.Common.{◌≡◌, ◌≤◌, ℕ, List, [], ◌∷◌, map, length, refl, sym, subst, false, true, arith, None}
+use Rattle.std.specs.Prelude.{codes, pos, neg_ℤ, IsTrue, nat_le}
+use Rattle.std.specs.Fmt.{digits}
+use Rattle.std.specs.List.{AllByRecursion, list_all}
 use Rattle.std.proofs.lemmas.Bool.{leb-true}
 use Rattle.fixed_words.specs.declared.types.Literal.TheVariants as literal
 use Rattle.fixed_words.specs.declared.types.Ty.TheVariants as types
 use Rattle.unit_tree.specs.Blocks.{are_placed}
+use Rattle.unit_tree.specs.Canonical.{canonical_forms, canonical_text, line_text}
 use Rattle.unit_tree.specs.Counter.{counter, counter_unit, increment}
 use Rattle.unit_tree.specs.Lines.{source_lines, size_of}
+use Rattle.unit_tree.specs.LineForms.{tail_of}
 use Rattle.unit_tree.specs.Parts as parts
-use Rattle.unit_tree.specs.Parts.{Part, text_forms}
-use Rattle.unit_tree.specs.Texts.{HaveForms, Reads, text_limit}
+use Rattle.unit_tree.specs.Parts.{Part, text_forms, bare_system}
+use Rattle.unit_tree.specs.Printable.{IsInRange, IsName, IsPrintable, is_writable, names_on, step_depth}
+use Rattle.unit_tree.specs.Texts.{HaveForms, Reads, text_limit, line_limit}
+use Rattle.unit_tree.specs.Tokens.{IsWord}
 use Rattle.unit_tree.specs.declared.expr.BinOp.TheVariants as by
 use Rattle.unit_tree.specs.declared.expr.Expr as expr
+use Rattle.unit_tree.specs.declared.expr.Expr.{the_lemmas as expr_lemmas}
 use Rattle.unit_tree.specs.declared.expr.UnOp.TheVariants as of
 use Rattle.unit_tree.specs.declared.line.Line.{the_lemmas as line_lemmas}
 use Rattle.unit_tree.specs.declared.line_form.LineForm.{LineForm}
 use Rattle.unit_tree.specs.declared.line_form.LineForm.TheVariants as form
-use Rattle.unit_text.specs.WorkedTexts.{commented_counter, thermal, thermal_text}
-use Rattle.unit_text.proofs.WorkedForms.{header, unit_line, state_line, output_line, step_line, assign_line, step_end, end_line, instance_line, stop_line, longest_line, plain_header, sample_line, half_stop, zero_line, unit_a, max_line, bool_output, input_line, fixed_state, resolution_line, rows_line, connect_line, instance_a, setting_line}
+use Rattle.unit_tokens.specs.Scanning.{keyword_of}
+use Rattle.unit_tokens.proofs.TableLemmas.{keyword_of_none}
+use Rattle.unit_text.specs.WorkedTexts.{commented_counter, thermal, thermal_text, mode, mode_line, mode_text, long_line_text, text_of}
+use Rattle.unit_text.proofs.WorkedForms.{header, unit_line, state_line, output_line, step_line, assign_line, step_end, end_line, instance_line, stop_line, longest_line, plain_header, sample_line, half_stop, zero_line, unit_a, max_line, bool_output, input_line, fixed_state, resolution_line, rows_line, connect_line, instance_a, setting_line, unit_mode, param_k, param_l, state_m, state_p, state_q, state_r, local_x, local_w, step_alone, if_line, repeat_line, assign_x, else_line, accept_line, greatest_longest, long_header, counter_unit_line, counter_state, counter_output, counter_sum, counter_instance}
 
 abbrev counter_parts : List Part
 counter_parts =
@@ -91,4 +100,178 @@ thermal_is_read = record {
   placed = refl;
   short = leb-true (size_of thermal_text) text_limit refl;
   lines_short = refl;
+}
+
+abbrev mode_parts : List Part
+mode_parts =
+    parts.HasUnit (codes "Mode") (
+        parts.HasParam (record { name = codes "k"; ty = types.Int8; start = literal.Number (neg_ℤ (pos 128)) 0 })
+        ∷ parts.HasParam (record { name = codes "l"; ty = types.UInt8; start = literal.Number (pos 255) 0 })
+        ∷ parts.HasState (record { name = codes "m"; ty = types.Int16; start = literal.Number (pos 0) 0 })
+        ∷ parts.HasState (record { name = codes "p"; ty = types.UInt16; start = literal.Number (pos 0) 0 })
+        ∷ parts.HasState (record { name = codes "q"; ty = types.Int32; start = literal.Number (pos 0) 0 })
+        ∷ parts.HasState (record { name = codes "r"; ty = types.UInt32; start = literal.Number (pos 0) 0 })
+        ∷ parts.HasLocal (record { name = codes "x"; ty = types.Bool })
+        ∷ parts.HasLocal (record { name = codes "w"; ty = types.Fixed 9 })
+        ∷ parts.Step (mode_line ∷ [])
+        ∷ [])
+    ∷ parts.Longest (literal.Number (pos 9223372036854775807) 0)
+    ∷ []
+
+abbrev mode_forms : List LineForm
+mode_forms =
+    form.Header
+    ∷ form.Unit (codes "Mode")
+    ∷ form.Param (record { name = codes "k"; ty = types.Int8; start = literal.Number (neg_ℤ (pos 128)) 0 })
+    ∷ form.Param (record { name = codes "l"; ty = types.UInt8; start = literal.Number (pos 255) 0 })
+    ∷ form.State (record { name = codes "m"; ty = types.Int16; start = literal.Number (pos 0) 0 })
+    ∷ form.State (record { name = codes "p"; ty = types.UInt16; start = literal.Number (pos 0) 0 })
+    ∷ form.State (record { name = codes "q"; ty = types.Int32; start = literal.Number (pos 0) 0 })
+    ∷ form.State (record { name = codes "r"; ty = types.UInt32; start = literal.Number (pos 0) 0 })
+    ∷ form.Local (record { name = codes "x"; ty = types.Bool })
+    ∷ form.Local (record { name = codes "w"; ty = types.Fixed 9 })
+    ∷ form.Step
+    ∷ form.If (expr.Binary by.Ge (expr.Var (codes "k")) (expr.Var (codes "l")))
+    ∷ form.Repeat 1000
+    ∷ form.Assign (codes "x") (expr.Binary by.And (expr.Binary by.Gt (expr.Var (codes "m")) (expr.Var (codes "p"))) (expr.Binary by.Ne (expr.Unary of.Abs (expr.Var (codes "q"))) (expr.Var (codes "r"))))
+    ∷ form.End
+    ∷ form.Else
+    ∷ form.Accept (expr.Binary by.Min expr.Step (expr.Binary by.Max expr.Time (expr.Number (pos 1) 0)))
+    ∷ form.End
+    ∷ form.End
+    ∷ form.End
+    ∷ form.Longest (literal.Number (pos 9223372036854775807) 0)
+    ∷ []
+
+mode_forms_are : text_forms mode_parts ≡ mode_forms
+mode_forms_are = simp line_lemmas refl
+
+mode_lines : HaveForms mode_forms (source_lines mode_text)
+mode_lines = (plain_header, (unit_mode, (param_k, (param_l, (state_m, (state_p, (state_q, (state_r, (local_x, (local_w, (step_alone, (if_line, (repeat_line, (assign_x, (end_line, (else_line, (accept_line, (end_line, (end_line, (end_line, (greatest_longest, _)))))))))))))))))))))
+
+pub mode_is_read : Reads mode_text mode
+mode_is_read = record {
+  parts = mode_parts;
+  says = refl;
+  lines = subst (λ forms. HaveForms forms (source_lines mode_text)) (sym mode_forms_are) mode_lines;
+  placed = subst (λ forms. IsTrue (are_placed [] forms)) (sym mode_forms_are) refl;
+  short = leb-true (size_of mode_text) text_limit refl;
+  lines_short = refl;
+}
+
+pub long_line_is_read : Reads long_line_text bare_system
+long_line_is_read = record {
+  parts = [];
+  says = refl;
+  lines = (long_header, _);
+  placed = refl;
+  short = leb-true (size_of long_line_text) text_limit refl;
+  lines_short = refl;
+}
+
+-- ---- The counter's canonical text
+
+canonical_forms_are : canonical_forms counter ≡ counter_forms
+canonical_forms_are = simp line_lemmas refl
+
+abbrev canonical_lines : List ℕ
+canonical_lines = text_of (
+    codes "cosim 1"
+    ∷ codes "unit Counter"
+    ∷ codes "state n:Int64=0"
+    ∷ codes "output y:Int64=n"
+    ∷ codes "step"
+    ∷ codes "n:=n+1"
+    ∷ codes "end"
+    ∷ codes "end"
+    ∷ codes "instance a:Counter"
+    ∷ codes "end"
+    ∷ codes "stop 3"
+    ∷ codes "longest 1"
+    ∷ [])
+
+text_is : canonical_text counter ≡ canonical_lines
+unfolding digits
+text_is = simp (line_lemmas, expr_lemmas) refl
+
+plain_lines : HaveForms counter_forms (source_lines canonical_lines)
+plain_lines = (plain_header, (counter_unit_line, (counter_state, (counter_output, (step_alone, (counter_sum, (end_line, (end_line, (counter_instance, (end_line, (stop_line, (longest_line, _))))))))))))
+
+plain_is_read : Reads canonical_lines counter
+plain_is_read = record {
+  parts = counter_parts;
+  says = refl;
+  lines = subst (λ forms. HaveForms forms (source_lines canonical_lines)) (sym forms_are) plain_lines;
+  placed = subst (λ forms. IsTrue (are_placed [] forms)) (sym forms_are) refl;
+  short = leb-true (size_of canonical_lines) text_limit refl;
+  lines_short = refl;
+}
+
+pub canonical_is_read : Reads (canonical_text counter) counter
+canonical_is_read = subst (λ text. Reads text counter) (sym text_is) plain_is_read
+
+is_name : (text : List ℕ) → IsWord text → keyword_of text ≡ None → IsName text
+is_name text word none = (word, keyword_of_none text none)
+
+long_name : IsName (codes "Counter")
+unfolding keyword_of
+long_name = is_name (codes "Counter") (refl, refl, omega arith) refl
+
+name_n : IsName (codes "n")
+unfolding keyword_of
+name_n = is_name (codes "n") (refl, refl, omega arith) refl
+
+name_y : IsName (codes "y")
+unfolding keyword_of
+name_y = is_name (codes "y") (refl, refl, omega arith) refl
+
+name_a : IsName (codes "a")
+unfolding keyword_of
+name_a = is_name (codes "a") (refl, refl, omega arith) refl
+
+abbrev all_names : List (List (List ℕ))
+all_names =
+    [] ∷ (codes "Counter" ∷ []) ∷ (codes "n" ∷ []) ∷ (codes "y" ∷ codes "n" ∷ []) ∷ [] ∷ (codes "n" ∷ codes "n" ∷ []) ∷ [] ∷ [] ∷ (codes "a" ∷ codes "Counter" ∷ []) ∷ [] ∷ [] ∷ [] ∷ []
+
+names_are : map names_on counter_forms ≡ all_names
+names_are = simp expr_lemmas refl
+
+on_each : {A B : Type 0} (P : B → Type 0) (f : A → B) (xs : List A) → AllByRecursion P (map f xs) → AllByRecursion (λ x. P (f x)) xs
+on_each P f [] all = all
+on_each P f (x ∷ xs) all = (all.0, on_each P f xs all.1)
+
+names_are_names : AllByRecursion (AllByRecursion IsName) all_names
+names_are_names = (_, ((long_name, _), ((name_n, _), ((name_y, (name_n, _)), (_, ((name_n, (name_n, _)), (_, (_, ((name_a, (long_name, _)), (_, (_, (_, _))))))))))))
+
+names_are_words : AllByRecursion (AllByRecursion IsWord) all_names
+names_are_words = (_, ((long_name.0, _), ((name_n.0, _), ((name_y.0, (name_n.0, _)), (_, ((name_n.0, (name_n.0, _)), (_, (_, ((name_a.0, (long_name.0, _)), (_, (_, (_, _))))))))))))
+
+numbers_are : AllByRecursion IsInRange counter_forms
+numbers_are =
+    ((_, _), ((_, _), ((_, omega arith), ((_, simp expr_lemmas refl), ((_, _), ((_, simp expr_lemmas refl), ((_, _), ((_, _), ((_, _), ((_, _), ((_, omega arith), ((_, omega arith), _))))))))))))
+
+on_forms : (P : List LineForm → Type 0) → P counter_forms → P (canonical_forms counter)
+on_forms P so = subst P (sym canonical_forms_are) so
+
+tails_are : IsTrue (list_all (λ line. is_writable (tail_of line)) counter_forms)
+tails_are = simp expr_lemmas refl
+
+lines_are_short : IsTrue (list_all (λ line. nat_le (length (line_text line)) line_limit) counter_forms)
+unfolding digits
+lines_are_short = simp expr_lemmas refl
+
+blocks_are : IsTrue (list_all (λ unit. nat_le (step_depth unit.step) 16) counter.units)
+blocks_are = simp line_lemmas refl
+
+pub counter_is_printable : IsPrintable counter
+counter_is_printable = record {
+  ranged = record {
+    names = on_forms (λ forms. AllByRecursion (λ line. AllByRecursion IsWord (names_on line)) forms) (on_each (AllByRecursion IsWord) names_on counter_forms (subst (AllByRecursion (AllByRecursion IsWord)) (sym names_are) names_are_words));
+    numbers = on_forms (λ forms. AllByRecursion IsInRange forms) numbers_are;
+  };
+  names = on_forms (λ forms. AllByRecursion (λ line. AllByRecursion IsName (names_on line)) forms) (on_each (AllByRecursion IsName) names_on counter_forms (subst (AllByRecursion (AllByRecursion IsName)) (sym names_are) names_are_names));
+  tails = on_forms (λ forms. IsTrue (list_all (λ line. is_writable (tail_of line)) forms)) tails_are;
+  blocks = blocks_are;
+  lines = on_forms (λ forms. IsTrue (list_all (λ line. nat_le (length (line_text line)) line_limit) forms)) lines_are_short;
+  text = subst (λ text. length text ≤ text_limit) (sym text_is) (leb-true (length canonical_lines) text_limit refl);
 }

@@ -11,11 +11,12 @@ use Rattle.unit_tree.specs.Tokens.{Spells}
 use Rattle.unit_tree.specs.declared.line_form.LineForm.{LineForm}
 use Rattle.unit_tree.specs.declared.line_form.LineForm.TheVariants as form
 use Rattle.unit_tree.specs.declared.token.Keyword.TheVariants as word
+use Rattle.unit_tree.specs.declared.token.Symbol.TheVariants as sign
 use Rattle.unit_tree.specs.declared.token.Token.{Token}
 use Rattle.unit_tree.specs.declared.token.Token.TheVariants as token
 use Rattle.unit_tokens.specs.Scanning.{keyword_of, symbol_of, word_at, number_at, symbol_at, number_token, bounded_number, token_at}
 use Rattle.unit_text.specs.WorkedTexts.{text_of, returned, letters}
-use Rattle.unit_text.proofs.FirstTokens.{no_tokens, name_alone, after_cosim, after_end, after_unit}
+use Rattle.unit_text.proofs.FirstTokens.{no_tokens, name_alone, number_first, after_cosim, after_end, after_unit}
 use Rattle.unit_text.proofs.Refusing.{IsUnbroken, unbroken, least, first_broken, no_break, all_blank}
 use Rattle.unit_tokens.proofs.Spelled.{spells, tokens_in}
 use Rattle.unit_tokens.proofs.TokenLemmas.{spells_one, tokens_none}
@@ -184,3 +185,31 @@ long_text_is = inl (too_long_by 1048575 (omega arith), refl, refl)
 
 pub long_line_is : IsRefused (text_of ((codes "cosim 1#" ++ letters 993) ∷ [])) 1 3
 long_line_is = inr (leb-true (size_of (text_of ((codes "cosim 1#" ++ letters 993) ∷ []))) text_limit refl, inl (at_first (codes "cosim 1#" ++ letters 993) 3 (inr (inl (refl, ltb-true line_limit (length (codes "cosim 1#" ++ letters 993)) refl))) (λ less. refl) (λ less. absurd (omega arith)) (λ less. absurd (omega arith)) (omega arith) refl))
+
+ten_decimals_have_none : (some : LineForm) → HasForm some (codes "0.0000000001") → ⊥
+unfolding keyword_of symbol_of word_at number_at symbol_at number_token bounded_number token_at
+ten_decimals_have_none some has = tokens_none (codes "0.0000000001") (omega arith) refl has.tokens has.spelled
+
+pub ten_decimals_is : IsRefused (codes "0.0000000001") 1 4
+ten_decimals_is = inr (leb-true (size_of (codes "0.0000000001")) text_limit refl, inl (at_first (codes "0.0000000001") 4 (inr (inr (inl (refl, (refl, ten_decimals_have_none))))) (λ less. refl) (λ less. omega arith) (λ less. absurd (omega arith)) (omega arith) refl))
+
+above_all_numbers_have_none : (some : LineForm) → HasForm some (codes "9223372036854775809") → ⊥
+unfolding keyword_of symbol_of word_at number_at symbol_at number_token bounded_number token_at
+above_all_numbers_have_none some has = tokens_none (codes "9223372036854775809") (omega arith) refl has.tokens has.spelled
+
+pub above_all_numbers_is : IsRefused (codes "9223372036854775809") 1 4
+above_all_numbers_is = inr (leb-true (size_of (codes "9223372036854775809")) text_limit refl, inl (at_first (codes "9223372036854775809") 4 (inr (inr (inl (refl, (refl, above_all_numbers_have_none))))) (λ less. refl) (λ less. omega arith) (λ less. absurd (omega arith)) (omega arith) refl))
+
+long_word_has_none : (some : LineForm) → HasForm some (letters 33) → ⊥
+unfolding keyword_of symbol_of word_at number_at symbol_at number_token bounded_number token_at
+long_word_has_none some has = tokens_none (letters 33) (omega arith) refl has.tokens has.spelled
+
+pub long_word_is : IsRefused (letters 33) 1 4
+long_word_is = inr (leb-true (size_of (letters 33)) text_limit refl, inl (at_first (letters 33) 4 (inr (inr (inl (refl, (refl, long_word_has_none))))) (λ less. refl) (λ less. omega arith) (λ less. absurd (omega arith)) (omega arith) refl))
+
+point_has_none : (some : LineForm) → HasForm some (codes "1.") → ⊥
+unfolding tokens_in keyword_of symbol_of word_at number_at symbol_at number_token bounded_number token_at
+point_has_none some has = number_first some 1 0 (token.Symbol sign.Point ∷ []) (written_with some (codes "1.") (token.Number 1 0 ∷ token.Symbol sign.Point ∷ []) (spells 9 (codes "1.") (token.Number 1 0 ∷ token.Symbol sign.Point ∷ []) refl) has)
+
+pub bare_point_is : IsRefused (codes "1.") 1 4
+bare_point_is = inr (leb-true (size_of (codes "1.")) text_limit refl, inl (at_first (codes "1.") 4 (inr (inr (inl (refl, (refl, point_has_none))))) (λ less. refl) (λ less. omega arith) (λ less. absurd (omega arith)) (omega arith) refl))

@@ -3,11 +3,16 @@ use Rattle.std.specs.Prelude.{ℕ, List, [], ◌∷◌, ◌++◌, codes, pos, ne
 use Rattle.std.specs.List.{flat_map, repeat}
 use Rattle.fixed_words.specs.declared.types.Literal.TheVariants as literal
 use Rattle.fixed_words.specs.declared.types.Ty.TheVariants as types
+use Rattle.unit_tree.specs.Canonical.{canonical_text}
 use Rattle.unit_tree.specs.Counter.{counter}
+use Rattle.unit_tree.specs.Parts.{bare_system}
+use Rattle.unit_tree.specs.Printable.{IsPrintable}
 use Rattle.unit_tree.specs.Texts.{Reads, IsRefused}
 use Rattle.unit_tree.specs.declared.expr.BinOp.TheVariants as by
 use Rattle.unit_tree.specs.declared.expr.Expr as expr
 use Rattle.unit_tree.specs.declared.expr.UnOp.TheVariants as of
+use Rattle.unit_tree.specs.declared.line.Line.{Line}
+use Rattle.unit_tree.specs.declared.line.Line as line
 use Rattle.unit_tree.specs.declared.system.System.{System}
 use Rattle.unit_tree.specs.declared.unit.Unit.{Unit}
 
@@ -86,15 +91,86 @@ thermal_text = text_of (
     ∷ codes "end"
     ∷ [])
 
-pub record TextsAreRead : Type 0 where
-  pub counter_is_read : Reads commented_counter counter
-  pub thermal_is_read : Reads thermal_text thermal
+-- Every keyword of a step, and every type of integers.
+abbrev pub mode_line : Line
+mode_line =
+    line.If (expr.Binary by.Ge (expr.Var (codes "k")) (expr.Var (codes "l")))
+    (line.Repeat 1000 (line.Assign (codes "x") (expr.Binary by.And (expr.Binary by.Gt (expr.Var (codes "m")) (expr.Var (codes "p"))) (expr.Binary by.Ne (expr.Unary of.Abs (expr.Var (codes "q"))) (expr.Var (codes "r")))) ∷ []) ∷ [])
+    (Some (line.Accept (expr.Binary by.Min expr.Step (expr.Binary by.Max expr.Time (expr.Number (pos 1) 0))) ∷ []))
 
--- ---- Texts that are refused
+abbrev pub mode_unit : Unit
+mode_unit = record {
+  name = codes "Mode";
+  resolution = None;
+  params = record { name = codes "k"; ty = types.Int8; start = literal.Number (neg_ℤ (pos 128)) 0 } ∷ record { name = codes "l"; ty = types.UInt8; start = literal.Number (pos 255) 0 } ∷ [];
+  states =
+    record { name = codes "m"; ty = types.Int16; start = literal.Number (pos 0) 0 }
+    ∷ record { name = codes "p"; ty = types.UInt16; start = literal.Number (pos 0) 0 }
+    ∷ record { name = codes "q"; ty = types.Int32; start = literal.Number (pos 0) 0 }
+    ∷ record { name = codes "r"; ty = types.UInt32; start = literal.Number (pos 0) 0 }
+    ∷ [];
+  locals = record { name = codes "x"; ty = types.Bool } ∷ record { name = codes "w"; ty = types.Fixed 9 } ∷ [];
+  inputs = [];
+  outputs = [];
+  max = None;
+  step = Some (mode_line ∷ []);
+}
+
+abbrev pub mode : System
+mode = record {
+  units = mode_unit ∷ [];
+  instances = [];
+  wires = [];
+  stop = None;
+  longest = Some (literal.Number (pos 9223372036854775807) 0);
+  zero = None;
+  rows = None;
+  samples = [];
+}
+
+abbrev pub mode_text : List ℕ
+mode_text = text_of (
+    codes "cosim 1"
+    ∷ codes "unit Mode"
+    ∷ codes "param k:Int8=-128"
+    ∷ codes "param l:UInt8=255"
+    ∷ codes "state m:Int16=0"
+    ∷ codes "state p:UInt16=0"
+    ∷ codes "state q:Int32=0"
+    ∷ codes "state r:UInt32=0"
+    ∷ codes "local x:Bool"
+    ∷ codes "local w:Fixed 9"
+    ∷ codes "step"
+    ∷ codes "if k>=l"
+    ∷ codes "repeat 1000"
+    ∷ codes "x:=m>p and abs(q)!=r"
+    ∷ codes "end"
+    ∷ codes "else"
+    ∷ codes "accept min(h,max(t,1))"
+    ∷ codes "end"
+    ∷ codes "end"
+    ∷ codes "end"
+    ∷ codes "longest 9223372036854775807"
+    ∷ [])
 
 -- A letter so many times.
 abbrev pub letters : ℕ → List ℕ
 letters count = repeat count (codes "a")
+
+-- A line of a thousand bytes, of which the last is the first of two CR: in a comment it may stay.
+abbrev pub long_line_text : List ℕ
+long_line_text = text_of (returned (codes "cosim 1#" ++ letters 991 ++ (13 ∷ [])) ∷ [])
+
+pub record TextsAreRead : Type 0 where
+  pub counter_is_read : Reads commented_counter counter
+  pub thermal_is_read : Reads thermal_text thermal
+  pub mode_is_read : Reads mode_text mode
+  pub long_line_is_read : Reads long_line_text bare_system
+  -- the counter has a canonical text, and it is read back
+  pub counter_is_printable : IsPrintable counter
+  pub canonical_is_read : Reads (canonical_text counter) counter
+
+-- ---- Texts that are refused
 
 pub record TextsAreRefused : Type 0 where
   -- 2: a LF is counted that the last line lacks
@@ -112,6 +188,10 @@ pub record TextsAreRefused : Type 0 where
   pub two_ends : IsRefused (codes "end end") 1 4
   pub number_word : IsRefused (codes "1a") 1 4
   pub decimal_header : IsRefused (codes "cosim 1.0") 1 4
+  pub long_word : IsRefused (letters 33) 1 4
+  pub ten_decimals : IsRefused (codes "0.0000000001") 1 4
+  pub above_all_numbers : IsRefused (codes "9223372036854775809") 1 4
+  pub bare_point : IsRefused (codes "1.") 1 4
   -- 5 before 7: a form that may not stand there
   pub stray_end : IsRefused (codes "end") 1 5
   pub second_header : IsRefused (text_of (codes "cosim 1" ∷ codes "cosim 1" ∷ [])) 2 5

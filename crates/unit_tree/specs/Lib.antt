@@ -24,5 +24,6 @@ pub mod Values
 pub mod WellFormed
 pub mod WorkedBlocks
 pub mod WorkedKinds
+pub mod WorkedLimits
 pub mod WorkedPhrases
 pub mod WorkedSystems

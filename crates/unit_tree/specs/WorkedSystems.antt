@@ -224,6 +224,44 @@ pub record SystemsAreWorked : Type 0 where
   pub set_twice : Refused (unit_a (param_k types.Int64 (number 1) ∷ []) ∷ instance_with (codes "a") (record { name = codes "k"; value = number 1 } ∷ record { name = codes "k"; value = number 1 } ∷ []) ∷ stop ∷ []) 24 7
   pub sampled_twice : Refused (parts.Samples (port (codes "a") (codes "y")) ∷ parts.Samples (port (codes "a") (codes "y")) ∷ run_of counts) 24 10
   pub needed_twice : Refused (run_of (input_u ∷ output_y types.Int64 (codes "u" ∷ codes "u" ∷ []) u ∷ [])) 24 4
+  -- 9: clocks and variables of their names are two things; names that read texts can't have
+  pub time_by_param : Refused (run_of (parts.HasParam (record { name = codes "t"; ty = types.Int64; start = number 1 }) ∷ output_y types.Int64 [] expr.Time ∷ [])) 9 4
+  pub step_by_state : Refused (run_of (parts.HasState (record { name = codes "h"; ty = types.Int64; start = number 1 }) ∷ parts.Max expr.Step ∷ [])) 9 4
+  pub variable_t : Refused (run_of (parts.Max (expr.Var (codes "t")) ∷ [])) 9 3
+  pub variable_h : Refused (run_of (counts ++ (parts.Step (set (codes "n") (expr.Var (codes "h")) ∷ []) ∷ []))) 9 6
+  pub step_in_max : Refused (run_of (parts.Max expr.Step ∷ [])) 9 3
+  pub time_in_max : Accepted (run_of (parts.Max expr.Time ∷ []))
+  pub clocks_in_step : Accepted (run_of (counts ++ (parts.Step (set (codes "n") (sum expr.Time expr.Step) ∷ []) ∷ [])))
+  pub local_in_step : Accepted (run_of (parts.HasLocal (record { name = codes "n"; ty = types.Int64 }) ∷ parts.Step (set (codes "n") n ∷ []) ∷ []))
+  pub name_in_if : Refused (run_of (parts.Step (line.If (expr.Var (codes "p")) [] None ∷ []) ∷ [])) 9 4
+  pub name_in_accept : Refused (run_of (parts.Step (line.Repeat 2 (line.Accept (expr.Var (codes "p")) ∷ []) ∷ []) ∷ [])) 9 5
+  pub no_such_target : Refused (run_of (parts.Step (set (codes "p") one ∷ []) ∷ [])) 9 4
+  pub to_an_output : Refused (pair_with (wire (port (codes "a") (codes "y")) (port (codes "b") (codes "y")) ∷ [])) 9 10
+  pub input_sampled : Refused (pair_with (parts.Samples (port (codes "a") (codes "u")) ∷ [])) 9 11
+  -- 10 and 11: the other places of kinds and of literals
+  pub fixed_max : Refused (run_of (state_n (types.Fixed 1) (number 0) ∷ parts.Max n ∷ [])) 10 4
+  pub truth_accepted : Refused (run_of (parts.Step (line.Accept (expr.Truth true) ∷ []) ∷ [])) 10 4
+  pub fixed_0_and_int : Refused (run_of (state_n (types.Fixed 0) (number 0) ∷ output_y (types.Fixed 0) [] one ∷ [])) 10 4
+  pub fixed_0 : Accepted (run_of (state_n (types.Fixed 0) (number 0) ∷ output_y (types.Fixed 0) [] n ∷ []))
+  pub number_for_bool : Refused (run_of (state_n types.Bool (number 1) ∷ [])) 10 3
+  pub form_of_a_setting : Refused (unit_a (param_k types.Int64 (number 1) ∷ []) ∷ instance_with (codes "a") (record { name = codes "k"; value = literal.Truth true } ∷ []) ∷ stop ∷ []) 10 6
+  pub form_of_an_input : Refused (run_of (parts.HasInput (record { name = codes "u"; ty = types.Int64; start = literal.Truth true }) ∷ [])) 10 3
+  pub range_of_a_setting : Refused (unit_a (param_k types.Int8 (number 1) ∷ []) ∷ instance_with (codes "a") (record { name = codes "k"; value = number 128 } ∷ []) ∷ stop ∷ []) 11 6
+  pub range_of_an_input : Refused (run_of (parts.HasInput (record { name = codes "u"; ty = types.UInt8; start = number 256 }) ∷ [])) 11 3
+  pub range_of_a_param : Refused (run_of (param_k types.UInt8 (literal.Number (neg_ℤ (pos 1)) 0) ∷ [])) 11 3
+  -- 17 to 24: the other places and the ends of ranges
+  pub depth_33_in_if : Refused (run_of (parts.HasState (record { name = codes "n"; ty = types.Int64; start = number 0 }) ∷ parts.Step (line.If (expr.Binary by.Lt n (minuses 32)) [] None ∷ []) ∷ [])) 17 5
+  pub depth_33_in_accept : Refused (run_of (parts.HasState (record { name = codes "n"; ty = types.Int64; start = number 0 }) ∷ parts.Step (line.Accept (minuses 32) ∷ []) ∷ [])) 17 5
+  pub cost_100000 : Accepted (run_of (counts ++ (parts.Step (line.Repeat 1000 (line.Repeat 94 [] ∷ set (codes "n") n ∷ []) ∷ line.Repeat 997 [] ∷ line.Repeat 999 [] ∷ []) ∷ [])))
+  pub cost_100001 : Refused (run_of (counts ++ (parts.Step (line.Repeat 1000 (line.Repeat 94 [] ∷ set (codes "n") n ∷ []) ∷ line.Repeat 998 [] ∷ line.Repeat 999 [] ∷ []) ∷ []))) 18 5
+  pub longest_run : Accepted (unit_a counts ∷ instance (codes "a") ∷ parts.Stop (number 1000000000000000) ∷ [])
+  pub too_long_a_run : Refused (unit_a counts ∷ instance (codes "a") ∷ parts.Stop (number 1000000000000001) ∷ []) 20 8
+  pub too_long_a_step : Refused (parts.Longest (number 1000000000000001) ∷ run_of counts) 20 9
+  pub stop_zero : Accepted (unit_a counts ∷ instance (codes "a") ∷ parts.Stop (number 0) ∷ [])
+  pub negative_stop : Refused (unit_a counts ∷ instance (codes "a") ∷ parts.Stop (literal.Number (neg_ℤ (pos 3)) 0) ∷ []) 20 8
+  pub resolution_of_no_instance : Refused (parts.HasUnit (codes "B") (parts.Resolution 1 ∷ []) ∷ parts.Longest (literal.Number (pos 5) 1) ∷ run_of counts) 20 12
+  pub input_assigned : Refused (run_of (input_u ∷ parts.Step (set (codes "u") one ∷ []) ∷ [])) 22 5
+  pub output_assigned : Refused (run_of (counts ++ (parts.Step (set (codes "y") one ∷ []) ∷ []))) 22 6
 
 -- ---- Orders
 

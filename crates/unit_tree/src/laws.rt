@@ -1,6 +1,7 @@
 ghost use Rattle.unit_tree.specs.Laws.{HasAtMostOneTrace};
 ghost use Rattle.unit_tree.specs.Counter.{CounterIsWorked};
 ghost use Rattle.unit_tree.specs.WorkedBlocks.{LinesAreWorked, BlocksAreWorked};
+ghost use Rattle.unit_tree.specs.WorkedLimits.{LimitsAreWorked};
 ghost use Rattle.unit_tree.specs.WorkedPhrases.{PhrasesAreWorked};
 ghost use Rattle.unit_tree.specs.WorkedSystems.{SystemsAreWorked, OrdersAreWorked};
 ghost use Rattle.unit_tree.specs.Language.{IsJudgedOnce, SitesAreCanonicalLines, CanonicalPartsSayTheSystem, CanonicalPhrasesAreRight, CyclesHaveNoOrder};
@@ -71,4 +72,9 @@ pub fn kinds_and_costs_are_worked()
 /// Orders of outputs, and the output that none has, worked out by hand.
 pub fn orders_are_worked()
     ensures { OrdersAreWorked }
+{}
+
+/// How many there may be of each, worked out at the limits.
+pub fn limits_are_worked()
+    ensures { LimitsAreWorked }
 {}

@@ -3,7 +3,14 @@ use Rattle.unit_text.proofs.WorkedRefusals as refusal
 use Rattle.unit_text.proofs.worked.texts_are_worked.Goals as goal
 
 pub returns-clause-read : goal.returns-clause-read
-returns-clause-read c = record { counter_is_read = read.counter_is_read; thermal_is_read = read.thermal_is_read }
+returns-clause-read c = record {
+  counter_is_read = read.counter_is_read;
+  thermal_is_read = read.thermal_is_read;
+  mode_is_read = read.mode_is_read;
+  long_line_is_read = read.long_line_is_read;
+  counter_is_printable = read.counter_is_printable;
+  canonical_is_read = read.canonical_is_read;
+}
 
 pub returns-clause-refused : goal.returns-clause-refused
 returns-clause-refused c = record {
@@ -17,6 +24,10 @@ returns-clause-refused c = record {
   two_ends = refusal.two_ends_are;
   number_word = refusal.number_word_is;
   decimal_header = refusal.decimal_header_is;
+  long_word = refusal.long_word_is;
+  ten_decimals = refusal.ten_decimals_is;
+  above_all_numbers = refusal.above_all_numbers_is;
+  bare_point = refusal.bare_point_is;
   stray_end = refusal.stray_end_is;
   second_header = refusal.second_header_is;
   no_header = refusal.no_header_is;
