@@ -1,6 +1,7 @@
 -- Which texts are of the first form, which system each says, and where every other text is refused.
 use Rattle.std.specs.Prelude.{◌≡◌, ℕ, suc, ◌<◌, ◌≤◌, max, List, [], ◌∷◌, ◌++◌, length, take, Option, Some, None, IfSome, All, ⊤, ◌⊎◌}
 use Rattle.unit_tree.specs.Lines.{lines_of, size_of}
+pub use Rattle.unit_tree.specs.Texts.{text_limit}
 use Rattle.unit_tree.specs.Tokens.{Spells}
 use Rattle.unit_tree.specs.declared.system.System.{System}
 use Rattle.unit_text.specs.FirstForm.{tokens_of, IsStart, IsOperand, IsInRange, forms_of, system_of, IsOfForm}
@@ -54,10 +55,6 @@ pub record LacksEnd (text : List ℕ) (line : ℕ) : Type 0 where
   pub begun : Begin (lines_of text)
   pub unread : (system : System) → Reads text system → ⊥
   pub last : line ≡ max 1 (length (lines_of text))
-
--- The most bytes that a text may have, with a LF counted after each line.
-abbrev pub text_limit : ℕ
-text_limit = 1048576
 
 -- The text is refused at a line by a rule: at line 1 by rule 2 where it is too long, and else by rule 4
 -- at the line from which on it is not of the form.

@@ -1,9 +1,9 @@
 -- Lemmas on the lines of a text.
 use Rattle.std.proofs.Common.{◌≡◌, ℕ, suc, ◌+◌, ◌<◌, ◌≤◌, true, false, not, cond, List, [], ◌∷◌, ◌++◌, length, take, drop, refl, ap, sym, ◌∙◌, arith, ◌==◌, add-one, one-add}
-use Rattle.std.specs.List.{prefix_len, sum_by}
+use Rattle.std.specs.List.{onto_first, prefix_len, sum_by}
 use Rattle.std.proofs.lemmas.List.{drop_all}
 use Rattle.std.proofs.lemmas.List.Sums.{sum_by-cons}
-use Rattle.unit_tree.specs.Lines.{in_first, lines_of, size_of}
+use Rattle.unit_tree.specs.Lines.{lines_of, size_of}
 
 -- how many bytes come before the first end
 abbrev pub line_length : List ℕ → ℕ
@@ -12,7 +12,7 @@ line_length text = prefix_len (λ byte. not (byte == 10)) text
 pub cut_lem : (byte next : ℕ) (text : List ℕ) → lines_of (next ∷ text) ≡ take (line_length (next ∷ text)) (next ∷ text) ∷ lines_of (drop (suc (line_length (next ∷ text))) (next ∷ text)) → lines_of (byte ∷ next ∷ text) ≡ take (line_length (byte ∷ next ∷ text)) (byte ∷ next ∷ text) ∷ lines_of (drop (suc (line_length (byte ∷ next ∷ text))) (byte ∷ next ∷ text))
 cut_lem byte next text step =
     let p : ℕ = line_length (next ∷ text) in
-    elim (byte == 10) as (λ v. cond v ([] ∷ lines_of (next ∷ text)) (in_first byte (lines_of (next ∷ text))) ≡ take (cond (not v) (1 + p) 0) (byte ∷ next ∷ text) ∷ lines_of (drop (suc (cond (not v) (1 + p) 0)) (byte ∷ next ∷ text))) [ true ↦ refl | false ↦ ap (in_first byte) step ∙ rw (one-add p) refl ]
+    elim (byte == 10) as (λ v. cond v ([] ∷ lines_of (next ∷ text)) (onto_first byte (lines_of (next ∷ text))) ≡ take (cond (not v) (1 + p) 0) (byte ∷ next ∷ text) ∷ lines_of (drop (suc (cond (not v) (1 + p) 0)) (byte ∷ next ∷ text))) [ true ↦ refl | false ↦ ap (onto_first byte) step ∙ rw (one-add p) refl ]
 
 pub cut_one : (byte : ℕ) → lines_of (byte ∷ []) ≡ take (line_length (byte ∷ [])) (byte ∷ []) ∷ lines_of (drop (suc (line_length (byte ∷ []))) (byte ∷ []))
 cut_one byte = elim (byte == 10) as (λ v. cond v ([] ∷ []) ((byte ∷ []) ∷ []) ≡ take (cond (not v) 1 0) (byte ∷ []) ∷ lines_of (drop (suc (cond (not v) 1 0)) (byte ∷ []))) [ true ↦ refl | false ↦ refl ]
@@ -33,15 +33,15 @@ lines_of_one text n some past at =
 abbrev pub size : List (List ℕ) → ℕ
 size lines = sum_by (λ line. length line + 1) lines
 
-size-in_first : (byte next : ℕ) (lines : List (List ℕ)) → 0 < size lines → size (in_first byte lines) ≡ size lines + 1
-size-in_first byte next [] some = absurd (omega arith)
-size-in_first byte next (line ∷ lines) some =
+size-onto_first : (byte next : ℕ) (lines : List (List ℕ)) → 0 < size lines → size (onto_first byte lines) ≡ size lines + 1
+size-onto_first byte next [] some = absurd (omega arith)
+size-onto_first byte next (line ∷ lines) some =
     let f : List ℕ → ℕ = λ line. length line + 1 in
     omega (arith, sum_by-cons f (byte ∷ line) lines, sum_by-cons f line lines)
 
 size_of-cons : (byte : ℕ) (text : List ℕ) → 0 < size_of text → size_of (byte ∷ text) ≡ size_of text + 1
 size_of-cons byte text some =
-    elim (byte == 10) as (λ v. size (cond v ([] ∷ lines_of text) (in_first byte (lines_of text))) ≡ size_of text + 1) [ true ↦ omega (arith, sum_by-cons (λ (line : List ℕ). length line + 1) [] (lines_of text)) | false ↦ size-in_first byte 0 (lines_of text) some ]
+    elim (byte == 10) as (λ v. size (cond v ([] ∷ lines_of text) (onto_first byte (lines_of text))) ≡ size_of text + 1) [ true ↦ omega (arith, sum_by-cons (λ (line : List ℕ). length line + 1) [] (lines_of text)) | false ↦ size-onto_first byte 0 (lines_of text) some ]
 
 size_of-one : (last : ℕ) → size_of (last ∷ []) ≡ 1 + cond (last == 10) 0 1
 size_of-one last = elim (last == 10) as (λ v. size (cond v ([] ∷ []) ((last ∷ []) ∷ [])) ≡ 1 + cond v 0 1) [ true ↦ refl | false ↦ refl ]

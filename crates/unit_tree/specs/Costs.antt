@@ -1,6 +1,6 @@
 -- Static cost: a number that a call has by the structure of its trees, one for each node and more where lines repeat.
 use Rattle.std.specs.Prelude.{ℕ, ◌+◌, ◌*◌, List, map, Option, Some, None}
-use Rattle.std.specs.List.{sum_by}
+use Rattle.std.specs.List.{sum}
 use Rattle.unit_tree.specs.declared.expr.Expr.{Expr, fold-Expr}
 use Rattle.unit_tree.specs.declared.expr.Expr.TheOpen.{Expr-F}
 use Rattle.unit_tree.specs.declared.line.Line.{Line, fold-Line}
@@ -18,20 +18,17 @@ node_cost _ = 1
 abbrev pub cost_of : Expr → ℕ
 cost_of = fold-Expr ℕ node_cost
 
-abbrev pub total : List ℕ → ℕ
-total costs = sum_by (λ cost. cost) costs
-
 -- `else` and its lines.
 abbrev pub else_cost : Option (List ℕ) → ℕ
 else_cost None = 0
-else_cost (Some lines) = 1 + total lines
+else_cost (Some lines) = 1 + sum lines
 
 -- One line, with the cost of each line of its blocks in its place. The body of `repeat` counts as often as it
 -- is repeated, and 1 more each time.
 abbrev pub part_cost : Line-F ℕ → ℕ
 part_cost (Line-F.Assign target value) = cost_of value + 1
-part_cost (Line-F.If cond then_lines else_lines) = cost_of cond + 1 + total then_lines + else_cost else_lines
-part_cost (Line-F.Repeat count body) = 1 + count * (total body + 1)
+part_cost (Line-F.If cond then_lines else_lines) = cost_of cond + 1 + sum then_lines + else_cost else_lines
+part_cost (Line-F.Repeat count body) = 1 + count * (sum body + 1)
 part_cost (Line-F.Accept value) = cost_of value + 1
 
 abbrev pub line_cost : Line → ℕ
@@ -42,4 +39,4 @@ abbrev pub expression_call_cost : Expr → ℕ
 expression_call_cost value = cost_of value + 1
 
 abbrev pub step_call_cost : List Line → ℕ
-step_call_cost lines = total (map line_cost lines) + 1
+step_call_cost lines = sum (map line_cost lines) + 1

@@ -1,18 +1,13 @@
 -- The lines of a text, and what each holds: its code, and a comment behind it.
 use Rattle.std.specs.Prelude.{ℕ, ◌+◌, List, [], ◌∷◌, map, length, if◌then◌else◌, ◌==◌, Bool, not, ◌&&◌, ◌||◌, nat_le}
-use Rattle.std.specs.List.{sum_by, list_all, before_first}
+use Rattle.std.specs.List.{sum_by, list_all, before_first, onto_first}
 use Rattle.unit_tree.specs.Tokens.{is_blank}
-
--- The byte put in front of the first line.
-abbrev pub in_first : ℕ → List (List ℕ) → List (List ℕ)
-in_first byte [] = (byte ∷ []) ∷ []
-in_first byte (line ∷ lines) = (byte ∷ line) ∷ lines
 
 -- The lines of a text, each without its end. A line ends with LF or with the end of the text: there are
 -- as many as LFs, and one more where bytes follow the last one.
 abbrev pub lines_of : List ℕ → List (List ℕ)
 lines_of [] = []
-lines_of (byte ∷ text) = if byte == 10 then [] ∷ lines_of text else in_first byte (lines_of text)
+lines_of (byte ∷ text) = if byte == 10 then [] ∷ lines_of text else onto_first byte (lines_of text)
 
 -- How many bytes the text has, with a LF counted for each line, also for a last one that lacks it.
 abbrev pub size_of : List ℕ → ℕ

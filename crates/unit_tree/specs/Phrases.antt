@@ -15,6 +15,7 @@
 --               | "int" "(" whole ")" | "fix" N "(" whole ")" | "min" "(" whole "," whole ")"
 --               | "max" "(" whole "," whole ")" | "clamp" "(" whole "," whole "," whole ")"
 use Rattle.std.specs.Prelude.{◌≡◌, ℕ, suc, ◌^◌, max, Bool, true, false, ◌&&◌, nat_le, nat_lt, pos, List, [], ◌∷◌, ◌++◌, IsTrue}
+use Rattle.unit_tree.specs.Values.{unary_is_ranged}
 use Rattle.unit_tree.specs.declared.expr.BinOp.{BinOp}
 use Rattle.unit_tree.specs.declared.expr.BinOp.TheVariants as by
 use Rattle.unit_tree.specs.declared.expr.Expr.{Expr}
@@ -231,16 +232,11 @@ nesting (Clamp value low high) = suc (max (nesting value) (max (nesting low) (ne
 nesting (Choose cond then_part else_part) = suc (max (nesting cond) (max (nesting then_part) (nesting else_part)))
 nesting _ = 0
 
--- `fix N` takes an N from 0 to 9.
-abbrev pub unary_fits : UnOp → Bool
-unary_fits (of.ToFix decimals) = nat_le decimals 9
-unary_fits _ = true
-
 -- The numbers of an expression are words, which are not negative, and have at most nine decimals.
 abbrev pub numbers_fit : Phrase → Bool
 numbers_fit (Number digits decimals) = nat_lt digits (2 ^ 63) && nat_le decimals 9
 numbers_fit (Parens inner) = numbers_fit inner
-numbers_fit (Unary op arg) = unary_fits op && numbers_fit arg
+numbers_fit (Unary op arg) = unary_is_ranged op && numbers_fit arg
 numbers_fit (Binary op left right) = numbers_fit left && numbers_fit right
 numbers_fit (Clamp value low high) = numbers_fit value && (numbers_fit low && numbers_fit high)
 numbers_fit (Choose cond then_part else_part) = numbers_fit cond && (numbers_fit then_part && numbers_fit else_part)
