@@ -1,11 +1,11 @@
 -- How a text is shown to be refused: its first broken line, with the least rule that it breaks.
 use Rattle.std.proofs.Common.{◌≡◌, ℕ, suc, ◌<◌, ◌≤◌, List, [], ◌∷◌, ◌++◌, append_assoc, length, ◌⊎◌, inl, inr, refl, ap, sym, subst, ◌∙◌, arith, true, false}
-use Rattle.std.specs.Prelude.{IsTrue, IsFalse, ⊤}
+use Rattle.std.specs.Prelude.{IsTrue, ⊤}
 use Rattle.std.specs.List.{list_all}
 use Rattle.std.proofs.lemmas.Bool.{cases_lt}
 use Rattle.std.proofs.lemmas.List.{append-nil}
 use Rattle.unit_tree.specs.Lines.{is_blank_line, has_forbidden_byte}
-use Rattle.unit_tree.specs.Texts.{line_limit, HasNoForm, IsMisplaced, LacksHeader, LineBreaks, BreaksAt, Breaks, IsFirstBroken}
+use Rattle.unit_tree.specs.Texts.{line_limit, HasNoForm, IsMisplaced, LacksHeader, LineBreaks, Breaks, IsFirstBroken}
 
 -- A line that breaks a rule breaks one of five.
 by_rule : {P : Type 0} (rule : ℕ) (before : List (List ℕ)) (line : List ℕ) → LineBreaks rule before line → (rule ≡ 1 → IsTrue (has_forbidden_byte line) → P) → (rule ≡ 3 → line_limit < length line → P) → (rule ≡ 4 → HasNoForm line → P) → (rule ≡ 5 → IsMisplaced before line → P) → (rule ≡ 7 → LacksHeader before line → P) → P

@@ -1,13 +1,11 @@
 -- The forms of the lines of worked texts.
 use Rattle.std.proofs.Common.{◌≡◌, ℕ, List, [], ◌∷◌, ◌++◌, refl, false, true, arith, Some}
 use Rattle.std.specs.Prelude.{codes, pos, neg_ℤ}
-use Rattle.std.specs.Option.{option_map}
 use Rattle.fixed_words.specs.declared.types.Literal.TheVariants as literal
 use Rattle.fixed_words.specs.declared.types.Ty.TheVariants as types
 use Rattle.unit_tree.specs.LineForms.{HasForm, WritesForm}
 use Rattle.unit_tree.specs.Lines.{code_of}
 use Rattle.unit_tree.specs.Phrases as phrase
-use Rattle.unit_tree.specs.Tokens.{Spells}
 use Rattle.unit_tree.specs.declared.expr.BinOp.TheVariants as by
 use Rattle.unit_tree.specs.declared.expr.Expr as expr
 use Rattle.unit_tree.specs.declared.expr.UnOp.TheVariants as of

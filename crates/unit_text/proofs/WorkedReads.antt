@@ -8,7 +8,7 @@ use Rattle.fixed_words.specs.declared.types.Literal.TheVariants as literal
 use Rattle.fixed_words.specs.declared.types.Ty.TheVariants as types
 use Rattle.unit_tree.specs.Blocks.{are_placed}
 use Rattle.unit_tree.specs.Canonical.{canonical_forms, canonical_text, line_text}
-use Rattle.unit_tree.specs.Counter.{counter, counter_unit, increment}
+use Rattle.unit_tree.specs.Counter.{counter, increment}
 use Rattle.unit_tree.specs.Lines.{source_lines, size_of}
 use Rattle.unit_tree.specs.LineForms.{tail_of}
 use Rattle.unit_tree.specs.Parts as parts
@@ -105,16 +105,16 @@ thermal_is_read = record {
 abbrev mode_parts : List Part
 mode_parts =
     parts.HasUnit (codes "Mode") (
-        parts.HasParam (record { name = codes "k"; ty = types.Int8; start = literal.Number (neg_ℤ (pos 128)) 0 })
-        ∷ parts.HasParam (record { name = codes "l"; ty = types.UInt8; start = literal.Number (pos 255) 0 })
-        ∷ parts.HasState (record { name = codes "m"; ty = types.Int16; start = literal.Number (pos 0) 0 })
-        ∷ parts.HasState (record { name = codes "p"; ty = types.UInt16; start = literal.Number (pos 0) 0 })
-        ∷ parts.HasState (record { name = codes "q"; ty = types.Int32; start = literal.Number (pos 0) 0 })
-        ∷ parts.HasState (record { name = codes "r"; ty = types.UInt32; start = literal.Number (pos 0) 0 })
-        ∷ parts.HasLocal (record { name = codes "x"; ty = types.Bool })
-        ∷ parts.HasLocal (record { name = codes "w"; ty = types.Fixed 9 })
-        ∷ parts.Step (mode_line ∷ [])
-        ∷ [])
+    parts.HasParam (record { name = codes "k"; ty = types.Int8; start = literal.Number (neg_ℤ (pos 128)) 0 })
+    ∷ parts.HasParam (record { name = codes "l"; ty = types.UInt8; start = literal.Number (pos 255) 0 })
+    ∷ parts.HasState (record { name = codes "m"; ty = types.Int16; start = literal.Number (pos 0) 0 })
+    ∷ parts.HasState (record { name = codes "p"; ty = types.UInt16; start = literal.Number (pos 0) 0 })
+    ∷ parts.HasState (record { name = codes "q"; ty = types.Int32; start = literal.Number (pos 0) 0 })
+    ∷ parts.HasState (record { name = codes "r"; ty = types.UInt32; start = literal.Number (pos 0) 0 })
+    ∷ parts.HasLocal (record { name = codes "x"; ty = types.Bool })
+    ∷ parts.HasLocal (record { name = codes "w"; ty = types.Fixed 9 })
+    ∷ parts.Step (mode_line ∷ [])
+    ∷ [])
     ∷ parts.Longest (literal.Number (pos 9223372036854775807) 0)
     ∷ []
 

@@ -1,12 +1,12 @@
 -- Worked texts are refused.
-use Rattle.std.proofs.Common.{◌≡◌, ℕ, zero, suc, ◌+◌, List, [], ◌∷◌, ◌++◌, length, inl, inr, refl, sym, ap, subst, ◌∙◌, arith, true, false, ◌<◌, ◌≤◌, rules}
-use Rattle.std.specs.Prelude.{codes, IsTrue, IsFalse}
+use Rattle.std.proofs.Common.{◌≡◌, ℕ, zero, suc, ◌+◌, List, [], ◌∷◌, ◌++◌, length, inl, inr, refl, ap, subst, ◌∙◌, arith, true, false, ◌<◌, ◌≤◌}
+use Rattle.std.specs.Prelude.{codes}
 use Rattle.std.proofs.lemmas.Bool.{leb-true, ltb-true}
 use Rattle.std.specs.List.{AllZip, sum_by}
 use Rattle.unit_tree.specs.Blocks.{may_stand}
 use Rattle.unit_tree.specs.LineForms.{HasForm, WritesForm}
-use Rattle.unit_tree.specs.Lines.{lines_of, source_lines, size_of, code_of, is_blank_line, has_forbidden_byte}
-use Rattle.unit_tree.specs.Texts.{line_limit, text_limit, HaveForms, HasNoForm, IsMisplaced, LacksHeader, LineBreaks, Breaks, IsFirstBroken, IsUnended, IsRefused}
+use Rattle.unit_tree.specs.Lines.{lines_of, size_of, code_of, is_blank_line, has_forbidden_byte}
+use Rattle.unit_tree.specs.Texts.{line_limit, text_limit, HaveForms, HasNoForm, IsMisplaced, LineBreaks, IsFirstBroken, IsRefused}
 use Rattle.unit_tree.specs.Tokens.{Spells}
 use Rattle.unit_tree.specs.declared.line_form.LineForm.{LineForm}
 use Rattle.unit_tree.specs.declared.line_form.LineForm.TheVariants as form

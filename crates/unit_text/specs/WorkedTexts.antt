@@ -104,11 +104,11 @@ mode_unit = record {
   resolution = None;
   params = record { name = codes "k"; ty = types.Int8; start = literal.Number (neg_ℤ (pos 128)) 0 } ∷ record { name = codes "l"; ty = types.UInt8; start = literal.Number (pos 255) 0 } ∷ [];
   states =
-    record { name = codes "m"; ty = types.Int16; start = literal.Number (pos 0) 0 }
-    ∷ record { name = codes "p"; ty = types.UInt16; start = literal.Number (pos 0) 0 }
-    ∷ record { name = codes "q"; ty = types.Int32; start = literal.Number (pos 0) 0 }
-    ∷ record { name = codes "r"; ty = types.UInt32; start = literal.Number (pos 0) 0 }
-    ∷ [];
+      record { name = codes "m"; ty = types.Int16; start = literal.Number (pos 0) 0 }
+      ∷ record { name = codes "p"; ty = types.UInt16; start = literal.Number (pos 0) 0 }
+      ∷ record { name = codes "q"; ty = types.Int32; start = literal.Number (pos 0) 0 }
+      ∷ record { name = codes "r"; ty = types.UInt32; start = literal.Number (pos 0) 0 }
+      ∷ [];
   locals = record { name = codes "x"; ty = types.Bool } ∷ record { name = codes "w"; ty = types.Fixed 9 } ∷ [];
   inputs = [];
   outputs = [];

@@ -1,5 +1,5 @@
 -- The tokens that a line spells, computed.
-use Rattle.std.proofs.Common.{◌≡◌, ℕ, suc, zero, List, [], ◌∷◌, Option, Some, None, refl, sym, ap, subst, ◌∙◌}
+use Rattle.std.proofs.Common.{◌≡◌, ℕ, suc, zero, List, [], ◌∷◌, Option, Some, None, refl, ap, subst}
 use Rattle.std.specs.Option.{option_map}
 use Rattle.unit_tree.specs.Tokens.{Spells}
 use Rattle.unit_tree.specs.declared.token.Token.{Token}

@@ -1,5 +1,5 @@
 -- Outputs on a cycle stand in no orderly list: all that an output of one depends on comes before it.
-use Rattle.std.proofs.Common.{◌≡◌, List, [], ◌∷◌, ◌++◌, append_assoc, ◌⊎◌, inl, inr, refl, ap, sym, subst, ◌∙◌}
+use Rattle.std.proofs.Common.{◌≡◌, List, [], ◌∷◌, ◌++◌, append_assoc, inl, inr, refl, ap, sym, subst}
 use Rattle.std.specs.List.{AllByRecursion}
 use Rattle.std.proofs.lemmas.List.{append-nil}
 use Rattle.unit_tree.specs.Orders.{IsIn, DependsOn, needs, through, IsOrderlyAfter, IsOrderly, HasNoOrder, needed_by}

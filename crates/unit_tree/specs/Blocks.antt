@@ -1,5 +1,5 @@
 -- Blocks: which are open behind lines, and which lines may stand there.
-use Rattle.std.specs.Prelude.{◌≡◌, ℕ, Bool, true, false, not, ◌&&◌, nat_lt, List, [], ◌∷◌, ◌++◌, drop}
+use Rattle.std.specs.Prelude.{Bool, true, false, not, ◌&&◌, nat_lt, List, [], ◌∷◌, ◌++◌, drop}
 use Rattle.std.specs.List.{fold, list_any, count_by, after_last}
 use Rattle.unit_tree.specs.LineForms.{are_alike}
 use Rattle.unit_tree.specs.declared.line_form.LineForm.{LineForm}

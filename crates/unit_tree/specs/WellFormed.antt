@@ -1,8 +1,8 @@
 -- Well-formed systems. Each rule has a test, which a canonical line passes where it breaks the rule. The rules are
 -- judged in the order of their numbers, each over the whole system and only where all earlier ones hold.
-use Rattle.std.specs.Prelude.{◌≡◌, ℕ, ◌*◌, ◌/◌, ◌%◌, ◌^◌, max, Bool, true, false, not, ◌&&◌, ◌||◌, ◌==◌, nat_le, nat_lt, if◌then◌else◌, unsigned_abs, ℤ, List, [], ◌∷◌, ◌++◌, map, length, Option, Some, None, is_none, Result, Ok, Err}
+use Rattle.std.specs.Prelude.{◌≡◌, ℕ, ◌*◌, ◌/◌, ◌%◌, ◌^◌, max, Bool, true, false, not, ◌&&◌, ◌||◌, ◌==◌, nat_le, nat_lt, if◌then◌else◌, unsigned_abs, ℤ, List, [], ◌∷◌, ◌++◌, map, length, Option, Some, None, is_none, Result, Err}
 use Rattle.std.specs.Int.{is_negative}
-use Rattle.std.specs.List.{AllByRecursion, list_any, list_all, count_by, enumerate_from, filter_map, fold}
+use Rattle.std.specs.List.{AllByRecursion, list_any, count_by, enumerate_from, filter_map, fold}
 use Rattle.std.specs.Option.{option_map, option_and_then, unwrap_or}
 use Rattle.std.specs.Ordering.{int_eq}
 use Rattle.std.specs.Str.{bytes_eq}
@@ -28,7 +28,6 @@ use Rattle.unit_tree.specs.declared.line_form.LineForm.TheVariants as form
 use Rattle.unit_tree.specs.declared.system.Instance.{Instance}
 use Rattle.unit_tree.specs.declared.system.PortName.{PortName}
 use Rattle.unit_tree.specs.declared.system.System.{System}
-use Rattle.unit_tree.specs.declared.unit.Output.{Output}
 use Rattle.unit_tree.specs.declared.unit.Unit.{Unit}
 
 -- ---- Lines that say a thing again

@@ -1,11 +1,10 @@
 -- Worked expressions: how some are written, which tree that is, and how the tree is written canonically.
-use Rattle.std.specs.Prelude.{◌≡◌, ℕ, zero, suc, true, false, List, [], ◌∷◌, codes}
+use Rattle.std.specs.Prelude.{◌≡◌, ℕ, zero, suc, true, false, List, codes}
 use Rattle.unit_tree.specs.Canonical.{expression_tokens, tokens_text}
 use Rattle.unit_tree.specs.Phrases as phrase
 use Rattle.unit_tree.specs.Phrases.{Phrase, is_expression, nesting, phrase_tokens, tree_of}
 use Rattle.unit_tree.specs.declared.expr.BinOp.TheVariants as by
 use Rattle.unit_tree.specs.declared.expr.Expr.{Expr}
-use Rattle.unit_tree.specs.declared.expr.Expr as expr
 use Rattle.unit_tree.specs.declared.expr.UnOp.TheVariants as of
 
 -- A number without decimals, and names of one letter.

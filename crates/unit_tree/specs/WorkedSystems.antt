@@ -10,7 +10,7 @@ use Rattle.unit_tree.specs.Orders.{IsOrderly, HasNoCycle, IsFirstWithoutOrder}
 use Rattle.unit_tree.specs.Parts as parts
 use Rattle.unit_tree.specs.Parts.{Part, UnitPart, unit_of, system_of}
 use Rattle.unit_tree.specs.Sites.{TopScope, StepScope}
-use Rattle.unit_tree.specs.WellFormed.{Refusal, exceeds, refusal_of}
+use Rattle.unit_tree.specs.WellFormed.{exceeds, refusal_of}
 use Rattle.unit_tree.specs.declared.expr.BinOp.TheVariants as by
 use Rattle.unit_tree.specs.declared.expr.Expr.{Expr}
 use Rattle.unit_tree.specs.declared.expr.Expr as expr

@@ -3,7 +3,7 @@ use Rattle.std.specs.Prelude.{codes}
 use Rattle.std.specs.Str.{bytes_eq}
 use Rattle.unit_tree.specs.Orders.{IsIn, DependsOn, needs, through, IsOrderly}
 use Rattle.unit_tree.specs.Parts.{system_of}
-use Rattle.unit_tree.specs.WorkedSystems.{joins, pair_with, ring, behind_ring, ring_of_instances, y_of}
+use Rattle.unit_tree.specs.WorkedSystems.{joins, pair_with, ring, behind_ring, y_of}
 use Rattle.unit_tree.proofs.OrderLaws.{on_cycle, behind_cycle}
 use Rattle.unit_tree.proofs.laws.orders_are_worked.Goals as goal
 
