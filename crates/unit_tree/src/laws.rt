@@ -1,6 +1,6 @@
 ghost use Rattle.unit_tree.specs.Laws.{HasAtMostOneTrace};
 ghost use Rattle.unit_tree.specs.Counter.{CounterIsWorked};
-ghost use Rattle.unit_tree.specs.Worked.{KindsAreWorked, LineKindsAreWorked, CostsAreWorked};
+ghost use Rattle.unit_tree.specs.Worked.{KindsAreWorked, WrongKindsAreWorked, LineKindsAreWorked, CostsAreWorked};
 
 /// A law: a composition has at most one trace.
 pub fn at_most_one_trace()
@@ -15,6 +15,7 @@ pub fn counter_is_worked()
 /// Kinds and costs of expressions and step lines, worked out by hand, are those that the definitions give.
 pub fn kinds_and_costs_are_worked()
     ensures kinds { KindsAreWorked }
+    ensures wrong_kinds { WrongKindsAreWorked }
     ensures line_kinds { LineKindsAreWorked }
     ensures costs { CostsAreWorked }
 {}

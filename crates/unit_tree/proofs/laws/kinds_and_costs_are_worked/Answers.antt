@@ -8,6 +8,9 @@ use Rattle.unit_tree.proofs.laws.kinds_and_costs_are_worked.Goals as goal
 pub returns-clause-kinds : goal.returns-clause-kinds
 returns-clause-kinds c = search (rules, fold_laws)
 
+pub returns-clause-wrong_kinds : goal.returns-clause-wrong_kinds
+returns-clause-wrong_kinds c = search (rules, fold_laws)
+
 pub returns-clause-line_kinds : goal.returns-clause-line_kinds
 returns-clause-line_kinds c =
     let other = fold-IfElse KindTest part_kinded p (count_up ∷ []) (line.Accept x ∷ []) in
