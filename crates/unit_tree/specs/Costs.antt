@@ -1,4 +1,5 @@
--- Static cost: a number that a call has by the structure of its trees, one for each node and more where lines repeat.
+-- Static cost: a number that a call has by the structure of its trees, where repeated lines count as often as they
+-- are repeated.
 use Rattle.std.specs.Prelude.{ℕ, ◌+◌, ◌*◌, List, map, Option, Some, None}
 use Rattle.std.specs.List.{sum}
 use Rattle.unit_tree.specs.declared.expr.Expr.{Expr, fold-Expr}

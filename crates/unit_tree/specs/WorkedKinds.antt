@@ -48,8 +48,7 @@ kind_here e = kind_of_expression e declared_kinds
 abbrev pub is_kinded_here : Line → Bool
 is_kinded_here l = lines_are_kinded (l ∷ []) declared_kinds
 
--- What operations give, and that they give nothing where an operand is wrong: of a kind that the operation does
--- not take, or of another kind than its partner.
+-- What operations give.
 pub record KindsAreWorked : Type 0 where
   pub sum : kind_here (expr.Binary by.Add n one) ≡ Some Int
   pub product : kind_here (expr.Binary by.Mul x x) ≡ Some (Fixed 2)
@@ -61,6 +60,10 @@ pub record KindsAreWorked : Type 0 where
   pub rescaled : kind_here (expr.Unary (of.ToFix 3) x) ≡ Some (Fixed 3)
   pub clamped : kind_here (expr.Clamp x x x) ≡ Some (Fixed 2)
   pub chosen : kind_here (expr.Choose (expr.Unary of.Not p) n one) ≡ Some Int
+
+-- An operation gives nothing where an operand is of a kind that it does not take, or of another kind than its
+-- partner, and so does what it stands in. A name that is not declared has no kind either.
+pub record WrongKindsAreWorked : Type 0 where
   pub sum_of_int_and_fixed : kind_here (expr.Binary by.Add n x) ≡ None
   pub sum_of_other_decimals : kind_here (expr.Binary by.Add x half) ≡ None
   pub sum_of_int_and_fixed_0 : kind_here (expr.Binary by.Add n (expr.Unary (of.ToFix 0) n)) ≡ None

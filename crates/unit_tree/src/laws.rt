@@ -5,7 +5,7 @@ ghost use Rattle.unit_tree.specs.WorkedLimits.{LimitsAreWorked};
 ghost use Rattle.unit_tree.specs.WorkedPhrases.{PhrasesAreWorked};
 ghost use Rattle.unit_tree.specs.WorkedSystems.{SystemsAreWorked, OrdersAreWorked};
 ghost use Rattle.unit_tree.specs.Language.{IsJudgedOnce, SitesAreCanonicalLines, CanonicalPartsSayTheSystem, CanonicalPhrasesAreRight, CyclesHaveNoOrder};
-ghost use Rattle.unit_tree.specs.WorkedKinds.{KindsAreWorked, LineKindsAreWorked, CostsAreWorked};
+ghost use Rattle.unit_tree.specs.WorkedKinds.{KindsAreWorked, WrongKindsAreWorked, LineKindsAreWorked, CostsAreWorked};
 
 /// A law: a composition has at most one trace.
 pub fn at_most_one_trace()
@@ -65,6 +65,7 @@ pub fn systems_are_worked()
 /// Kinds and costs of expressions and step lines, worked out by hand, are those that the definitions give.
 pub fn kinds_and_costs_are_worked()
     ensures kinds { KindsAreWorked }
+    ensures wrong_kinds { WrongKindsAreWorked }
     ensures line_kinds { LineKindsAreWorked }
     ensures costs { CostsAreWorked }
 {}

@@ -16,6 +16,10 @@ returns-clause-kinds c = record {
   rescaled = simp kind_laws refl;
   clamped = simp kind_laws refl;
   chosen = simp kind_laws refl;
+}
+
+pub returns-clause-wrong_kinds : goal.returns-clause-wrong_kinds
+returns-clause-wrong_kinds c = record {
   sum_of_int_and_fixed = simp kind_laws refl;
   sum_of_other_decimals = simp kind_laws refl;
   sum_of_int_and_fixed_0 = simp kind_laws refl;
