@@ -6,6 +6,7 @@ pub mod KindLemmas
 pub mod OrderLaws
 pub mod PartLaws
 pub mod PhraseLaws
+pub mod RefusalLaws
 pub mod SiteLaws
 pub mod TraceLaws
 pub mod ValueLemmas

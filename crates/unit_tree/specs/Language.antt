@@ -49,6 +49,11 @@ pub record CyclesHaveNoOrder : Type 0 where
   pub on_cycle : (system : System) (port : PortName) → DependsOn system port port → HasNoOrder system port
   pub behind_cycle : (system : System) (port other : PortName) → DependsOn system port other → HasNoOrder system other → HasNoOrder system port
 
+-- A text is refused at one line and by one rule at most.
+abbrev pub IsRefusedOnce : Type 0
+IsRefusedOnce =
+    (text : List ℕ) (line by other rule : ℕ) → IsRefused text line by → IsRefused text other rule → (line ≡ other) × (by ≡ rule)
+
 -- ---- Owed
 
 -- A text is written with one list of parts at most, and so says one system at most.
@@ -59,11 +64,6 @@ HasOneReading text =
 abbrev pub SaysOneSystem : List ℕ → Type 0
 SaysOneSystem text = (one other : System) → Reads text one → Reads text other → one ≡ other
 
--- A text is refused at one line and by one rule at most.
-abbrev pub IsRefusedOnce : List ℕ → Type 0
-IsRefusedOnce text =
-    (line by other rule : ℕ) → IsRefused text line by → IsRefused text other rule → (line ≡ other) × (by ≡ rule)
-
 -- The text says a system, or it is refused.
 abbrev pub IsAnswered : List ℕ → Type 0
 IsAnswered text = ((system : System) × Reads text system) ⊎ ((line : ℕ) × (rule : ℕ) × IsRefused text line rule)
@@ -73,7 +73,6 @@ pub record IsAnsweredOnce (text : List ℕ) : Type 0 where
   pub answered : IsAnswered text
   pub one_reading : HasOneReading text
   pub one_system : SaysOneSystem text
-  pub one_refusal : IsRefusedOnce text
   pub not_both : (system : System) (line rule : ℕ) → Reads text system → IsRefused text line rule → ⊥
 
 abbrev pub EveryTextIsAnsweredOnce : Type 0

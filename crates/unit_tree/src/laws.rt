@@ -4,7 +4,7 @@ ghost use Rattle.unit_tree.specs.WorkedBlocks.{LinesAreWorked, BlocksAreWorked};
 ghost use Rattle.unit_tree.specs.WorkedLimits.{LimitsAreWorked};
 ghost use Rattle.unit_tree.specs.WorkedPhrases.{PhrasesAreWorked};
 ghost use Rattle.unit_tree.specs.WorkedSystems.{SystemsAreWorked, OrdersAreWorked};
-ghost use Rattle.unit_tree.specs.Language.{IsJudgedOnce, SitesAreCanonicalLines, CanonicalPartsSayTheSystem, CanonicalPhrasesAreRight, CyclesHaveNoOrder};
+ghost use Rattle.unit_tree.specs.Language.{IsRefusedOnce, IsJudgedOnce, SitesAreCanonicalLines, CanonicalPartsSayTheSystem, CanonicalPhrasesAreRight, CyclesHaveNoOrder};
 ghost use Rattle.unit_tree.specs.WorkedKinds.{KindsAreWorked, WrongKindsAreWorked, LineKindsAreWorked, CostsAreWorked};
 
 /// A law: a composition has at most one trace.
@@ -15,6 +15,11 @@ pub fn at_most_one_trace()
 /// The trace of a counter, worked out by hand, is the one that the definitions give.
 pub fn counter_is_worked()
     ensures { CounterIsWorked }
+{}
+
+/// A law: a text is refused at one line and by one rule at most.
+pub fn texts_are_refused_once()
+    ensures { IsRefusedOnce }
 {}
 
 /// A law: each system is well-formed, or refused by one rule at one canonical line.
