@@ -21,8 +21,8 @@ use Rattle.unit_text.specs.FirstForm.{expression_of, line_of, state_of, unit_of,
 use Rattle.unit_text.specs.Reading.{HaveForms, IsAccepted}
 use Rattle.unit_text.specs.declared.form.Assignment.{Assignment}
 use Rattle.unit_text.specs.declared.form.Declared.{Declared}
-use Rattle.unit_text.specs.declared.form.LineForm.{LineForm}
-use Rattle.unit_text.specs.declared.form.LineForm.TheVariants as form
+use Rattle.unit_text.specs.declared.form.FirstFormLine.{FirstFormLine}
+use Rattle.unit_text.specs.declared.form.FirstFormLine.TheVariants as form
 use Rattle.unit_text.specs.declared.form.Operand.{Operand}
 use Rattle.unit_text.specs.declared.form.Operand.TheVariants as operand
 use Rattle.unit_text.specs.declared.form.Source.{Source}
@@ -112,13 +112,13 @@ progress_of zero None ranges = inr (abs_pos 0)
 progress_of (suc stop) None ranges = inl (rw (abs_pos (suc stop)) (omega arith))
 progress_of stop (Some longest) ranges = inl (rw (abs_pos longest) ranges.0.0)
 
-in_ranges : (forms : List LineForm) (lines : List (List ℕ)) → HaveForms forms lines → AllByRecursion IsInRange forms
+in_ranges : (forms : List FirstFormLine) (lines : List (List ℕ)) → HaveForms forms lines → AllByRecursion IsInRange forms
 in_ranges [] [] have = tt
 in_ranges [] (line ∷ lines) have = absurd have
 in_ranges (form ∷ forms) [] have = absurd have
 in_ranges (form ∷ forms) (line ∷ lines) have = (have.0.in_range, in_ranges forms lines have.1)
 
-all_behind : (front others : List LineForm) → AllByRecursion IsInRange (front ++ others) → AllByRecursion IsInRange others
+all_behind : (front others : List FirstFormLine) → AllByRecursion IsInRange (front ++ others) → AllByRecursion IsInRange others
 all_behind [] others all = all
 all_behind (form ∷ front) others all = all_behind front others all.1
 

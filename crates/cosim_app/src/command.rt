@@ -48,7 +48,7 @@ pub fn cosim_alone<S: Source, O: Sink, N: Sink>(
     out: &mut O,
     notes: &mut N,
 ) -> Status
-    ensures { Promises (bytes_of words.now)
+    ensures headline { Promises (bytes_of words.now)
         (streams (S.left source.old) (S.faults source.old) (O.held out.old) (O.faults out.old) (N.held notes.old) (N.faults notes.old))
         (streams (S.left source.new) (S.faults source.new) (O.held out.new) (O.faults out.new) (N.held notes.new) (N.faults notes.new))
         result }
@@ -73,7 +73,7 @@ pub fn cosim<R: Threads + Wait + Copy + Send, S: Source, O: Sink, N: Sink>(
     out: &mut O,
     notes: &mut N,
 ) -> Status
-    ensures { Promises (bytes_of words.now)
+    ensures headline { Promises (bytes_of words.now)
         (streams (S.left source.old) (S.faults source.old) (O.held out.old) (O.faults out.old) (N.held notes.old) (N.faults notes.old))
         (streams (S.left source.new) (S.faults source.new) (O.held out.new) (O.faults out.new) (N.held notes.new) (N.faults notes.new))
         result }

@@ -8,7 +8,7 @@ use Rattle.unit_text.specs.FirstForm.{forms_of, IsOfForm, system_of}
 use Rattle.unit_text.specs.Nesting.{no_lines, with_line, whole_source, NextIs}
 use Rattle.unit_text.specs.Reading.{HasForm, FormIs, HaveForms, Reads, Begin, StopsAt, LacksEnd, text_limit, SaysOne, IsNotBoth, IsRefusedOnce, IsAnswered}
 use Rattle.unit_text.specs.declared.draft.Draft.{Draft}
-use Rattle.unit_text.specs.declared.form.LineForm.{LineForm}
+use Rattle.unit_text.specs.declared.form.FirstFormLine.{FirstFormLine}
 use Rattle.unit_text.specs.declared.form.Source.{Source}
 use Rattle.unit_text.proofs.FormLemmas.{one_form, form_decided}
 use Rattle.unit_text.proofs.ReadingLemmas.{stops_here, next_formless}
@@ -83,16 +83,16 @@ end_answer lines draft (Some source) so_far e =
     let is = progress_ends lines draft source so_far e in
     whole source is.0 is.1
 
-refuses_as : (draft : Draft) (line : List ℕ) (form : LineForm) → HasForm form line → with_line draft form ≡ None → NextIs draft line None
+refuses_as : (draft : Draft) (line : List ℕ) (form : FirstFormLine) → HasForm form line → with_line draft form ≡ None → NextIs draft line None
 refuses_as draft line form has e = λ other others. ap (with_line draft) (one_form line other form others has) ∙ e
 
-form_answer : (before : List (List ℕ)) (line : List ℕ) (rest : List (List ℕ)) (draft : Draft) (form : LineForm) (found : Option Draft) → Progress before draft → HasForm form line → with_line draft form ≡ found → ((next : Draft) → Progress (before ++ line ∷ []) next → Answer ((before ++ line ∷ []) ++ rest)) → Answer (before ++ line ∷ rest)
+form_answer : (before : List (List ℕ)) (line : List ℕ) (rest : List (List ℕ)) (draft : Draft) (form : FirstFormLine) (found : Option Draft) → Progress before draft → HasForm form line → with_line draft form ≡ found → ((next : Draft) → Progress (before ++ line ∷ []) next → Answer ((before ++ line ∷ []) ++ rest)) → Answer (before ++ line ∷ rest)
 form_answer before line rest draft form None so_far has e later =
     stops (length before + 1) (stops_here before line rest (length before) draft so_far (refuses_as draft line form has e) refl)
 form_answer before line rest draft form (Some next) so_far has e later =
     rw append_assoc at (later next (progress_more before line draft next form so_far has e))
 
-line_answer : (before : List (List ℕ)) (line : List ℕ) (rest : List (List ℕ)) (draft : Draft) (found : Option LineForm) → Progress before draft → FormIs line found → ((next : Draft) → Progress (before ++ line ∷ []) next → Answer ((before ++ line ∷ []) ++ rest)) → Answer (before ++ line ∷ rest)
+line_answer : (before : List (List ℕ)) (line : List ℕ) (rest : List (List ℕ)) (draft : Draft) (found : Option FirstFormLine) → Progress before draft → FormIs line found → ((next : Draft) → Progress (before ++ line ∷ []) next → Answer ((before ++ line ∷ []) ++ rest)) → Answer (before ++ line ∷ rest)
 line_answer before line rest draft None so_far is later =
     stops (length before + 1) (stops_here before line rest (length before) draft so_far (next_formless draft line is) refl)
 line_answer before line rest draft (Some form) so_far is later =

@@ -14,33 +14,33 @@ use Rattle.unit_text.specs.declared.draft.Stage.{Stage}
 use Rattle.unit_text.specs.declared.draft.Stage.TheVariants as stage
 use Rattle.unit_text.specs.declared.form.Assignment.{Assignment}
 use Rattle.unit_text.specs.declared.form.Declared.{Declared}
-use Rattle.unit_text.specs.declared.form.LineForm.{LineForm}
-use Rattle.unit_text.specs.declared.form.LineForm.TheVariants as form
+use Rattle.unit_text.specs.declared.form.FirstFormLine.{FirstFormLine}
+use Rattle.unit_text.specs.declared.form.FirstFormLine.TheVariants as form
 use Rattle.unit_text.specs.declared.form.Source.{Source}
 use Rattle.unit_text.proofs.NameLemmas.{names, IsName, names_state_is, names_state_no, is_declared_is, distinct_push}
 
 -- The draft that lines lead to.
-abbrev pub run : Draft → List LineForm → Option Draft
+abbrev pub run : Draft → List FirstFormLine → Option Draft
 run draft [] = Some draft
 run draft (line ∷ lines) = option_and_then (λ next. run next lines) (with_line draft line)
 
-run-append_case : (found : Option Draft) (xs ys : List LineForm) → ((next : Draft) → run next (xs ++ ys) ≡ option_and_then (λ end. run end ys) (run next xs)) → option_and_then (λ next. run next (xs ++ ys)) found ≡ option_and_then (λ end. run end ys) (option_and_then (λ next. run next xs) found)
+run-append_case : (found : Option Draft) (xs ys : List FirstFormLine) → ((next : Draft) → run next (xs ++ ys) ≡ option_and_then (λ end. run end ys) (run next xs)) → option_and_then (λ next. run next (xs ++ ys)) found ≡ option_and_then (λ end. run end ys) (option_and_then (λ next. run next xs) found)
 run-append_case None xs ys later = refl
 run-append_case (Some next) xs ys later = later next
 
-pub run-append : (draft : Draft) (xs ys : List LineForm) → run draft (xs ++ ys) ≡ option_and_then (λ end. run end ys) (run draft xs)
+pub run-append : (draft : Draft) (xs ys : List FirstFormLine) → run draft (xs ++ ys) ≡ option_and_then (λ end. run end ys) (run draft xs)
 run-append draft [] ys = refl
 run-append draft (line ∷ xs) ys = run-append_case (with_line draft line) xs ys (λ next. run-append next xs ys)
 
 -- ---- the lines of a draft
 
-abbrev pub opening : Source → List LineForm
+abbrev pub opening : Source → List FirstFormLine
 opening source = form.Header ∷ form.Unit source.unit ∷ map form.State source.states
 
-abbrev pub middle : Source → List LineForm
+abbrev pub middle : Source → List FirstFormLine
 middle source = opening source ++ (form.Output source.output source.shown ∷ form.Step ∷ map form.Assign source.assignments)
 
-abbrev pub begun : Stage → Source → List LineForm
+abbrev pub begun : Stage → Source → List FirstFormLine
 begun stage.Start source = []
 begun stage.Headed source = form.Header ∷ []
 begun stage.States source = opening source
@@ -87,7 +87,7 @@ IsSound stage.Longest source = IsOfForm source
 IsSound _ source = IsClosed source
 
 -- the draft is sound, and it has the lines of the other and one more
-record Adds (stage : Stage) (source : Source) (line : LineForm) (next : Draft) : Type 0 where
+record Adds (stage : Stage) (source : Source) (line : FirstFormLine) (next : Draft) : Type 0 where
   sound : IsSound next.stage next.source
   lines : begun next.stage next.source ≡ begun stage source ++ line ∷ []
 
@@ -104,13 +104,13 @@ chosen_is : (test : Bool) (found next : Draft) → cond test (Some found) None �
 chosen_is true found next e = (refl, cc)
 chosen_is false found next e = absurd cc
 
-start_adds : (source : Source) (line : LineForm) (next : Draft) → IsEmpty source → after_start source line ≡ Some next → Adds stage.Start source line next
+start_adds : (source : Source) (line : FirstFormLine) (next : Draft) → IsEmpty source → after_start source line ≡ Some next → Adds stage.Start source line next
 start_adds source form.Header next sound e =
     let is = some_is (record { stage = stage.Headed; source = source }) next e in
     rw (← is) (record { sound = sound; lines = refl })
 start_adds source _ next sound e = absurd cc
 
-header_adds : (source : Source) (line : LineForm) (text : List ℕ) (next : Draft) → IsEmpty source → HasForm line text → after_header source line ≡ Some next → Adds stage.Headed source line next
+header_adds : (source : Source) (line : FirstFormLine) (text : List ℕ) (next : Draft) → IsEmpty source → HasForm line text → after_header source line ≡ Some next → Adds stage.Headed source line next
 header_adds source (form.Unit name) text next sound has e =
     let is = some_is (record { stage = stage.States; source = record source { unit = name } }) next e in
     let none : source.states ≡ [] = sound.states in
@@ -139,7 +139,7 @@ Contains-some : (states : List Declared) (name : List ℕ) → Contains (names s
 Contains-some [] name c = absurd (omega (arith, c.1))
 Contains-some (state ∷ states) name c = omega arith
 
-states_adds : (source : Source) (line : LineForm) (text : List ℕ) (next : Draft) → IsOpen source → HasForm line text → after_states source line ≡ Some next → Adds stage.States source line next
+states_adds : (source : Source) (line : FirstFormLine) (text : List ℕ) (next : Draft) → IsOpen source → HasForm line text → after_states source line ≡ Some next → Adds stage.States source line next
 states_adds source (form.State state) text next sound has e =
     let longer : Source = record source { states = source.states ++ state ∷ [] } in
     let test = chosen_is (nat_lt (length source.states) 64 && not (names_state source.states state.name)) (record { stage = stage.States; source = longer }) next e in
@@ -156,7 +156,7 @@ states_adds source (form.State state) text next sound has e =
         assignments = sound.assignments;
         longest = sound.longest;
       };
-      lines = ap (λ (t : List LineForm). form.Header ∷ form.Unit source.unit ∷ t) (map_push form.State source.states state);
+      lines = ap (λ (t : List FirstFormLine). form.Header ∷ form.Unit source.unit ∷ t) (map_push form.State source.states state);
     })
 states_adds source (form.Output name shown) text next sound has e =
     let more : Source = record source { output = name; shown = shown } in
@@ -183,7 +183,7 @@ states_adds source (form.Output name shown) text next sound has e =
     })
 states_adds source _ text next sound has e = absurd cc
 
-output_adds : (source : Source) (line : LineForm) (next : Draft) → IsShown source → after_output source line ≡ Some next → Adds stage.Output source line next
+output_adds : (source : Source) (line : FirstFormLine) (next : Draft) → IsShown source → after_output source line ≡ Some next → Adds stage.Output source line next
 output_adds source form.Step next sound e =
     let is = some_is (record { stage = stage.Step; source = source }) next e in
     rw (← is) (record {
@@ -197,10 +197,10 @@ AllByRecursion-push_sum P [] x are is = (is, tt)
 AllByRecursion-push_sum P (y ∷ ys) x are is = (are.0, AllByRecursion-push_sum P ys x are.1 is)
 
 -- one line more behind the middle
-more_lines : (source : Source) (front : List LineForm) (line : LineForm) → middle source ++ (front ++ line ∷ []) ≡ (middle source ++ front) ++ line ∷ []
+more_lines : (source : Source) (front : List FirstFormLine) (line : FirstFormLine) → middle source ++ (front ++ line ∷ []) ≡ (middle source ++ front) ++ line ∷ []
 more_lines source front line = sym (append_assoc (middle source) front (line ∷ []))
 
-step_adds : (source : Source) (line : LineForm) (next : Draft) → IsClosed source → after_step source line ≡ Some next → Adds stage.Step source line next
+step_adds : (source : Source) (line : FirstFormLine) (next : Draft) → IsClosed source → after_step source line ≡ Some next → Adds stage.Step source line next
 step_adds source (form.Assign sum) next sound e =
     let longer : Source = record source { assignments = source.assignments ++ sum ∷ [] } in
     let a = nat_lt (length source.assignments) 500 in
@@ -226,14 +226,14 @@ step_adds source (form.Assign sum) next sound e =
         unit = sound.unit;
         longest = sound.longest;
       };
-      lines = ap (λ (t : List LineForm). opening source ++ (form.Output source.output source.shown ∷ form.Step ∷ t)) (map_push form.Assign source.assignments sum) ∙ sym (append_assoc (opening source) (form.Output source.output source.shown ∷ form.Step ∷ map form.Assign source.assignments) (form.Assign sum ∷ []));
+      lines = ap (λ (t : List FirstFormLine). opening source ++ (form.Output source.output source.shown ∷ form.Step ∷ t)) (map_push form.Assign source.assignments sum) ∙ sym (append_assoc (opening source) (form.Output source.output source.shown ∷ form.Step ∷ map form.Assign source.assignments) (form.Assign sum ∷ []));
     })
 step_adds source form.End next sound e =
     let is = some_is (record { stage = stage.StepEnd; source = source }) next e in
     rw (← is) (record { sound = sound; lines = refl })
 step_adds source _ next sound e = absurd cc
 
-step_end_adds : (source : Source) (line : LineForm) (next : Draft) → IsClosed source → after_step_end source line ≡ Some next → Adds stage.StepEnd source line next
+step_end_adds : (source : Source) (line : FirstFormLine) (next : Draft) → IsClosed source → after_step_end source line ≡ Some next → Adds stage.StepEnd source line next
 step_end_adds source form.End next sound e =
     let is = some_is (record { stage = stage.UnitEnd; source = source }) next e in
     rw (← is) (record { sound = sound; lines = more_lines source (form.End ∷ []) form.End })
@@ -249,32 +249,32 @@ of_form-stop source ticks is = record { states = is.states; distinct = is.distin
 of_form-longest : (source : Source) (ticks : Option ℕ) → IsOfForm source → IsOfForm (record source { longest = ticks })
 of_form-longest source ticks is = record { states = is.states; distinct = is.distinct; shown = is.shown; assignments = is.assignments; count = is.count }
 
-unit_end_adds : (source : Source) (line : LineForm) (next : Draft) → IsClosed source → after_unit_end source line ≡ Some next → Adds stage.UnitEnd source line next
+unit_end_adds : (source : Source) (line : FirstFormLine) (next : Draft) → IsClosed source → after_unit_end source line ≡ Some next → Adds stage.UnitEnd source line next
 unit_end_adds source (form.Instance name unit) next sound e =
     let test = chosen_is (bytes_eq unit source.unit) (record { stage = stage.Instance; source = record source { instance = name } }) next e in
     let same : unit ≡ source.unit = (bytes_eq-Decides unit source.unit).0 test.0 in
     rw (← test.1, same) (record { sound = record { of_form = of_form-instance source name sound.of_form; unit = sound.unit; longest = sound.longest }; lines = more_lines source (form.End ∷ form.End ∷ []) (form.Instance name source.unit) })
 unit_end_adds source _ next sound e = absurd cc
 
-instance_adds : (source : Source) (line : LineForm) (next : Draft) → IsClosed source → after_instance source line ≡ Some next → Adds stage.Instance source line next
+instance_adds : (source : Source) (line : FirstFormLine) (next : Draft) → IsClosed source → after_instance source line ≡ Some next → Adds stage.Instance source line next
 instance_adds source form.End next sound e =
     let is = some_is (record { stage = stage.InstanceEnd; source = source }) next e in
     rw (← is) (record { sound = sound; lines = more_lines source (form.End ∷ form.End ∷ form.Instance source.instance source.unit ∷ []) form.End })
 instance_adds source _ next sound e = absurd cc
 
-instance_end_adds : (source : Source) (line : LineForm) (next : Draft) → IsClosed source → after_instance_end source line ≡ Some next → Adds stage.InstanceEnd source line next
+instance_end_adds : (source : Source) (line : FirstFormLine) (next : Draft) → IsClosed source → after_instance_end source line ≡ Some next → Adds stage.InstanceEnd source line next
 instance_end_adds source (form.Stop ticks) next sound e =
     let is = some_is (record { stage = stage.Stop; source = record source { stop = ticks } }) next e in
     rw (← is) (record { sound = record { of_form = of_form-stop source ticks sound.of_form; unit = sound.unit; longest = sound.longest }; lines = more_lines source (form.End ∷ form.End ∷ form.Instance source.instance source.unit ∷ form.End ∷ []) (form.Stop ticks) })
 instance_end_adds source _ next sound e = absurd cc
 
-stop_adds : (source : Source) (line : LineForm) (next : Draft) → IsClosed source → after_stop source line ≡ Some next → Adds stage.Stop source line next
+stop_adds : (source : Source) (line : FirstFormLine) (next : Draft) → IsClosed source → after_stop source line ≡ Some next → Adds stage.Stop source line next
 stop_adds source (form.Longest ticks) next sound e =
     let is = some_is (record { stage = stage.Longest; source = record source { longest = Some ticks } }) next e in
     rw (← is) (record { sound = of_form-longest source (Some ticks) sound.of_form; lines = more_lines source (form.End ∷ form.End ∷ form.Instance source.instance source.unit ∷ form.End ∷ form.Stop source.stop ∷ []) (form.Longest ticks) })
 stop_adds source _ next sound e = absurd cc
 
-line_adds : (stage : Stage) (source : Source) (line : LineForm) (text : List ℕ) (next : Draft) → IsSound stage source → HasForm line text → after stage source line ≡ Some next → Adds stage source line next
+line_adds : (stage : Stage) (source : Source) (line : FirstFormLine) (text : List ℕ) (next : Draft) → IsSound stage source → HasForm line text → after stage source line ≡ Some next → Adds stage source line next
 line_adds stage.Start source line text next sound has e = start_adds source line next sound e
 line_adds stage.Headed source line text next sound has e = header_adds source line text next sound has e
 line_adds stage.States source line text next sound has e = states_adds source line text next sound has e
@@ -288,15 +288,15 @@ line_adds stage.Stop source line text next sound has e = stop_adds source line n
 line_adds stage.Longest source line text next sound has e = absurd cc
 
 -- a draft that lines led to is sound, and they are its lines
-pub record Holds (lines : List LineForm) (draft : Draft) : Type 0 where
+pub record Holds (lines : List FirstFormLine) (draft : Draft) : Type 0 where
   pub sound : IsSound draft.stage draft.source
   pub are : begun draft.stage draft.source ≡ lines
 
 pub holds_none : Holds [] no_lines
 holds_none = record { sound = record { states = refl; assignments = refl; longest = refl }; are = refl }
 
-pub holds_more : (lines : List LineForm) (draft next : Draft) (line : LineForm) (text : List ℕ) → Holds lines draft → HasForm line text → with_line draft line ≡ Some next → Holds (lines ++ line ∷ []) next
+pub holds_more : (lines : List FirstFormLine) (draft next : Draft) (line : FirstFormLine) (text : List ℕ) → Holds lines draft → HasForm line text → with_line draft line ≡ Some next → Holds (lines ++ line ∷ []) next
 unfolding with_line
 holds_more lines draft next line text holds has e =
     let adds = line_adds draft.stage draft.source line text next holds.sound has e in
-    record { sound = adds.sound; are = adds.lines ∙ ap (λ (t : List LineForm). t ++ line ∷ []) holds.are }
+    record { sound = adds.sound; are = adds.lines ∙ ap (λ (t : List FirstFormLine). t ++ line ∷ []) holds.are }

@@ -16,8 +16,8 @@ use Rattle.unit_text.specs.Forms.{◌>>=◌, name_at, whole_at, same_symbol, aft
 use Rattle.unit_text.specs.Reading.{HasForm, FormIs}
 use Rattle.unit_tokens.specs.Scanning.{symbol_of, TokensAre}
 use Rattle.unit_tokens.proofs.TokenLemmas.{spells_one, tokens_decided}
-use Rattle.unit_text.specs.declared.form.LineForm.{LineForm}
-use Rattle.unit_text.specs.declared.form.LineForm.TheVariants as form
+use Rattle.unit_text.specs.declared.form.FirstFormLine.{FirstFormLine}
+use Rattle.unit_text.specs.declared.form.FirstFormLine.TheVariants as form
 use Rattle.unit_text.specs.declared.form.Operand.{Operand}
 use Rattle.unit_text.specs.declared.form.Operand.TheVariants as operand
 use Rattle.unit_text.specs.declared.form.WholeNumber.{WholeNumber}
@@ -44,7 +44,7 @@ operand_again (operand.Number number) rest is =
     let test : nat_lt number (2 ^ 63) ≡ true = grind (arith, nat_tests) in
     rw test refl
 
-pub form_again : (line : LineForm) → IsInRange line → form_of (tokens_of line) ≡ Some line
+pub form_again : (line : FirstFormLine) → IsInRange line → form_of (tokens_of line) ≡ Some line
 unfolding form_of header_form unit_form state_form output_form assign_form instance_form stop_form longest_form
 form_again form.Header is = refl
 form_again (form.Unit name) is = refl
@@ -115,7 +115,7 @@ after_symbol_is symbol (token.Keyword keyword ∷ behind) rest e = absurd cc
 after_symbol_is symbol (token.Name found ∷ behind) rest e = absurd cc
 after_symbol_is symbol (token.Number digits decimals ∷ behind) rest e = absurd cc
 
-last_is : (line : LineForm) (tokens : List Token) (found : LineForm) → last line tokens ≡ Some found → (line ≡ found) × (tokens ≡ [])
+last_is : (line : FirstFormLine) (tokens : List Token) (found : FirstFormLine) → last line tokens ≡ Some found → (line ≡ found) × (tokens ≡ [])
 last_is line [] found e = (cc, refl)
 last_is line (first ∷ rest) found e = absurd cc
 
@@ -174,10 +174,10 @@ operand_at_is (token.Keyword keyword ∷ behind) what rest e = absurd cc
 operand_at_is (token.Symbol symbol ∷ behind) what rest e = absurd cc
 
 -- a form whose tokens, behind a keyword, are these
-abbrev IsForm : List Token → LineForm → Type 0
+abbrev IsForm : List Token → FirstFormLine → Type 0
 IsForm tokens line = (tokens ≡ tokens_of line) × IsInRange line
 
-header_is : (tokens : List Token) (line : LineForm) → header_form tokens ≡ Some line → IsForm (token.Keyword word.Cosim ∷ tokens) line
+header_is : (tokens : List Token) (line : FirstFormLine) → header_form tokens ≡ Some line → IsForm (token.Keyword word.Cosim ∷ tokens) line
 unfolding header_form
 header_is tokens line e =
     bind_is (whole_at tokens) (λ version. cond (version.0 == 1) (last form.Header version.1) None) line (IsForm (token.Keyword word.Cosim ∷ tokens) line) e (λ version found_is found_more.
@@ -186,7 +186,7 @@ header_is tokens line e =
     let one : version.0 ≡ 1 = grind (arith, nat_tests, test.0) in
     rw (← is.0, whole_at_is tokens version.0 version.1 found_is, is.1, one) (refl, tt))
 
-unit_is : (tokens : List Token) (line : LineForm) → unit_form tokens ≡ Some line → IsForm (token.Keyword word.Unit ∷ tokens) line
+unit_is : (tokens : List Token) (line : FirstFormLine) → unit_form tokens ≡ Some line → IsForm (token.Keyword word.Unit ∷ tokens) line
 unfolding unit_form
 unit_is tokens line e =
     bind_is (name_at tokens) (λ name. last (form.Unit name.0) name.1) line (IsForm (token.Keyword word.Unit ∷ tokens) line) e (λ name found_is found_more.
@@ -200,7 +200,7 @@ is_start_is number e =
       | inr least ↦ (let parts = and_parts number.negative (number.magnitude == 2 ^ 63) least in inr (parts.0, grind (arith, nat_tests, parts.1)))
     ]
 
-state_is : (tokens : List Token) (line : LineForm) → state_form tokens ≡ Some line → IsForm (token.Keyword word.State ∷ tokens) line
+state_is : (tokens : List Token) (line : FirstFormLine) → state_form tokens ≡ Some line → IsForm (token.Keyword word.State ∷ tokens) line
 unfolding state_form
 state_is tokens line e =
     bind_is (typed_at tokens) (λ name. (number_at name.1 >>= λ start. cond (is_start start.0) (last (form.State (record { name = name.0; start = start.0 })) start.1) None)) line (IsForm (token.Keyword word.State ∷ tokens) line) e (λ name named_is named_more.
@@ -210,7 +210,7 @@ state_is tokens line e =
     let number = number_at_is name.1 start.0 start.1 started_is ∙ ap (λ (t : List Token). signed start.0.negative start.0.magnitude t) is.1 ∙ signed_as start.0 in
     rw (← is.0, typed_at_is tokens name.0 name.1 named_is, number) (refl, is_start_is start.0 test.0)))
 
-output_is : (tokens : List Token) (line : LineForm) → output_form tokens ≡ Some line → IsForm (token.Keyword word.Output ∷ tokens) line
+output_is : (tokens : List Token) (line : FirstFormLine) → output_form tokens ≡ Some line → IsForm (token.Keyword word.Output ∷ tokens) line
 unfolding output_form
 output_is tokens line e =
     bind_is (typed_at tokens) (λ name. (name_at name.1 >>= λ shown. last (form.Output name.0 shown.0) shown.1)) line (IsForm (token.Keyword word.Output ∷ tokens) line) e (λ name named_is named_more.
@@ -218,7 +218,7 @@ output_is tokens line e =
     let is = last_is (form.Output name.0 shown.0) shown.1 line shows_more in
     rw (← is.0, typed_at_is tokens name.0 name.1 named_is, name_at_is name.1 shown.0 shown.1 shows_is, is.1) (refl, tt)))
 
-assign_is : (tokens : List Token) (line : LineForm) → assign_form tokens ≡ Some line → IsForm tokens line
+assign_is : (tokens : List Token) (line : FirstFormLine) → assign_form tokens ≡ Some line → IsForm tokens line
 unfolding assign_form
 assign_is tokens line e =
     bind_is (name_at tokens) (λ target. (after_symbol sign.Assign target.1 >>= λ sum. (operand_at sum >>= λ left. (after_symbol sign.Plus left.1 >>= λ behind. (operand_at behind >>= λ right. last (form.Assign (record { target = target.0; left = left.0; right = right.0 })) right.1))))) line (IsForm tokens line) e (λ target named_is named_more.
@@ -231,7 +231,7 @@ assign_is tokens line e =
     let r = operand_at_is behind right.0 right.1 ended_is in
     rw (← is.0, name_at_is tokens target.0 target.1 named_is, after_symbol_is sign.Assign target.1 sum assigned_is, l.0, after_symbol_is sign.Plus left.1 behind added_is, r.0, is.1) (refl, (l.1, r.1)))))))
 
-instance_is : (tokens : List Token) (line : LineForm) → instance_form tokens ≡ Some line → IsForm (token.Keyword word.Instance ∷ tokens) line
+instance_is : (tokens : List Token) (line : FirstFormLine) → instance_form tokens ≡ Some line → IsForm (token.Keyword word.Instance ∷ tokens) line
 unfolding instance_form
 instance_is tokens line e =
     bind_is (name_at tokens) (λ name. (after_symbol sign.Colon name.1 >>= λ behind. (name_at behind >>= λ unit. last (form.Instance name.0 unit.0) unit.1))) line (IsForm (token.Keyword word.Instance ∷ tokens) line) e (λ name named_is named_more.
@@ -240,7 +240,7 @@ instance_is tokens line e =
     let is = last_is (form.Instance name.0 unit.0) unit.1 line united_more in
     rw (← is.0, name_at_is tokens name.0 name.1 named_is, after_symbol_is sign.Colon name.1 behind colon_is, name_at_is behind unit.0 unit.1 united_is, is.1) (refl, tt))))
 
-stop_is : (tokens : List Token) (line : LineForm) → stop_form tokens ≡ Some line → IsForm (token.Keyword word.Stop ∷ tokens) line
+stop_is : (tokens : List Token) (line : FirstFormLine) → stop_form tokens ≡ Some line → IsForm (token.Keyword word.Stop ∷ tokens) line
 unfolding stop_form
 stop_is tokens line e =
     bind_is (whole_at tokens) (λ ticks. cond (nat_le ticks.0 99999) (last (form.Stop ticks.0) ticks.1) None) line (IsForm (token.Keyword word.Stop ∷ tokens) line) e (λ ticks found_is found_more.
@@ -249,7 +249,7 @@ stop_is tokens line e =
     let few : ticks.0 ≤ 99999 = grind (arith, nat_tests, test.0) in
     rw (← is.0, whole_at_is tokens ticks.0 ticks.1 found_is, is.1) (refl, few))
 
-longest_is : (tokens : List Token) (line : LineForm) → longest_form tokens ≡ Some line → IsForm (token.Keyword word.Longest ∷ tokens) line
+longest_is : (tokens : List Token) (line : FirstFormLine) → longest_form tokens ≡ Some line → IsForm (token.Keyword word.Longest ∷ tokens) line
 unfolding longest_form
 longest_is tokens line e =
     bind_is (whole_at tokens) (λ ticks. cond (nat_le 1 ticks.0 && nat_le ticks.0 99999) (last (form.Longest ticks.0) ticks.1) None) line (IsForm (token.Keyword word.Longest ∷ tokens) line) e (λ ticks found_is found_more.
@@ -260,13 +260,13 @@ longest_is tokens line e =
     let few : ticks.0 ≤ 99999 = grind (arith, nat_tests, parts.1) in
     rw (← is.0, whole_at_is tokens ticks.0 ticks.1 found_is, is.1) (refl, (some, few)))
 
-step_is : (tokens : List Token) (line : LineForm) → last form.Step tokens ≡ Some line → IsForm (token.Keyword word.Step ∷ tokens) line
+step_is : (tokens : List Token) (line : FirstFormLine) → last form.Step tokens ≡ Some line → IsForm (token.Keyword word.Step ∷ tokens) line
 step_is tokens line e = let is = last_is form.Step tokens line e in rw (← is.0, is.1) (refl, tt)
 
-end_is : (tokens : List Token) (line : LineForm) → last form.End tokens ≡ Some line → IsForm (token.Keyword word.End ∷ tokens) line
+end_is : (tokens : List Token) (line : FirstFormLine) → last form.End tokens ≡ Some line → IsForm (token.Keyword word.End ∷ tokens) line
 end_is tokens line e = let is = last_is form.End tokens line e in rw (← is.0, is.1) (refl, tt)
 
-keyword_is : (keyword : Keyword) (tokens : List Token) (line : LineForm) → keyword_form keyword tokens ≡ Some line → IsForm (token.Keyword keyword ∷ tokens) line
+keyword_is : (keyword : Keyword) (tokens : List Token) (line : FirstFormLine) → keyword_form keyword tokens ≡ Some line → IsForm (token.Keyword keyword ∷ tokens) line
 keyword_is word.Cosim tokens line e = header_is tokens line e
 keyword_is word.Unit tokens line e = unit_is tokens line e
 keyword_is word.State tokens line e = state_is tokens line e
@@ -278,7 +278,7 @@ keyword_is word.Stop tokens line e = stop_is tokens line e
 keyword_is word.Longest tokens line e = longest_is tokens line e
 keyword_is _ tokens line e = absurd cc
 
-pub form_is : (tokens : List Token) (line : LineForm) → form_of tokens ≡ Some line → (tokens ≡ tokens_of line) × IsInRange line
+pub form_is : (tokens : List Token) (line : FirstFormLine) → form_of tokens ≡ Some line → (tokens ≡ tokens_of line) × IsInRange line
 unfolding form_of
 form_is [] line e = absurd cc
 form_is (token.Keyword keyword ∷ rest) line e = keyword_is keyword rest line e
@@ -288,40 +288,40 @@ form_is (token.Symbol symbol ∷ rest) line e = assign_is (token.Symbol symbol �
 
 -- ---- the form of a line
 
-pub form_found : (line : List ℕ) (tokens : List Token) (found : LineForm) → length line ≤ 1000 → Spells tokens line → form_of tokens ≡ Some found → HasForm found line
+pub form_found : (line : List ℕ) (tokens : List Token) (found : FirstFormLine) → length line ≤ 1000 → Spells tokens line → form_of tokens ≡ Some found → HasForm found line
 form_found line tokens found short spelled e =
     let is = form_is tokens found e in
     record { spelled = rw (← is.0) spelled; in_range = is.1; short = short }
 
-pub form_unknown : (line : List ℕ) (tokens : List Token) → Spells tokens line → form_of tokens ≡ None → (other : LineForm) → HasForm other line → ⊥
+pub form_unknown : (line : List ℕ) (tokens : List Token) → Spells tokens line → form_of tokens ≡ None → (other : FirstFormLine) → HasForm other line → ⊥
 form_unknown line tokens spelled e other has =
     let same = spells_one tokens (tokens_of other) line spelled has.spelled in
     let read : form_of tokens ≡ Some other = ap form_of same ∙ form_again other has.in_range in
     absurd cc
 
-pub form_unspelled : (line : List ℕ) → ((tokens : List Token) → Spells tokens line → ⊥) → (other : LineForm) → HasForm other line → ⊥
+pub form_unspelled : (line : List ℕ) → ((tokens : List Token) → Spells tokens line → ⊥) → (other : FirstFormLine) → HasForm other line → ⊥
 form_unspelled line unspelled other has = unspelled (tokens_of other) has.spelled
 
-pub form_long : (line : List ℕ) → 1000 < length line → (other : LineForm) → HasForm other line → ⊥
+pub form_long : (line : List ℕ) → 1000 < length line → (other : FirstFormLine) → HasForm other line → ⊥
 form_long line long other has = omega (arith, has.short)
 
 -- a line has one form at most
-pub one_form : (line : List ℕ) (one other : LineForm) → HasForm one line → HasForm other line → one ≡ other
+pub one_form : (line : List ℕ) (one other : FirstFormLine) → HasForm one line → HasForm other line → one ≡ other
 one_form line one other a b =
     let same = spells_one (tokens_of one) (tokens_of other) line a.spelled b.spelled in
-    let both : ◌≡◌ {A = Option LineForm} (Some one) (Some other) = sym (form_again one a.in_range) ∙ ap form_of same ∙ form_again other b.in_range in
+    let both : ◌≡◌ {A = Option FirstFormLine} (Some one) (Some other) = sym (form_again one a.in_range) ∙ ap form_of same ∙ form_again other b.in_range in
     cc
 
 -- every line has a form, or it has none
-form_decided_case : (line : List ℕ) (tokens : List Token) (found : Option LineForm) → length line ≤ 1000 → Spells tokens line → form_of tokens ≡ found → FormIs line found
+form_decided_case : (line : List ℕ) (tokens : List Token) (found : Option FirstFormLine) → length line ≤ 1000 → Spells tokens line → form_of tokens ≡ found → FormIs line found
 form_decided_case line tokens None short spelled e = form_unknown line tokens spelled e
 form_decided_case line tokens (Some found) short spelled e = form_found line tokens found short spelled e
 
-form_decided_short : (line : List ℕ) (found : Option (List Token)) → length line ≤ 1000 → TokensAre line found → (form : Option LineForm) × FormIs line form
+form_decided_short : (line : List ℕ) (found : Option (List Token)) → length line ≤ 1000 → TokensAre line found → (form : Option FirstFormLine) × FormIs line form
 form_decided_short line None short are = (None, form_unspelled line are)
 form_decided_short line (Some tokens) short are = (form_of tokens, form_decided_case line tokens (form_of tokens) short are refl)
 
-pub form_decided : (line : List ℕ) → (form : Option LineForm) × FormIs line form
+pub form_decided : (line : List ℕ) → (form : Option FirstFormLine) × FormIs line form
 form_decided line =
     elim (cases_lt 1000 (length line)) [
       | inl long ↦ (None, form_long line long)

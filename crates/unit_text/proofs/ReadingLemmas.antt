@@ -15,19 +15,19 @@ use Rattle.unit_tokens.specs.declared.fault.Unread.{Unread}
 use Rattle.unit_tokens.specs.declared.fault.Unread.TheVariants as unread
 use Rattle.unit_text.specs.declared.form.Assignment.{Assignment}
 use Rattle.unit_text.specs.declared.form.Declared.{Declared}
-use Rattle.unit_text.specs.declared.form.LineForm.{LineForm}
-use Rattle.unit_text.specs.declared.form.LineForm.TheVariants as form
+use Rattle.unit_text.specs.declared.form.FirstFormLine.{FirstFormLine}
+use Rattle.unit_text.specs.declared.form.FirstFormLine.TheVariants as form
 use Rattle.unit_text.specs.declared.form.Source.{Source}
 use Rattle.unit_text.proofs.FormLemmas.{one_form}
 use Rattle.unit_text.proofs.WholeLemmas.{Progress, progress_none, progress_more, progress_begins, progress_stops, progress_ends, progress_lacks}
 
 -- what a form that was read makes of the draft
-pub next_is : (draft : Draft) (line : List ℕ) (form : LineForm) (result : Result Draft Unread) → HasForm form line → Gives result (with_line draft form) → ReadsAs result (NextIs draft line)
+pub next_is : (draft : Draft) (line : List ℕ) (form : FirstFormLine) (result : Result Draft Unread) → HasForm form line → Gives result (with_line draft form) → ReadsAs result (NextIs draft line)
 next_is draft line form (Ok next) has e = (form, has, e)
 next_is draft line form (Err unread.NoForm) has e = λ other others. ap (with_line draft) (one_form line other form others has) ∙ e
 next_is draft line form (Err unread.NoMemory) has e = tt
 
-pub next_formless : (draft : Draft) (line : List ℕ) → ((form : LineForm) → HasForm form line → ⊥) → NextIs draft line None
+pub next_formless : (draft : Draft) (line : List ℕ) → ((form : FirstFormLine) → HasForm form line → ⊥) → NextIs draft line None
 next_formless draft line formless = λ form has. absurd (formless form has)
 
 -- the text up to the rest is read
@@ -41,7 +41,7 @@ pub record Reached (text rest : List ℕ) (line : ℕ) (draft : Draft) : Type 0 
 pub reached_none : (text : List ℕ) → Reached text text 0 no_lines
 reached_none text = record { before = []; cut = refl; count = refl; progress = progress_none; within = omega arith }
 
-pub reached_more : (text rest : List ℕ) (line : ℕ) (draft : Draft) (first behind : List ℕ) (next : Draft) (form : LineForm) → Reached text rest line draft → lines_of rest ≡ first ∷ lines_of behind → length behind < length rest → HasForm form first → with_line draft form ≡ Some next → Reached text behind (line + 1) next
+pub reached_more : (text rest : List ℕ) (line : ℕ) (draft : Draft) (first behind : List ℕ) (next : Draft) (form : FirstFormLine) → Reached text rest line draft → lines_of rest ≡ first ∷ lines_of behind → length behind < length rest → HasForm form first → with_line draft form ≡ Some next → Reached text behind (line + 1) next
 reached_more text rest line draft first behind next form so_far cut shorter has step =
     record {
       before = so_far.before ++ first ∷ [];
@@ -107,12 +107,12 @@ refused_long text long = inl (long, refl, refl)
 
 -- ---- the numbers of a text
 
-have_range : (forms : List LineForm) (lines : List (List ℕ)) → HaveForms forms lines → AllByRecursion IsInRange forms
+have_range : (forms : List FirstFormLine) (lines : List (List ℕ)) → HaveForms forms lines → AllByRecursion IsInRange forms
 have_range [] lines have = tt
 have_range (form ∷ forms) [] have = absurd have
 have_range (form ∷ forms) (line ∷ lines) have = (have.0.in_range, have_range forms lines have.1)
 
-parts_range : (forms others : List LineForm) → AllByRecursion IsInRange (forms ++ others) → AllByRecursion IsInRange forms × AllByRecursion IsInRange others
+parts_range : (forms others : List FirstFormLine) → AllByRecursion IsInRange (forms ++ others) → AllByRecursion IsInRange forms × AllByRecursion IsInRange others
 parts_range [] others are = (tt, are)
 parts_range (form ∷ forms) others are =
     let later = parts_range forms others are.1 in

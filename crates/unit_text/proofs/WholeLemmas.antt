@@ -15,8 +15,8 @@ use Rattle.unit_text.specs.declared.draft.Stage.{Stage}
 use Rattle.unit_text.specs.declared.draft.Stage.TheVariants as stage
 use Rattle.unit_text.specs.declared.form.Assignment.{Assignment}
 use Rattle.unit_text.specs.declared.form.Declared.{Declared}
-use Rattle.unit_text.specs.declared.form.LineForm.{LineForm}
-use Rattle.unit_text.specs.declared.form.LineForm.TheVariants as form
+use Rattle.unit_text.specs.declared.form.FirstFormLine.{FirstFormLine}
+use Rattle.unit_text.specs.declared.form.FirstFormLine.TheVariants as form
 use Rattle.unit_text.specs.declared.form.Source.{Source}
 use Rattle.unit_text.proofs.DraftLemmas.{run, run-append, opening, begun, IsEmpty, IsOpen, IsSound, Holds, holds_none, holds_more}
 use Rattle.unit_text.proofs.FormLemmas.{one_form}
@@ -34,7 +34,7 @@ state_again source states state few absent =
     let test : nat_lt (length states) 64 ≡ true = grind (arith, nat_tests) in
     rw (test, names_state_not states state.name absent) refl
 
-run_states : (source : Source) (before states : List Declared) (rest : List LineForm) → AreDistinct (names (before ++ states)) → length (before ++ states) ≤ 64 → run (at_states source before) (map form.State states ++ rest) ≡ run (at_states source (before ++ states)) rest
+run_states : (source : Source) (before states : List Declared) (rest : List FirstFormLine) → AreDistinct (names (before ++ states)) → length (before ++ states) ≤ 64 → run (at_states source before) (map form.State states ++ rest) ≡ run (at_states source (before ++ states)) rest
 run_states source before [] rest distinct few = rw (append-nil before) refl
 run_states source before (state ∷ states) rest distinct few =
     let split : names (before ++ state ∷ states) ≡ names before ++ state.name ∷ names states = map-append (λ (state : Declared). state.name) before (state ∷ states) in
@@ -52,7 +52,7 @@ assign_again source assignments sum few is =
     let test : nat_lt (length assignments) 500 ≡ true = grind (arith, nat_tests) in
     rw (test, names_state_again source.states sum.target is.target, is_declared_again source.states sum.left is.left, is_declared_again source.states sum.right is.right) refl
 
-run_assignments : (source : Source) (before assignments : List Assignment) (rest : List LineForm) → AllByRecursion (IsAssignment (state_names source)) assignments → length (before ++ assignments) ≤ 500 → run (at_step source before) (map form.Assign assignments ++ rest) ≡ run (at_step source (before ++ assignments)) rest
+run_assignments : (source : Source) (before assignments : List Assignment) (rest : List FirstFormLine) → AllByRecursion (IsAssignment (state_names source)) assignments → length (before ++ assignments) ≤ 500 → run (at_step source before) (map form.Assign assignments ++ rest) ≡ run (at_step source (before ++ assignments)) rest
 run_assignments source before [] rest are few = rw (append-nil before) refl
 run_assignments source before (sum ∷ assignments) rest are few =
     let step = assign_again source before sum (omega (arith, length-append before (sum ∷ assignments))) are.0 in
@@ -62,26 +62,26 @@ run_assignments source before (sum ∷ assignments) rest are few =
 abbrev draft_at : Stage → Source → Draft
 draft_at stage source = record { stage = stage; source = source }
 
-run_header : (unit : List ℕ) (rest : List LineForm) → run no_lines (form.Header ∷ form.Unit unit ∷ rest) ≡ run (at_states (record no_source { unit = unit }) []) rest
+run_header : (unit : List ℕ) (rest : List FirstFormLine) → run no_lines (form.Header ∷ form.Unit unit ∷ rest) ≡ run (at_states (record no_source { unit = unit }) []) rest
 unfolding with_line
 run_header unit rest = refl
 
-run_output : (source : Source) (output shown : List ℕ) (rest : List LineForm) → (Contains (state_names source) output → ⊥) → Contains (state_names source) shown → run (draft_at stage.States source) (form.Output output shown ∷ form.Step ∷ rest) ≡ run (draft_at stage.Step (record source { output = output; shown = shown })) rest
+run_output : (source : Source) (output shown : List ℕ) (rest : List FirstFormLine) → (Contains (state_names source) output → ⊥) → Contains (state_names source) shown → run (draft_at stage.States source) (form.Output output shown ∷ form.Step ∷ rest) ≡ run (draft_at stage.Step (record source { output = output; shown = shown })) rest
 unfolding with_line
 run_output source output shown rest absent declared =
     rw (names_state_not source.states output absent, names_state_again source.states shown declared) refl
 
-run_end : (source : Source) (name : List ℕ) (stop : ℕ) (rest : List LineForm) → run (draft_at stage.Step source) (form.End ∷ form.End ∷ form.Instance name source.unit ∷ form.End ∷ form.Stop stop ∷ rest) ≡ run (draft_at stage.Stop (record source { instance = name; stop = stop })) rest
+run_end : (source : Source) (name : List ℕ) (stop : ℕ) (rest : List FirstFormLine) → run (draft_at stage.Step source) (form.End ∷ form.End ∷ form.Instance name source.unit ∷ form.End ∷ form.Stop stop ∷ rest) ≡ run (draft_at stage.Stop (record source { instance = name; stop = stop })) rest
 unfolding with_line
 run_end source name stop rest = rw (bytes_eq-same source.unit) refl
 
 -- the lines lead to the whole text
-pub record RunsTo (lines : List LineForm) (source : Source) : Type 0 where
+pub record RunsTo (lines : List FirstFormLine) (source : Source) : Type 0 where
   pub draft : Draft
   pub runs : run no_lines lines ≡ Some draft
   pub is_all : whole_source draft ≡ Some source
 
-run_longest : (source : Source) (longest : Option ℕ) (lines : List LineForm) → source.longest ≡ None → run no_lines lines ≡ run (draft_at stage.Stop source) (longest_line longest) → RunsTo lines (record source { longest = longest })
+run_longest : (source : Source) (longest : Option ℕ) (lines : List FirstFormLine) → source.longest ≡ None → run no_lines lines ≡ run (draft_at stage.Stop source) (longest_line longest) → RunsTo lines (record source { longest = longest })
 unfolding with_line
 run_longest source None lines none e = record { draft = draft_at stage.Stop source; runs = e; is_all = ap (λ (l : Option ℕ). Some (record source { longest = l })) none }
 run_longest source (Some ticks) lines none e = record { draft = draft_at stage.Longest (record source { longest = Some ticks }); runs = e; is_all = refl }
@@ -138,11 +138,11 @@ spells_written (first ∷ others) (text ∷ texts) writes =
     (32 ∷ written texts, record { blanks = []; text = text; cut = refl; are_blank = refl; spelling = writes.0; ends = ends_blank first (written texts) }, spells_behind_blank others (written texts) (spells_written others texts writes.1))
 
 -- a line of the form exists
-record Written (line : LineForm) : Type 0 where
+record Written (line : FirstFormLine) : Type 0 where
   text : List ℕ
   has : HasForm line text
 
-from_texts : (line : LineForm) (texts : List (List ℕ)) → Writes (tokens_of line) texts → IsInRange line → length (written texts) ≤ 1000 → Written line
+from_texts : (line : FirstFormLine) (texts : List (List ℕ)) → Writes (tokens_of line) texts → IsInRange line → length (written texts) ≤ 1000 → Written line
 from_texts line texts writes range short =
     record { text = written texts; has = record { spelled = spells_written (tokens_of line) texts writes; in_range = range; short = short } }
 
@@ -193,14 +193,14 @@ write_stop = from_texts (form.Stop 0) (codes "stop" ∷ codes "0" ∷ []) (refl,
 
 -- lines more, behind which the text is whole
 record Completed (draft : Draft) : Type 0 where
-  forms : List LineForm
+  forms : List FirstFormLine
   lines : List (List ℕ)
   have : HaveForms forms lines
   last : Draft
   runs : run draft forms ≡ Some last
   is_all : is_whole last.stage ≡ true
 
-by_line : (draft next : Draft) (line : LineForm) → Written line → with_line draft line ≡ Some next → Completed next → Completed draft
+by_line : (draft next : Draft) (line : FirstFormLine) → Written line → with_line draft line ≡ Some next → Completed next → Completed draft
 by_line draft next line written e later =
     record {
       forms = line ∷ later.forms;
@@ -311,12 +311,12 @@ whole_is stage.Stop source sound e = (sound.of_form, whole_stop source sound.lon
 whole_is stage.Longest source sound e = (sound, whole_longest source)
 whole_is _ source sound e = absurd cc
 
-run_holds_case : (before : List LineForm) (draft : Draft) (form : LineForm) (forms : List LineForm) (line : List ℕ) (found : Option Draft) (last : Draft) → Holds before draft → HasForm form line → with_line draft form ≡ found → ((next : Draft) → Holds (before ++ form ∷ []) next → run next forms ≡ Some last → Holds ((before ++ form ∷ []) ++ forms) last) → option_and_then (λ next. run next forms) found ≡ Some last → Holds (before ++ form ∷ forms) last
+run_holds_case : (before : List FirstFormLine) (draft : Draft) (form : FirstFormLine) (forms : List FirstFormLine) (line : List ℕ) (found : Option Draft) (last : Draft) → Holds before draft → HasForm form line → with_line draft form ≡ found → ((next : Draft) → Holds (before ++ form ∷ []) next → run next forms ≡ Some last → Holds ((before ++ form ∷ []) ++ forms) last) → option_and_then (λ next. run next forms) found ≡ Some last → Holds (before ++ form ∷ forms) last
 run_holds_case before draft form forms line None last holds has read later e = absurd cc
 run_holds_case before draft form forms line (Some next) last holds has read later e =
     rw append_assoc at (later next (holds_more before draft next form line holds has read) e)
 
-run_holds : (before : List LineForm) (draft : Draft) (forms : List LineForm) (lines : List (List ℕ)) (last : Draft) → Holds before draft → HaveForms forms lines → run draft forms ≡ Some last → Holds (before ++ forms) last
+run_holds : (before : List FirstFormLine) (draft : Draft) (forms : List FirstFormLine) (lines : List (List ℕ)) (last : Draft) → Holds before draft → HaveForms forms lines → run draft forms ≡ Some last → Holds (before ++ forms) last
 run_holds before draft [] [] last holds have e =
     let same : draft ≡ last = cc in
     rw (append-nil before, ← same) holds
@@ -328,11 +328,11 @@ run_holds before draft (form ∷ forms) (line ∷ lines) last holds have e =
 -- ---- lines that have come
 
 abbrev pub Refuses : Draft → List ℕ → Type 0
-Refuses draft line = (form : LineForm) → HasForm form line → with_line draft form ≡ None
+Refuses draft line = (form : FirstFormLine) → HasForm form line → with_line draft form ≡ None
 
 -- the lines have forms that led to the draft
 pub record Progress (lines : List (List ℕ)) (draft : Draft) : Type 0 where
-  pub forms : List LineForm
+  pub forms : List FirstFormLine
   pub have : HaveForms forms lines
   pub runs : run no_lines forms ≡ Some draft
   pub holds : Holds forms draft
@@ -340,28 +340,28 @@ pub record Progress (lines : List (List ℕ)) (draft : Draft) : Type 0 where
 pub progress_none : Progress [] no_lines
 progress_none = record { forms = []; have = tt; runs = refl; holds = holds_none }
 
-HaveForms-append : (forms others : List LineForm) (lines more : List (List ℕ)) → HaveForms forms lines → HaveForms others more → HaveForms (forms ++ others) (lines ++ more)
+HaveForms-append : (forms others : List FirstFormLine) (lines more : List (List ℕ)) → HaveForms forms lines → HaveForms others more → HaveForms (forms ++ others) (lines ++ more)
 HaveForms-append [] others [] more a b = b
 HaveForms-append [] others (line ∷ lines) more a b = absurd a
 HaveForms-append (form ∷ forms) others [] more a b = absurd a
 HaveForms-append (form ∷ forms) others (line ∷ lines) more a b = (a.0, HaveForms-append forms others lines more a.1 b)
 
 -- the forms of the first lines
-record Split (forms : List LineForm) (lines more : List (List ℕ)) : Type 0 where
-  front : List LineForm
-  back : List LineForm
+record Split (forms : List FirstFormLine) (lines more : List (List ℕ)) : Type 0 where
+  front : List FirstFormLine
+  back : List FirstFormLine
   are : forms ≡ front ++ back
   first : HaveForms front lines
   later : HaveForms back more
 
-split_forms : (forms : List LineForm) (lines more : List (List ℕ)) → HaveForms forms (lines ++ more) → Split forms lines more
+split_forms : (forms : List FirstFormLine) (lines more : List (List ℕ)) → HaveForms forms (lines ++ more) → Split forms lines more
 split_forms forms [] more have = record { front = []; back = forms; are = refl; first = tt; later = have }
 split_forms [] (line ∷ lines) more have = absurd have
 split_forms (form ∷ forms) (line ∷ lines) more have =
     let parts = split_forms forms lines more have.1 in
-    record { front = form ∷ parts.front; back = parts.back; are = ap (λ (t : List LineForm). form ∷ t) parts.are; first = (have.0, parts.first); later = parts.later }
+    record { front = form ∷ parts.front; back = parts.back; are = ap (λ (t : List FirstFormLine). form ∷ t) parts.are; first = (have.0, parts.first); later = parts.later }
 
-pub same_forms : (forms others : List LineForm) (lines : List (List ℕ)) → HaveForms forms lines → HaveForms others lines → forms ≡ others
+pub same_forms : (forms others : List FirstFormLine) (lines : List (List ℕ)) → HaveForms forms lines → HaveForms others lines → forms ≡ others
 same_forms [] [] lines a b = refl
 same_forms [] (other ∷ others) [] a b = absurd b
 same_forms [] (other ∷ others) (line ∷ lines) a b = absurd a
@@ -373,11 +373,11 @@ same_forms (form ∷ forms) (other ∷ others) (line ∷ lines) a b =
     let more = same_forms forms others lines a.1 b.1 in
     rw (one, more) refl
 
-run-push : (draft : Draft) (forms : List LineForm) (now next : Draft) (form : LineForm) → run draft forms ≡ Some now → with_line now form ≡ Some next → run draft (forms ++ form ∷ []) ≡ Some next
+run-push : (draft : Draft) (forms : List FirstFormLine) (now next : Draft) (form : FirstFormLine) → run draft forms ≡ Some now → with_line now form ≡ Some next → run draft (forms ++ form ∷ []) ≡ Some next
 run-push draft forms now next form e step =
     run-append draft forms (form ∷ []) ∙ ap (λ (found : Option Draft). option_and_then (λ (end : Draft). run end (form ∷ [])) found) e ∙ ap (λ (found : Option Draft). option_and_then (λ (end : Draft). run end []) found) step
 
-pub progress_more : (lines : List (List ℕ)) (line : List ℕ) (draft next : Draft) (form : LineForm) → Progress lines draft → HasForm form line → with_line draft form ≡ Some next → Progress (lines ++ line ∷ []) next
+pub progress_more : (lines : List (List ℕ)) (line : List ℕ) (draft next : Draft) (form : FirstFormLine) → Progress lines draft → HasForm form line → with_line draft form ≡ Some next → Progress (lines ++ line ∷ []) next
 progress_more lines line draft next form so_far has step =
     record {
       forms = so_far.forms ++ form ∷ [];
@@ -395,22 +395,22 @@ progress_begins lines draft so_far =
     record { source = more.last.source; more = more.lines; of_form = is.0; all = rw forms (HaveForms-append so_far.forms more.forms lines more.lines so_far.have more.have) }
 
 -- a draft that goes no further by one form goes no further by more
-run-stuck : (forms : List LineForm) (draft : Draft) (form : LineForm) (more : List LineForm) → run no_lines forms ≡ Some draft → with_line draft form ≡ None → run no_lines (forms ++ form ∷ more) ≡ None
+run-stuck : (forms : List FirstFormLine) (draft : Draft) (form : FirstFormLine) (more : List FirstFormLine) → run no_lines forms ≡ Some draft → with_line draft form ≡ None → run no_lines (forms ++ form ∷ more) ≡ None
 run-stuck forms draft form more e stuck =
     run-append no_lines forms (form ∷ more) ∙ ap (λ (found : Option Draft). option_and_then (λ (end : Draft). run end (form ∷ more)) found) e ∙ ap (λ (found : Option Draft). option_and_then (λ (end : Draft). run end more) found) stuck
 
 -- forms that lead nowhere begin no text
-stuck_forms : (forms : List LineForm) (form : LineForm) (more : List LineForm) (source : Source) → run no_lines (forms ++ form ∷ more) ≡ None → IsOfForm source → forms_of source ≡ forms ++ form ∷ more → ⊥
+stuck_forms : (forms : List FirstFormLine) (form : FirstFormLine) (more : List FirstFormLine) (source : Source) → run no_lines (forms ++ form ∷ more) ≡ None → IsOfForm source → forms_of source ≡ forms ++ form ∷ more → ⊥
 stuck_forms forms form more source stuck is same =
     let whole = run_forms source is in
     let runs : run no_lines (forms ++ form ∷ more) ≡ Some whole.draft = ap (run no_lines) (sym same) ∙ whole.runs in
     absurd cc
 
-one_line : (forms : List LineForm) (line : List ℕ) (more : List (List ℕ)) → HaveForms forms (line ∷ more) → (form : LineForm) × (others : List LineForm) × (forms ≡ form ∷ others) × HasForm form line
+one_line : (forms : List FirstFormLine) (line : List ℕ) (more : List (List ℕ)) → HaveForms forms (line ∷ more) → (form : FirstFormLine) × (others : List FirstFormLine) × (forms ≡ form ∷ others) × HasForm form line
 one_line [] line more have = absurd have
 one_line (form ∷ forms) line more have = (form, forms, refl, have.0)
 
-stops_with : (forms : List LineForm) (draft : Draft) (source : Source) (front back : List LineForm) (line : List ℕ) (more : List (List ℕ)) → run no_lines forms ≡ Some draft → Refuses draft line → IsOfForm source → forms_of source ≡ front ++ back → front ≡ forms → ((form : LineForm) × (others : List LineForm) × (back ≡ form ∷ others) × HasForm form line) → ⊥
+stops_with : (forms : List FirstFormLine) (draft : Draft) (source : Source) (front back : List FirstFormLine) (line : List ℕ) (more : List (List ℕ)) → run no_lines forms ≡ Some draft → Refuses draft line → IsOfForm source → forms_of source ≡ front ++ back → front ≡ forms → ((form : FirstFormLine) × (others : List FirstFormLine) × (back ≡ form ∷ others) × HasForm form line) → ⊥
 stops_with forms draft source front back line more runs refuses is are same (form, others, split, has) =
     let all : forms_of source ≡ forms ++ form ∷ others = rw (same, split) at are in
     stuck_forms forms form others source (run-stuck forms draft form others runs (refuses form has)) is all
@@ -432,7 +432,7 @@ pub progress_ends : (lines : List (List ℕ)) (draft : Draft) (source : Source) 
 progress_ends lines draft source so_far e =
     let is = whole_case draft.stage draft.source source (is_whole draft.stage) refl so_far.holds.sound e in
     let forms : forms_of source ≡ so_far.forms = is.1 ∙ so_far.holds.are in
-    let P : List LineForm → Type 0 = λ forms. HaveForms forms lines in
+    let P : List FirstFormLine → Type 0 = λ forms. HaveForms forms lines in
     (is.0, subst P (sym forms) so_far.have)
 
 pub progress_lacks : (lines : List (List ℕ)) (draft : Draft) → Progress lines draft → whole_source draft ≡ None → (source : Source) → IsOfForm source → HaveForms (forms_of source) lines → ⊥

@@ -19,8 +19,8 @@ use Rattle.unit_tree.specs.declared.unit.State.{State}
 use Rattle.unit_tree.specs.declared.unit.Unit.{Unit}
 use Rattle.unit_text.specs.declared.form.Assignment.{Assignment}
 use Rattle.unit_text.specs.declared.form.Declared.{Declared}
-use Rattle.unit_text.specs.declared.form.LineForm.{LineForm}
-use Rattle.unit_text.specs.declared.form.LineForm.TheVariants as form
+use Rattle.unit_text.specs.declared.form.FirstFormLine.{FirstFormLine}
+use Rattle.unit_text.specs.declared.form.FirstFormLine.TheVariants as form
 use Rattle.unit_text.specs.declared.form.Operand.{Operand}
 use Rattle.unit_text.specs.declared.form.Operand.TheVariants as operand
 use Rattle.unit_text.specs.declared.form.Source.{Source}
@@ -47,7 +47,7 @@ abbrev pub typed : List ℕ → List Token → List Token
 typed name value = token.Name name ∷ token.Symbol sign.Colon ∷ token.Name (codes "Int64") ∷ token.Symbol sign.Is ∷ value
 
 -- The tokens of a line.
-abbrev pub tokens_of : LineForm → List Token
+abbrev pub tokens_of : FirstFormLine → List Token
 tokens_of form.Header = token.Keyword word.Cosim ∷ whole 1 ∷ []
 tokens_of (form.Unit name) = token.Keyword word.Unit ∷ token.Name name ∷ []
 tokens_of (form.State state) = token.Keyword word.State ∷ typed state.name (number_tokens state.start)
@@ -71,7 +71,7 @@ abbrev pub IsOperand : Operand → Type 0
 IsOperand (operand.Name name) = ⊤
 IsOperand (operand.Number number) = number < 2 ^ 63
 
-abbrev pub IsInRange : LineForm → Type 0
+abbrev pub IsInRange : FirstFormLine → Type 0
 IsInRange (form.State state) = IsStart state.start
 IsInRange (form.Assign sum) = IsOperand sum.left × IsOperand sum.right
 IsInRange (form.Stop ticks) = ticks ≤ 99999
@@ -80,12 +80,12 @@ IsInRange _ = ⊤
 
 -- ---- A text as lines
 
-abbrev pub longest_line : Option ℕ → List LineForm
+abbrev pub longest_line : Option ℕ → List FirstFormLine
 longest_line None = []
 longest_line (Some ticks) = form.Longest ticks ∷ []
 
 -- The lines of a text, in their order.
-abbrev pub forms_of : Source → List LineForm
+abbrev pub forms_of : Source → List FirstFormLine
 forms_of source =
     form.Header ∷ form.Unit source.unit ∷ map form.State source.states
     ++ (form.Output source.output source.shown ∷ form.Step ∷ map form.Assign source.assignments

@@ -11,8 +11,8 @@ use Rattle.unit_tree.specs.declared.token.Token.{Token}
 use Rattle.unit_tree.specs.declared.token.Token.TheVariants as token
 use Rattle.unit_tokens.specs.declared.fault.Unread.{Unread}
 use Rattle.unit_tokens.specs.declared.fault.Unread.TheVariants as unread
-use Rattle.unit_text.specs.declared.form.LineForm.{LineForm}
-use Rattle.unit_text.specs.declared.form.LineForm.TheVariants as form
+use Rattle.unit_text.specs.declared.form.FirstFormLine.{FirstFormLine}
+use Rattle.unit_text.specs.declared.form.FirstFormLine.TheVariants as form
 use Rattle.unit_text.specs.declared.form.Operand.{Operand}
 use Rattle.unit_text.specs.declared.form.Operand.TheVariants as operand
 use Rattle.unit_text.specs.declared.form.WholeNumber.{WholeNumber}
@@ -77,18 +77,18 @@ operand_at (token.Number digits decimals ∷ rest) =
 operand_at (_ ∷ rest) = None
 
 -- The form, where no token is left.
-abbrev pub last : LineForm → List Token → Option LineForm
+abbrev pub last : FirstFormLine → List Token → Option FirstFormLine
 last whole [] = Some whole
 last whole (_ ∷ rest) = None
 
 -- ---- Lines, behind their first token
 
-unfoldable pub header_form : List Token → Option LineForm
+unfoldable pub header_form : List Token → Option FirstFormLine
 header_form tokens = do
   version ← whole_at tokens
   if version.0 == 1 then last form.Header version.1 else None
 
-unfoldable pub unit_form : List Token → Option LineForm
+unfoldable pub unit_form : List Token → Option FirstFormLine
 unit_form tokens = do
   name ← name_at tokens
   last (form.Unit name.0) name.1
@@ -97,20 +97,20 @@ unit_form tokens = do
 abbrev pub is_start : WholeNumber → Bool
 is_start number = nat_lt number.magnitude (2 ^ 63) || (number.negative && (number.magnitude == 2 ^ 63))
 
-unfoldable pub state_form : List Token → Option LineForm
+unfoldable pub state_form : List Token → Option FirstFormLine
 state_form tokens = do
   name ← typed_at tokens
   start ← number_at name.1
   if is_start start.0 then last (form.State (record { name = name.0; start = start.0 })) start.1 else None
 
-unfoldable pub output_form : List Token → Option LineForm
+unfoldable pub output_form : List Token → Option FirstFormLine
 output_form tokens = do
   name ← typed_at tokens
   shown ← name_at name.1
   last (form.Output name.0 shown.0) shown.1
 
 -- A whole line, which has no keyword.
-unfoldable pub assign_form : List Token → Option LineForm
+unfoldable pub assign_form : List Token → Option FirstFormLine
 assign_form tokens = do
   target ← name_at tokens
   sum ← after_symbol sign.Assign target.1
@@ -119,26 +119,26 @@ assign_form tokens = do
   right ← operand_at behind
   last (form.Assign (record { target = target.0; left = left.0; right = right.0 })) right.1
 
-unfoldable pub instance_form : List Token → Option LineForm
+unfoldable pub instance_form : List Token → Option FirstFormLine
 instance_form tokens = do
   name ← name_at tokens
   behind ← after_symbol sign.Colon name.1
   unit ← name_at behind
   last (form.Instance name.0 unit.0) unit.1
 
-unfoldable pub stop_form : List Token → Option LineForm
+unfoldable pub stop_form : List Token → Option FirstFormLine
 stop_form tokens = do
   ticks ← whole_at tokens
   if nat_le ticks.0 99999 then last (form.Stop ticks.0) ticks.1 else None
 
-unfoldable pub longest_form : List Token → Option LineForm
+unfoldable pub longest_form : List Token → Option FirstFormLine
 longest_form tokens = do
   ticks ← whole_at tokens
   if nat_le 1 ticks.0 && nat_le ticks.0 99999 then last (form.Longest ticks.0) ticks.1 else None
 
 -- ---- A line
 
-abbrev pub keyword_form : Keyword → List Token → Option LineForm
+abbrev pub keyword_form : Keyword → List Token → Option FirstFormLine
 keyword_form word.Cosim tokens = header_form tokens
 keyword_form word.Unit tokens = unit_form tokens
 keyword_form word.State tokens = state_form tokens
@@ -150,7 +150,7 @@ keyword_form word.Stop tokens = stop_form tokens
 keyword_form word.Longest tokens = longest_form tokens
 keyword_form _ tokens = None
 
-unfoldable pub form_of : List Token → Option LineForm
+unfoldable pub form_of : List Token → Option FirstFormLine
 form_of [] = None
 form_of (token.Keyword keyword ∷ rest) = keyword_form keyword rest
 form_of (first ∷ rest) = assign_form (first ∷ rest)

@@ -7,22 +7,22 @@ use Rattle.unit_tree.specs.declared.system.System.{System}
 use Rattle.unit_text.specs.FirstForm.{tokens_of, IsStart, IsOperand, IsInRange, forms_of, system_of, IsOfForm}
 use Rattle.unit_text.specs.declared.fault.TextFault.{TextFault}
 use Rattle.unit_text.specs.declared.fault.TextFault.TheVariants as fault
-use Rattle.unit_text.specs.declared.form.LineForm.{LineForm}
+use Rattle.unit_text.specs.declared.form.FirstFormLine.{FirstFormLine}
 use Rattle.unit_text.specs.declared.form.Source.{Source}
 
 -- The line has the form: its bytes, at most 1,000 of them, spell the form's tokens.
-pub record HasForm (form : LineForm) (line : List ℕ) : Type 0 where
+pub record HasForm (form : FirstFormLine) (line : List ℕ) : Type 0 where
   pub spelled : Spells (tokens_of form) line
   pub in_range : IsInRange form
   pub short : length line ≤ 1000
 
 -- The form of a line, or that it has none.
-abbrev pub FormIs : List ℕ → Option LineForm → Type 0
-FormIs line None = (form : LineForm) → HasForm form line → ⊥
+abbrev pub FormIs : List ℕ → Option FirstFormLine → Type 0
+FormIs line None = (form : FirstFormLine) → HasForm form line → ⊥
 FormIs line (Some form) = HasForm form line
 
 -- Each line has its form, one for one.
-abbrev pub HaveForms : List LineForm → List (List ℕ) → Type 0
+abbrev pub HaveForms : List FirstFormLine → List (List ℕ) → Type 0
 HaveForms [] [] = ⊤
 HaveForms (form ∷ forms) (line ∷ lines) = HasForm form line × HaveForms forms lines
 HaveForms _ _ = ⊥

@@ -2,7 +2,7 @@ ghost use Rattle.std.specs.Prelude.{◌≡◌};
 ghost use Rattle.unit_tokens.specs.Scanning.{Gives};
 ghost use Rattle.unit_text.specs.Nesting.{no_lines, names_state, is_declared, after_start, after_header, after_states, after_output, after_step, after_step_end, after_unit_end, after_instance, after_instance_end, after_stop, with_line, is_whole, whole_source};
 
-use crate::form::{Declared, LineForm, Operand, Source};
+use crate::form::{Declared, FirstFormLine, Operand, Source};
 use fixed_words::List;
 use std::alloc::Global;
 use unit_tokens::Unread;
@@ -66,7 +66,7 @@ impl Draft {
 
     /// The draft with a line more. `NoForm` where the line can't come there.
     #[tactic(auto, unfolding(crate::specs::Nesting::with_line))]
-    pub fn with_line(self, line: LineForm) -> Result<Draft, Unread>
+    pub fn with_line(self, line: FirstFormLine) -> Result<Draft, Unread>
         ensures { Gives result (with_line self line) }
     {
         let Draft { stage, source } = self;
@@ -119,11 +119,11 @@ fn is_declared(states: &[Declared], operand: &Operand) -> bool
     }
 }
 
-fn after_start(source: Source, line: LineForm) -> Result<Draft, Unread>
+fn after_start(source: Source, line: FirstFormLine) -> Result<Draft, Unread>
     ensures { Gives result (after_start source line) }
 {
     match line {
-        LineForm::Header => Ok(Draft {
+        FirstFormLine::Header => Ok(Draft {
             stage: Stage::Headed,
             source,
         }),
@@ -131,11 +131,11 @@ fn after_start(source: Source, line: LineForm) -> Result<Draft, Unread>
     }
 }
 
-fn after_header(mut source: Source, line: LineForm) -> Result<Draft, Unread>
+fn after_header(mut source: Source, line: FirstFormLine) -> Result<Draft, Unread>
     ensures { Gives result (after_header source line) }
 {
     match line {
-        LineForm::Unit(name) => {
+        FirstFormLine::Unit(name) => {
             source.unit = name;
             Ok(Draft {
                 stage: Stage::States,
@@ -146,11 +146,11 @@ fn after_header(mut source: Source, line: LineForm) -> Result<Draft, Unread>
     }
 }
 
-fn after_states(mut source: Source, line: LineForm) -> Result<Draft, Unread>
+fn after_states(mut source: Source, line: FirstFormLine) -> Result<Draft, Unread>
     ensures { Gives result (after_states source line) }
 {
     match line {
-        LineForm::State(state) => {
+        FirstFormLine::State(state) => {
             let states = source.states.as_slice();
             if states.len() < MOST_STATES && !names_state(states, state.name.as_slice()) {
                 source.states.push(state)?;
@@ -162,7 +162,7 @@ fn after_states(mut source: Source, line: LineForm) -> Result<Draft, Unread>
                 Err(Unread::NoForm)
             }
         }
-        LineForm::Output { name, shown } => {
+        FirstFormLine::Output { name, shown } => {
             let states = source.states.as_slice();
             if !names_state(states, name.as_slice()) && names_state(states, shown.as_slice()) {
                 source.output = name;
@@ -179,11 +179,11 @@ fn after_states(mut source: Source, line: LineForm) -> Result<Draft, Unread>
     }
 }
 
-fn after_output(source: Source, line: LineForm) -> Result<Draft, Unread>
+fn after_output(source: Source, line: FirstFormLine) -> Result<Draft, Unread>
     ensures { Gives result (after_output source line) }
 {
     match line {
-        LineForm::Step => Ok(Draft {
+        FirstFormLine::Step => Ok(Draft {
             stage: Stage::Step,
             source,
         }),
@@ -191,11 +191,11 @@ fn after_output(source: Source, line: LineForm) -> Result<Draft, Unread>
     }
 }
 
-fn after_step(mut source: Source, line: LineForm) -> Result<Draft, Unread>
+fn after_step(mut source: Source, line: FirstFormLine) -> Result<Draft, Unread>
     ensures { Gives result (after_step source line) }
 {
     match line {
-        LineForm::Assign(sum) => {
+        FirstFormLine::Assign(sum) => {
             let states = source.states.as_slice();
             if source.assignments.len() < MOST_ASSIGNMENTS
                 && names_state(states, sum.target.as_slice())
@@ -211,7 +211,7 @@ fn after_step(mut source: Source, line: LineForm) -> Result<Draft, Unread>
                 Err(Unread::NoForm)
             }
         }
-        LineForm::End => Ok(Draft {
+        FirstFormLine::End => Ok(Draft {
             stage: Stage::StepEnd,
             source,
         }),
@@ -219,11 +219,11 @@ fn after_step(mut source: Source, line: LineForm) -> Result<Draft, Unread>
     }
 }
 
-fn after_step_end(source: Source, line: LineForm) -> Result<Draft, Unread>
+fn after_step_end(source: Source, line: FirstFormLine) -> Result<Draft, Unread>
     ensures { Gives result (after_step_end source line) }
 {
     match line {
-        LineForm::End => Ok(Draft {
+        FirstFormLine::End => Ok(Draft {
             stage: Stage::UnitEnd,
             source,
         }),
@@ -231,11 +231,11 @@ fn after_step_end(source: Source, line: LineForm) -> Result<Draft, Unread>
     }
 }
 
-fn after_unit_end(mut source: Source, line: LineForm) -> Result<Draft, Unread>
+fn after_unit_end(mut source: Source, line: FirstFormLine) -> Result<Draft, Unread>
     ensures { Gives result (after_unit_end source line) }
 {
     match line {
-        LineForm::Instance { name, unit } => {
+        FirstFormLine::Instance { name, unit } => {
             if unit.as_slice() == source.unit.as_slice() {
                 source.instance = name;
                 Ok(Draft {
@@ -250,11 +250,11 @@ fn after_unit_end(mut source: Source, line: LineForm) -> Result<Draft, Unread>
     }
 }
 
-fn after_instance(source: Source, line: LineForm) -> Result<Draft, Unread>
+fn after_instance(source: Source, line: FirstFormLine) -> Result<Draft, Unread>
     ensures { Gives result (after_instance source line) }
 {
     match line {
-        LineForm::End => Ok(Draft {
+        FirstFormLine::End => Ok(Draft {
             stage: Stage::InstanceEnd,
             source,
         }),
@@ -262,11 +262,11 @@ fn after_instance(source: Source, line: LineForm) -> Result<Draft, Unread>
     }
 }
 
-fn after_instance_end(mut source: Source, line: LineForm) -> Result<Draft, Unread>
+fn after_instance_end(mut source: Source, line: FirstFormLine) -> Result<Draft, Unread>
     ensures { Gives result (after_instance_end source line) }
 {
     match line {
-        LineForm::Stop(ticks) => {
+        FirstFormLine::Stop(ticks) => {
             source.stop = ticks;
             Ok(Draft {
                 stage: Stage::Stop,
@@ -277,11 +277,11 @@ fn after_instance_end(mut source: Source, line: LineForm) -> Result<Draft, Unrea
     }
 }
 
-fn after_stop(mut source: Source, line: LineForm) -> Result<Draft, Unread>
+fn after_stop(mut source: Source, line: FirstFormLine) -> Result<Draft, Unread>
     ensures { Gives result (after_stop source line) }
 {
     match line {
-        LineForm::Longest(ticks) => {
+        FirstFormLine::Longest(ticks) => {
             source.longest = Some(ticks);
             Ok(Draft {
                 stage: Stage::Longest,

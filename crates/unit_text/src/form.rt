@@ -32,7 +32,7 @@ pub struct Assignment {
 
 /// What a line says.
 #[derive(Debug, Drop)]
-pub enum LineForm {
+pub enum FirstFormLine {
     /// `cosim 1`
     Header,
     /// `unit A`

@@ -7,7 +7,7 @@
 //!
 //! Definitions: `specs/FirstForm.antt` (the lines of a text, and the system that it says),
 //! `specs/Reading.antt` (which texts are accepted, and where the others are refused). How the reader
-//! goes about it stands in `specs/Scanning.antt` (tokens of a line), `specs/Forms.antt` (the form of
+//! goes about it stands in `specs/Forms.antt` (the form of
 //! tokens) and `specs/Nesting.antt` (one line after the other).
 //!
 //! [`texts_are_worked`] is a law on the whole language, which no reader reads yet: texts of
@@ -25,7 +25,7 @@ mod tests;
 mod worked;
 
 pub use fault::TextFault;
-pub use form::{Assignment, Declared, LineForm, Operand, Source, WholeNumber};
+pub use form::{Assignment, Declared, FirstFormLine, Operand, Source, WholeNumber};
 pub use reading::{
     LONGEST_TEXT, SIZE_RULE, answers_agree, every_text_is_answered, read_first_form,
 };

@@ -3,7 +3,7 @@ ghost use Rattle.unit_tokens.specs.Scanning.{Gives, GivesFront, ReadsAs};
 ghost use Rattle.unit_text.specs.Reading.{FormIs};
 ghost use Rattle.unit_text.specs.Forms.{GivesRest, name_at, whole_at, after_symbol, sign_at, number_at, typed_at, operand_at, last, header_form, unit_form, is_start, state_form, output_form, assign_form, instance_form, stop_form, longest_form, keyword_form, form_of};
 
-use crate::form::{Assignment, Declared, LineForm, Operand, WholeNumber};
+use crate::form::{Assignment, Declared, FirstFormLine, Operand, WholeNumber};
 use fixed_words::List;
 use std::alloc::Global;
 use unit_tokens::{Unread, tokens};
@@ -109,7 +109,7 @@ fn operand_at(alloc: Global, tokens: &[Token]) -> Result<(Operand, &[Token]), Un
 }
 
 /// The form, where no token is left.
-fn last(form: LineForm, rest: &[Token]) -> Result<LineForm, Unread>
+fn last(form: FirstFormLine, rest: &[Token]) -> Result<FirstFormLine, Unread>
     ensures { Gives result (last form rest.now) }
 {
     match rest {
@@ -119,23 +119,23 @@ fn last(form: LineForm, rest: &[Token]) -> Result<LineForm, Unread>
 }
 
 #[tactic(auto, unfolding(crate::specs::Forms::header_form))]
-fn header(tokens: &[Token]) -> Result<LineForm, Unread>
+fn header(tokens: &[Token]) -> Result<FirstFormLine, Unread>
     ensures { Gives result (header_form tokens.now) }
 {
     let (version, rest) = whole_at(tokens)?;
     if version == VERSION {
-        last(LineForm::Header, rest)
+        last(FirstFormLine::Header, rest)
     } else {
         Err(Unread::NoForm)
     }
 }
 
 #[tactic(auto, unfolding(crate::specs::Forms::unit_form))]
-fn unit(alloc: Global, tokens: &[Token]) -> Result<LineForm, Unread>
+fn unit(alloc: Global, tokens: &[Token]) -> Result<FirstFormLine, Unread>
     ensures { Gives result (unit_form tokens.now) }
 {
     let (name, rest) = name_at(alloc, tokens)?;
-    last(LineForm::Unit(name), rest)
+    last(FirstFormLine::Unit(name), rest)
 }
 
 /// Whether a start value is a word of 64 bits.
@@ -146,29 +146,29 @@ fn is_start(number: WholeNumber) -> bool
 }
 
 #[tactic(auto, unfolding(crate::specs::Forms::state_form))]
-fn state(alloc: Global, tokens: &[Token]) -> Result<LineForm, Unread>
+fn state(alloc: Global, tokens: &[Token]) -> Result<FirstFormLine, Unread>
     ensures { Gives result (state_form tokens.now) }
 {
     let (name, rest) = typed_at(alloc, tokens)?;
     let (start, rest) = number_at(rest)?;
     if is_start(start) {
-        last(LineForm::State(Declared { name, start }), rest)
+        last(FirstFormLine::State(Declared { name, start }), rest)
     } else {
         Err(Unread::NoForm)
     }
 }
 
 #[tactic(auto, unfolding(crate::specs::Forms::output_form))]
-fn output(alloc: Global, tokens: &[Token]) -> Result<LineForm, Unread>
+fn output(alloc: Global, tokens: &[Token]) -> Result<FirstFormLine, Unread>
     ensures { Gives result (output_form tokens.now) }
 {
     let (name, rest) = typed_at(alloc, tokens)?;
     let (shown, rest) = name_at(alloc, rest)?;
-    last(LineForm::Output { name, shown }, rest)
+    last(FirstFormLine::Output { name, shown }, rest)
 }
 
 #[tactic(auto, unfolding(crate::specs::Forms::assign_form))]
-fn assignment(alloc: Global, tokens: &[Token]) -> Result<LineForm, Unread>
+fn assignment(alloc: Global, tokens: &[Token]) -> Result<FirstFormLine, Unread>
     ensures { Gives result (assign_form tokens.now) }
 {
     let (target, rest) = name_at(alloc, tokens)?;
@@ -181,45 +181,45 @@ fn assignment(alloc: Global, tokens: &[Token]) -> Result<LineForm, Unread>
         left,
         right,
     };
-    last(LineForm::Assign(sum), rest)
+    last(FirstFormLine::Assign(sum), rest)
 }
 
 #[tactic(auto, unfolding(crate::specs::Forms::instance_form))]
-fn instance(alloc: Global, tokens: &[Token]) -> Result<LineForm, Unread>
+fn instance(alloc: Global, tokens: &[Token]) -> Result<FirstFormLine, Unread>
     ensures { Gives result (instance_form tokens.now) }
 {
     let (name, rest) = name_at(alloc, tokens)?;
     let rest = after_symbol(Symbol::Colon, rest)?;
     let (unit, rest) = name_at(alloc, rest)?;
-    last(LineForm::Instance { name, unit }, rest)
+    last(FirstFormLine::Instance { name, unit }, rest)
 }
 
 #[tactic(auto, unfolding(crate::specs::Forms::stop_form))]
-fn stop(tokens: &[Token]) -> Result<LineForm, Unread>
+fn stop(tokens: &[Token]) -> Result<FirstFormLine, Unread>
     ensures { Gives result (stop_form tokens.now) }
 {
     let (ticks, rest) = whole_at(tokens)?;
     if ticks <= LONGEST_RUN {
-        last(LineForm::Stop(ticks), rest)
+        last(FirstFormLine::Stop(ticks), rest)
     } else {
         Err(Unread::NoForm)
     }
 }
 
 #[tactic(auto, unfolding(crate::specs::Forms::longest_form))]
-fn longest(tokens: &[Token]) -> Result<LineForm, Unread>
+fn longest(tokens: &[Token]) -> Result<FirstFormLine, Unread>
     ensures { Gives result (longest_form tokens.now) }
 {
     let (ticks, rest) = whole_at(tokens)?;
     if 1 <= ticks && ticks <= LONGEST_RUN {
-        last(LineForm::Longest(ticks), rest)
+        last(FirstFormLine::Longest(ticks), rest)
     } else {
         Err(Unread::NoForm)
     }
 }
 
 /// A line that begins with the keyword, by the tokens behind it.
-fn keyword_line(alloc: Global, keyword: Keyword, rest: &[Token]) -> Result<LineForm, Unread>
+fn keyword_line(alloc: Global, keyword: Keyword, rest: &[Token]) -> Result<FirstFormLine, Unread>
     ensures { Gives result (keyword_form keyword rest.now) }
 {
     match keyword {
@@ -227,8 +227,8 @@ fn keyword_line(alloc: Global, keyword: Keyword, rest: &[Token]) -> Result<LineF
         Keyword::Unit => unit(alloc, rest),
         Keyword::State => state(alloc, rest),
         Keyword::Output => output(alloc, rest),
-        Keyword::Step => last(LineForm::Step, rest),
-        Keyword::End => last(LineForm::End, rest),
+        Keyword::Step => last(FirstFormLine::Step, rest),
+        Keyword::End => last(FirstFormLine::End, rest),
         Keyword::Instance => instance(alloc, rest),
         Keyword::Stop => stop(rest),
         Keyword::Longest => longest(rest),
@@ -238,7 +238,7 @@ fn keyword_line(alloc: Global, keyword: Keyword, rest: &[Token]) -> Result<LineF
 
 /// The form by a line's tokens.
 #[tactic(auto, unfolding(crate::specs::Forms::form_of))]
-fn form_of(alloc: Global, tokens: &[Token]) -> Result<LineForm, Unread>
+fn form_of(alloc: Global, tokens: &[Token]) -> Result<FirstFormLine, Unread>
     ensures { Gives result (form_of tokens.now) }
 {
     match tokens {
@@ -250,7 +250,7 @@ fn form_of(alloc: Global, tokens: &[Token]) -> Result<LineForm, Unread>
 
 /// The form of a line.
 #[tactic(auto, using(crate::proofs::FormLemmas::form_found, crate::proofs::FormLemmas::form_unknown, crate::proofs::FormLemmas::form_unspelled, crate::proofs::FormLemmas::form_long))]
-pub fn line_form(alloc: Global, line: &[u8]) -> Result<LineForm, Unread>
+pub fn line_form(alloc: Global, line: &[u8]) -> Result<FirstFormLine, Unread>
     ensures { ReadsAs result (FormIs line.now) }
 {
     if line.len() > LONGEST_LINE {

@@ -5,7 +5,7 @@ use fixed_words::NoMemory;
 /// Why a part of a text is not read.
 #[derive(Clone, Copy, Debug, PartialEq, Eq)]
 pub enum Unread {
-    /// It has no form that may stand there.
+    /// It is nothing that the language has.
     NoForm,
     NoMemory,
 }

@@ -1,4 +1,4 @@
-use crate::{cut_line, size, tokens};
+use crate::{Unread, cut_line, size, tokens};
 use std::alloc::Global;
 use std::test::Fail;
 use unit_tree::{Keyword, Symbol, Token};
@@ -17,7 +17,8 @@ fn kinds(alloc: Global, line: &[u8]) -> Result<String, Fail> {
                 })?;
             }
         }
-        Err(_) => kinds.push('?')?,
+        Err(Unread::NoForm) => kinds.push('?')?,
+        Err(Unread::NoMemory) => return Err(Fail::from("no memory")),
     }
     Ok(kinds)
 }

@@ -1,5 +1,5 @@
 -- Each system is judged once.
-use Rattle.std.proofs.Common.{◌≡◌, ℕ, List, [], ◌∷◌, Option, Some, None, refl, ap}
+use Rattle.std.proofs.Common.{◌≡◌, ℕ, List, [], ◌∷◌, ◌++◌, Option, Some, None, refl, ap, ◌∙◌}
 use Rattle.std.specs.Prelude.{◌↔◌}
 use Rattle.unit_tree.specs.WellFormed.{Rule, Refusal, BreaksNone, IsRefusal, lines_breaking, or_later, refusal_by, rules}
 use Rattle.unit_tree.specs.declared.system.System.{System}
@@ -56,3 +56,13 @@ refused_by (first ∷ later) system refusal is =
 
 pub refused : (system : System) (refusal : Refusal) → refusal_by rules system ≡ Some refusal → IsRefusal rules system refusal
 refused system refusal is = refused_by rules system refusal is
+
+only_by : (kept : List Rule) (broken : Rule) (later : List Rule) (system : System) (line : ℕ) (others : List ℕ) → BreaksNone kept system → lines_breaking broken system ≡ line ∷ others → refusal_by (kept ++ (broken ∷ later)) system ≡ Some (record { by = broken.number; at = line })
+only_by [] broken later system line others none lines = rw lines refl
+only_by (first ∷ kept) broken later system line others none lines = rw (none.0) (only_by kept broken later system line others none.1 lines)
+
+pub only : (system : System) (refusal : Refusal) → IsRefusal rules system refusal → refusal_by rules system ≡ Some refusal
+only system refusal is =
+    let found : refusal_by (is.kept ++ (is.broken ∷ is.later)) system ≡ Some (record { by = is.broken.number; at = refusal.at }) =
+        only_by is.kept is.broken is.later system refusal.at is.others is.none_before is.lines in
+    ap (λ all. refusal_by all system) is.cut ∙ found ∙ ap (λ n. Some (record { by = n; at = refusal.at })) is.by

@@ -84,8 +84,8 @@ opens_unit _ = false
 abbrev pub in_this_unit : List LineForm → List LineForm
 in_this_unit before = after_last opens_unit before
 
--- Among which of the lines before it none may be like a line: `resolution`, `max` and `step` stand once in a unit;
--- the header, `stop`, `longest`, `zero` and `rows` once in a text.
+-- The lines before a line of which none may be like it: `resolution`, `max` and `step` stand once in a unit, and the
+-- header, `stop`, `longest`, `zero` and `rows` once in a text.
 abbrev pub rivals : List LineForm → LineForm → List LineForm
 rivals before (form.Resolution decimals) = in_this_unit before
 rivals before (form.Max value) = in_this_unit before
@@ -97,8 +97,8 @@ rivals before (form.Zero count) = before
 rivals before (form.Rows count) = before
 rivals before _ = []
 
-abbrev pub came_before : List LineForm → LineForm → Bool
-came_before before line = list_any (are_alike line) (rivals before line)
+abbrev pub has_rival : List LineForm → LineForm → Bool
+has_rival before line = list_any (are_alike line) (rivals before line)
 
 -- ---- Blocks in blocks
 
@@ -117,7 +117,7 @@ has_room blocks _ = true
 -- The line may stand behind those before it.
 abbrev pub may_stand : List LineForm → LineForm → Bool
 may_stand before line =
-    holds_form (open_blocks before) line && (not (came_before before line) && has_room (open_blocks before) line)
+    holds_form (open_blocks before) line && (not (has_rival before line) && has_room (open_blocks before) line)
 
 -- Each line may stand behind those before it.
 abbrev pub are_placed : List LineForm → List LineForm → Bool

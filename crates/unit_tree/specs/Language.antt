@@ -21,10 +21,11 @@ use Rattle.unit_tree.specs.declared.system.System.{System}
 -- ---- Proved
 
 -- Every system is well-formed or refused, and not both: there is no refusal exactly where it is well-formed, and a
--- refusal names the least rule that a line breaks, and the first line that breaks it.
+-- refusal names the least rule that a line breaks, and the first line that breaks it. No other does.
 pub record IsJudgedOnce : Type 0 where
   pub well_formed : (system : System) → IsWellFormed system ↔ (refusal_of system ≡ None)
   pub refused : (system : System) (refusal : Refusal) → refusal_of system ≡ Some refusal → IsRefusal rules system refusal
+  pub only : (system : System) (refusal : Refusal) → IsRefusal rules system refusal → refusal_of system ≡ Some refusal
 
 -- The sites that rules speak of are the canonical lines, one for one.
 abbrev pub SitesAreCanonicalLines : Type 0
@@ -96,7 +97,8 @@ CanonicalTextIsReadBack = (system : System) → IsPrintable system → Reads (ca
 abbrev pub CanonicalLinesAreShortest : Type 0
 CanonicalLinesAreShortest = (some : LineForm) (line : List ℕ) → HasForm some line → length (line_text some) ≤ length line
 
--- A well-formed system has an order of all its outputs, or an output that is the first without one.
-abbrev pub CyclesAreJudgedOnce : Type 0
-CyclesAreJudgedOnce =
-    (system : System) → IsWellFormed system → (HasNoCycle system → (port : PortName) → IsFirstWithoutOrder system port → ⊥) × (HasNoCycle system ⊎ ((port : PortName) × IsFirstWithoutOrder system port))
+-- A well-formed system has an order of all its outputs, or one output that is the first without an order.
+pub record CyclesAreJudgedOnce : Type 0 where
+  pub judged : (system : System) → IsWellFormed system → HasNoCycle system ⊎ ((port : PortName) × IsFirstWithoutOrder system port)
+  pub not_both : (system : System) (port : PortName) → HasNoCycle system → IsFirstWithoutOrder system port → ⊥
+  pub one_port : (system : System) (one other : PortName) → IsFirstWithoutOrder system one → IsFirstWithoutOrder system other → one ≡ other

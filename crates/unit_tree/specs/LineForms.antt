@@ -88,7 +88,7 @@ abbrev pub first_keyword : List Token → List ℕ
 first_keyword (token.Keyword spelled ∷ tokens) = keyword_text spelled
 first_keyword _ = []
 
--- Lines are alike where they begin with the same keyword.
+-- Lines are alike where they begin with the same keyword. Those that begin with a name are all alike.
 abbrev pub are_alike : LineForm → LineForm → Bool
 are_alike one other = bytes_eq (first_keyword (front_tokens one)) (first_keyword (front_tokens other))
 
@@ -149,24 +149,24 @@ WritesTail (OfExpression value) tokens = Writes value tokens
 -- ---- Lines
 
 -- The count, the resolution and the decimals of the type on a line are those that the language allows.
-abbrev pub HasCounts : LineForm → Type 0
-HasCounts (form.Resolution decimals) = decimals ≤ 9
-HasCounts (form.Param param) = AreDecimals param.ty
-HasCounts (form.State state) = AreDecimals state.ty
-HasCounts (form.Local local) = AreDecimals local.ty
-HasCounts (form.Input input) = AreDecimals input.ty
-HasCounts (form.Output output) = AreDecimals output.ty
-HasCounts (form.Repeat count) = (1 ≤ count) × (count ≤ 1000)
-HasCounts (form.Zero count) = count ≤ 10000
-HasCounts (form.Rows count) = (1 ≤ count) × (count ≤ 100000)
-HasCounts _ = ⊤
+abbrev pub AreCountsInRange : LineForm → Type 0
+AreCountsInRange (form.Resolution decimals) = decimals ≤ 9
+AreCountsInRange (form.Param param) = AreDecimals param.ty
+AreCountsInRange (form.State state) = AreDecimals state.ty
+AreCountsInRange (form.Local local) = AreDecimals local.ty
+AreCountsInRange (form.Input input) = AreDecimals input.ty
+AreCountsInRange (form.Output output) = AreDecimals output.ty
+AreCountsInRange (form.Repeat count) = (1 ≤ count) × (count ≤ 1000)
+AreCountsInRange (form.Zero count) = count ≤ 10000
+AreCountsInRange (form.Rows count) = (1 ≤ count) × (count ≤ 100000)
+AreCountsInRange _ = ⊤
 
 -- The tokens write the form.
 pub record WritesForm (some : LineForm) (tokens : List Token) : Type 0 where
   pub tail : List Token
   pub spelled : tokens ≡ front_tokens some ++ tail
   pub tail_is : WritesTail (tail_of some) tail
-  pub counts : HasCounts some
+  pub counts : AreCountsInRange some
 
 -- The line has the form: its code spells tokens that write it.
 pub record HasForm (form : LineForm) (line : List ℕ) : Type 0 where

@@ -118,12 +118,12 @@ step_uses unit = record {
   clocks = record { time = true; step = true };
 }
 
-abbrev pub runs : Clocks → Clocks → Bool
-runs allowed used = (allowed.time || not used.time) && (allowed.step || not used.step)
+abbrev pub are_allowed : Clocks → Clocks → Bool
+are_allowed allowed used = (allowed.time || not used.time) && (allowed.step || not used.step)
 
 -- The expression uses nothing else.
 abbrev pub keeps_to : Uses → Expr → Bool
-keeps_to uses value = are_among uses.names (names_in value) && runs uses.clocks (clocks_in value)
+keeps_to uses value = are_among uses.names (names_in value) && are_allowed uses.clocks (clocks_in value)
 
 -- All that is declared in a unit, with its type.
 abbrev pub declared_in : Unit → List Variable

@@ -7,7 +7,7 @@ use Rattle.fixed_words.specs.declared.types.Literal.{Literal}
 use Rattle.fixed_words.specs.declared.types.Literal.TheVariants as literal
 use Rattle.fixed_words.specs.declared.types.Ty.TheVariants.{Int64}
 use Rattle.unit_tree.specs.Canonical.{canonical_forms, canonical_phrase, canonical_text, line_text}
-use Rattle.unit_tree.specs.LineForms.{Tail, Nothing, OfLiteral, OfSeconds, OfExpression, tail_of, HasCounts}
+use Rattle.unit_tree.specs.LineForms.{Tail, Nothing, OfLiteral, OfSeconds, OfExpression, tail_of, AreCountsInRange}
 use Rattle.unit_tree.specs.Names.{names_in, expression_on}
 use Rattle.unit_tree.specs.Phrases.{nesting}
 use Rattle.unit_tree.specs.Texts.{text_limit, line_limit}
@@ -47,19 +47,19 @@ abbrev pub names_on : LineForm → List (List ℕ)
 names_on line = names_said line ++ names_on_expression (expression_on line)
 
 -- A literal, and the numbers of an expression, have at most nine decimals.
-abbrev pub HasDecimals : Literal → Type 0
-HasDecimals (literal.Truth told) = ⊤
-HasDecimals (literal.Number number decimals) = decimals ≤ 9
+abbrev pub IsLiteralInRange : Literal → Type 0
+IsLiteralInRange (literal.Truth told) = ⊤
+IsLiteralInRange (literal.Number number decimals) = decimals ≤ 9
 
-abbrev pub TailHasDecimals : Tail → Type 0
-TailHasDecimals Nothing = ⊤
-TailHasDecimals (OfLiteral value) = HasDecimals value
-TailHasDecimals (OfSeconds seconds) = HasDecimals seconds
-TailHasDecimals (OfExpression value) = IsTrue (is_ranged value)
+abbrev pub IsTailInRange : Tail → Type 0
+IsTailInRange Nothing = ⊤
+IsTailInRange (OfLiteral value) = IsLiteralInRange value
+IsTailInRange (OfSeconds seconds) = IsLiteralInRange seconds
+IsTailInRange (OfExpression value) = IsTrue (is_ranged value)
 
 -- The counts and the numbers of decimals on a line are those that the language allows.
 abbrev pub IsInRange : LineForm → Type 0
-IsInRange line = HasCounts line × TailHasDecimals (tail_of line)
+IsInRange line = AreCountsInRange line × IsTailInRange (tail_of line)
 
 -- The system is in range: its names are words, and its lines are in range.
 pub record IsRanged (system : System) : Type 0 where

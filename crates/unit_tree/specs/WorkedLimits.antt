@@ -3,7 +3,7 @@ use Rattle.std.specs.Prelude.{◌≡◌, ℕ, zero, suc, ◌-◌, true, false, [
 use Rattle.std.specs.List.{repeat}
 use Rattle.fixed_words.specs.declared.types.Literal.TheVariants as literal
 use Rattle.fixed_words.specs.declared.types.Ty.TheVariants as types
-use Rattle.unit_tree.specs.LineForms.{HasCounts}
+use Rattle.unit_tree.specs.LineForms.{AreCountsInRange}
 use Rattle.unit_tree.specs.Parts.{unit_of}
 use Rattle.unit_tree.specs.Printable.{is_seconds, is_word_literal, line_depth}
 use Rattle.unit_tree.specs.Sites.{Scope, TopScope, UnitScope, StepScope}
@@ -26,10 +26,10 @@ step_of_a = StepScope (unit_of (codes "A") counts)
 abbrev pub connection : LineForm
 connection = form.Connect (record { from = port (codes "a") (codes "y"); to = port (codes "b") (codes "u") })
 
--- So many lines like this one may stand in the scope, and not one more; others between them do not count.
+-- So many lines like this one may stand in the scope, and not one more.
 pub record MayBe (limit : ℕ) (scope : Scope) (some : LineForm) : Type 0 where
-  pub last : exceeds scope (repeat limit (some ∷ [])) some ≡ true
-  pub first_too_many : exceeds scope (repeat (limit - 1) (some ∷ [])) some ≡ false
+  pub last : exceeds scope (repeat (limit - 1) (some ∷ [])) some ≡ false
+  pub first_too_many : exceeds scope (repeat limit (some ∷ [])) some ≡ true
 
 -- So many blocks in each other.
 abbrev pub blocks : ℕ → Line
@@ -50,11 +50,11 @@ pub record LimitsAreWorked : Type 0 where
   -- others do not count
   pub only_alike : exceeds TopScope (repeat 64 (connection ∷ []) ++ repeat 63 (form.Unit (codes "A") ∷ form.End ∷ [])) (form.Unit (codes "B")) ≡ false
   -- numbers on a line
-  pub resolutions : HasCounts (form.Resolution 0) × HasCounts (form.Resolution 9) × (HasCounts (form.Resolution 10) → ⊥)
-  pub repeats : HasCounts (form.Repeat 1) × HasCounts (form.Repeat 1000) × (HasCounts (form.Repeat 0) → ⊥) × (HasCounts (form.Repeat 1001) → ⊥)
-  pub zeros : HasCounts (form.Zero 0) × HasCounts (form.Zero 10000) × (HasCounts (form.Zero 10001) → ⊥)
-  pub rows : HasCounts (form.Rows 1) × HasCounts (form.Rows 100000) × (HasCounts (form.Rows 0) → ⊥) × (HasCounts (form.Rows 100001) → ⊥)
-  pub decimals : HasCounts (form.Local (record { name = codes "x"; ty = types.Fixed 9 })) × (HasCounts (form.Local (record { name = codes "x"; ty = types.Fixed 10 })) → ⊥)
+  pub resolutions : AreCountsInRange (form.Resolution 0) × AreCountsInRange (form.Resolution 9) × (AreCountsInRange (form.Resolution 10) → ⊥)
+  pub repeats : AreCountsInRange (form.Repeat 1) × AreCountsInRange (form.Repeat 1000) × (AreCountsInRange (form.Repeat 0) → ⊥) × (AreCountsInRange (form.Repeat 1001) → ⊥)
+  pub zeros : AreCountsInRange (form.Zero 0) × AreCountsInRange (form.Zero 10000) × (AreCountsInRange (form.Zero 10001) → ⊥)
+  pub rows : AreCountsInRange (form.Rows 1) × AreCountsInRange (form.Rows 100000) × (AreCountsInRange (form.Rows 0) → ⊥) × (AreCountsInRange (form.Rows 100001) → ⊥)
+  pub decimals : AreCountsInRange (form.Local (record { name = codes "x"; ty = types.Fixed 9 })) × (AreCountsInRange (form.Local (record { name = codes "x"; ty = types.Fixed 10 })) → ⊥)
   -- words
   pub longest_word : IsWord (repeat 32 (codes "a"))
   pub too_long_word : IsWord (repeat 33 (codes "a")) → ⊥

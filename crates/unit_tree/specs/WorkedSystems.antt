@@ -1,15 +1,13 @@
 -- Worked systems: the canonical lines of one, a system for each rule that one can break, and orders of outputs.
 use Rattle.std.specs.Prelude.{◌≡◌, ℕ, true, false, zero, suc, pos, neg_ℤ, List, [], ◌∷◌, ◌++◌, map, codes, Some, None}
-use Rattle.std.specs.List.{repeat}
 use Rattle.fixed_words.specs.declared.types.Literal.{Literal}
 use Rattle.fixed_words.specs.declared.types.Literal.TheVariants as literal
 use Rattle.fixed_words.specs.declared.types.Ty.{Ty}
 use Rattle.fixed_words.specs.declared.types.Ty.TheVariants as types
 use Rattle.unit_tree.specs.Canonical.{canonical_forms, line_text}
-use Rattle.unit_tree.specs.Orders.{IsOrderly, HasNoCycle, IsFirstWithoutOrder}
+use Rattle.unit_tree.specs.Orders.{IsOrderly, HasNoCycle, IsFirstWithoutOrder, line_of_output}
 use Rattle.unit_tree.specs.Parts as parts
 use Rattle.unit_tree.specs.Parts.{Part, UnitPart, unit_of, system_of}
-use Rattle.unit_tree.specs.Sites.{TopScope, StepScope}
 use Rattle.unit_tree.specs.WellFormed.{exceeds, refusal_of}
 use Rattle.unit_tree.specs.declared.expr.BinOp.TheVariants as by
 use Rattle.unit_tree.specs.declared.expr.Expr.{Expr}
@@ -200,11 +198,6 @@ pub record SystemsAreWorked : Type 0 where
   pub hidden_need : Refused (run_of (input_u ∷ output_y types.Int64 [] u ∷ [])) 12 4
   pub connected_twice : Refused (pair_with (a_to_b ∷ a_to_b ∷ [])) 13 11
   pub other_type : Refused (unit_a (input_u ∷ output_y types.Int32 [] one ∷ []) ∷ instance (codes "a") ∷ instance (codes "b") ∷ a_to_b ∷ stop ∷ []) 14 10
-  -- 16: the first too many
-  pub line_500 : exceeds (StepScope (unit_of (codes "A") counts)) (repeat 499 (form.End ∷ [])) form.End ≡ false
-  pub line_501 : exceeds (StepScope (unit_of (codes "A") counts)) (repeat 500 (form.End ∷ [])) form.End ≡ true
-  pub unit_65 : exceeds TopScope (repeat 64 (form.Unit (codes "A") ∷ form.End ∷ [])) (form.Unit (codes "B")) ≡ true
-  pub unit_64 : exceeds TopScope (repeat 63 (form.Unit (codes "A") ∷ form.End ∷ [])) (form.Unit (codes "B")) ≡ false
   -- 17: the depth of a tree, a leaf counted
   pub depth_32 : Accepted (run_of (state_n types.Int64 (number 0) ∷ output_y types.Int64 [] (minuses 31) ∷ []))
   pub depth_33 : Refused (run_of (state_n types.Int64 (number 0) ∷ output_y types.Int64 [] (minuses 32) ∷ [])) 17 4
@@ -288,4 +281,5 @@ pub record OrdersAreWorked : Type 0 where
   pub chain_has_all : HasNoCycle (system_of (pair_with (joins (codes "b") (codes "a") ∷ [])))
   pub instances_only : HasNoCycle (system_of ring_of_instances)
   pub first_of_ring : IsFirstWithoutOrder (system_of ring) (y_of (codes "a"))
+  pub line_of_ring : line_of_output (system_of ring) (y_of (codes "a")) ≡ Some 4
   pub first_behind_ring : IsFirstWithoutOrder (system_of behind_ring) (y_of (codes "c"))

@@ -36,6 +36,7 @@ returns c = record {
     has_no_order = on_cycle (system_of ring) (y_of (codes "a")) ring_is;
     is_first = _;
   };
+  line_of_ring = refl;
   first_behind_ring = record {
     before = [];
     later = y_of (codes "a") ∷ y_of (codes "b") ∷ [];
