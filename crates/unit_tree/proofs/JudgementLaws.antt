@@ -64,5 +64,5 @@ only_by (first ∷ kept) broken later system line others none lines = rw (none.0
 pub only : (system : System) (refusal : Refusal) → IsRefusal rules system refusal → refusal_by rules system ≡ Some refusal
 only system refusal is =
     let found : refusal_by (is.kept ++ (is.broken ∷ is.later)) system ≡ Some (record { by = is.broken.number; at = refusal.at }) =
-        only_by is.kept is.broken is.later system refusal.at is.others is.none_before is.lines in
+    only_by is.kept is.broken is.later system refusal.at is.others is.none_before is.lines in
     ap (λ all. refusal_by all system) is.cut ∙ found ∙ ap (λ n. Some (record { by = n; at = refusal.at })) is.by

@@ -1,5 +1,5 @@
 -- A text is refused once.
-use Rattle.std.proofs.Common.{◌≡◌, ℕ, ◌<◌, ◌≤◌, List, ◌⊎◌, inl, inr, refl, sym, ◌∙◌, arith}
+use Rattle.std.proofs.Common.{◌≡◌, ℕ, ◌<◌, ◌≤◌, List, ◌⊎◌, inl, inr, sym, ◌∙◌, arith}
 use Rattle.unit_tree.specs.Texts.{IsFirstBroken, IsUnended, IsRefused}
 
 -- Of two lines with rules, each before the other or the same with no greater rule, both are the same.

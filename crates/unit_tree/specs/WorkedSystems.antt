@@ -1,5 +1,5 @@
 -- Worked systems: the canonical lines of one, a system for each rule that one can break, and orders of outputs.
-use Rattle.std.specs.Prelude.{◌≡◌, ℕ, true, false, zero, suc, pos, neg_ℤ, List, [], ◌∷◌, ◌++◌, map, codes, Some, None}
+use Rattle.std.specs.Prelude.{◌≡◌, ℕ, true, zero, suc, pos, neg_ℤ, List, [], ◌∷◌, ◌++◌, map, codes, Some, None}
 use Rattle.fixed_words.specs.declared.types.Literal.{Literal}
 use Rattle.fixed_words.specs.declared.types.Literal.TheVariants as literal
 use Rattle.fixed_words.specs.declared.types.Ty.{Ty}
@@ -8,14 +8,13 @@ use Rattle.unit_tree.specs.Canonical.{canonical_forms, line_text}
 use Rattle.unit_tree.specs.Orders.{IsOrderly, HasNoCycle, IsFirstWithoutOrder, line_of_output}
 use Rattle.unit_tree.specs.Parts as parts
 use Rattle.unit_tree.specs.Parts.{Part, UnitPart, unit_of, system_of}
-use Rattle.unit_tree.specs.WellFormed.{exceeds, refusal_of}
+use Rattle.unit_tree.specs.WellFormed.{refusal_of}
 use Rattle.unit_tree.specs.declared.expr.BinOp.TheVariants as by
 use Rattle.unit_tree.specs.declared.expr.Expr.{Expr}
 use Rattle.unit_tree.specs.declared.expr.Expr as expr
 use Rattle.unit_tree.specs.declared.expr.UnOp.TheVariants as of
 use Rattle.unit_tree.specs.declared.line.Line.{Line}
 use Rattle.unit_tree.specs.declared.line.Line as line
-use Rattle.unit_tree.specs.declared.line_form.LineForm.TheVariants as form
 use Rattle.unit_tree.specs.declared.system.PortName.{PortName}
 use Rattle.unit_tree.specs.declared.system.Setting.{Setting}
 use Rattle.unit_tree.specs.declared.system.System.{System}
