@@ -7,6 +7,7 @@ pub mod OrderLaws
 pub mod PartLaws
 pub mod PhraseLaws
 pub mod RefusalLaws
+pub mod PlainLemmas
 pub mod SiteLaws
 pub mod TraceLaws
 pub mod ValueLemmas

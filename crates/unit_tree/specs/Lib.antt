@@ -14,8 +14,10 @@ pub mod Names
 pub mod Orders
 pub mod Parts
 pub mod Phrases
+pub mod Plain
 pub mod Printable
 pub mod Sites
+pub mod SourceLines
 pub mod Steps
 pub mod Texts
 pub mod Tokens
@@ -23,6 +25,7 @@ pub mod Trace
 pub mod Values
 pub mod WellFormed
 pub mod WorkedBlocks
+pub mod WorkedEvents
 pub mod WorkedKinds
 pub mod WorkedLimits
 pub mod WorkedPhrases

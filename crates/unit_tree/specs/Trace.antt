@@ -12,6 +12,7 @@ use Rattle.fixed_words.specs.declared.types.Literal.{Literal}
 use Rattle.fixed_words.specs.declared.types.Literal.TheVariants as literal
 use Rattle.unit_tree.specs.Components.{Component, Moved, initial, start_word, get_of, step_of}
 use Rattle.unit_tree.specs.LocalTime.{local_time, local_step}
+pub use Rattle.unit_tree.specs.Names.{unit_named}
 use Rattle.unit_tree.specs.Steps.{proposal_of, reply_of, agreed_step}
 use Rattle.unit_tree.specs.declared.ending.Ending.{Ending}
 use Rattle.unit_tree.specs.declared.ending.Ending.TheVariants.{Completed, Faulted}
@@ -23,11 +24,6 @@ use Rattle.unit_tree.specs.declared.unit.Param.{Param}
 use Rattle.unit_tree.specs.declared.unit.Unit.{Unit}
 
 -- ---- What is run
-
--- The first unit of the name.
-abbrev pub unit_named : List Unit → List ℕ → Option Unit
-unit_named [] name = None
-unit_named (unit ∷ units) name = if bytes_eq unit.name name then Some unit else unit_named units name
 
 -- The literal that a parameter has in an instance: the first that is set there, else its start.
 abbrev pub literal_set : List Setting → Param → Literal

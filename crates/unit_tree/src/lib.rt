@@ -40,16 +40,16 @@ use fixed_words::List;
 pub use laws::{
     at_most_one_trace, blocks_are_worked, canonical_parts_say_the_system,
     canonical_phrases_are_right, counter_is_worked, cycles_have_no_order,
-    each_system_is_judged_once, kinds_and_costs_are_worked, limits_are_worked, lines_are_worked,
-    orders_are_worked, phrases_are_worked, sites_are_canonical_lines, systems_are_worked,
-    texts_are_refused_once,
+    each_system_is_judged_once, events_are_worked, kinds_and_costs_are_worked, limits_are_worked,
+    lines_are_worked, orders_are_worked, phrases_are_worked, sites_are_canonical_lines,
+    systems_are_worked, texts_are_refused_once,
 };
 pub use line::Line;
 pub use line_form::LineForm;
 pub use point::Point;
 pub use system::{Column, Instance, PortName, Setting, System, Wire};
 pub use token::{Keyword, Symbol, Token};
-pub use unit::{Input, Local, Output, Param, State, Unit};
+pub use unit::{EventIn, EventOut, Input, Local, Output, Param, State, Unit};
 
 /// A name as its bytes: a word of at most 32 bytes that is not reserved.
 pub type Name = List<u8>;
