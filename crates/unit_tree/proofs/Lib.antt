@@ -1,3 +1,4 @@
+pub mod BlockLaws
 pub mod CounterLemmas
 pub mod EffectLemmas
 pub mod FoldLemmas

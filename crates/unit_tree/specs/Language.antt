@@ -1,6 +1,6 @@
 -- Laws of the language. Those of the first part are proved; those of the second say what a reader, a checker and a
 -- printer of the language owe, and are not proved yet.
-use Rattle.std.specs.Prelude.{◌≡◌, ◌≤◌, ◌⊎◌, ◌↔◌, ℕ, List, [], ◌∷◌, map, length, Some, None, IsTrue}
+use Rattle.std.specs.Prelude.{◌≡◌, ◌≤◌, ◌⊎◌, ◌↔◌, ℕ, List, [], ◌∷◌, ◌++◌, map, length, Some, None, IsTrue}
 use Rattle.unit_tree.specs.Blocks.{no_lines, open_blocks, are_placed}
 use Rattle.unit_tree.specs.Canonical.{canonical_parts, canonical_forms, canonical_phrase, canonical_text, line_text}
 use Rattle.unit_tree.specs.LineForms.{HasForm}
@@ -9,7 +9,7 @@ use Rattle.unit_tree.specs.Orders.{DependsOn, HasNoOrder, HasNoCycle, IsFirstWit
 use Rattle.unit_tree.specs.Parts.{Part, text_forms, system_of}
 use Rattle.unit_tree.specs.Phrases.{Whole, stands, tree_of}
 use Rattle.unit_tree.specs.Printable.{IsPrintable, is_unsigned}
-use Rattle.unit_tree.specs.Sites.{sites_of}
+use Rattle.unit_tree.specs.Sites.{Site, StandsBehind, sites_of}
 use Rattle.unit_tree.specs.Texts.{HaveForms, Reads, IsRefused}
 use Rattle.unit_tree.specs.WellFormed.{Refusal, IsWellFormed, IsRefusal, refusal_of, rules}
 use Rattle.unit_tree.specs.declared.expr.Expr.{Expr}
@@ -27,9 +27,10 @@ pub record IsJudgedOnce : Type 0 where
   pub refused : (system : System) (refusal : Refusal) → refusal_of system ≡ Some refusal → IsRefusal rules system refusal
   pub only : (system : System) (refusal : Refusal) → IsRefusal rules system refusal → refusal_of system ≡ Some refusal
 
--- The sites that rules speak of are the canonical lines, one for one.
-abbrev pub SitesAreCanonicalLines : Type 0
-SitesAreCanonicalLines = (system : System) → map (λ site. site.line) (sites_of system) ≡ canonical_forms system
+-- The sites that rules speak of are the canonical lines, one for one, and each stands in its block.
+pub record SitesAreCanonicalLines : Type 0 where
+  pub lines : (system : System) → map (λ site. site.line) (sites_of system) ≡ canonical_forms system
+  pub blocks : (system : System) (before later : List Site) (site : Site) → sites_of system ≡ before ++ (site ∷ later) → StandsBehind system before site
 
 -- The canonical parts of a system say this system.
 abbrev pub CanonicalPartsSayTheSystem : Type 0
