@@ -72,10 +72,10 @@ cut_of_map f (x ∷ xs) (b ∷ before) later y is =
 
 -- ---- One level of sites
 
-abbrev heads : List Headed → List LineForm
+abbrev pub heads : List Headed → List LineForm
 heads headed = map (λ one. one.head) headed
 
-abbrev site_at : Scope → List LineForm → List Headed → Headed → Site
+abbrev pub site_at : Scope → List LineForm → List Headed → Headed → Site
 site_at scope earlier before this = record { scope = scope; earlier = earlier ++ heads before; line = this.head }
 
 -- A site of a list is a head behind others, or stands in the block of a head behind others.
@@ -97,7 +97,7 @@ record InBlock (scope : Scope) (earlier : List LineForm) (headed : List Headed) 
   block : this.block ≡ inner ++ (site ∷ rest)
   before_is : before ≡ sites scope earlier front ++ (site_at scope earlier front this ∷ inner)
 
-one_more : (scope : Scope) (earlier : List LineForm) (first : Headed) (front : List Headed) (this : Headed) → site_at scope (earlier ++ (first.head ∷ [])) front this ≡ site_at scope earlier (first ∷ front) this
+pub one_more : (scope : Scope) (earlier : List LineForm) (first : Headed) (front : List Headed) (this : Headed) → site_at scope (earlier ++ (first.head ∷ [])) front this ≡ site_at scope earlier (first ∷ front) this
 one_more scope earlier first front this = ap (λ all. record { scope = scope; earlier = all; line = this.head }) (append_assoc earlier (first.head ∷ []) (heads front))
 
 found_at : (scope : Scope) (earlier : List LineForm) (headed : List Headed) (before later : List Site) (site : Site) → sites scope earlier headed ≡ before ++ (site ∷ later) → AtHead scope earlier headed before site ⊎ InBlock scope earlier headed before site
@@ -180,11 +180,11 @@ heads_on_level scope earlier (first ∷ others) below =
 
 -- ---- Facts of each of many
 
-each_append : {A : Type 0} (P : A → Type 0) (xs ys : List A) → AllByRecursion P xs → AllByRecursion P ys → AllByRecursion P (xs ++ ys)
+pub each_append : {A : Type 0} (P : A → Type 0) (xs ys : List A) → AllByRecursion P xs → AllByRecursion P ys → AllByRecursion P (xs ++ ys)
 each_append P [] ys on_xs on_ys = on_ys
 each_append P (x ∷ xs) ys on_xs on_ys = (on_xs.0, each_append P xs ys on_xs.1 on_ys)
 
-each_front : {A : Type 0} (P : A → Type 0) (xs : List A) (y : A) (ys : List A) → AllByRecursion P (xs ++ (y ∷ ys)) → AllByRecursion P xs × P y
+pub each_front : {A : Type 0} (P : A → Type 0) (xs : List A) (y : A) (ys : List A) → AllByRecursion P (xs ++ (y ∷ ys)) → AllByRecursion P xs × P y
 each_front P [] y ys all = (_, all.0)
 each_front P (x ∷ xs) y ys all = let rest = each_front P xs y ys all.1 in ((all.0, rest.0), rest.1)
 
@@ -317,7 +317,7 @@ unit_heads : (unit : Unit) (inside : List UnitPart) → AllByRecursion (IsUnitHe
 unit_heads unit [] = _
 unit_heads unit (part ∷ inside) = each_append (IsUnitHead unit) (headed_unit_part unit part) (flat_map (headed_unit_part unit) inside) (unit_part_heads unit part) (unit_heads unit inside)
 
-abbrev in_unit : Unit → List UnitPart → List Headed
+abbrev pub in_unit : Unit → List UnitPart → List Headed
 in_unit unit inside = flat_map (headed_unit_part unit) inside ++ (alone form.End ∷ [])
 
 all_unit_heads : (unit : Unit) (inside : List UnitPart) → AllByRecursion (IsUnitHead unit) (in_unit unit inside)
@@ -373,7 +373,7 @@ in_unit_block system front head unit inside inner rest site opened is =
 -- ---- A text
 
 -- Each part of a text is one line with its block.
-abbrev headed_of : Part → Headed
+abbrev pub headed_of : Part → Headed
 headed_of (parts.HasUnit name inside) = record { head = form.Unit name; block = sites (UnitScope (unit_of name inside)) [] (in_unit (unit_of name inside) inside) }
 headed_of (parts.HasInstance instance) = record {
   head = form.Instance instance.name instance.unit;
@@ -396,7 +396,7 @@ one_headed (parts.Zero count) = refl
 one_headed (parts.Rows count) = refl
 one_headed (parts.Samples port) = refl
 
-each_headed : (all : List Part) → flat_map headed_part all ≡ map headed_of all
+pub each_headed : (all : List Part) → flat_map headed_part all ≡ map headed_of all
 each_headed [] = refl
 each_headed (part ∷ all) = rw (one_headed part, each_headed all) refl
 
@@ -441,7 +441,7 @@ all_within (x ∷ xs) = (_, all_within xs)
 
 -- ---- Which unit, and which instance
 
-abbrev unit_part : Unit → Part
+abbrev pub unit_part : Unit → Part
 unit_part unit = parts.HasUnit unit.name (unit_parts unit)
 
 abbrev is_unit_part : Part → Bool
@@ -526,12 +526,12 @@ each_optional : {A : Type 0} (P : Part → Type 0) (f : A → Part) (given : Opt
 each_optional P f None on = _
 each_optional P f (Some x) on = (on x, _)
 
-abbrev parts_behind : System → List Part
+abbrev pub parts_behind : System → List Part
 parts_behind system =
     map parts.Connects system.wires
     ++ (optional parts.Stop system.stop ++ (optional parts.Longest system.longest ++ (optional parts.Zero system.zero ++ (optional parts.Rows system.rows ++ map parts.Samples system.samples))))
 
-canonical_are : (system : System) → canonical_parts system ≡ map unit_part system.units ++ (map parts.HasInstance system.instances ++ parts_behind system)
+pub canonical_are : (system : System) → canonical_parts system ≡ map unit_part system.units ++ (map parts.HasInstance system.instances ++ parts_behind system)
 canonical_are system =
     grouped (map unit_part system.units) (map parts.HasInstance system.instances) (map parts.Connects system.wires) (optional parts.Stop system.stop) (optional parts.Longest system.longest) (optional parts.Zero system.zero) (optional parts.Rows system.rows) (map parts.Samples system.samples)
 

@@ -4,6 +4,7 @@ pub mod EffectLemmas
 pub mod FoldLemmas
 pub mod JudgementLaws
 pub mod KindLemmas
+pub mod LineLaws
 pub mod NeedLaws
 pub mod OrderLaws
 pub mod PartLaws

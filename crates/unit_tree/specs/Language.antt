@@ -7,7 +7,7 @@ use Rattle.unit_tree.specs.Components.{Component, get_of}
 use Rattle.unit_tree.specs.LineForms.{HasForm}
 use Rattle.unit_tree.specs.Lines.{source_lines}
 use Rattle.unit_tree.specs.Names.{is_among}
-use Rattle.unit_tree.specs.Orders.{DependsOn, HasNoOrder, HasNoCycle, IsFirstWithoutOrder}
+use Rattle.unit_tree.specs.Orders.{IsIn, DependsOn, HasNoOrder, HasNoCycle, IsFirstWithoutOrder, outputs_of, line_of_output}
 use Rattle.unit_tree.specs.Parts.{Part, text_forms, system_of}
 use Rattle.unit_tree.specs.Phrases.{Whole, stands, tree_of}
 use Rattle.unit_tree.specs.Printable.{IsPrintable, is_unsigned}
@@ -65,6 +65,10 @@ OutputsSeeTheirNeeds =
 pub record CyclesHaveNoOrder : Type 0 where
   pub on_cycle : (system : System) (port : PortName) → DependsOn system port port → HasNoOrder system port
   pub behind_cycle : (system : System) (port other : PortName) → DependsOn system port other → HasNoOrder system other → HasNoOrder system port
+
+-- Each output of a well-formed system has its canonical line, at which the rule of cycles can name it.
+abbrev pub OutputsHaveLines : Type 0
+OutputsHaveLines = (system : System) (port : PortName) → IsWellFormed system → IsIn (outputs_of system) port → (line : ℕ) × (line_of_output system port ≡ Some line)
 
 -- A text is refused at one line and by one rule at most.
 abbrev pub IsRefusedOnce : Type 0

@@ -5,7 +5,7 @@ ghost use Rattle.unit_tree.specs.WorkedEvents.{PlainFormsAreWorked, EventsAreWor
 ghost use Rattle.unit_tree.specs.WorkedLimits.{LimitsAreWorked};
 ghost use Rattle.unit_tree.specs.WorkedPhrases.{PhrasesAreWorked};
 ghost use Rattle.unit_tree.specs.WorkedSystems.{SystemsAreWorked, OrdersAreWorked};
-ghost use Rattle.unit_tree.specs.Language.{IsRefusedOnce, IsJudgedOnce, SitesAreCanonicalLines, CanonicalPartsSayTheSystem, CanonicalPhrasesAreRight, CyclesHaveNoOrder, OutputsSeeTheirNeeds};
+ghost use Rattle.unit_tree.specs.Language.{IsRefusedOnce, IsJudgedOnce, SitesAreCanonicalLines, CanonicalPartsSayTheSystem, CanonicalPhrasesAreRight, CyclesHaveNoOrder, OutputsHaveLines, OutputsSeeTheirNeeds};
 ghost use Rattle.unit_tree.specs.WorkedKinds.{KindsAreWorked, WrongKindsAreWorked, LineKindsAreWorked, CostsAreWorked};
 
 /// A law: a composition has at most one trace.
@@ -42,6 +42,11 @@ pub fn canonical_parts_say_the_system()
 /// that the grammar allows.
 pub fn canonical_phrases_are_right()
     ensures { CanonicalPhrasesAreRight }
+{}
+
+/// A law: each output of a well-formed system has its canonical line.
+pub fn outputs_have_lines()
+    ensures { OutputsHaveLines }
 {}
 
 /// A law: what an output gives depends on the inputs in its needs alone.
