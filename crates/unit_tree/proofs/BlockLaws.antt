@@ -247,7 +247,7 @@ step_node (Line-F.Accept value) = subst AreStepLines (sym (rolls-Accept value)) 
 are_step_lines : (some : Line) → AreStepLines some
 are_step_lines = ind-Line AreStepLines (λ x y is. subst (λ z. AreStepLines (roll-Line z)) is (step_node y))
 
-all_step_lines : (lines : List Line) → list_all is_step_line (flat_map line_forms lines) ≡ true
+pub all_step_lines : (lines : List Line) → list_all is_step_line (flat_map line_forms lines) ≡ true
 all_step_lines [] = refl
 all_step_lines (one ∷ lines) = all_of_two is_step_line (line_forms one) (flat_map line_forms lines) (are_step_lines one) (all_step_lines lines)
 

@@ -9,8 +9,10 @@ pub mod NeedLaws
 pub mod OrderLaws
 pub mod PartLaws
 pub mod PhraseLaws
+pub mod RankLaws
 pub mod RefusalLaws
 pub mod PlainLemmas
 pub mod SiteLaws
+pub mod SourceLaws
 pub mod TraceLaws
 pub mod ValueLemmas

@@ -1,6 +1,7 @@
 -- Laws of the language. Those of the first part are proved; those of the second say what a reader, a checker and a
 -- printer of the language owe, and are not proved yet.
 use Rattle.std.specs.Prelude.{◌≡◌, ◌≤◌, ◌⊎◌, ◌↔◌, ⊤, ℕ, ℤ, List, [], ◌∷◌, ◌++◌, map, length, Some, None, IsTrue, IsFalse}
+use Rattle.std.specs.List.Sorted.{IsPermutation}
 use Rattle.unit_tree.specs.Blocks.{no_lines, open_blocks, are_placed}
 use Rattle.unit_tree.specs.Canonical.{canonical_parts, canonical_forms, canonical_phrase, canonical_text, line_text}
 use Rattle.unit_tree.specs.Components.{Component, get_of}
@@ -12,6 +13,7 @@ use Rattle.unit_tree.specs.Parts.{Part, text_forms, system_of}
 use Rattle.unit_tree.specs.Phrases.{Whole, stands, tree_of}
 use Rattle.unit_tree.specs.Printable.{IsPrintable, is_unsigned}
 use Rattle.unit_tree.specs.Sites.{Site, StandsBehind, sites_of}
+use Rattle.unit_tree.specs.SourceLines.{in_canonical_order}
 use Rattle.unit_tree.specs.Texts.{HaveForms, Reads, IsRefused}
 use Rattle.unit_tree.specs.WellFormed.{Refusal, IsWellFormed, IsRefusal, refusal_of, rules, uses_other_input}
 use Rattle.unit_tree.specs.declared.expr.Expr.{Expr}
@@ -69,6 +71,12 @@ pub record CyclesHaveNoOrder : Type 0 where
 -- Each output of a well-formed system has its canonical line, at which the rule of cycles can name it.
 abbrev pub OutputsHaveLines : Type 0
 OutputsHaveLines = (system : System) (port : PortName) → IsWellFormed system → IsIn (outputs_of system) port → (line : ℕ) × (line_of_output system port ≡ Some line)
+
+-- The lines of parts that stand where they may, put into canonical order, are the canonical lines of what the parts say; and
+-- the numbers of a text's lines are put into this order each once.
+pub record SourceLinesAreRight : Type 0 where
+  pub forms : (version : ℕ) (parts : List Part) → IsTrue (are_placed no_lines (text_forms version parts)) → in_canonical_order parts (text_forms version parts) ≡ canonical_forms (system_of version parts)
+  pub each_once : (version : ℕ) (parts : List Part) (lines : List ℕ) → length lines ≡ length (text_forms version parts) → IsPermutation (in_canonical_order parts lines) lines
 
 -- A text is refused at one line and by one rule at most.
 abbrev pub IsRefusedOnce : Type 0

@@ -5,7 +5,7 @@ ghost use Rattle.unit_tree.specs.WorkedEvents.{PlainFormsAreWorked, EventsAreWor
 ghost use Rattle.unit_tree.specs.WorkedLimits.{LimitsAreWorked};
 ghost use Rattle.unit_tree.specs.WorkedPhrases.{PhrasesAreWorked};
 ghost use Rattle.unit_tree.specs.WorkedSystems.{SystemsAreWorked, OrdersAreWorked};
-ghost use Rattle.unit_tree.specs.Language.{IsRefusedOnce, IsJudgedOnce, SitesAreCanonicalLines, CanonicalPartsSayTheSystem, CanonicalPhrasesAreRight, CyclesHaveNoOrder, OutputsHaveLines, OutputsSeeTheirNeeds};
+ghost use Rattle.unit_tree.specs.Language.{IsRefusedOnce, IsJudgedOnce, SitesAreCanonicalLines, CanonicalPartsSayTheSystem, CanonicalPhrasesAreRight, CyclesHaveNoOrder, OutputsHaveLines, OutputsSeeTheirNeeds, SourceLinesAreRight};
 ghost use Rattle.unit_tree.specs.WorkedKinds.{KindsAreWorked, WrongKindsAreWorked, LineKindsAreWorked, CostsAreWorked};
 
 /// A law: a composition has at most one trace.
@@ -47,6 +47,11 @@ pub fn canonical_phrases_are_right()
 /// A law: each output of a well-formed system has its canonical line.
 pub fn outputs_have_lines()
     ensures { OutputsHaveLines }
+{}
+
+/// A law: the lines of a text, put into canonical order, are the canonical lines of its system, and each is kept once.
+pub fn source_lines_are_right()
+    ensures { SourceLinesAreRight }
 {}
 
 /// A law: what an output gives depends on the inputs in its needs alone.
