@@ -1,4 +1,3 @@
-pub mod CounterLemmas
 pub mod EffectLemmas
 pub mod FoldLemmas
 pub mod JudgementLaws
@@ -8,5 +7,4 @@ pub mod PartLaws
 pub mod PhraseLaws
 pub mod RefusalLaws
 pub mod SiteLaws
-pub mod TraceLaws
 pub mod ValueLemmas

@@ -1,21 +1,9 @@
-ghost use Rattle.unit_tree.specs.Laws.{HasAtMostOneTrace};
-ghost use Rattle.unit_tree.specs.Counter.{CounterIsWorked};
 ghost use Rattle.unit_tree.specs.WorkedBlocks.{LinesAreWorked, BlocksAreWorked};
 ghost use Rattle.unit_tree.specs.WorkedLimits.{LimitsAreWorked};
 ghost use Rattle.unit_tree.specs.WorkedPhrases.{PhrasesAreWorked};
 ghost use Rattle.unit_tree.specs.WorkedSystems.{SystemsAreWorked, OrdersAreWorked};
 ghost use Rattle.unit_tree.specs.Language.{IsRefusedOnce, IsJudgedOnce, SitesAreCanonicalLines, CanonicalPartsSayTheSystem, CanonicalPhrasesAreRight, CyclesHaveNoOrder};
 ghost use Rattle.unit_tree.specs.WorkedKinds.{KindsAreWorked, WrongKindsAreWorked, LineKindsAreWorked, CostsAreWorked};
-
-/// A law: a composition has at most one trace.
-pub fn at_most_one_trace()
-    ensures { HasAtMostOneTrace }
-{}
-
-/// The trace of a counter, worked out by hand, is the one that the definitions give.
-pub fn counter_is_worked()
-    ensures { CounterIsWorked }
-{}
 
 /// A law: a text is refused at one line and by one rule at most.
 pub fn texts_are_refused_once()

@@ -14,7 +14,7 @@
 //! `Printable` (the one printed text of a system). Which systems may run: `Names`, `Sites` and `WellFormed`
 //! (the lines that break each rule), and `Orders` (outputs without a cycle).
 //!
-//! `Language` has the laws of the language. The public functions without a body, as [`counter_is_worked`],
+//! `Language` has the laws of the language. The public functions without a body, as [`systems_are_worked`],
 //! are laws of these definitions; those of the files `Worked..` keep them honest on small cases.
 #![tactic(auto)]
 
@@ -26,7 +26,6 @@ mod expr;
 mod laws;
 mod line;
 mod line_form;
-mod point;
 mod system;
 mod token;
 mod unit;
@@ -38,15 +37,15 @@ pub use evaluate::value;
 pub use expr::{BinOp, Expr, UnOp};
 use fixed_words::List;
 pub use laws::{
-    at_most_one_trace, blocks_are_worked, canonical_parts_say_the_system,
-    canonical_phrases_are_right, counter_is_worked, cycles_have_no_order,
+    blocks_are_worked, canonical_parts_say_the_system,
+    canonical_phrases_are_right, cycles_have_no_order,
     each_system_is_judged_once, kinds_and_costs_are_worked, limits_are_worked, lines_are_worked,
     orders_are_worked, phrases_are_worked, sites_are_canonical_lines, systems_are_worked,
     texts_are_refused_once,
 };
 pub use line::Line;
 pub use line_form::LineForm;
-pub use point::Point;
+pub use super_time::Point;
 pub use system::{Column, Instance, PortName, Setting, System, Wire};
 pub use token::{Keyword, Symbol, Token};
 pub use unit::{Input, Local, Output, Param, State, Unit};
