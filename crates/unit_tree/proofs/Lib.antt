@@ -2,6 +2,7 @@ pub mod EffectLemmas
 pub mod FoldLemmas
 pub mod JudgementLaws
 pub mod KindLemmas
+pub mod MeaningLemmas
 pub mod OrderLaws
 pub mod PartLaws
 pub mod PhraseLaws

@@ -28,4 +28,5 @@ pub mod WorkedBlocks
 pub mod WorkedKinds
 pub mod WorkedLimits
 pub mod WorkedPhrases
+pub mod WorkedRuns
 pub mod WorkedSystems

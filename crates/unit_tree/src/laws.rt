@@ -1,3 +1,4 @@
+ghost use Rattle.unit_tree.specs.WorkedRuns.{CountersAreWorked, PortsAreWorked, StepsAreWorked, HeaterIsWorked};
 ghost use Rattle.unit_tree.specs.WorkedBlocks.{LinesAreWorked, BlocksAreWorked};
 ghost use Rattle.unit_tree.specs.WorkedLimits.{LimitsAreWorked};
 ghost use Rattle.unit_tree.specs.WorkedPhrases.{PhrasesAreWorked};
@@ -72,4 +73,12 @@ pub fn orders_are_worked()
 /// How many there may be of each, worked out at the limits.
 pub fn limits_are_worked()
     ensures { LimitsAreWorked }
+{}
+
+/// Traces worked out by hand are those that the definitions give.
+pub fn runs_are_worked()
+    ensures counters { CountersAreWorked }
+    ensures ports { PortsAreWorked }
+    ensures steps { StepsAreWorked }
+    ensures heater { HeaterIsWorked }
 {}
