@@ -1,4 +1,6 @@
+pub mod AssignmentLaws
 pub mod EffectLemmas
+pub mod EquationLaws
 pub mod FoldLemmas
 pub mod JudgementLaws
 pub mod KindLemmas

@@ -16,6 +16,7 @@ pub mod Parts
 pub mod Phrases
 pub mod Ports
 pub mod Printable
+pub mod RunLaws
 pub mod Sites
 pub mod Successor
 pub mod Texts

@@ -26,6 +26,7 @@ mod expr;
 mod laws;
 mod line;
 mod line_form;
+mod run_laws;
 mod system;
 mod token;
 mod unit;
@@ -46,6 +47,7 @@ pub use laws::{
 pub use line::Line;
 pub use line_form::LineForm;
 pub use super_time::Point;
+pub use run_laws::{assignments_are_unique, undefined_outputs_fault};
 pub use system::{Column, Instance, PortName, Setting, System, Wire};
 pub use token::{Keyword, Symbol, Token};
 pub use unit::{Input, Local, Output, Param, State, Unit};
