@@ -1,4 +1,5 @@
 pub mod AssignmentLaws
+pub mod EffectKeeps
 pub mod EffectLemmas
 pub mod EquationLaws
 pub mod FoldLemmas
@@ -10,4 +11,5 @@ pub mod PartLaws
 pub mod PhraseLaws
 pub mod RefusalLaws
 pub mod SiteLaws
+pub mod StepLaws
 pub mod ValueLemmas

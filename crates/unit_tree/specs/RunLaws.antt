@@ -1,8 +1,12 @@
 -- Laws of runs.
 use Rattle.std.specs.Prelude.{◌≡◌, ◌↔◌, ℕ, ◌≤◌, ◌<◌, ◌-◌, true, ℤ, List, [], ◌∷◌, length, is_some, Option, Some, None, Result, Ok}
 use Rattle.std.specs.List.{AllByRecursion, list_all}
-use Rattle.unit_tree.specs.Compositions.{Composition}
+use Rattle.super_time.specs.LocalTime.{local_step}
+use Rattle.unit_tree.specs.Components.{Component, Moved, step_of}
+use Rattle.unit_tree.specs.Compositions.{Composition, Member}
+use Rattle.unit_tree.specs.Negotiation.{proposal_of, reply_of, agreed_step}
 use Rattle.unit_tree.specs.Ports.{Ports, IsAmong, IsAssignment, IsPlaceOrder, port_fault}
+use Rattle.unit_tree.specs.Traces.{AreWordsOf}
 
 -- A composition whose places have an order has exactly one port assignment for states, of which each member has one.
 pub record HasOneAssignment (run : Composition) (states : List (List ℤ)) : Type 0 where
@@ -18,3 +22,42 @@ AssignmentsAreUnique =
 abbrev pub UndefinedOutputsFault : Type 0
 UndefinedOutputsFault =
     (run : Composition) (order : List ℕ) (states : List (List ℤ)) (ports : Ports) → IsPlaceOrder run order → length states ≡ length run.members → IsAssignment run states ports → (port_fault run states ports ≡ None) ↔ (list_all is_some ports ≡ true)
+
+-- ---- Steps
+
+-- What the length of a step keeps to.
+pub record IsAllowed (stop longest t : ℕ) (limits : List ℕ) (h : ℕ) : Type 0 where
+  pub within_stop : h ≤ stop - t
+  pub within_longest : h ≤ longest
+  pub within_limits : AllByRecursion (λ limit. h ≤ limit) limits
+
+pub record IsGreatest (P : ℕ → Type 0) (greatest : ℕ) : Type 0 where
+  pub holds : P greatest
+  pub is_greatest : (h : ℕ) → P h → h ≤ greatest
+
+-- The proposal is the greatest length that the stop, `longest` and every limit allow.
+abbrev pub ProposalsAreGreatest : Type 0
+ProposalsAreGreatest = (stop longest t : ℕ) (limits : List ℕ) → IsGreatest (IsAllowed stop longest t limits) (proposal_of stop longest t limits)
+
+-- A reply is at most the step.
+abbrev pub RepliesAreAtMost : Type 0
+RepliesAreAtMost = (factor t h accepted : ℕ) → 1 ≤ factor → accepted ≤ local_step factor t h → reply_of factor t h accepted ≤ h
+
+pub record IsLeastOf (numbers : List ℕ) (least : ℕ) : Type 0 where
+  pub is_one : IsAmong numbers least
+  pub is_least : AllByRecursion (λ number. least ≤ number) numbers
+
+-- The agreed step is at most every reply, and is one of them.
+abbrev pub AgreedStepsAreLeast : Type 0
+AgreedStepsAreLeast = (h first : ℕ) (others : List ℕ) → IsLeastOf (first ∷ others) (agreed_step h (first ∷ others))
+
+-- ---- Words
+
+-- A step keeps one word for each state, of its type, and accepts at most its whole length.
+pub record KeepsWords (component : Component) (step : ℕ) (moved : Moved) : Type 0 where
+  pub words : AreWordsOf component.unit.states moved.state
+  pub accepted : moved.accepted ≤ step
+
+abbrev pub StepsKeepWords : Type 0
+StepsKeepWords =
+    (component : Component) (state inputs : List ℤ) (time step : ℕ) (moved : Moved) → length component.params ≡ length component.unit.params → AreWordsOf component.unit.states state → step_of component state inputs time step ≡ Ok moved → KeepsWords component step moved

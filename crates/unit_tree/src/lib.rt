@@ -47,7 +47,9 @@ pub use laws::{
 pub use line::Line;
 pub use line_form::LineForm;
 pub use super_time::Point;
-pub use run_laws::{assignments_are_unique, undefined_outputs_fault};
+pub use run_laws::{
+    assignments_are_unique, steps_are_negotiated, steps_keep_words, undefined_outputs_fault,
+};
 pub use system::{Column, Instance, PortName, Setting, System, Wire};
 pub use token::{Keyword, Symbol, Token};
 pub use unit::{Input, Local, Output, Param, State, Unit};
