@@ -139,7 +139,7 @@ outlet_is_there ports outlet defined none =
     word_there ports outlet (get_of outlet.standing.0.component outlet.standing.1 inputs.0 outlet.output)
     (ap (option_map (λ inputs. get_of outlet.standing.0.component outlet.standing.1 inputs outlet.output)) inputs.1) none
 
-none_at : (all : List (Option Ending)) (place : ℕ) (found : Option Ending) → first_some all ≡ None → slice_get all place ≡ Some found → found ≡ None
+pub none_at : (all : List (Option Ending)) (place : ℕ) (found : Option Ending) → first_some all ≡ None → slice_get all place ≡ Some found → found ≡ None
 none_at [] place found none is = absurd (cc)
 none_at (None ∷ all) zero found none is = cc
 none_at (None ∷ all) (suc place) found none is = none_at all place found none is

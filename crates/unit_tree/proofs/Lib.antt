@@ -1,6 +1,7 @@
 pub mod AssignmentLaws
 pub mod EffectKeeps
 pub mod EffectLemmas
+pub mod EndLaws
 pub mod EquationLaws
 pub mod FoldLemmas
 pub mod JudgementLaws
@@ -9,7 +10,9 @@ pub mod MeaningLemmas
 pub mod OrderLaws
 pub mod PartLaws
 pub mod PhraseLaws
+pub mod PositionLaws
 pub mod RefusalLaws
+pub mod RunTraces
 pub mod SiteLaws
 pub mod StepLaws
 pub mod ValueLemmas

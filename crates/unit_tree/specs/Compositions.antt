@@ -1,7 +1,7 @@
 -- What is run: the instances of a system as components, each with its clock, and where the word of each of its
 -- inputs comes from. Names are resolved here, and nowhere below.
-use Rattle.std.specs.Prelude.{ℕ, ◌-◌, ◌/◌, ◌^◌, min, ℤ, List, [], ◌∷◌, map, length, if◌then◌else◌, Option, Some, None}
-use Rattle.std.specs.List.{filter_map, position_or_len}
+use Rattle.std.specs.Prelude.{◌≡◌, ◌≤◌, ℕ, ◌-◌, ◌/◌, ◌^◌, min, ℤ, List, [], ◌∷◌, map, length, if◌then◌else◌, Option, Some, None}
+use Rattle.std.specs.List.{AllByRecursion, filter_map, position_or_len}
 use Rattle.std.specs.Option.{unwrap_or}
 use Rattle.std.specs.Str.{bytes_eq}
 use Rattle.fixed_words.specs.declared.types.Literal.{Literal}
@@ -31,6 +31,12 @@ pub record Member : Type 0 where
   pub factor : ℕ
   pub sources : List Source
 
+-- A local tick is one of the system at least, each parameter has a word, and each input a source.
+pub record IsMember (member : Member) : Type 0 where
+  pub factor : 1 ≤ member.factor
+  pub params : length member.component.params ≡ length member.component.unit.params
+  pub sources : length member.sources ≡ length member.component.unit.inputs
+
 -- Members, where their run ends, the longest step that it makes, both in ticks, how many steps of length zero may
 -- follow each other, and how many rows there may be.
 pub record Composition : Type 0 where
@@ -39,6 +45,9 @@ pub record Composition : Type 0 where
   pub longest : ℕ
   pub zero_budget : ℕ
   pub row_budget : ℕ
+
+abbrev pub AreMembers : Composition → Type 0
+AreMembers run = AllByRecursion IsMember run.members
 
 -- ---- The composition of a system
 

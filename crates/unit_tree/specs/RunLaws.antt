@@ -1,12 +1,17 @@
 -- Laws of runs.
-use Rattle.std.specs.Prelude.{◌≡◌, ◌↔◌, ℕ, ◌≤◌, ◌<◌, ◌-◌, true, ℤ, List, [], ◌∷◌, length, is_some, Option, Some, None, Result, Ok}
+use Rattle.std.specs.Prelude.{◌≡◌, ◌↔◌, ℕ, ◌≤◌, ◌-◌, true, false, ℤ, List, [], ◌∷◌, length, is_some, Option, Some, None, Result, Ok}
 use Rattle.std.specs.List.{AllByRecursion, list_all}
 use Rattle.super_time.specs.LocalTime.{local_step}
 use Rattle.unit_tree.specs.Components.{Component, Moved, step_of}
-use Rattle.unit_tree.specs.Compositions.{Composition, Member}
+use Rattle.unit_tree.specs.Compositions.{Composition, AreMembers, composition_of}
 use Rattle.unit_tree.specs.Negotiation.{proposal_of, reply_of, agreed_step}
+use Rattle.unit_tree.specs.Orders.{HasNoCycle}
 use Rattle.unit_tree.specs.Ports.{Ports, IsAmong, IsAssignment, IsPlaceOrder, port_fault}
-use Rattle.unit_tree.specs.Traces.{AreWordsOf}
+use Rattle.unit_tree.specs.Successor.{Position, goes, ends, first_position, after, agreed, proposed, is_redone, trial_end, redo_end, redo_end_by, zero_end, successor}
+use Rattle.unit_tree.specs.Traces.{Stand, IsGoing, IsTrace, AreWordsOf, HasWords}
+use Rattle.unit_tree.specs.WellFormed.{IsWellFormed}
+use Rattle.unit_tree.specs.declared.ending.Ending.{Ending}
+use Rattle.unit_tree.specs.declared.system.System.{System}
 
 -- A composition whose places have an order has exactly one port assignment for states, of which each member has one.
 pub record HasOneAssignment (run : Composition) (states : List (List ℤ)) : Type 0 where
@@ -61,3 +66,48 @@ pub record KeepsWords (component : Component) (step : ℕ) (moved : Moved) : Typ
 abbrev pub StepsKeepWords : Type 0
 StepsKeepWords =
     (component : Component) (state inputs : List ℤ) (time step : ℕ) (moved : Moved) → length component.params ≡ length component.unit.params → AreWordsOf component.unit.states state → step_of component state inputs time step ≡ Ok moved → KeepsWords component step moved
+
+-- The components of a system are members.
+abbrev pub SystemsHaveMembers : Type 0
+SystemsHaveMembers = (system : System) → AreMembers (composition_of system)
+
+-- A run starts with words of their types, and keeps them from a position to the next.
+pub record PositionsKeepWords (run : Composition) : Type 0 where
+  pub first : HasWords run (first_position run)
+  pub next : (at : Position) (ports : Ports) → HasWords run at → HasWords run (after run at ports)
+
+abbrev pub RunsKeepWords : Type 0
+RunsKeepWords = (run : Composition) → AreMembers run → PositionsKeepWords run
+
+-- The agreed step is at most the proposal.
+abbrev pub AgreedStepsAreAtMost : Type 0
+AgreedStepsAreAtMost = (run : Composition) (at : Position) (ports : Ports) → AreMembers run → HasWords run at → agreed run at ports ≤ proposed run at ports
+
+-- ---- Ends
+
+-- How the run goes on from a stand at which it does not end before its trial.
+pub record EndsInOrder (run : Composition) (stand : Stand) : Type 0 where
+  pub trial_ends : (ending : Ending) → trial_end run stand.at stand.ports ≡ Some ending → successor run stand.at stand.ports ≡ ends ending
+  pub redo_ends : (ending : Ending) → trial_end run stand.at stand.ports ≡ None → is_redone run stand.at stand.ports ≡ true → redo_end_by run stand.at stand.ports (agreed run stand.at stand.ports) ≡ Some ending → successor run stand.at stand.ports ≡ ends ending
+  pub zero_ends : (ending : Ending) → trial_end run stand.at stand.ports ≡ None → redo_end run stand.at stand.ports ≡ None → zero_end run stand.at stand.ports ≡ Some ending → successor run stand.at stand.ports ≡ ends ending
+  pub whole_goes : trial_end run stand.at stand.ports ≡ None → is_redone run stand.at stand.ports ≡ false → zero_end run stand.at stand.ports ≡ None → successor run stand.at stand.ports ≡ goes (after run stand.at stand.ports)
+  pub redo_goes : trial_end run stand.at stand.ports ≡ None → is_redone run stand.at stand.ports ≡ true → redo_end_by run stand.at stand.ports (agreed run stand.at stand.ports) ≡ None → zero_end run stand.at stand.ports ≡ None → successor run stand.at stand.ports ≡ goes (after run stand.at stand.ports)
+
+abbrev pub EndsAreJudgedInOrder : Type 0
+EndsAreJudgedInOrder = (run : Composition) (stand : Stand) → IsGoing run stand → EndsInOrder run stand
+
+-- ---- Traces
+
+-- There is one trace, with one end, and no other.
+pub record HasOneTrace (run : Composition) : Type 0 where
+  pub stands : List Stand
+  pub ending : Ending
+  pub is_trace : IsTrace run stands ending
+  pub is_only : (other : List Stand) (end : Ending) → IsTrace run other end → (other ≡ stands) × (end ≡ ending)
+
+abbrev pub OrderedRunsHaveOneTrace : Type 0
+OrderedRunsHaveOneTrace = (run : Composition) (order : List ℕ) → AreMembers run → IsPlaceOrder run order → HasOneTrace run
+
+-- A system that is well-formed and has no cycle has exactly one trace.
+abbrev pub SystemsHaveOneTrace : Type 0
+SystemsHaveOneTrace = (system : System) → IsWellFormed system → HasNoCycle system → HasOneTrace (composition_of system)

@@ -34,6 +34,14 @@ abbrev pub IsTrace : Composition → List Stand → Ending → Type 0
 IsTrace run [] ending = ⊥
 IsTrace run (first ∷ others) ending = (first.at ≡ first_position run) × IsStand run first × Follows run first others ending
 
+-- The run does not end at the stand before its trial: no output faults, it is not at its stop, it may have more rows,
+-- and no `max` faults.
+pub record IsGoing (run : Composition) (stand : Stand) : Type 0 where
+  pub ports_known : port_fault run stand.at.states stand.ports ≡ None
+  pub before_stop : stop_end run stand.at ≡ None
+  pub rows_left : row_end run stand.at ≡ None
+  pub limits_told : max_end run stand.at stand.ports ≡ None
+
 -- A stand is reached from another by so many successors, the last of them from `last`, which is the stand itself
 -- where there is none.
 abbrev pub Reaches : Composition → ℕ → Stand → Stand → Stand → Type 0

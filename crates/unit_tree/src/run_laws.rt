@@ -1,5 +1,5 @@
 //! Laws of the definitions of a run.
-ghost use Rattle.unit_tree.specs.RunLaws.{AssignmentsAreUnique, UndefinedOutputsFault, ProposalsAreGreatest, RepliesAreAtMost, AgreedStepsAreLeast, StepsKeepWords};
+ghost use Rattle.unit_tree.specs.RunLaws.{AssignmentsAreUnique, UndefinedOutputsFault, ProposalsAreGreatest, RepliesAreAtMost, AgreedStepsAreLeast, AgreedStepsAreAtMost, StepsKeepWords, SystemsHaveMembers, RunsKeepWords, EndsAreJudgedInOrder, OrderedRunsHaveOneTrace, SystemsHaveOneTrace};
 
 /// A law: where the outputs have an order, there is exactly one port assignment.
 pub fn assignments_are_unique()
@@ -12,14 +12,37 @@ pub fn undefined_outputs_fault()
 {}
 
 /// A law: a proposal is the greatest length that is allowed, a reply is at most the step, and the agreed step is the
-/// least reply.
+/// least reply, so at most the proposal.
 pub fn steps_are_negotiated()
     ensures proposal { ProposalsAreGreatest }
     ensures reply { RepliesAreAtMost }
     ensures agreed { AgreedStepsAreLeast }
+    ensures at_most { AgreedStepsAreAtMost }
 {}
 
 /// A law: a step of a component keeps its words in their types, and accepts at most its whole length.
 pub fn steps_keep_words()
     ensures { StepsKeepWords }
+{}
+
+/// A law: a run keeps one state for each member, with words of their types.
+pub fn runs_keep_words()
+    ensures members { SystemsHaveMembers }
+    ensures words { RunsKeepWords }
+{}
+
+/// A law: where a run does not end before its trial, the end in the trial comes first, then that of a step made anew,
+/// then that of the zero budget; and where there is none of them it goes on.
+pub fn ends_are_judged_in_order()
+    ensures { EndsAreJudgedInOrder }
+{}
+
+/// A law: a composition whose outputs have an order has exactly one trace.
+pub fn ordered_runs_have_one_trace()
+    ensures { OrderedRunsHaveOneTrace }
+{}
+
+/// A law: a system that is well-formed and without a cycle has exactly one trace.
+pub fn systems_have_one_trace()
+    ensures { SystemsHaveOneTrace }
 {}

@@ -1,0 +1,14 @@
+-- How a run goes on from a stand at which it does not end before its trial.
+use Rattle.std.proofs.Common.{refl}
+use Rattle.unit_tree.specs.Compositions.{Composition}
+use Rattle.unit_tree.specs.RunLaws.{EndsInOrder}
+use Rattle.unit_tree.specs.Traces.{Stand, IsGoing}
+
+pub ends_in_order : (run : Composition) (stand : Stand) → IsGoing run stand → EndsInOrder run stand
+ends_in_order run stand going = record {
+  trial_ends = λ ending is. rw (going.ports_known, going.before_stop, going.rows_left, going.limits_told, is) refl;
+  redo_ends = λ ending whole redone is. rw (going.ports_known, going.before_stop, going.rows_left, going.limits_told, whole, redone, is) refl;
+  zero_ends = λ ending whole accepted is. rw (going.ports_known, going.before_stop, going.rows_left, going.limits_told, whole, accepted, is) refl;
+  whole_goes = λ whole same within. rw (going.ports_known, going.before_stop, going.rows_left, going.limits_told, whole, same, within) refl;
+  redo_goes = λ whole redone accepted within. rw (going.ports_known, going.before_stop, going.rows_left, going.limits_told, whole, redone, accepted, within) refl;
+}
