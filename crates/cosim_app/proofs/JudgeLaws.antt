@@ -8,7 +8,7 @@ use Rattle.unit_tokens.proofs.LineLemmas.{length_le_size_of}
 use Rattle.unit_text.proofs.ReadingLemmas.{refused_long}
 use Rattle.unit_tree.specs.Lines.{size_of}
 use Rattle.unit_tree.specs.declared.ending.Ending.{Ending}
-use Rattle.unit_tree.specs.declared.ending.Ending.TheVariants.{Completed, Faulted}
+use Rattle.unit_tree.specs.declared.ending.Ending.TheVariants.{Completed, RowBudget, ZeroBudget, UnitFault, StepRefused}
 use Rattle.unit_tree.specs.declared.system.System.{System}
 use Rattle.cosim_io.specs.Pieces.{ConsumesExactly}
 use Rattle.cosim_io.proofs.PieceLemmas.{AppendsPrefix-nil, AppendsPrefix-whole}
@@ -33,7 +33,7 @@ puts_answer text system held held' result end given note accepted puts is given_
     let done = ended.whole trace.0 trace.1.0 trace.1.1 in
     record {
       answer = run_answer system trace.0 trace.1.0;
-      is = inr (record { system = system; accepted = accepted; positions = trace.0; ending = trace.1.0; trace = trace.1.1; is = refl });
+      is = inr (record { system = system; accepted = accepted; stands = trace.0; ending = trace.1.0; trace = trace.1.1; is = refl });
       out = done.0;
       notes = note_is ∙ ap (λ ending. ending_note system ending end.last) done.1 ∙ ap (ending_note system trace.1.0) done.2;
       same_status = given_is ∙ ap status_of done.1;
@@ -46,7 +46,7 @@ puts_front text system held held' result fault accepted puts is =
     let given_up = subst (PutsTrace system held held') is puts in
     record {
       answer = run_answer system trace.0 trace.1.0;
-      is = inr (record { system = system; accepted = accepted; positions = trace.0; ending = trace.1.0; trace = trace.1.1; is = refl });
+      is = inr (record { system = system; accepted = accepted; stands = trace.0; ending = trace.1.0; trace = trace.1.1; is = refl });
       front = given_up.front trace.0 trace.1.0 trace.1.1;
     }
 
@@ -58,23 +58,29 @@ puts_front_of text system held held' result end accepted puts is =
     let done = ended.whole trace.0 trace.1.0 trace.1.1 in
     record {
       answer = run_answer system trace.0 trace.1.0;
-      is = inr (record { system = system; accepted = accepted; positions = trace.0; ending = trace.1.0; trace = trace.1.1; is = refl });
+      is = inr (record { system = system; accepted = accepted; stands = trace.0; ending = trace.1.0; trace = trace.1.1; is = refl });
       front = AppendsPrefix-whole held held' (run_answer system trace.0 trace.1.0).out done.0;
     }
 
 -- the statuses of a trace's ends
 pub ends_own : (ending : Ending) (given : Status) → given ≡ status_of ending → IsOwn given
 ends_own Completed given is = subst IsOwn (sym is) tt
-ends_own (Faulted instance place fault) given is = subst IsOwn (sym is) tt
+ends_own RowBudget given is = subst IsOwn (sym is) tt
+ends_own ZeroBudget given is = subst IsOwn (sym is) tt
+ends_own (StepRefused instance asked accepted) given is = subst IsOwn (sym is) tt
+ends_own (UnitFault instance place fault) given is = subst IsOwn (sym is) tt
 
 pub ends_unrefused : (ending : Ending) (given : Status) → given ≡ status_of ending → given ≡ status.Refused → ⊥
 ends_unrefused Completed given is refused = cc
-ends_unrefused (Faulted instance place fault) given is refused = cc
+ends_unrefused RowBudget given is refused = cc
+ends_unrefused ZeroBudget given is refused = cc
+ends_unrefused (StepRefused instance asked accepted) given is refused = cc
+ends_unrefused (UnitFault instance place fault) given is refused = cc
 
 answer_of : (text : List ℕ) → IsAnswered text → (answer : Answer) × RunAnswers text answer
 answer_of text (inl (system, accepted)) =
     let trace = trace_exists system (runnable text system accepted) in
-    (run_answer system trace.0 trace.1.0, inr (record { system = system; accepted = accepted; positions = trace.0; ending = trace.1.0; trace = trace.1.1; is = refl }))
+    (run_answer system trace.0 trace.1.0, inr (record { system = system; accepted = accepted; stands = trace.0; ending = trace.1.0; trace = trace.1.1; is = refl }))
 answer_of text (inr refusal) =
     (refused_answer refusal.0 refusal.1, inl (record { line = refusal.0; rule = refusal.1; refused = refusal.2; is = refl }))
 

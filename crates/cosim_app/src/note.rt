@@ -1,6 +1,6 @@
 //! The notes of the program.
 ghost use Rattle.std.specs.Prelude.{◌≡◌, ◌++◌, IfOk};
-ghost use Rattle.cosim_app.specs.Notes.{fault_number, refused_note, fault_text, ending_note};
+ghost use Rattle.cosim_app.specs.Notes.{fault_number, refused_note, fault_text, budget_text, step_refused_text, ending_note};
 ghost use Rattle.cosim_app.specs.OneComponent.{IsOfFirst};
 ghost use Rattle.cosim_app.specs.Runnable.{IsRunnable};
 
@@ -77,30 +77,84 @@ fn fault_note(
     Ok(note)
 }
 
+/// A budget that was spent at a point.
+fn budget_note(alloc: Global, budget: &[u8], point: Point) -> Result<Vec<u8>, NoMemory>
+    ensures { IfOk result (λ note. note.items ≡ budget_text budget.now point) }
+{
+    let (mut time, mut index) = (Buffer::new(), Buffer::new());
+    let mut note = Vec::new(alloc);
+    append_all(&mut note, &[b"cosim: ", budget, b" budget at "])?;
+    append_all(
+        &mut note,
+        &[
+            time.format(point.t).as_bytes(),
+            b",",
+            index.format(point.n).as_bytes(),
+            b"\n",
+        ],
+    )?;
+    Ok(note)
+}
+
+/// A step that an instance refused: its length, and what it accepted, in its local ticks.
+fn refused_step_note(
+    alloc: Global,
+    instance: &[u8],
+    asked: u64,
+    accepted: u64,
+    point: Point,
+) -> Result<Vec<u8>, NoMemory>
+    ensures { IfOk result (λ note. note.items ≡ step_refused_text instance.now asked accepted point) }
+{
+    let (mut length, mut part) = (Buffer::new(), Buffer::new());
+    let (mut time, mut index) = (Buffer::new(), Buffer::new());
+    let mut note = Vec::new(alloc);
+    append_all(&mut note, &[b"cosim: ", instance, b" refused "])?;
+    append_all(
+        &mut note,
+        &[
+            length.format(asked).as_bytes(),
+            b", accepted ",
+            part.format(accepted).as_bytes(),
+            b", at ",
+        ],
+    )?;
+    append_all(
+        &mut note,
+        &[
+            time.format(point.t).as_bytes(),
+            b",",
+            index.format(point.n).as_bytes(),
+            b"\n",
+        ],
+    )?;
+    Ok(note)
+}
+
 /// How a run ended: nothing where it came to its stop.
 pub fn ending(alloc: Global, system: &System, end: RunEnd) -> Result<Vec<u8>, NoMemory>
     requires runnable { IsRunnable system.now }
     requires first { IsOfFirst end.ending }
     ensures { IfOk result (λ note. note.items ≡ ending_note system.now end.ending end.last) }
 {
+    let last = end.last;
+    let instance = system.instances.as_slice()[0].name.as_slice();
     match end.ending {
         Ending::Completed => Ok(Vec::new(alloc)),
-        Ending::Faulted { place, fault, .. } => {
-            let instance = system.instances.as_slice()[0].name.as_slice();
-            let output = system.units.as_slice()[0].outputs.as_slice()[0]
-                .name
-                .as_slice();
-            match place {
-                Place::Output(_) => fault_note(
-                    alloc,
-                    instance,
-                    b" output ",
-                    output,
-                    fault,
-                    end.last,
-                ),
-                Place::Step => fault_note(alloc, instance, b" step", b"", fault, end.last),
+        Ending::RowBudget => budget_note(alloc, b"row", last),
+        Ending::ZeroBudget => budget_note(alloc, b"zero", last),
+        Ending::UnitFault { place, fault, .. } => match place {
+            Place::Output(_) => {
+                let output = system.units.as_slice()[0].outputs.as_slice()[0]
+                    .name
+                    .as_slice();
+                fault_note(alloc, instance, b" output ", output, fault, last)
             }
-        }
+            Place::Max => fault_note(alloc, instance, b" max", b"", fault, last),
+            Place::Step => fault_note(alloc, instance, b" step", b"", fault, last),
+        },
+        Ending::StepRefused {
+            asked, accepted, ..
+        } => refused_step_note(alloc, instance, asked, accepted, last),
     }
 }

@@ -7,7 +7,7 @@ use Rattle.unit_tree.specs.Compositions.{Composition, AreMembers, composition_of
 use Rattle.unit_tree.specs.Negotiation.{proposal_of, reply_of, agreed_step}
 use Rattle.unit_tree.specs.Orders.{HasNoCycle}
 use Rattle.unit_tree.specs.Ports.{Ports, IsAmong, IsAssignment, IsPlaceOrder, port_fault}
-use Rattle.unit_tree.specs.Successor.{Position, goes, ends, first_position, after, agreed, proposed, is_redone, trial_end, redo_end, redo_end_by, zero_end, successor}
+use Rattle.unit_tree.specs.Successor.{Position, goes, ends, first_position, after, agreed, proposed, is_redone, stop_end, row_end, max_end, trial_end, redo_end, redo_end_by, zero_end, successor}
 use Rattle.unit_tree.specs.Traces.{Stand, IsGoing, IsTrace, AreWordsOf, HasWords}
 use Rattle.unit_tree.specs.WellFormed.{IsWellFormed}
 use Rattle.unit_tree.specs.declared.ending.Ending.{Ending}
@@ -92,6 +92,16 @@ pub record EndsInOrder (run : Composition) (stand : Stand) : Type 0 where
   pub zero_ends : (ending : Ending) → trial_end run stand.at stand.ports ≡ None → redo_end run stand.at stand.ports ≡ None → zero_end run stand.at stand.ports ≡ Some ending → successor run stand.at stand.ports ≡ ends ending
   pub whole_goes : trial_end run stand.at stand.ports ≡ None → is_redone run stand.at stand.ports ≡ false → zero_end run stand.at stand.ports ≡ None → successor run stand.at stand.ports ≡ goes (after run stand.at stand.ports)
   pub redo_goes : trial_end run stand.at stand.ports ≡ None → is_redone run stand.at stand.ports ≡ true → redo_end_by run stand.at stand.ports (agreed run stand.at stand.ports) ≡ None → zero_end run stand.at stand.ports ≡ None → successor run stand.at stand.ports ≡ goes (after run stand.at stand.ports)
+
+-- How it ends at a stand before a trial.
+pub record FirstEndsInOrder (run : Composition) (stand : Stand) : Type 0 where
+  pub port_ends : (ending : Ending) → port_fault run stand.at.states stand.ports ≡ Some ending → successor run stand.at stand.ports ≡ ends ending
+  pub stop_ends : (ending : Ending) → port_fault run stand.at.states stand.ports ≡ None → stop_end run stand.at ≡ Some ending → successor run stand.at stand.ports ≡ ends ending
+  pub row_ends : (ending : Ending) → port_fault run stand.at.states stand.ports ≡ None → stop_end run stand.at ≡ None → row_end run stand.at ≡ Some ending → successor run stand.at stand.ports ≡ ends ending
+  pub max_ends : (ending : Ending) → port_fault run stand.at.states stand.ports ≡ None → stop_end run stand.at ≡ None → row_end run stand.at ≡ None → max_end run stand.at stand.ports ≡ Some ending → successor run stand.at stand.ports ≡ ends ending
+
+abbrev pub FirstEndsAreJudgedInOrder : Type 0
+FirstEndsAreJudgedInOrder = (run : Composition) (stand : Stand) → FirstEndsInOrder run stand
 
 abbrev pub EndsAreJudgedInOrder : Type 0
 EndsAreJudgedInOrder = (run : Composition) (stand : Stand) → IsGoing run stand → EndsInOrder run stand

@@ -1,5 +1,5 @@
 //! Laws of the definitions of a run.
-ghost use Rattle.unit_tree.specs.RunLaws.{AssignmentsAreUnique, UndefinedOutputsFault, ProposalsAreGreatest, RepliesAreAtMost, AgreedStepsAreLeast, AgreedStepsAreAtMost, StepsKeepWords, SystemsHaveMembers, RunsKeepWords, EndsAreJudgedInOrder, OrderedRunsHaveOneTrace, SystemsHaveOneTrace};
+ghost use Rattle.unit_tree.specs.RunLaws.{AssignmentsAreUnique, UndefinedOutputsFault, ProposalsAreGreatest, RepliesAreAtMost, AgreedStepsAreLeast, AgreedStepsAreAtMost, StepsKeepWords, SystemsHaveMembers, RunsKeepWords, FirstEndsAreJudgedInOrder, EndsAreJudgedInOrder, OrderedRunsHaveOneTrace};
 
 /// A law: where the outputs have an order, there is exactly one port assignment.
 pub fn assignments_are_unique()
@@ -31,18 +31,15 @@ pub fn runs_keep_words()
     ensures words { RunsKeepWords }
 {}
 
-/// A law: where a run does not end before its trial, the end in the trial comes first, then that of a step made anew,
-/// then that of the zero budget; and where there is none of them it goes on.
+/// A law: a run ends by a port fault, or else at its stop, with its last row, or by a fault of a `max`; where it does
+/// not, the end in the trial comes first, then that of a step made anew, then that of the zero budget; and where there
+/// is none of them it goes on.
 pub fn ends_are_judged_in_order()
-    ensures { EndsAreJudgedInOrder }
+    ensures before_trial { FirstEndsAreJudgedInOrder }
+    ensures from_trial { EndsAreJudgedInOrder }
 {}
 
 /// A law: a composition whose outputs have an order has exactly one trace.
 pub fn ordered_runs_have_one_trace()
     ensures { OrderedRunsHaveOneTrace }
-{}
-
-/// A law: a system that is well-formed and without a cycle has exactly one trace.
-pub fn systems_have_one_trace()
-    ensures { SystemsHaveOneTrace }
 {}
