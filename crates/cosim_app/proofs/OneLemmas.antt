@@ -30,7 +30,7 @@ use Rattle.cosim_app.specs.OneComponent.{at, one, IsPlain, given_in, plain_env}
 abbrev pub component_of : Unit → Component
 component_of unit = record { unit = unit; params = [] }
 
-abbrev member_of : Unit → Member
+abbrev pub member_of : Unit → Member
 member_of unit = record { component = component_of unit; factor = 1; sources = [] }
 
 -- ---- Stands of a run at a time

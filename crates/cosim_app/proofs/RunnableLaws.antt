@@ -1,7 +1,9 @@
 -- A runnable system as one component, and the text of its trace.
-use Rattle.std.proofs.Common.{◌≡◌, ℕ, ◌-◌, ◌*◌, ◌/◌, ◌%◌, ◌^◌, ◌==◌, min, max, length, pos, arith, true, List, [], ◌∷◌, ◌++◌, map, Option, Some, None, Result, Ok, Err, refl, sym, ap, eq-eqb, subst, ◌∙◌}
-use Rattle.std.specs.Prelude.{IsErr, cond, unsigned_abs, unwrap_or, fold}
+use Rattle.std.proofs.Common.{◌≡◌, ℕ, ◌-◌, ◌*◌, ◌/◌, ◌%◌, ◌^◌, ◌==◌, min, max, length, pos, arith, true, false, List, [], ◌∷◌, ◌++◌, map, Option, Some, None, Result, Ok, Err, refl, sym, ap, eq-eqb, subst, ◌∙◌}
+use Rattle.std.specs.Prelude.{IsErr, cond, not, ◌&&◌, unsigned_abs, unwrap_or, fold}
+use Rattle.std.specs.Int.{is_negative}
 use Rattle.std.specs.Option.{option_map}
+use Rattle.std.proofs.lemmas.Bool.Decides.{nat_tests}
 use Rattle.super_time.specs.Seconds.{ticks_in}
 use Rattle.unit_tree.specs.Names.{unit_of_instance}
 use Rattle.unit_tree.specs.WellFormed.{unit_resolution, resolution_of}
@@ -65,7 +67,11 @@ whole_ticks seconds =
     let digits : unsigned_abs (pos seconds) ≡ seconds = omega arith in
     let rest : (seconds * 1) % 1 ≡ 0 = omega arith in
     let all : seconds * 1 / 1 ≡ seconds = omega arith in
-    ap (λ d. cond ((d * 1) % 1 == 0) (Some (d * 1 / 1)) None) digits ∙ ap (λ r. cond (r == 0) (Some (seconds * 1 / 1)) None) rest ∙ ap Some all
+    let positive : is_negative (pos seconds) ≡ false = grind (arith, nat_tests) in
+    ap (λ b. cond (not b && ((unsigned_abs (pos seconds) * 1) % 1 == 0)) (Some (unsigned_abs (pos seconds) * 1 / 1)) None) positive
+    ∙ ap (λ d. cond ((d * 1) % 1 == 0) (Some (d * 1 / 1)) None) digits
+    ∙ ap (λ r. cond (r == 0) (Some (seconds * 1 / 1)) None) rest
+    ∙ ap Some all
 
 digits_are : (seconds : ℕ) → unsigned_abs (pos seconds) ≡ seconds
 digits_are seconds = omega arith

@@ -70,10 +70,13 @@ fault_text instance place fault point =
 abbrev pub budget_text : List ℕ → Point → List ℕ
 budget_text budget point = note (budget ++ codes " budget at " ++ point_text point)
 
+abbrev pub accepted_text : ℕ → Point → List ℕ
+accepted_text accepted point = codes ", accepted " ++ decimal accepted ++ codes ", at " ++ point_text point ++ line_end
+
 -- A step that an instance refused: its length, and what it accepted, in its local ticks.
 abbrev pub step_refused_text : List ℕ → ℕ → ℕ → Point → List ℕ
 step_refused_text instance asked accepted point =
-    note (instance ++ codes " refused " ++ decimal asked ++ codes ", accepted " ++ decimal accepted ++ codes ", at " ++ point_text point)
+    codes "cosim: " ++ instance ++ codes " refused " ++ decimal asked ++ accepted_text accepted point
 
 -- The note of how a run ended at its last point: none where it came to its stop.
 abbrev pub ending_note : System → Ending → Point → List ℕ
