@@ -1,6 +1,7 @@
 -- What a run has put and come to, as the answer of its text.
 use Rattle.std.proofs.Common.{◌≡◌, ℕ, ◌+◌, ◌<◌, List, length, length-append, arith, Option, Some, None, Result, Ok, Err, refl, sym, ap, subst, ◌∙◌, inl, inr}
 use Rattle.std.specs.Prelude.{IfSome}
+use Rattle.std.specs.Io.KnownBytes.{IsAtEnd}
 use Rattle.std.proofs.KnownBytes.{Appends-nil}
 use Rattle.unit_text.specs.Reading.{IsAccepted, IsRefused, IsAnswered, text_limit}
 use Rattle.unit_text.proofs.AnswerLemmas.{answered}
@@ -152,3 +153,25 @@ refuses_long left left' reads reads' held puts (verdict.Answered given note) tak
 refuses_long left left' reads reads' held puts verdict.NoMemory taken same is = (nothing_put left held, same, refl)
 refuses_long left left' reads reads' held puts verdict.ReadFault taken same is = absurd is
 refuses_long left left' reads reads' held puts verdict.WriteFault taken same is = absurd is
+
+gives_of : (left : Option (List ℕ)) (text : List ℕ) (held held' : Option (List ℕ)) (given : Status) (note : List ℕ) → IfSome left (λ all. text ≡ all) → PutsAnswer text held held' given note → IfSome left (λ all. PutsAnswer all held held' given note)
+gives_of None text held held' given note whole puts = tt
+gives_of (Some all) text held held' given note whole puts = subst (λ (t : List ℕ). PutsAnswer t held held' given note) whole puts
+
+front_of : (left : Option (List ℕ)) (text : List ℕ) (held held' : Option (List ℕ)) → IfSome left (λ all. text ≡ all) → PutsFront text held held' → IfSome left (λ all. PutsFront all held held')
+front_of None text held held' whole puts = tt
+front_of (Some all) text held held' whole puts = subst (λ (t : List ℕ). PutsFront t held held') whole puts
+
+-- the verdict on the whole input is that on its text
+pub judges_whole : (left left' : Option (List ℕ)) (reads reads' : ℕ) (held held' : Option (List ℕ)) (puts puts' : ℕ) (text : List ℕ) (v : Verdict) → IfSome left (λ all. text ≡ all) → IsAtEnd left' → reads' ≡ reads → JudgesText text held held' puts puts' v → JudgesInput left left' reads reads' held held' puts puts' v
+judges_whole left left' reads reads' held held' puts puts' text (verdict.Answered given note) whole ended same is = record {
+  gives = gives_of left text held held' given note.items whole is.0;
+  own = is.1;
+  same_reads = same;
+  same_puts = is.2;
+  untouched = is.3;
+  to_end = inl ended;
+}
+judges_whole left left' reads reads' held held' puts puts' text verdict.NoMemory whole ended same is = (front_of left text held held' whole is.0, same, is.1)
+judges_whole left left' reads reads' held held' puts puts' text verdict.WriteFault whole ended same is = (front_of left text held held' whole is.0, same, is.1)
+judges_whole left left' reads reads' held held' puts puts' text verdict.ReadFault whole ended same is = absurd is
