@@ -16,7 +16,7 @@ use Rattle.cosim_app.specs.declared.status.Status.{Status}
 use Rattle.cosim_app.specs.declared.status.Status.TheVariants as status
 use Rattle.unit_tree.specs.Lines.{size_of}
 use Rattle.unit_tree.specs.Compositions.{composition_of}
-use Rattle.unit_tree.specs.Traces.{IsTrace}
+use Rattle.unit_tree.specs.Trace.{IsTrace}
 use Rattle.unit_tree.specs.declared.system.System.{System}
 use Rattle.cosim_app.proofs.FormLaws.{runnable}
 use Rattle.cosim_app.proofs.JudgeLaws.{ends_unrefused}

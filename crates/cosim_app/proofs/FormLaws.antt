@@ -145,6 +145,7 @@ runnable_source source ranges = record {
   named = refl;
   plain = plain_unit source;
   declared = states_declared source.states;
+  version = refl;
   resolution = refl;
   rows = refl;
   zeros = refl;

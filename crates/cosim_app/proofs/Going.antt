@@ -5,7 +5,7 @@ use Rattle.std.proofs.lemmas.List.Elements.{filter_map-append}
 use Rattle.std.proofs.lemmas.Grind.{flat_map-append}
 use Rattle.unit_tree.specs.Compositions.{Composition}
 use Rattle.unit_tree.specs.Successor.{Position, goes, ends, first_position, successor}
-use Rattle.unit_tree.specs.Traces.{IsStand, Stand, Row, row_at, rows_of, Follows, IsTrace, last_point}
+use Rattle.unit_tree.specs.Trace.{IsStand, Stand, Row, row_at, rows_of, Follows, IsTrace, last_point}
 use Rattle.unit_tree.specs.declared.ending.Ending.{Ending}
 use Rattle.cosim_app.specs.OneComponent.{at, text_of_rows}
 use Rattle.cosim_app.proofs.OneLemmas.{StandsAt, Shows, Hides, Stops, Leads}

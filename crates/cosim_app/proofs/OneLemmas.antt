@@ -15,7 +15,7 @@ use Rattle.unit_tree.specs.Negotiation.{least_of, is_held, reply_of, reply_at, a
 use Rattle.unit_tree.specs.Ports.{Ports, Outlet, seen_by, all_there, given_at, word_at, fault_at, first_some, outlets, right_sides, port_fault}
 use Rattle.unit_tree.specs.RunLaws.{EndsInOrder}
 use Rattle.unit_tree.specs.Successor.{Position, goes, ends, when, first_told, max_end_of, max_end, step_end_of, point_after, proposed, agreed, is_redone, trial, steps_by, replies_to, stop_end, row_end, trial_end, zero_end, after, successor}
-use Rattle.unit_tree.specs.Traces.{Stand, Row, IsStand, IsGoing, row_unless, row_at}
+use Rattle.unit_tree.specs.Trace.{Stand, Row, IsStand, IsGoing, row_unless, row_at}
 use Rattle.unit_tree.specs.Values.{◌>>=◌, value_of}
 use Rattle.unit_tree.specs.declared.ending.Ending.{Ending}
 use Rattle.unit_tree.specs.declared.ending.Ending.TheVariants.{Completed, RowBudget, ZeroBudget, UnitFault}

@@ -3,7 +3,7 @@ use Rattle.std.proofs.Common.{◌≡◌, ℕ, ◌≤◌, ℤ, List, Option}
 use Rattle.std.specs.Io.KnownBytes.{Appends}
 use Rattle.unit_tree.specs.Components.{variables_of}
 use Rattle.unit_tree.specs.Compositions.{Composition}
-use Rattle.unit_tree.specs.Traces.{Stand, Row, IsTrace}
+use Rattle.unit_tree.specs.Trace.{Stand, Row, IsTrace}
 use Rattle.unit_tree.specs.Values.{IsSound}
 use Rattle.unit_tree.specs.declared.ending.Ending.{Ending}
 use Rattle.unit_tree.specs.declared.environment.Environment.{Environment}

@@ -10,7 +10,7 @@ use Rattle.unit_tree.specs.Components.{variables_of}
 use Rattle.unit_tree.specs.Effects.{effect_of_lines}
 use Rattle.unit_tree.specs.Compositions.{Composition}
 use Rattle.unit_tree.specs.Successor.{goes, ends, first_position, successor}
-use Rattle.unit_tree.specs.Traces.{Row, row_at}
+use Rattle.unit_tree.specs.Trace.{Row, row_at}
 use Rattle.unit_tree.specs.Values.{IsSound}
 use Rattle.unit_tree.specs.declared.ending.Ending.{Ending}
 use Rattle.unit_tree.specs.declared.environment.Environment.{Environment}

@@ -13,9 +13,9 @@ use Rattle.std.specs.Io.KnownBytes.{Appends}
 use Rattle.std.proofs.KnownBytes.{Appends-trans}
 use Rattle.unit_tree.specs.Components.{start_word}
 use Rattle.unit_tree.specs.Compositions as composition
-use Rattle.unit_tree.specs.Compositions.{Member, Composition, literal_set, factor_of, source_of, member_with, members_of, composition_of}
-use Rattle.unit_tree.specs.Trace.{unit_named}
-use Rattle.unit_tree.specs.Traces.{Stand, rows_of, IsTrace}
+use Rattle.unit_tree.specs.Compositions.{Member, Composition, literal_set, default_zeros, default_rows, factor_of, source_of, member_with, members_of, composition_of}
+use Rattle.unit_tree.specs.Names.{unit_named}
+use Rattle.unit_tree.specs.Trace.{Stand, rows_of, IsTrace}
 use Rattle.unit_tree.specs.declared.system.Instance.{Instance}
 use Rattle.unit_tree.specs.declared.system.System.{System}
 use Rattle.unit_tree.specs.declared.unit.Output.{Output}
@@ -95,16 +95,19 @@ longest_is system r =
     ∙ steps_by (stop_of system) r.steps
     ∙ sym (ap (ticks_or (stop_of system)) r.longest)
 
-rows_are : (system : System) (r : IsRunnable system) → unwrap_or system.rows (min 100000 (1000000 / length system.instances)) ≡ 100000
+rows_are : (system : System) (r : IsRunnable system) → unwrap_or system.rows (default_rows system.version (length system.instances)) ≡ 100000
 rows_are system r =
-    ap (λ rows. unwrap_or rows (min 100000 (1000000 / length system.instances))) r.rows ∙ ap (λ instances. min 100000 (1000000 / length instances)) r.instances
+    ap (λ rows. unwrap_or rows (default_rows system.version (length system.instances))) r.rows
+    ∙ ap (λ version. default_rows version (length system.instances)) r.version
+    ∙ ap (λ instances. default_rows 1 (length instances)) r.instances
 
 pub composition_is : (system : System) (r : IsRunnable system) → composition_of system ≡ one r.unit (stop_of system) (longest_of system)
 composition_is system r =
-    ap (λ members. composed members (composition.stop_of system) (composition.ticks_or (composition.stop_of system) (resolution_of system) system.longest) (unwrap_or system.zero 100) (unwrap_or system.rows (min 100000 (1000000 / length system.instances)))) (members_are system r)
-    ∙ ap (λ stop. composed (only r.unit) stop (composition.ticks_or (composition.stop_of system) (resolution_of system) system.longest) (unwrap_or system.zero 100) (unwrap_or system.rows (min 100000 (1000000 / length system.instances)))) (stop_is system r)
-    ∙ ap (λ longest. composed (only r.unit) (stop_of system) longest (unwrap_or system.zero 100) (unwrap_or system.rows (min 100000 (1000000 / length system.instances)))) (longest_is system r)
-    ∙ ap (λ zeros. composed (only r.unit) (stop_of system) (longest_of system) (unwrap_or zeros 100) (unwrap_or system.rows (min 100000 (1000000 / length system.instances)))) r.zeros
+    ap (λ members. composed members (composition.stop_of system) (composition.ticks_or (composition.stop_of system) (resolution_of system) system.longest) (unwrap_or system.zero (default_zeros system.version)) (unwrap_or system.rows (default_rows system.version (length system.instances)))) (members_are system r)
+    ∙ ap (λ stop. composed (only r.unit) stop (composition.ticks_or (composition.stop_of system) (resolution_of system) system.longest) (unwrap_or system.zero (default_zeros system.version)) (unwrap_or system.rows (default_rows system.version (length system.instances)))) (stop_is system r)
+    ∙ ap (λ longest. composed (only r.unit) (stop_of system) longest (unwrap_or system.zero (default_zeros system.version)) (unwrap_or system.rows (default_rows system.version (length system.instances)))) (longest_is system r)
+    ∙ ap (λ zeros. composed (only r.unit) (stop_of system) (longest_of system) (unwrap_or zeros (default_zeros system.version)) (unwrap_or system.rows (default_rows system.version (length system.instances)))) r.zeros
+    ∙ ap (λ version. composed (only r.unit) (stop_of system) (longest_of system) (default_zeros version) (unwrap_or system.rows (default_rows system.version (length system.instances)))) r.version
     ∙ ap (λ rows. composed (only r.unit) (stop_of system) (longest_of system) 100 rows) (rows_are system r)
 
 pub columns_are : (system : System) (r : IsRunnable system) → columns_of system ≡ one_column r.instance.name r.output

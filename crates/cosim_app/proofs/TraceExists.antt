@@ -5,7 +5,7 @@ use Rattle.std.specs.List.{AllByRecursion, filter_map}
 use Rattle.unit_tree.specs.Compositions.{Composition, composition_of, AreMembers}
 use Rattle.unit_tree.specs.Ports.{IsAmong, IsPlaceOrder, needs_of_places, place_needed, places_needed}
 use Rattle.unit_tree.specs.RunLaws.{HasOneTrace}
-use Rattle.unit_tree.specs.Traces.{Stand, IsTrace}
+use Rattle.unit_tree.specs.Trace.{Stand, IsTrace}
 use Rattle.unit_tree.specs.declared.ending.Ending.{Ending}
 use Rattle.unit_tree.specs.declared.line.Line.{Line}
 use Rattle.unit_tree.specs.declared.system.System.{System}

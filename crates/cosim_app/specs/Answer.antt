@@ -3,7 +3,7 @@
 use Rattle.std.specs.Prelude.{◌≡◌, ℕ, List, [], ◌∷◌, codes, ◌⊎◌}
 use Rattle.unit_text.specs.Reading.{IsAccepted, IsRefused}
 use Rattle.unit_tree.specs.Compositions.{composition_of}
-use Rattle.unit_tree.specs.Traces.{Stand, IsTrace, last_point}
+use Rattle.unit_tree.specs.Trace.{Stand, IsTrace, last_point}
 use Rattle.unit_tree.specs.declared.ending.Ending.{Ending}
 use Rattle.unit_tree.specs.declared.ending.Ending.TheVariants.{Completed, RowBudget, ZeroBudget, UnitFault, StepRefused}
 use Rattle.unit_tree.specs.declared.system.System.{System}

@@ -5,7 +5,7 @@ use Rattle.std.specs.Io.KnownBytes.{Appends, IsAtEnd}
 use Rattle.unit_text.specs.Reading.{IsAccepted, IsRefused, text_limit}
 use Rattle.unit_tree.specs.Lines.{size_of}
 use Rattle.unit_tree.specs.Compositions.{composition_of}
-use Rattle.unit_tree.specs.Traces.{Stand, IsTrace}
+use Rattle.unit_tree.specs.Trace.{Stand, IsTrace}
 use Rattle.unit_tree.specs.declared.ending.Ending.{Ending}
 use Rattle.unit_tree.specs.declared.system.System.{System}
 use Rattle.cosim_io.specs.Faults.{Rose}

@@ -7,7 +7,7 @@ use Rattle.unit_tree.specs.Components.{initial, variables_of, given_as}
 use Rattle.unit_tree.specs.Effects.{effect_of_lines, lines_are_ranged}
 use Rattle.unit_tree.specs.Compositions.{Composition}
 use Rattle.unit_tree.specs.Successor.{Position}
-use Rattle.unit_tree.specs.Traces.{Stand, Row, rows_of, IsTrace, last_point}
+use Rattle.unit_tree.specs.Trace.{Stand, Row, rows_of, IsTrace, last_point}
 use Rattle.unit_tree.specs.declared.ending.Ending.{Ending}
 use Rattle.unit_tree.specs.declared.ending.Ending.TheVariants.{Completed, RowBudget, ZeroBudget, UnitFault, StepRefused}
 use Rattle.unit_tree.specs.declared.ending.Place.TheVariants as place

@@ -5,7 +5,7 @@ use Rattle.std.specs.Option.{option_map}
 use Rattle.fixed_words.specs.declared.types.Literal.{Literal}
 use Rattle.fixed_words.specs.declared.types.Literal.TheVariants as literal
 use Rattle.unit_tree.specs.Compositions.{composition_of}
-use Rattle.unit_tree.specs.Traces.{Stand, IsTrace, last_point}
+use Rattle.unit_tree.specs.Trace.{Stand, IsTrace, last_point}
 use Rattle.unit_tree.specs.declared.ending.Ending.{Ending}
 use Rattle.unit_tree.specs.declared.line.Line.{Line}
 use Rattle.unit_tree.specs.declared.system.Instance.{Instance}
@@ -49,6 +49,7 @@ pub record IsRunnable (system : System) : Type 0 where
   pub named : instance.unit ≡ unit.name
   pub plain : IsPlain unit output lines
   pub declared : AreDeclared unit.states
+  pub version : system.version ≡ 1
   pub resolution : unit.resolution ≡ None
   pub rows : system.rows ≡ None
   pub zeros : system.zero ≡ None

@@ -5,8 +5,8 @@ use Rattle.std.specs.Fmt.{decimal}
 use Rattle.fixed_words.specs.Texts.{text_of}
 use Rattle.fixed_words.specs.declared.types.Ty.{Ty}
 use Rattle.unit_tree.specs.Compositions.{composition_of}
-use Rattle.unit_tree.specs.Trace.{unit_named}
-use Rattle.unit_tree.specs.Traces.{Stand, Row, rows_of}
+use Rattle.unit_tree.specs.Names.{unit_named}
+use Rattle.unit_tree.specs.Trace.{Stand, Row, rows_of}
 use Rattle.unit_tree.specs.declared.system.System.{System}
 use Rattle.unit_tree.specs.declared.unit.Unit.{Unit}
 

@@ -1,7 +1,7 @@
 //! The lines of a trace with one column.
 ghost use Rattle.std.specs.Prelude.{◌≡◌, [], ◌∷◌, OnOk, List, ℕ};
 ghost use Rattle.cosim_app.specs.TraceText.{Column, header_text, row_text};
-ghost use Rattle.unit_tree.specs.Traces.{Row};
+ghost use Rattle.unit_tree.specs.Trace.{Row};
 ghost use Rattle.fixed_words.specs.declared.types.Ty.TheVariants.{Int64};
 
 use crate::pieces::append_all;

@@ -13,7 +13,7 @@ use Rattle.fixed_words.specs.declared.types.Fault.TheVariants.{Range, Accept}
 use Rattle.unit_tree.specs.Components.{Component, Moved, variable, variables_of, words_of, environment_of, state_in, moved_by, step_of}
 use Rattle.unit_tree.specs.Effects.{Effect, stored, assigned, accepting, in_sequence, times, otherwise, line_effect, effect_of, effect_of_lines}
 use Rattle.unit_tree.specs.RunLaws.{KeepsWords}
-use Rattle.unit_tree.specs.Traces.{AreWordsOf}
+use Rattle.unit_tree.specs.Trace.{AreWordsOf}
 use Rattle.unit_tree.specs.Values.{◌>>=◌, holds, value_of}
 use Rattle.unit_tree.specs.declared.environment.Environment.{Environment}
 use Rattle.unit_tree.specs.declared.environment.Value.{Value}

@@ -2,7 +2,7 @@
 use Rattle.std.proofs.Common.{refl}
 use Rattle.unit_tree.specs.Compositions.{Composition}
 use Rattle.unit_tree.specs.RunLaws.{FirstEndsInOrder, EndsInOrder}
-use Rattle.unit_tree.specs.Traces.{Stand, IsGoing}
+use Rattle.unit_tree.specs.Trace.{Stand, IsGoing}
 
 pub ends_in_order : (run : Composition) (stand : Stand) → IsGoing run stand → EndsInOrder run stand
 ends_in_order run stand going = record {

@@ -10,6 +10,7 @@ pub mod MeaningLemmas
 pub mod OrderLaws
 pub mod PartLaws
 pub mod PhraseLaws
+pub mod PlainLemmas
 pub mod PositionLaws
 pub mod RefusalLaws
 pub mod RunTraces

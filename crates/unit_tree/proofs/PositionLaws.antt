@@ -20,7 +20,7 @@ use Rattle.unit_tree.specs.Negotiation.{is_held, inputs_at, step_at, reply_of, r
 use Rattle.unit_tree.specs.Ports.{Ports, Standing}
 use Rattle.unit_tree.specs.RunLaws.{KeepsWords, PositionsKeepWords}
 use Rattle.unit_tree.specs.Successor.{Position, first_position, after, agreed, proposed}
-use Rattle.unit_tree.specs.Traces.{AreWordsOf, HasWords}
+use Rattle.unit_tree.specs.Trace.{AreWordsOf, HasWords}
 use Rattle.unit_tree.specs.WellFormed.{resolution_of}
 use Rattle.unit_tree.specs.declared.system.Instance.{Instance}
 use Rattle.unit_tree.specs.declared.system.System.{System}

@@ -8,7 +8,7 @@ use Rattle.unit_tree.specs.Compositions.{Composition, AreMembers}
 use Rattle.unit_tree.specs.Ports.{Ports, IsPlaceOrder, IsAssignment, first_some}
 use Rattle.unit_tree.specs.RunLaws.{IsGreatest, HasOneAssignment, HasOneTrace}
 use Rattle.unit_tree.specs.Successor.{Position, when, first_position, limits, proposed, agreed, ends_at, ends_or, point_after, after, goes, successor, stop_end, zero_end}
-use Rattle.unit_tree.specs.Traces.{Stand, IsStand, Goes, Follows, IsTrace, HasWords}
+use Rattle.unit_tree.specs.Trace.{Stand, IsStand, Goes, Follows, IsTrace, HasWords}
 use Rattle.unit_tree.specs.declared.ending.Ending.{Ending}
 use Rattle.unit_tree.proofs.AssignmentLaws.{none_at, one_assignment}
 use Rattle.unit_tree.proofs.PositionLaws.{positions_keep, agreed_is_at_most}

@@ -1,6 +1,6 @@
 -- What is run: the instances of a system as components, each with its clock, and where the word of each of its
 -- inputs comes from. Names are resolved here, and nowhere below.
-use Rattle.std.specs.Prelude.{◌≡◌, ◌≤◌, ℕ, ◌-◌, ◌/◌, ◌^◌, min, ℤ, List, [], ◌∷◌, map, length, if◌then◌else◌, Option, Some, None}
+use Rattle.std.specs.Prelude.{◌≡◌, ◌≤◌, ℕ, ◌==◌, ◌-◌, ◌/◌, ◌^◌, min, ℤ, List, [], ◌∷◌, map, length, if◌then◌else◌, Option, Some, None}
 use Rattle.std.specs.List.{AllByRecursion, filter_map, position_or_len}
 use Rattle.std.specs.Option.{unwrap_or}
 use Rattle.std.specs.Str.{bytes_eq}
@@ -97,13 +97,19 @@ ticks_or default resolution (Some seconds) = unwrap_or (ticks_in resolution seco
 abbrev pub stop_of : System → ℕ
 stop_of system = ticks_or 0 (resolution_of system) system.stop
 
--- What is run of a system. `longest` is `stop` where it is not given, 100 steps of length zero may follow each
--- other, and there may be 100,000 rows, as long as rows times instances are at most 1,000,000.
+-- The defaults of the two budgets, by the version of the language. Rows times instances are at most 1,000,000.
+abbrev pub default_zeros : ℕ → ℕ
+default_zeros version = if version == 2 then 1000 else 100
+
+abbrev pub default_rows : ℕ → ℕ → ℕ
+default_rows version instances = min (if version == 2 then 10000 else 100000) (1000000 / instances)
+
+-- What is run of a system without event ports, as a plain form is. `longest` is `stop` where it is not given.
 abbrev pub composition_of : System → Composition
 composition_of system = record {
   members = members_of system;
   stop = stop_of system;
   longest = ticks_or (stop_of system) (resolution_of system) system.longest;
-  zero_budget = unwrap_or system.zero 100;
-  row_budget = unwrap_or system.rows (min 100000 (1000000 / length system.instances));
+  zero_budget = unwrap_or system.zero (default_zeros system.version);
+  row_budget = unwrap_or system.rows (default_rows system.version (length system.instances));
 }

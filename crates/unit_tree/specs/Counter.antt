@@ -21,13 +21,16 @@ counter_unit = record {
   states = record { name = codes "n"; ty = Int64; start = literal.Number (pos 0) 0 } ∷ [];
   locals = [];
   inputs = [];
+  events_in = [];
   outputs = record { name = codes "y"; ty = Int64; needs = []; value = expr.Var (codes "n") } ∷ [];
+  events_out = [];
   max = None;
   step = Some (increment ∷ []);
 }
 
 abbrev pub counter : System
 counter = record {
+  version = 1;
   units = counter_unit ∷ [];
   instances = record { name = codes "a"; unit = codes "Counter"; settings = [] } ∷ [];
   wires = [];

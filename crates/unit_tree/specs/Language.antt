@@ -1,7 +1,7 @@
 -- Laws of the language. Those of the first part are proved; those of the second say what a reader, a checker and a
 -- printer of the language owe, and are not proved yet.
 use Rattle.std.specs.Prelude.{◌≡◌, ◌≤◌, ◌⊎◌, ◌↔◌, ℕ, List, [], ◌∷◌, map, length, Some, None, IsTrue}
-use Rattle.unit_tree.specs.Blocks.{open_blocks, are_placed}
+use Rattle.unit_tree.specs.Blocks.{no_lines, open_blocks, are_placed}
 use Rattle.unit_tree.specs.Canonical.{canonical_parts, canonical_forms, canonical_phrase, canonical_text, line_text}
 use Rattle.unit_tree.specs.LineForms.{HasForm}
 use Rattle.unit_tree.specs.Lines.{source_lines}
@@ -33,7 +33,7 @@ SitesAreCanonicalLines = (system : System) → map (λ site. site.line) (sites_o
 
 -- The canonical parts of a system say this system.
 abbrev pub CanonicalPartsSayTheSystem : Type 0
-CanonicalPartsSayTheSystem = (system : System) → system_of (canonical_parts system) ≡ system
+CanonicalPartsSayTheSystem = (system : System) → system_of system.version (canonical_parts system) ≡ system
 
 -- The canonical phrase of an expression whose numbers have no sign is one of it, and each of its parts stands
 -- where the grammar allows it.
@@ -57,10 +57,14 @@ IsRefusedOnce =
 
 -- ---- Owed
 
--- A text is written with one list of parts at most, and so says one system at most.
+-- A line has one form at most.
+abbrev pub HasOneForm : Type 0
+HasOneForm = (line : List ℕ) (one other : LineForm) → HasForm one line → HasForm other line → one ≡ other
+
+-- A text is written with one version and one list of parts at most, and so says one system at most.
 abbrev pub HasOneReading : List ℕ → Type 0
 HasOneReading text =
-    (one other : List Part) → HaveForms (text_forms one) (source_lines text) → HaveForms (text_forms other) (source_lines text) → one ≡ other
+    (version by : ℕ) (one other : List Part) → HaveForms (source_lines text) (text_forms version one) (source_lines text) → HaveForms (source_lines text) (text_forms by other) (source_lines text) → (version ≡ by) × (one ≡ other)
 
 abbrev pub SaysOneSystem : List ℕ → Type 0
 SaysOneSystem text = (one other : System) → Reads text one → Reads text other → one ≡ other
@@ -83,7 +87,7 @@ EveryTextIsAnsweredOnce = (text : List ℕ) → IsAnsweredOnce text
 -- open at the end, are the lines of some parts.
 abbrev pub NestingIsByParts : Type 0
 NestingIsByParts =
-    (forms : List LineForm) → IsTrue (are_placed [] (form.Header ∷ forms)) → (open_blocks (form.Header ∷ forms) ≡ []) ↔ ((parts : List Part) × (form.Header ∷ forms ≡ text_forms parts))
+    (version : ℕ) (forms : List LineForm) → IsTrue (are_placed no_lines (form.Header version ∷ forms)) → (open_blocks (form.Header version ∷ forms) ≡ []) ↔ ((parts : List Part) × (form.Header version ∷ forms ≡ text_forms version parts))
 
 -- What a text says has a canonical text, and is in range.
 abbrev pub WhatIsReadIsPrintable : Type 0

@@ -58,4 +58,4 @@ headed_part part = map alone (part_forms part)
 
 -- The sites of a system, one for each canonical line.
 abbrev pub sites_of : System → List Site
-sites_of system = sites TopScope [] (alone form.Header ∷ flat_map headed_part (canonical_parts system))
+sites_of system = sites TopScope [] (alone (form.Header system.version) ∷ flat_map headed_part (canonical_parts system))

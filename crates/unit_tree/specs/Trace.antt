@@ -1,9 +1,110 @@
--- The unit of a name.
-use Rattle.std.specs.Prelude.{ℕ, List, [], ◌∷◌, if◌then◌else◌, Option, Some, None}
-use Rattle.std.specs.Str.{bytes_eq}
-use Rattle.unit_tree.specs.declared.unit.Unit.{Unit}
+-- The trace of a system: the one list of positions from the start, each the successor of the one before.
+use Rattle.std.specs.Prelude.{◌≡◌, ℕ, zero, suc, ◌+◌, true, ◌&&◌, is_some, is_none, ℤ, List, [], ◌∷◌, map, if◌then◌else◌, Option, Some, None, Result, Ok, Err}
+use Rattle.std.specs.List.{AllZip, count_by, filter_map, sum_by}
+use Rattle.fixed_words.specs.Types.{is_word_of}
+use Rattle.fixed_words.specs.declared.types.Fault.{Fault}
+use Rattle.super_time.specs.declared.point.Point.{Point}
+use Rattle.unit_tree.specs.Components.{Moved}
+use Rattle.unit_tree.specs.Compositions.{Member, Composition}
+use Rattle.unit_tree.specs.Ports.{Ports, IsAssignment, first_some, port_fault}
+use Rattle.unit_tree.specs.Successor.{Position, goes, ends, first_position, agreed, is_redone, trial, steps_by, stop_end, row_end, max_end, trial_end, successor}
+use Rattle.unit_tree.specs.declared.ending.Ending.{Ending}
+use Rattle.unit_tree.specs.declared.unit.State.{State}
 
--- The first unit of the name.
-abbrev pub unit_named : List Unit → List ℕ → Option Unit
-unit_named [] name = None
-unit_named (unit ∷ units) name = if bytes_eq unit.name name then Some unit else unit_named units name
+-- A position with its ports.
+pub record Stand : Type 0 where
+  pub at : Position
+  pub ports : Ports
+
+-- The ports are the port assignment for the states.
+abbrev pub IsStand : Composition → Stand → Type 0
+IsStand run stand = IsAssignment run stand.at.states stand.ports
+
+-- The one goes on to the other.
+abbrev pub Goes : Composition → Stand → Stand → Type 0
+Goes run one next = (successor run one.at one.ports ≡ goes next.at) × IsStand run next
+
+-- From a stand the later ones follow, each the successor of the one before, until the run ends.
+abbrev pub Follows : Composition → Stand → List Stand → Ending → Type 0
+Follows run one [] ending = successor run one.at one.ports ≡ ends ending
+Follows run one (next ∷ others) ending = Goes run one next × Follows run next others ending
+
+-- The stands are the trace, and it ends so.
+abbrev pub IsTrace : Composition → List Stand → Ending → Type 0
+IsTrace run [] ending = ⊥
+IsTrace run (first ∷ others) ending = (first.at ≡ first_position run) × IsStand run first × Follows run first others ending
+
+-- The run does not end at the stand before its trial: no output faults, it is not at its stop, it may have more rows,
+-- and no `max` faults.
+pub record IsGoing (run : Composition) (stand : Stand) : Type 0 where
+  pub ports_known : port_fault run stand.at.states stand.ports ≡ None
+  pub before_stop : stop_end run stand.at ≡ None
+  pub rows_left : row_end run stand.at ≡ None
+  pub limits_told : max_end run stand.at stand.ports ≡ None
+
+-- A stand is reached from another by so many successors, the last of them from `last`, which is the stand itself
+-- where there is none.
+abbrev pub Reaches : Composition → ℕ → Stand → Stand → Stand → Type 0
+Reaches run zero last from to = (from ≡ to) × (last ≡ to)
+Reaches run (suc count) last from to = (earlier : Stand) × Reaches run count earlier from last × Goes run last to
+
+-- ---- Rows
+
+-- A row of the trace: a point, and the words of all outputs there, by instance and by declaration.
+pub record Row : Type 0 where
+  pub point : Point
+  pub words : List ℤ
+
+abbrev pub row_unless : Option Ending → Point → Ports → Option Row
+row_unless (Some fault) point ports = None
+row_unless None point ports = Some (record { point = point; words = filter_map (λ word. word) ports })
+
+-- The row of a stand. One with a port fault, which can only be the last of a trace, has none.
+abbrev pub row_at : Composition → Stand → Option Row
+row_at run stand = row_unless (port_fault run stand.at.states stand.ports) stand.at.point stand.ports
+
+-- The rows of stands, in their order.
+abbrev pub rows_of : Composition → List Stand → List Row
+rows_of run stands = filter_map (row_at run) stands
+
+-- The point at which a trace ends: that of its last stand. Without stands it is the first point of time.
+abbrev pub last_point : List Stand → Point
+last_point [] = record { t = 0; n = 0 }
+last_point (stand ∷ []) = stand.at.point
+last_point (stand ∷ later ∷ others) = last_point (later ∷ others)
+
+-- ---- Cells: steps that members do
+
+-- How many members do a step, and are not held in it.
+abbrev pub steps_there : List (Option (Result Moved Fault)) → ℕ
+steps_there steps = count_by is_some steps
+
+-- The cells of the trial, and of the step made anew.
+abbrev pub cells_of_trial : Composition → Stand → ℕ
+cells_of_trial run stand = steps_there (trial run stand.at stand.ports)
+
+abbrev pub cells_of_redo : Composition → Stand → ℕ
+cells_of_redo run stand = steps_there (steps_by run stand.at stand.ports (agreed run stand.at stand.ports))
+
+-- The cells at a stand: none where it ends before a trial, else those of the trial, and those of a step made anew
+-- where there is one.
+abbrev pub cells_at : Composition → Stand → ℕ
+cells_at run stand =
+    if is_some (first_some (port_fault run stand.at.states stand.ports ∷ stop_end run stand.at ∷ row_end run stand.at ∷ max_end run stand.at stand.ports ∷ []))
+    then 0
+    else cells_of_trial run stand
+    + (if is_none (trial_end run stand.at stand.ports) && is_redone run stand.at stand.ports then cells_of_redo run stand else 0)
+
+-- The cells of a trace.
+abbrev pub cells_of : Composition → List Stand → ℕ
+cells_of run stands = sum_by (cells_at run) stands
+
+-- ---- States
+
+-- The words are one for each state of a member, each of its type.
+abbrev pub AreWordsOf : List State → List ℤ → Type 0
+AreWordsOf states words = AllZip (λ state word. is_word_of state.ty word ≡ true) states words
+
+-- A position keeps one state for each member, each with its words.
+abbrev pub HasWords : Composition → Position → Type 0
+HasWords run at = AllZip (λ member state. AreWordsOf member.component.unit.states state) run.members at.states

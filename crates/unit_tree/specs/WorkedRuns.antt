@@ -9,7 +9,7 @@ use Rattle.unit_tree.specs.Compositions.{Composition, composition_of}
 use Rattle.unit_tree.specs.Parts as parts
 use Rattle.unit_tree.specs.Parts.{Part, UnitPart, system_of}
 use Rattle.unit_tree.specs.Successor.{first_position}
-use Rattle.unit_tree.specs.Traces.{Stand, Goes, IsStand, IsTrace, rows_of, cells_of}
+use Rattle.unit_tree.specs.Trace.{Stand, Goes, IsStand, IsTrace, rows_of, cells_of}
 use Rattle.unit_tree.specs.declared.ending.Ending.{Ending}
 use Rattle.unit_tree.specs.declared.ending.Ending.TheVariants.{Completed, RowBudget, ZeroBudget, UnitFault, StepRefused}
 use Rattle.unit_tree.specs.declared.ending.Place.TheVariants as place
@@ -62,7 +62,7 @@ stand number t n states words = record {
 
 -- The stands are the trace of the system that the parts say, and it ends so.
 abbrev pub RunsTo : List Part → List Stand → Ending → Type 0
-RunsTo all stands ending = IsTrace (composition_of (system_of all)) stands ending
+RunsTo all stands ending = IsTrace (composition_of (system_of 1 all)) stands ending
 
 -- The states of one member with one state.
 abbrev pub one : ℕ → List (List ℤ)
@@ -182,7 +182,7 @@ followed k word other = stand k k 0 (two word other) (pos word ∷ pos other ∷
 pub record PortsAreWorked : Type 0 where
   pub around : RunsTo ring (ringed 0 ∷ ringed 1 ∷ ringed 2 ∷ []) Completed
   pub first_fault : RunsTo divides (divided ∷ []) (UnitFault 0 (place.Output 0) fault.ZeroDivisor)
-  pub no_row : rows_of (composition_of (system_of divides)) (divided ∷ []) ≡ []
+  pub no_row : rows_of (composition_of (system_of 1 divides)) (divided ∷ []) ≡ []
   pub along : RunsTo follows (followed 0 1 0 ∷ followed 1 3 3 ∷ followed 2 4 6 ∷ followed 3 4 12 ∷ []) Completed
 
 -- ---- Negotiation. `n := n + h`, and `accept e`
@@ -280,10 +280,10 @@ clocks_stands = clocked 0 0 0 ∷ clocked 1 7 0 ∷ clocked 2 14 1 ∷ clocked 3
 
 pub record StepsAreWorked : Type 0 where
   pub shorter : RunsTo four_and_seven four_and_seven_stands Completed
-  pub shorter_cells : cells_of (composition_of (system_of four_and_seven)) four_and_seven_stands ≡ 10
+  pub shorter_cells : cells_of (composition_of (system_of 1 four_and_seven)) four_and_seven_stands ≡ 10
   pub refused : RunsTo four_and_three (both_at 0 0 ∷ []) (StepRefused 1 4 3)
   pub held : RunsTo clocks clocks_stands Completed
-  pub held_cells : cells_of (composition_of (system_of clocks)) clocks_stands ≡ 5
+  pub held_cells : cells_of (composition_of (system_of 1 clocks)) clocks_stands ≡ 5
   pub zero_first : RunsTo begins (begun 0 0 0 1 ∷ begun 1 0 1 0 ∷ begun 2 5 0 0 ∷ begun 3 10 0 0 ∷ []) Completed
 
 -- ---- The heater of a small spacecraft, whose bus has a battery: words have two decimals
@@ -383,7 +383,7 @@ heated k t temp lit power charge =
     stand k t 0 ((pos temp ∷ []) ∷ (pos lit ∷ []) ∷ [] ∷ (pos charge ∷ []) ∷ []) (pos temp ∷ pos lit ∷ pos power ∷ pos charge ∷ [])
 
 abbrev pub heating : Composition
-heating = composition_of (system_of heater)
+heating = composition_of (system_of 1 heater)
 
 -- Its first four points.
 pub record HeaterIsWorked : Type 0 where

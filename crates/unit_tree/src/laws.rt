@@ -1,5 +1,6 @@
 ghost use Rattle.unit_tree.specs.WorkedRuns.{CountersAreWorked, PortsAreWorked, StepsAreWorked, HeaterIsWorked};
 ghost use Rattle.unit_tree.specs.WorkedBlocks.{LinesAreWorked, BlocksAreWorked};
+ghost use Rattle.unit_tree.specs.WorkedEvents.{PlainFormsAreWorked, EventsAreWorked};
 ghost use Rattle.unit_tree.specs.WorkedLimits.{LimitsAreWorked};
 ghost use Rattle.unit_tree.specs.WorkedPhrases.{PhrasesAreWorked};
 ghost use Rattle.unit_tree.specs.WorkedSystems.{SystemsAreWorked, OrdersAreWorked};
@@ -55,6 +56,12 @@ pub fn blocks_are_worked()
 /// The canonical lines of a system, and a system for each rule that one can break, worked out by hand.
 pub fn systems_are_worked()
     ensures { SystemsAreWorked }
+{}
+
+/// Systems of version 2: their plain forms, and each rule that events change, worked out by hand.
+pub fn events_are_worked()
+    ensures plain_forms { PlainFormsAreWorked }
+    ensures rules { EventsAreWorked }
 {}
 
 /// Kinds and costs of expressions and step lines, worked out by hand, are those that the definitions give.

@@ -38,10 +38,10 @@ pub use evaluate::value;
 pub use expr::{BinOp, Expr, UnOp};
 use fixed_words::List;
 pub use laws::{
-    blocks_are_worked, canonical_parts_say_the_system,
-    canonical_phrases_are_right, cycles_have_no_order,
-    each_system_is_judged_once, kinds_and_costs_are_worked, limits_are_worked, lines_are_worked,
-    orders_are_worked, phrases_are_worked, runs_are_worked, sites_are_canonical_lines, systems_are_worked,
+    blocks_are_worked, canonical_parts_say_the_system, canonical_phrases_are_right,
+    cycles_have_no_order, each_system_is_judged_once, events_are_worked,
+    kinds_and_costs_are_worked, limits_are_worked, lines_are_worked, orders_are_worked,
+    phrases_are_worked, runs_are_worked, sites_are_canonical_lines, systems_are_worked,
     texts_are_refused_once,
 };
 pub use line::Line;
@@ -53,7 +53,7 @@ pub use run_laws::{
 };
 pub use system::{Column, Instance, PortName, Setting, System, Wire};
 pub use token::{Keyword, Symbol, Token};
-pub use unit::{Input, Local, Output, Param, State, Unit};
+pub use unit::{EventIn, EventOut, Input, Local, Output, Param, State, Unit};
 
 /// A name as its bytes: a word of at most 32 bytes that is not reserved.
 pub type Name = List<u8>;
