@@ -7,9 +7,11 @@ pub mod FoldLemmas
 pub mod JudgementLaws
 pub mod KindLemmas
 pub mod MeaningLemmas
+pub mod NameLaws
 pub mod OrderLaws
 pub mod PartLaws
 pub mod PhraseLaws
+pub mod PlaceOrders
 pub mod PlainLemmas
 pub mod PositionLaws
 pub mod RefusalLaws

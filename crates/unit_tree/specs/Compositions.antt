@@ -104,7 +104,11 @@ default_zeros version = if version == 2 then 1000 else 100
 abbrev pub default_rows : ℕ → ℕ → ℕ
 default_rows version instances = min (if version == 2 then 10000 else 100000) (1000000 / instances)
 
--- What is run of a system without event ports, as a plain form is. `longest` is `stop` where it is not given.
+-- A system without event ports, as every plain form is.
+abbrev pub HasNoEvents : System → Type 0
+HasNoEvents system = AllByRecursion (λ unit. (unit.events_in ≡ []) × (unit.events_out ≡ [])) system.units
+
+-- What is run of a system without event ports. `longest` is `stop` where it is not given.
 abbrev pub composition_of : System → Composition
 composition_of system = record {
   members = members_of system;

@@ -3,7 +3,7 @@ use Rattle.std.specs.Prelude.{◌≡◌, ◌↔◌, ℕ, ◌≤◌, ◌-◌, tru
 use Rattle.std.specs.List.{AllByRecursion, list_all}
 use Rattle.super_time.specs.LocalTime.{local_step}
 use Rattle.unit_tree.specs.Components.{Component, Moved, step_of}
-use Rattle.unit_tree.specs.Compositions.{Composition, AreMembers, composition_of}
+use Rattle.unit_tree.specs.Compositions.{Composition, AreMembers, HasNoEvents, composition_of}
 use Rattle.unit_tree.specs.Negotiation.{proposal_of, reply_of, agreed_step}
 use Rattle.unit_tree.specs.Orders.{HasNoCycle}
 use Rattle.unit_tree.specs.Ports.{Ports, IsAmong, IsAssignment, IsPlaceOrder, port_fault}
@@ -118,6 +118,11 @@ pub record HasOneTrace (run : Composition) : Type 0 where
 abbrev pub OrderedRunsHaveOneTrace : Type 0
 OrderedRunsHaveOneTrace = (run : Composition) (order : List ℕ) → AreMembers run → IsPlaceOrder run order → HasOneTrace run
 
--- A system that is well-formed and has no cycle has exactly one trace.
+-- Where a system that is well-formed has an order of its outputs, its composition has one of its places.
+abbrev pub SystemsHavePlaceOrders : Type 0
+SystemsHavePlaceOrders =
+    (system : System) → HasNoEvents system → IsWellFormed system → HasNoCycle system → (order : List ℕ) × IsPlaceOrder (composition_of system) order
+
+-- A system that is well-formed and has no cycle has exactly one trace. It is told of systems without event ports.
 abbrev pub SystemsHaveOneTrace : Type 0
-SystemsHaveOneTrace = (system : System) → IsWellFormed system → HasNoCycle system → HasOneTrace (composition_of system)
+SystemsHaveOneTrace = (system : System) → HasNoEvents system → IsWellFormed system → HasNoCycle system → HasOneTrace (composition_of system)

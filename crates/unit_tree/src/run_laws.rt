@@ -1,5 +1,5 @@
 //! Laws of the definitions of a run.
-ghost use Rattle.unit_tree.specs.RunLaws.{AssignmentsAreUnique, UndefinedOutputsFault, ProposalsAreGreatest, RepliesAreAtMost, AgreedStepsAreLeast, AgreedStepsAreAtMost, StepsKeepWords, SystemsHaveMembers, RunsKeepWords, FirstEndsAreJudgedInOrder, EndsAreJudgedInOrder, OrderedRunsHaveOneTrace};
+ghost use Rattle.unit_tree.specs.RunLaws.{AssignmentsAreUnique, UndefinedOutputsFault, ProposalsAreGreatest, RepliesAreAtMost, AgreedStepsAreLeast, AgreedStepsAreAtMost, StepsKeepWords, SystemsHaveMembers, RunsKeepWords, FirstEndsAreJudgedInOrder, EndsAreJudgedInOrder, OrderedRunsHaveOneTrace, SystemsHavePlaceOrders, SystemsHaveOneTrace};
 
 /// A law: where the outputs have an order, there is exactly one port assignment.
 pub fn assignments_are_unique()
@@ -42,4 +42,10 @@ pub fn ends_are_judged_in_order()
 /// A law: a composition whose outputs have an order has exactly one trace.
 pub fn ordered_runs_have_one_trace()
     ensures { OrderedRunsHaveOneTrace }
+{}
+
+/// A law: a system that is well-formed and without a cycle has an order of its places, and exactly one trace.
+pub fn systems_have_one_trace()
+    ensures order { SystemsHavePlaceOrders }
+    ensures trace { SystemsHaveOneTrace }
 {}
