@@ -5,6 +5,7 @@ pub mod Compositions
 pub mod Costs
 pub mod Counter
 pub mod Effects
+pub mod Judged
 pub mod Kinds
 pub mod Language
 pub mod LineForms

@@ -18,6 +18,7 @@
 //! are laws of these definitions; those of the files `Worked..` keep them honest on small cases.
 #![tactic(auto)]
 
+mod checked;
 mod effects;
 mod ending;
 mod environment;
@@ -31,6 +32,7 @@ mod system;
 mod token;
 mod unit;
 
+pub use checked::Checked;
 pub use effects::run_lines;
 pub use ending::{Ending, Place};
 pub use environment::{Environment, Value, Variable};
