@@ -15,6 +15,7 @@ pub mod PlaceOrders
 pub mod PlainLemmas
 pub mod PositionLaws
 pub mod RefusalLaws
+pub mod RouteLaws
 pub mod RunTraces
 pub mod SiteLaws
 pub mod StepLaws

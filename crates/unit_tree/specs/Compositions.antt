@@ -9,6 +9,7 @@ use Rattle.super_time.specs.Seconds.{ticks_in}
 use Rattle.unit_tree.specs.Components.{Component, start_word}
 use Rattle.unit_tree.specs.Names.{unit_of_instance, same_port}
 use Rattle.unit_tree.specs.Orders.{port_of, outputs_of, sources_of}
+use Rattle.unit_tree.specs.Plain.{plain_form}
 use Rattle.unit_tree.specs.WellFormed.{resolution_of}
 use Rattle.unit_tree.specs.declared.system.Instance.{Instance}
 use Rattle.unit_tree.specs.declared.system.PortName.{PortName}
@@ -117,3 +118,7 @@ composition_of system = record {
   zero_budget = unwrap_or system.zero (default_zeros system.version);
   row_budget = unwrap_or system.rows (default_rows system.version (length system.instances));
 }
+
+-- What is run of any system: its plain form.
+abbrev pub run_of : System → Composition
+run_of system = composition_of (plain_form system)

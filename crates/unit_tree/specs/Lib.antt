@@ -5,6 +5,7 @@ pub mod Compositions
 pub mod Costs
 pub mod Counter
 pub mod Effects
+pub mod Given
 pub mod Judged
 pub mod Kinds
 pub mod Language
@@ -18,6 +19,8 @@ pub mod Phrases
 pub mod Plain
 pub mod Ports
 pub mod Printable
+pub mod Routed
+pub mod Routes
 pub mod RunLaws
 pub mod Sites
 pub mod SourceLines

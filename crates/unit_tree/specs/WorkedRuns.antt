@@ -8,6 +8,8 @@ use Rattle.fixed_words.specs.declared.types.Ty.TheVariants as types
 use Rattle.unit_tree.specs.Compositions.{Composition, composition_of}
 use Rattle.unit_tree.specs.Parts as parts
 use Rattle.unit_tree.specs.Parts.{Part, UnitPart, system_of}
+use Rattle.unit_tree.specs.Ports.{IsPlaceOrder}
+use Rattle.unit_tree.specs.Routes.{routes_of}
 use Rattle.unit_tree.specs.Successor.{first_position}
 use Rattle.unit_tree.specs.Trace.{Stand, Goes, IsStand, IsTrace, rows_of, cells_of}
 use Rattle.unit_tree.specs.declared.ending.Ending.{Ending}
@@ -19,6 +21,7 @@ use Rattle.unit_tree.specs.declared.expr.Expr as expr
 use Rattle.unit_tree.specs.declared.expr.UnOp.TheVariants as of
 use Rattle.unit_tree.specs.declared.line.Line.{Line}
 use Rattle.unit_tree.specs.declared.line.Line as line
+use Rattle.unit_tree.specs.declared.order.Routes.{Routes}
 use Rattle.unit_tree.specs.declared.system.Setting.{Setting}
 
 -- ---- Parts of systems
@@ -131,6 +134,19 @@ ring =
     ∷ parts.Longest (whole 1)
     ∷ []
 
+abbrev pub in_ring : Composition
+in_ring = composition_of (system_of 1 ring)
+
+-- The output of b comes first and needs that of a.
+abbrev pub ring_routes : Routes
+ring_routes = record {
+  outputs =
+      record { instance = 0; output = 0; feeds = record { instance = 1; input = 0 } ∷ []; needs = 1 ∷ [] }
+      ∷ record { instance = 1; output = 0; feeds = record { instance = 0; input = 0 } ∷ []; needs = [] }
+      ∷ [];
+  starts = [];
+}
+
 abbrev pub ringed : ℕ → Stand
 ringed k = stand k k 0 ([] ∷ (pos (10 + k) ∷ []) ∷ []) (pos (11 + k) ∷ pos (10 + k) ∷ [])
 
@@ -180,6 +196,8 @@ abbrev pub followed : ℕ → ℕ → ℕ → Stand
 followed k word other = stand k k 0 (two word other) (pos word ∷ pos other ∷ [])
 
 pub record PortsAreWorked : Type 0 where
+  pub order : IsPlaceOrder in_ring (1 ∷ 0 ∷ [])
+  pub routes : routes_of in_ring ≡ ring_routes
   pub around : RunsTo ring (ringed 0 ∷ ringed 1 ∷ ringed 2 ∷ []) Completed
   pub first_fault : RunsTo divides (divided ∷ []) (UnitFault 0 (place.Output 0) fault.ZeroDivisor)
   pub no_row : rows_of (composition_of (system_of 1 divides)) (divided ∷ []) ≡ []

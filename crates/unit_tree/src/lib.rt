@@ -24,9 +24,11 @@ mod ending;
 mod environment;
 mod evaluate;
 mod expr;
+mod gets;
 mod laws;
 mod line;
 mod line_form;
+mod order;
 mod run_laws;
 mod system;
 mod token;
@@ -39,6 +41,7 @@ pub use environment::{Environment, Value, Variable};
 pub use evaluate::value;
 pub use expr::{BinOp, Expr, UnOp};
 use fixed_words::List;
+pub use gets::Gets;
 pub use laws::{
     blocks_are_worked, canonical_parts_say_the_system, canonical_phrases_are_right,
     cycles_have_no_order, each_system_is_judged_once, events_are_worked,
@@ -49,6 +52,7 @@ pub use laws::{
 pub use line::Line;
 pub use line_form::LineForm;
 pub use super_time::Point;
+pub use order::{InputAt, Order, Route, Routes, StartWord};
 pub use run_laws::{
     assignments_are_unique, ends_are_judged_in_order, ordered_runs_have_one_trace, runs_keep_words,
     steps_are_negotiated, steps_keep_words, systems_have_one_trace, undefined_outputs_fault,

@@ -1,6 +1,16 @@
-use Rattle.std.proofs.Common.{refl}
+use Rattle.std.proofs.Common.{ℕ, zero, suc, ◌<◌, [], ◌∷◌, inl, inr, refl, arith}
+use Rattle.unit_tree.specs.Ports.{IsAmong}
 use Rattle.unit_tree.proofs.MeaningLemmas.{meaning_laws}
 use Rattle.unit_tree.proofs.laws.runs_are_worked.Goals as goal
+
+b_is_not_a : IsAmong (1 ∷ []) 0 → ⊥
+b_is_not_a (inl same) = omega (arith, same)
+b_is_not_a (inr none) = none
+
+all_placed : (place : ℕ) → place < 2 → IsAmong (1 ∷ 0 ∷ []) place
+all_placed zero within = inr (inl refl)
+all_placed (suc zero) within = inl refl
+all_placed (suc (suc place)) within = absurd (omega (arith, within))
 
 pub returns-clause-counters : goal.returns-clause-counters
 returns-clause-counters c = record {
@@ -16,6 +26,8 @@ returns-clause-counters c = record {
 
 pub returns-clause-ports : goal.returns-clause-ports
 returns-clause-ports c = record {
+  order = record { ordered = (omega arith, (λ none. none), _, (omega arith, b_is_not_a, (inl refl, _), _)); all = all_placed };
+  routes = refl;
   around = (refl, simp meaning_laws refl, ((simp meaning_laws refl, simp meaning_laws refl), ((simp meaning_laws refl, simp meaning_laws refl), simp meaning_laws refl)));
   first_fault = (refl, simp meaning_laws refl, simp meaning_laws refl);
   no_row = simp meaning_laws refl;
