@@ -16,6 +16,7 @@ use Rattle.fixed_words.specs.declared.types.Literal.TheVariants as literal
 use Rattle.fixed_words.specs.declared.types.LiteralFault.{LiteralFault}
 use Rattle.fixed_words.specs.declared.types.LiteralFault.TheVariants.{Form, Range}
 use Rattle.fixed_words.specs.declared.types.Ty.{Ty}
+use Rattle.super_time.specs.Seconds.{ticks_in}
 use Rattle.unit_tree.specs.Costs.{expression_call_cost, step_call_cost}
 use Rattle.unit_tree.specs.Kinds.{same_kind, has_kind, line_is_kinded}
 use Rattle.unit_tree.specs.LineForms.{are_alike, tail_of, tail_speaks_of_events}
@@ -255,12 +256,6 @@ unit_resolution (Some unit) = unwrap_or unit.resolution 0
 -- to the power of minus this many seconds.
 abbrev pub resolution_of : System → ℕ
 resolution_of system = fold max 0 (map (λ instance. unit_resolution (unit_of_instance system instance)) system.instances)
-
--- A number of seconds in ticks, where it is a whole number of them.
-abbrev pub ticks_in : ℕ → Literal → Option ℕ
-ticks_in resolution (literal.Truth told) = None
-ticks_in resolution (literal.Number number decimals) =
-    if not (is_negative number) && ((unsigned_abs number * 10 ^ resolution) % 10 ^ decimals == 0) then Some (unsigned_abs number * 10 ^ resolution / 10 ^ decimals) else None
 
 -- A number of ticks that a run may have, from the least one.
 abbrev pub is_length : ℕ → Option ℕ → Bool

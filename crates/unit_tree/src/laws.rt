@@ -1,5 +1,4 @@
-ghost use Rattle.unit_tree.specs.Laws.{HasAtMostOneTrace};
-ghost use Rattle.unit_tree.specs.Counter.{CounterIsWorked};
+ghost use Rattle.unit_tree.specs.WorkedRuns.{CountersAreWorked, PortsAreWorked, StepsAreWorked, HeaterIsWorked};
 ghost use Rattle.unit_tree.specs.WorkedBlocks.{LinesAreWorked, BlocksAreWorked};
 ghost use Rattle.unit_tree.specs.WorkedEvents.{PlainFormsAreWorked, EventsAreWorked};
 ghost use Rattle.unit_tree.specs.WorkedLimits.{LimitsAreWorked};
@@ -7,16 +6,6 @@ ghost use Rattle.unit_tree.specs.WorkedPhrases.{PhrasesAreWorked};
 ghost use Rattle.unit_tree.specs.WorkedSystems.{SystemsAreWorked, OrdersAreWorked};
 ghost use Rattle.unit_tree.specs.Language.{IsRefusedOnce, IsJudgedOnce, SitesAreCanonicalLines, CanonicalPartsSayTheSystem, CanonicalPhrasesAreRight, CyclesHaveNoOrder, OutputsHaveLines, OutputsSeeTheirNeeds, SourceLinesAreRight};
 ghost use Rattle.unit_tree.specs.WorkedKinds.{KindsAreWorked, WrongKindsAreWorked, LineKindsAreWorked, CostsAreWorked};
-
-/// A law: a composition has at most one trace.
-pub fn at_most_one_trace()
-    ensures { HasAtMostOneTrace }
-{}
-
-/// The trace of a counter, worked out by hand, is the one that the definitions give.
-pub fn counter_is_worked()
-    ensures { CounterIsWorked }
-{}
 
 /// A law: a text is refused at one line and by one rule at most.
 pub fn texts_are_refused_once()
@@ -106,4 +95,12 @@ pub fn orders_are_worked()
 /// How many there may be of each, worked out at the limits.
 pub fn limits_are_worked()
     ensures { LimitsAreWorked }
+{}
+
+/// Traces worked out by hand are those that the definitions give.
+pub fn runs_are_worked()
+    ensures counters { CountersAreWorked }
+    ensures ports { PortsAreWorked }
+    ensures steps { StepsAreWorked }
+    ensures heater { HeaterIsWorked }
 {}

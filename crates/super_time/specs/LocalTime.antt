@@ -9,6 +9,6 @@ local_time factor t = t / factor
 abbrev pub local_step : ℕ → ℕ → ℕ → ℕ
 local_step factor t h = (t + h) / factor - t / factor
 
--- The ticks until so many local ticks have passed from t.
+-- The ticks until so many local ticks have passed from t; 0 for none.
 abbrev pub limit_of : ℕ → ℕ → ℕ → ℕ
 limit_of factor t local = if local == 0 then 0 else (t / factor + local) * factor - t
