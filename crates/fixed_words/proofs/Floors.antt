@@ -1,4 +1,4 @@
--- The floor of a quotient by the code's cases, and how far it, times the divisor, is from the dividend.
+-- The floor of a quotient by the signs of both.
 use Rattle.std.proofs.Common.{◌≡◌, ◌≢◌, ℕ, false, ltb, zero, suc, ◌+◌, ◌*◌, ◌/◌, if◌then◌else◌, refl, sym, ap, ◌∙◌, arith, ℤ, pos, negsuc, ◌*ℤ◌, neg_ℤ}
 use Rattle.std.specs.Int.{int_div_euclid, is_negative}
 use Rattle.std.proofs.Math.Nat.{mul-div-mul_right, div-div-eq-div-mul}
