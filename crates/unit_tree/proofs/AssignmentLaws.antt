@@ -178,11 +178,12 @@ no_faults ports (outlet ∷ all) there =
     ap (λ first. first_some (first ∷ map (fault_at ports) all)) (no_fault_by ports outlet (given_at ports outlet) refl both.0) ∙ no_faults ports all both.1
 
 pub undefined_faults : (run : Composition) (order : List ℕ) (states : List (List ℤ)) (ports : Ports) → IsPlaceOrder run order → length states ≡ length run.members → IsAssignment run states ports → (port_fault run states ports ≡ None) ↔ (list_all is_some ports ≡ true)
-undefined_faults run order states ports is_order one_each is =
-    (λ none.
-     let defined = defined_along run states ports one_each is none [] order is_order.ordered tt in
-     all_defined ports (λ place within. each_among (Defined ports) order place defined (is_order.all place (omega (arith, within, ap length is, (are_equations run states one_each).count ports)))),
-     λ there. no_faults ports (outlets run states) (ap (list_all is_some) (sym is) ∙ there))
+undefined_faults run order states ports is_order one_each is = (
+  λ none.
+      let defined = defined_along run states ports one_each is none [] order is_order.ordered tt in
+      all_defined ports (λ place within. each_among (Defined ports) order place defined (is_order.all place (omega (arith, within, ap length is, (are_equations run states one_each).count ports)))),
+  λ there. no_faults ports (outlets run states) (ap (list_all is_some) (sym is) ∙ there),
+)
 
 pub one_assignment : (run : Composition) (order : List ℕ) (states : List (List ℤ)) → IsPlaceOrder run order → length states ≡ length run.members → HasOneAssignment run states
 one_assignment run order states is_order one_each =

@@ -77,9 +77,10 @@ all_after : (t h : ℕ) (ports : Ports) (members : List Member) (states : List (
 all_after t h ports [] [] are words = tt
 all_after t h ports [] (state ∷ states) are words = absurd words
 all_after t h ports (member ∷ members) [] are words = absurd words
-all_after t h ports (member ∷ members) (state ∷ states) are words =
-    (after_by (is_held member.factor t h) (step_of member.component state (inputs_at ports member) (local_time member.factor t) (local_step member.factor t h)) member state (inputs_at ports member) (local_time member.factor t) (local_step member.factor t h) are.0 words.0 refl,
-     all_after t h ports members states are.1 words.1)
+all_after t h ports (member ∷ members) (state ∷ states) are words = (
+  after_by (is_held member.factor t h) (step_of member.component state (inputs_at ports member) (local_time member.factor t) (local_step member.factor t h)) member state (inputs_at ports member) (local_time member.factor t) (local_step member.factor t h) are.0 words.0 refl,
+  all_after t h ports members states are.1 words.1,
+)
 
 pub positions_keep : (run : Composition) → AreMembers run → PositionsKeepWords run
 positions_keep run are = record {

@@ -99,9 +99,11 @@ module _ (run : Composition) (order : List ℕ) (are : AreMembers run) (is_order
       let nearer = next_is_nearer run stand are words within none in
       let kept = (positions_keep run are).next stand.at stand.ports words in
       let assigned = one_assignment run order (after run stand.at stand.ports).states is_order (one_each _ run.members (after run stand.at stand.ports).states kept) in
-      let next : Stand = record { at = after run stand.at stand.ports; ports = assigned.ports } in
-      (next, (ap (λ end. ends_or end (after run stand.at stand.ports)) none, assigned.is_assignment),
-       rest_of more next (omega (arith, nearer.less)) kept (record { stop = nearer.stop; zeros = nearer.zeros })))
+      let next : Stand = record { at = after run stand.at stand.ports; ports = assigned.ports } in (
+        next,
+        (ap (λ end. ends_or end (after run stand.at stand.ports)) none, assigned.is_assignment),
+        rest_of more next (omega (arith, nearer.less)) kept (record { stop = nearer.stop; zeros = nearer.zeros }),
+      ))
 
   -- ---- There is no other
 

@@ -27,8 +27,8 @@ pub fn canonical_parts_say_the_system()
     ensures { CanonicalPartsSayTheSystem }
 {}
 
-/// A law: the canonical phrase of an expression without signs has its tree, and each part of it stands on a level
-/// that the grammar allows.
+/// A law: the canonical phrase of an expression whose numbers aren't negative has its tree, and each part of it stands on
+/// a level that the grammar allows.
 pub fn canonical_phrases_are_right()
     ensures { CanonicalPhrasesAreRight }
 {}
