@@ -1,7 +1,7 @@
 -- The equations of ports look at the places that they need alone; where no output faults by itself, all are defined.
-use Rattle.std.proofs.Common.{◌≡◌, ℕ, zero, suc, ◌+◌, ◌<◌, Bool, true, false, cond, ℤ, List, [], ◌∷◌, ◌++◌, map, length, Option, Some, None, Result, Ok, Err, refl, ap, sym, subst, ◌∙◌, arith}
+use Rattle.std.proofs.Common.{◌≡◌, ℕ, zero, suc, ◌+◌, ◌<◌, Bool, true, false, cond, ℤ, List, [], ◌∷◌, ◌++◌, map, length, Option, Some, None, Ok, Err, refl, ap, sym, subst, ◌∙◌, arith}
 use Rattle.std.proofs.lemmas.List.{length-map, map-append}
-use Rattle.std.proofs.lemmas.Option.{slice_get-map, slice_get-get_or}
+use Rattle.std.proofs.lemmas.Option.{slice_get-map}
 use Rattle.std.specs.Prelude.{slice_get, zip, is_some, unwrap_or, ◌↔◌}
 use Rattle.std.specs.List.{AllByRecursion, enumerate_from, flat_map, filter_map, list_all, cons_option}
 use Rattle.std.specs.Option.{option_map, option_and_then}
@@ -11,7 +11,7 @@ use Rattle.fixed_words.specs.Operations.{Outcome}
 use Rattle.unit_tree.specs.Components.{start_word, get_of}
 use Rattle.unit_tree.specs.Compositions.{Source, Start, AtPlace, Member, Composition}
 use Rattle.unit_tree.specs.Names.{is_among}
-use Rattle.unit_tree.specs.Ports.{Ports, Standing, Outlet, IsAmong, IsOrderedAfter, IsPlaceOrder, IsAssignment, input_word, seen_by, in_front, all_there, inputs_for, given_at, word_at, fault_at, port_fault, first_some, outlets, outlets_of, right_sides, place_in, place_needed, places_needed, needs_of_places, needs_at}
+use Rattle.unit_tree.specs.Ports.{Ports, Standing, Outlet, IsOrderedAfter, IsPlaceOrder, IsAssignment, input_word, seen_by, in_front, all_there, given_at, word_at, fault_at, port_fault, first_some, outlets, outlets_of, right_sides, place_in, place_needed, places_needed, needs_of_places, needs_at}
 use Rattle.unit_tree.specs.RunLaws.{HasOneAssignment}
 use Rattle.unit_tree.specs.declared.ending.Ending.{Ending}
 use Rattle.unit_tree.specs.declared.ending.Ending.TheVariants.{UnitFault}
@@ -178,11 +178,12 @@ no_faults ports (outlet ∷ all) there =
     ap (λ first. first_some (first ∷ map (fault_at ports) all)) (no_fault_by ports outlet (given_at ports outlet) refl both.0) ∙ no_faults ports all both.1
 
 pub undefined_faults : (run : Composition) (order : List ℕ) (states : List (List ℤ)) (ports : Ports) → IsPlaceOrder run order → length states ≡ length run.members → IsAssignment run states ports → (port_fault run states ports ≡ None) ↔ (list_all is_some ports ≡ true)
-undefined_faults run order states ports is_order one_each is =
-    (λ none.
-     let defined = defined_along run states ports one_each is none [] order is_order.ordered tt in
-     all_defined ports (λ place within. each_among (Defined ports) order place defined (is_order.all place (omega (arith, within, ap length is, (are_equations run states one_each).count ports)))),
-     λ there. no_faults ports (outlets run states) (ap (list_all is_some) (sym is) ∙ there))
+undefined_faults run order states ports is_order one_each is = (
+  λ none.
+      let defined = defined_along run states ports one_each is none [] order is_order.ordered tt in
+      all_defined ports (λ place within. each_among (Defined ports) order place defined (is_order.all place (omega (arith, within, ap length is, (are_equations run states one_each).count ports)))),
+  λ there. no_faults ports (outlets run states) (ap (list_all is_some) (sym is) ∙ there),
+)
 
 pub one_assignment : (run : Composition) (order : List ℕ) (states : List (List ℤ)) → IsPlaceOrder run order → length states ≡ length run.members → HasOneAssignment run states
 one_assignment run order states is_order one_each =

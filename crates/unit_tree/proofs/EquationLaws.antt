@@ -1,7 +1,7 @@
 -- Systems of equations, one for each place, whose places have an order: they have exactly one solution.
-use Rattle.std.proofs.Common.{◌≡◌, ℕ, zero, suc, ◌+◌, ◌<◌, List, [], ◌∷◌, ◌++◌, length, Option, Some, None, append_assoc, append-nil, replicate, inl, inr, refl, ap, sym, subst, ◌∙◌, arith}
+use Rattle.std.proofs.Common.{◌≡◌, ℕ, zero, suc, ◌+◌, ◌<◌, List, [], ◌∷◌, ◌++◌, length, Some, None, append_assoc, append-nil, replicate, inl, inr, refl, ap, sym, subst, ◌∙◌, arith}
 use Rattle.std.proofs.lemmas.List.{length-replicate}
-use Rattle.std.specs.Prelude.{slice_get, ℤ}
+use Rattle.std.specs.Prelude.{slice_get}
 use Rattle.std.specs.List.{AllByRecursion}
 use Rattle.unit_tree.specs.Compositions.{Composition}
 use Rattle.unit_tree.specs.Ports.{Ports, IsAmong, IsOrderedAfter, IsPlaceOrder, needs_at, needs_of_places}
@@ -85,8 +85,8 @@ module _ (run : Composition) (sides : Ports → Ports) (equations : AreEquations
   settle_along start count before (place ∷ later) ordered settled =
       let here : Settled start (suc count) place =
       λ more.
-          repeated_at start (more + suc count) (suc (more + count)) place (omega arith)
-          ∙ equations.looks_at_needs (repeated start (more + count)) (repeated start count) place ordered.0 (agree_now start count more (needs_at run place) (all_among (Settled start count) before (needs_at run place) settled ordered.2)) in
+      repeated_at start (more + suc count) (suc (more + count)) place (omega arith)
+      ∙ equations.looks_at_needs (repeated start (more + count)) (repeated start count) place ordered.0 (agree_now start count more (needs_at run place) (all_among (Settled start count) before (needs_at run place) settled ordered.2)) in
       let all = all_behind (Settled start (suc count)) before place (all_settled_on start count before settled) here in
       let rest = settle_along start (suc count) (before ++ (place ∷ [])) later ordered.3 all in
       let at_end : AllByRecursion (Settled start (length (place ∷ later) + count)) ((before ++ (place ∷ [])) ++ later) =
@@ -102,9 +102,10 @@ module _ (run : Composition) (sides : Ports → Ports) (equations : AreEquations
   has_solution order is_order =
       let start : Ports = replicate (length (needs_of_places run)) None in
       let settled = settle_along start 0 [] order is_order.ordered tt in
-      let length_is : length (repeated start (length order + 0)) ≡ length (needs_of_places run) = length_repeated start (length order + 0) (length-replicate _ _) in
-      (repeated start (length order + 0),
-       same_lists (repeated start (length order + 0)) (sides (repeated start (length order + 0))) (length (needs_of_places run)) length_is (equations.count _)
-       (λ place within.
-        sym (each_among (Settled start (length order + 0)) order place settled (is_order.all place within) 1)
-        ∙ repeated_at start (1 + (length order + 0)) (suc (length order + 0)) place (omega arith)))
+      let length_is : length (repeated start (length order + 0)) ≡ length (needs_of_places run) = length_repeated start (length order + 0) (length-replicate _ _) in (
+        repeated start (length order + 0),
+        same_lists (repeated start (length order + 0)) (sides (repeated start (length order + 0))) (length (needs_of_places run)) length_is (equations.count _)
+            (λ place within.
+            sym (each_among (Settled start (length order + 0)) order place settled (is_order.all place within) 1)
+            ∙ repeated_at start (1 + (length order + 0)) (suc (length order + 0)) place (omega arith)),
+      )

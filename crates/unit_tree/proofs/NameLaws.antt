@@ -10,7 +10,7 @@ use Rattle.unit_tree.specs.Canonical.{optional, unit_parts, canonical_parts}
 use Rattle.unit_tree.specs.Parts as parts
 use Rattle.unit_tree.specs.Parts.{Part, UnitPart, unit_of}
 use Rattle.unit_tree.specs.Sites.{Scope, TopScope, UnitScope, InstanceScope, Site, Headed, alone, sites, headed_unit_part, headed_part, sites_of}
-use Rattle.unit_tree.specs.WellFormed.{IsWellFormed, rule, redeclares, is_said, says_again, instance_declared, name_declared, unit_declared, number_where, lines_breaking}
+use Rattle.unit_tree.specs.WellFormed.{IsWellFormed, redeclares, is_said, says_again, instance_declared, name_declared, unit_declared, number_where}
 use Rattle.unit_tree.specs.declared.line_form.LineForm.{LineForm}
 use Rattle.unit_tree.specs.declared.line_form.LineForm.TheVariants as form
 use Rattle.unit_tree.specs.declared.system.Instance.{Instance}
@@ -128,11 +128,13 @@ module _ (P : Site → Type 0) where
         let others : (one : List ℕ) → Has (map name xs) one → Has (filter_map asked earlier ++ (name x ∷ [])) one → ⊥ =
         λ one has before. rest.1 one has (subst (λ names. Has names one) (sym longer) before) in
         let here : Has (filter_map asked earlier) (name x) → ⊥ =
-        not_among (name x) (filter_map asked earlier) (sym (ap (is_said bytes_eq (filter_map asked earlier)) (asks x)) ∙ unsaid _ hold.0) in
-        ((λ has. others (name x) has (has_behind (filter_map asked earlier) (name x ∷ []) (name x) (inl refl)), rest.0),
-         λ one has before. elim has [
-           inl is ↦ here (subst (Has (filter_map asked earlier)) (sym is) before)
-         | inr later ↦ others one later (has_front (filter_map asked earlier) (name x ∷ []) one before) ])
+        not_among (name x) (filter_map asked earlier) (sym (ap (is_said bytes_eq (filter_map asked earlier)) (asks x)) ∙ unsaid _ hold.0) in (
+          (λ has. others (name x) has (has_behind (filter_map asked earlier) (name x ∷ []) (name x) (inl refl)), rest.0),
+          λ one has before. elim has [
+            | inl is ↦ here (subst (Has (filter_map asked earlier)) (sym is) before)
+            | inr later ↦ others one later (has_front (filter_map asked earlier) (name x ∷ []) one before)
+          ],
+        )
 
 -- ---- Instances and outputs
 

@@ -4,11 +4,11 @@ use Rattle.std.proofs.lemmas.Bool.{and_parts}
 use Rattle.std.proofs.lemmas.List.{map-append}
 use Rattle.std.proofs.lemmas.Option.{slice_get_within}
 use Rattle.std.specs.Prelude.{not, ◌&&◌, ◌||◌, slice_get, zip, unwrap_or}
-use Rattle.std.specs.List.{AllByRecursion, AllZip, flat_map, filter_map, cons_option, find, list_any, position_or_len}
+use Rattle.std.specs.List.{AllByRecursion, AllZip, flat_map, filter_map, cons_option, list_any, position_or_len}
 use Rattle.std.specs.Option.{option_and_then}
 use Rattle.std.specs.Str.{bytes_eq}
-use Rattle.unit_tree.specs.Compositions.{Source, Start, AtPlace, Member, HasNoEvents, component_with, factor_of, place_of, source_from, source_of, member_with, members_of, composition_of}
-use Rattle.unit_tree.specs.Names.{Port, output_ports, is_among, instance_named, unit_named, unit_of_instance, unit_at, port_named, output_at, same_port}
+use Rattle.unit_tree.specs.Compositions.{Member, HasNoEvents, component_with, factor_of, place_of, source_from, source_of, member_with, composition_of}
+use Rattle.unit_tree.specs.Names.{Port, output_ports, is_among, instance_named, unit_named, unit_of_instance, port_named, output_at, same_port}
 use Rattle.unit_tree.specs.Orders.{IsIn, IsOrderlyAfter, HasNoCycle, port_of, outputs_in, outputs_of, sources_of, needs_of, needed_by}
 use Rattle.unit_tree.specs.Ports.{IsAmong, IsOrderedAfter, IsPlaceOrder, place_in, place_needed, places_needed, needs_of_places, needs_at}
 use Rattle.unit_tree.specs.declared.system.Instance.{Instance}
@@ -178,8 +178,9 @@ module _ (system : System) (plain : HasNoEvents system) (differ : NamesDiffer sy
   in_instances [] port has = absurd has
   in_instances (instance ∷ instances) port has =
       elim (has_either (ports_of instance) (flat_map ports_of instances) port has) [
-        inl h ↦ inl (in_instance instance (outputs_in (unit_of_instance system instance)) port h)
-      | inr h ↦ inr (in_instances instances port h) ]
+        | inl h ↦ inl (in_instance instance (outputs_in (unit_of_instance system instance)) port h)
+        | inr h ↦ inr (in_instances instances port h)
+      ]
 
   unit_apart : (instance : Instance) (given : Option Unit) → unit_of_instance system instance ≡ given → Distinct (ports_in instance (outputs_in given))
   unit_apart instance None is = tt
@@ -193,7 +194,7 @@ module _ (system : System) (plain : HasNoEvents system) (differ : NamesDiffer sy
   all_apart (instance ∷ instances) apart =
       distinct_append (ports_of instance) (flat_map ports_of instances) (unit_apart instance (unit_of_instance system instance) refl) (all_apart instances apart.1)
       (λ port here later.
-       apart.0 (subst (Has (map (λ instance. instance.name) instances)) (sym (in_instance instance (outputs_in (unit_of_instance system instance)) port here)) (in_instances instances port later)))
+      apart.0 (subst (Has (map (λ instance. instance.name) instances)) (sym (in_instance instance (outputs_in (unit_of_instance system instance)) port here)) (in_instances instances port later)))
 
   outputs_apart : Distinct (outputs_of system)
   outputs_apart = all_apart system.instances differ.instances
@@ -231,12 +232,14 @@ module _ (system : System) (plain : HasNoEvents system) (differ : NamesDiffer sy
     -- With whether the input is in the needs, and what is connected to it.
     input_by : (told : Bool) (input : Input) (sources : List PortName) (rest : List ℕ) → is_among output.needs input.name ≡ told → sources_of system (port_of instance input.name) ≡ sources → Needs port rest → Needs port (cons_option (cond told (place_in (source_from system input sources)) None) rest)
     input_by true input [] rest told is needs = needs
-    input_by true input (source ∷ others) rest told is needs =
-        (record {
-          source = source;
-          needs = subst (λ all. IsIn all source) (sym needed_is) (in_flat sources_at output.needs input.name source (among output.needs input.name told) (subst (λ all. IsIn all source) (sym is) (inl refl)));
-          at = refl;
-        }, needs)
+    input_by true input (source ∷ others) rest told is needs = (
+      record {
+        source = source;
+        needs = subst (λ all. IsIn all source) (sym needed_is) (in_flat sources_at output.needs input.name source (among output.needs input.name told) (subst (λ all. IsIn all source) (sym is) (inl refl)));
+        at = refl;
+      },
+      needs,
+    )
     input_by false input sources rest told is needs = needs
 
     inputs_needed : (inputs : List Input) → Needs port (filter_map (place_needed output) (zip inputs (map (source_of system instance) inputs)))
@@ -258,9 +261,10 @@ module _ (system : System) (plain : HasNoEvents system) (differ : NamesDiffer sy
 
   outputs_side : (instance : Instance) (member : Member) (outputs : List Output) → member.sources ≡ map (source_of system instance) member.component.unit.inputs → AllByRecursion (λ output. output_at system (port_of instance output.name) ≡ Some (plain_port output)) outputs → AllZip Needs (ports_in instance (map plain_port outputs)) (map (places_needed member) outputs)
   outputs_side instance member [] sources are = tt
-  outputs_side instance member (output ∷ outputs) sources are =
-      (subst (λ all. Needs (port_of instance output.name) (filter_map (place_needed output) (zip member.component.unit.inputs all))) (sym sources) (inputs_needed instance output are.0 member.component.unit.inputs),
-       outputs_side instance member outputs sources are.1)
+  outputs_side instance member (output ∷ outputs) sources are = (
+    subst (λ all. Needs (port_of instance output.name) (filter_map (place_needed output) (zip member.component.unit.inputs all))) (sym sources) (inputs_needed instance output are.0 member.component.unit.inputs),
+    outputs_side instance member outputs sources are.1,
+  )
 
   instance_side : (instance : Instance) (given : Option Unit) (ports : List PortName) (members : List Member) → instance_named system instance.name ≡ Some instance → unit_of_instance system instance ≡ given → AllZip Needs ports (flat_map needs_in members) → AllZip Needs (ports_in instance (outputs_in given) ++ ports) (flat_map needs_in (cons_option (member_with system instance given) members))
   instance_side instance None ports members instance_is unit_is rest = rest
@@ -310,9 +314,10 @@ module _ (system : System) (plain : HasNoEvents system) (differ : NamesDiffer sy
 
   needs_among : (port : PortName) (before : List PortName) (needed : List ℕ) → Needs port needed → AllByRecursion (IsIn before) (needed_by system port) → AllByRecursion (IsAmong (places before)) needed
   needs_among port before [] needs all = tt
-  needs_among port before (place ∷ needed) needs all =
-      (subst (IsAmong (places before)) needs.0.at (among_places before needs.0.source (each_in (IsIn before) (needed_by system port) needs.0.source all needs.0.needs)),
-       needs_among port before needed needs.1 all)
+  needs_among port before (place ∷ needed) needs all = (
+    subst (IsAmong (places before)) needs.0.at (among_places before needs.0.source (each_in (IsIn before) (needed_by system port) needs.0.source all needs.0.needs)),
+    needs_among port before needed needs.1 all,
+  )
 
   all_in : (P : PortName → Type 0) (ports : List PortName) (port : PortName) → AllByRecursion P ports → P port → AllByRecursion P (ports ++ (port ∷ []))
   all_in P [] port all holds = (holds, tt)
@@ -324,21 +329,25 @@ module _ (system : System) (plain : HasNoEvents system) (differ : NamesDiffer sy
       let here = found_at (outputs_of system) port orderly.0 in
       let beside = zip_at Needs (outputs_of system) (needs_of_places (composition_of system)) (place_of system port) port sides here in
       let within : place_of system port < length (needs_of_places (composition_of system)) = slice_get_within (needs_of_places (composition_of system)) (place_of system port) beside.other beside.is in
-      let needs : needs_at (composition_of system) (place_of system port) ≡ beside.other = ap (λ given. unwrap_or given []) beside.is in
-      (within,
-       (λ among_them.
-        let one = port_among before (place_of system port) among_them in
-        orderly.1 (subst (IsIn before) (same_place one.0 port (each_in (IsIn (outputs_of system)) before one.0 outputs one.1) orderly.0 one.2) one.1)),
-       subst (AllByRecursion (IsAmong (places before))) (sym needs) (needs_among port before beside.other beside.related orderly.2),
-       subst (λ all. IsOrderedAfter (composition_of system) all (places later)) (map-append (place_of system) before (port ∷ []))
-       (ordered (before ++ (port ∷ [])) later (all_in (IsIn (outputs_of system)) before port outputs orderly.0) orderly.3))
+      let needs : needs_at (composition_of system) (place_of system port) ≡ beside.other = ap (λ given. unwrap_or given []) beside.is in (
+        within,
+        (λ among_them.
+            let one = port_among before (place_of system port) among_them in
+            orderly.1 (subst (IsIn before) (same_place one.0 port (each_in (IsIn (outputs_of system)) before one.0 outputs one.1) orderly.0 one.2) one.1)),
+        subst (AllByRecursion (IsAmong (places before))) (sym needs) (needs_among port before beside.other beside.related orderly.2),
+        subst (λ all. IsOrderedAfter (composition_of system) all (places later)) (map-append (place_of system) before (port ∷ []))
+            (ordered (before ++ (port ∷ [])) later (all_in (IsIn (outputs_of system)) before port outputs orderly.0) orderly.3),
+      )
 
   pub system_is_ordered : HasNoCycle system → (order : List ℕ) × IsPlaceOrder (composition_of system) order
-  system_is_ordered no_cycle = (places no_cycle.0, record {
-    ordered = ordered [] no_cycle.0 tt no_cycle.1;
-    all = λ place within.
-        let port = at_place (outputs_of system) place (omega (arith, within, count_is)) in
-        let stands = has_in (outputs_of system) port.0 (has_at (outputs_of system) place port.0 port.1) in
-        subst (IsAmong (places no_cycle.0)) (place_is (outputs_of system) place port.0 outputs_apart port.1)
-        (among_places no_cycle.0 port.0 (each_in (IsIn no_cycle.0) (outputs_of system) port.0 no_cycle.2 stands));
-  })
+  system_is_ordered no_cycle = (
+    places no_cycle.0,
+    record {
+      ordered = ordered [] no_cycle.0 tt no_cycle.1;
+      all = λ place within.
+          let port = at_place (outputs_of system) place (omega (arith, within, count_is)) in
+          let stands = has_in (outputs_of system) port.0 (has_at (outputs_of system) place port.0 port.1) in
+          subst (IsAmong (places no_cycle.0)) (place_is (outputs_of system) place port.0 outputs_apart port.1)
+          (among_places no_cycle.0 port.0 (each_in (IsIn no_cycle.0) (outputs_of system) port.0 no_cycle.2 stands));
+    },
+  )

@@ -1,13 +1,13 @@
 -- A composition whose outputs have an order has exactly one trace.
 use Rattle.std.proofs.Common.{◌≡◌, ℕ, zero, suc, ◌+◌, ◌-◌, ◌*◌, ◌<◌, ◌≤◌, ◌==◌, cond, Bool, true, false, List, [], ◌∷◌, length, Option, Some, None, refl, ap, sym, subst, ◌∙◌, arith}
 use Rattle.std.proofs.lemmas.Bool.Decides.{nat_tests}
-use Rattle.std.specs.Prelude.{◌&&◌, ℤ}
+use Rattle.std.specs.Prelude.{◌&&◌}
 use Rattle.std.specs.List.{AllZip}
 use Rattle.super_time.specs.declared.point.Point.{Point}
 use Rattle.unit_tree.specs.Compositions.{Composition, AreMembers}
-use Rattle.unit_tree.specs.Ports.{Ports, IsPlaceOrder, IsAssignment, first_some}
-use Rattle.unit_tree.specs.RunLaws.{IsGreatest, HasOneAssignment, HasOneTrace}
-use Rattle.unit_tree.specs.Successor.{Position, when, first_position, limits, proposed, agreed, ends_at, ends_or, point_after, after, goes, successor, stop_end, zero_end}
+use Rattle.unit_tree.specs.Ports.{IsPlaceOrder, IsAssignment, first_some}
+use Rattle.unit_tree.specs.RunLaws.{HasOneTrace}
+use Rattle.unit_tree.specs.Successor.{Position, when, first_position, limits, agreed, ends_at, ends_or, after, goes, zero_end}
 use Rattle.unit_tree.specs.Trace.{Stand, IsStand, Goes, Follows, IsTrace, HasWords}
 use Rattle.unit_tree.specs.declared.ending.Ending.{Ending}
 use Rattle.unit_tree.proofs.AssignmentLaws.{none_at, one_assignment}
@@ -99,9 +99,11 @@ module _ (run : Composition) (order : List ℕ) (are : AreMembers run) (is_order
       let nearer = next_is_nearer run stand are words within none in
       let kept = (positions_keep run are).next stand.at stand.ports words in
       let assigned = one_assignment run order (after run stand.at stand.ports).states is_order (one_each _ run.members (after run stand.at stand.ports).states kept) in
-      let next : Stand = record { at = after run stand.at stand.ports; ports = assigned.ports } in
-      (next, (ap (λ end. ends_or end (after run stand.at stand.ports)) none, assigned.is_assignment),
-       rest_of more next (omega (arith, nearer.less)) kept (record { stop = nearer.stop; zeros = nearer.zeros })))
+      let next : Stand = record { at = after run stand.at stand.ports; ports = assigned.ports } in (
+        next,
+        (ap (λ end. ends_or end (after run stand.at stand.ports)) none, assigned.is_assignment),
+        rest_of more next (omega (arith, nearer.less)) kept (record { stop = nearer.stop; zeros = nearer.zeros }),
+      ))
 
   -- ---- There is no other
 

@@ -51,12 +51,12 @@ pub use laws::{
 };
 pub use line::Line;
 pub use line_form::LineForm;
-pub use super_time::Point;
 pub use order::{InputAt, Order, Route, Routes, StartWord};
 pub use run_laws::{
     assignments_are_unique, ends_are_judged_in_order, ordered_runs_have_one_trace, runs_keep_words,
     steps_are_negotiated, steps_keep_words, systems_have_one_trace, undefined_outputs_fault,
 };
+pub use super_time::Point;
 pub use system::{Column, Instance, PortName, Setting, System, Wire};
 pub use token::{Keyword, Symbol, Token};
 pub use unit::{EventIn, EventOut, Input, Local, Output, Param, State, Unit};
