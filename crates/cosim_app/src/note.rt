@@ -103,11 +103,7 @@ fn accepted_at(note: &mut Vec<u8>, accepted: u64, point: Point) -> Result<(), No
     let mut length = Buffer::new();
     append_all(
         note,
-        &[
-            b", accepted ",
-            length.format(accepted).as_bytes(),
-            b", at ",
-        ],
+        &[b", accepted ", length.format(accepted).as_bytes(), b", at "],
     )?;
     end_at(note, point)
 }
@@ -153,7 +149,9 @@ pub fn ending(alloc: Global, system: &System, end: RunEnd) -> Result<Vec<u8>, No
             Place::Step => fault_note(alloc, instance, b" step", b"", fault, last),
         },
         Ending::StepRefused {
-            asked, accepted, ..
+            asked,
+            accepted,
+            ..
         } => refused_step_note(alloc, instance, asked, accepted, last),
     }
 }

@@ -1,5 +1,5 @@
 -- Seconds as ticks: a tick is ten to the power of minus the resolution, in seconds.
-use Rattle.std.specs.Prelude.{ℕ, ◌*◌, ◌/◌, ◌%◌, ◌^◌, ◌==◌, not, ◌&&◌, nat_lt, if◌then◌else◌, unsigned_abs, ℤ, Option, Some, None, Result, Ok, Err}
+use Rattle.std.specs.Prelude.{ℕ, ◌*◌, ◌/◌, ◌%◌, ◌^◌, ◌==◌, not, ◌&&◌, nat_lt, if◌then◌else◌, unsigned_abs, Option, Some, None, Result, Ok, Err}
 use Rattle.std.specs.Int.{is_negative}
 use Rattle.fixed_words.specs.declared.types.Literal.{Literal}
 use Rattle.fixed_words.specs.declared.types.Literal.TheVariants as literal

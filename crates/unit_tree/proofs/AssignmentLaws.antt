@@ -1,7 +1,7 @@
 -- The equations of ports look at the places that they need alone; where no output faults by itself, all are defined.
-use Rattle.std.proofs.Common.{◌≡◌, ℕ, zero, suc, ◌+◌, ◌<◌, Bool, true, false, cond, ℤ, List, [], ◌∷◌, ◌++◌, map, length, Option, Some, None, Result, Ok, Err, refl, ap, sym, subst, ◌∙◌, arith}
+use Rattle.std.proofs.Common.{◌≡◌, ℕ, zero, suc, ◌+◌, ◌<◌, Bool, true, false, cond, ℤ, List, [], ◌∷◌, ◌++◌, map, length, Option, Some, None, Ok, Err, refl, ap, sym, subst, ◌∙◌, arith}
 use Rattle.std.proofs.lemmas.List.{length-map, map-append}
-use Rattle.std.proofs.lemmas.Option.{slice_get-map, slice_get-get_or}
+use Rattle.std.proofs.lemmas.Option.{slice_get-map}
 use Rattle.std.specs.Prelude.{slice_get, zip, is_some, unwrap_or, ◌↔◌}
 use Rattle.std.specs.List.{AllByRecursion, enumerate_from, flat_map, filter_map, list_all, cons_option}
 use Rattle.std.specs.Option.{option_map, option_and_then}
@@ -11,7 +11,7 @@ use Rattle.fixed_words.specs.Operations.{Outcome}
 use Rattle.unit_tree.specs.Components.{start_word, get_of}
 use Rattle.unit_tree.specs.Compositions.{Source, Start, AtPlace, Member, Composition}
 use Rattle.unit_tree.specs.Names.{is_among}
-use Rattle.unit_tree.specs.Ports.{Ports, Standing, Outlet, IsAmong, IsOrderedAfter, IsPlaceOrder, IsAssignment, input_word, seen_by, in_front, all_there, inputs_for, given_at, word_at, fault_at, port_fault, first_some, outlets, outlets_of, right_sides, place_in, place_needed, places_needed, needs_of_places, needs_at}
+use Rattle.unit_tree.specs.Ports.{Ports, Standing, Outlet, IsOrderedAfter, IsPlaceOrder, IsAssignment, input_word, seen_by, in_front, all_there, given_at, word_at, fault_at, port_fault, first_some, outlets, outlets_of, right_sides, place_in, place_needed, places_needed, needs_of_places, needs_at}
 use Rattle.unit_tree.specs.RunLaws.{HasOneAssignment}
 use Rattle.unit_tree.specs.declared.ending.Ending.{Ending}
 use Rattle.unit_tree.specs.declared.ending.Ending.TheVariants.{UnitFault}

@@ -1,8 +1,8 @@
 -- Step lines keep words in their types, and accept at most the whole step.
-use Rattle.std.proofs.Common.{◌≡◌, ℕ, zero, suc, ◌+◌, ◌≤◌, cond, Bool, true, false, ◌⊎◌, ℤ, pos, negsuc, List, [], ◌∷◌, ◌++◌, map, length, take, drop, Option, Some, None, Result, Ok, Err, append_assoc, inl, inr, refl, ap, sym, subst, ◌∙◌, arith}
+use Rattle.std.proofs.Common.{◌≡◌, ℕ, zero, suc, ◌≤◌, cond, Bool, true, false, ◌⊎◌, ℤ, pos, negsuc, List, [], ◌∷◌, ◌++◌, map, length, take, drop, Option, Some, None, Result, Ok, Err, append_assoc, inl, inr, refl, ap, sym, subst, ◌∙◌, arith}
 use Rattle.std.specs.Prelude.{⊤, int_le, unsigned_abs}
 use Rattle.std.specs.List.{AllByRecursion}
-use Rattle.std.specs.Option.{option_map, IfSome}
+use Rattle.std.specs.Option.{IfSome}
 use Rattle.std.specs.Str.{bytes_eq}
 use Rattle.std.proofs.lemmas.Bool.{and_parts}
 use Rattle.std.proofs.lemmas.List.{length-map}
@@ -10,15 +10,13 @@ use Rattle.std.proofs.lemmas.Bool.Decides.{nat_tests}
 use Rattle.fixed_words.specs.Types.{is_word_of, is_between}
 use Rattle.fixed_words.specs.declared.types.Fault.{Fault}
 use Rattle.fixed_words.specs.declared.types.Fault.TheVariants.{Range, Accept}
-use Rattle.unit_tree.specs.Components.{Component, Moved, variable, variables_of, words_of, environment_of, state_in, moved_by, step_of}
+use Rattle.unit_tree.specs.Components.{Component, Moved, variable, environment_of, state_in, moved_by, step_of}
 use Rattle.unit_tree.specs.Effects.{Effect, stored, assigned, accepting, in_sequence, times, otherwise, line_effect, effect_of, effect_of_lines}
 use Rattle.unit_tree.specs.RunLaws.{KeepsWords}
 use Rattle.unit_tree.specs.Trace.{AreWordsOf}
 use Rattle.unit_tree.specs.Values.{◌>>=◌, holds, value_of}
 use Rattle.unit_tree.specs.declared.environment.Environment.{Environment}
-use Rattle.unit_tree.specs.declared.environment.Value.{Value}
 use Rattle.unit_tree.specs.declared.environment.Variable.{Variable}
-use Rattle.unit_tree.specs.declared.expr.Expr.{Expr}
 use Rattle.unit_tree.specs.declared.line.Line.{Line}
 use Rattle.unit_tree.specs.declared.line.Line.TheFolds.{ind-Line, map-Line, fold-roll-Line}
 use Rattle.unit_tree.specs.declared.line.Line.TheViews.{roll-Line}

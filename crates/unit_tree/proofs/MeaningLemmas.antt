@@ -1,5 +1,5 @@
 -- The value of single nodes and the effect of single lines, in an environment that is given.
-use Rattle.std.proofs.Common.{◌≡◌, ℕ, ℤ, Bool, List, map, Option, Some, None, ap, sym, ◌∙◌}
+use Rattle.std.proofs.Common.{◌≡◌, ℕ, ℤ, Bool, List, map, Some, None, ap, sym, ◌∙◌}
 use Rattle.unit_tree.specs.Effects.{Effect, line_effect, effect_of}
 use Rattle.unit_tree.specs.Values.{Meaning, node_meaning, value_of}
 use Rattle.unit_tree.specs.declared.environment.Environment.{Environment}

@@ -10,7 +10,7 @@ use Rattle.unit_tree.specs.Canonical.{optional, unit_parts, canonical_parts}
 use Rattle.unit_tree.specs.Parts as parts
 use Rattle.unit_tree.specs.Parts.{Part, UnitPart, unit_of}
 use Rattle.unit_tree.specs.Sites.{Scope, TopScope, UnitScope, InstanceScope, Site, Headed, alone, sites, headed_unit_part, headed_part, sites_of}
-use Rattle.unit_tree.specs.WellFormed.{IsWellFormed, rule, redeclares, is_said, says_again, instance_declared, name_declared, unit_declared, number_where, lines_breaking}
+use Rattle.unit_tree.specs.WellFormed.{IsWellFormed, redeclares, is_said, says_again, instance_declared, name_declared, unit_declared, number_where}
 use Rattle.unit_tree.specs.declared.line_form.LineForm.{LineForm}
 use Rattle.unit_tree.specs.declared.line_form.LineForm.TheVariants as form
 use Rattle.unit_tree.specs.declared.system.Instance.{Instance}

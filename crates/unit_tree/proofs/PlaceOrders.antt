@@ -4,11 +4,11 @@ use Rattle.std.proofs.lemmas.Bool.{and_parts}
 use Rattle.std.proofs.lemmas.List.{map-append}
 use Rattle.std.proofs.lemmas.Option.{slice_get_within}
 use Rattle.std.specs.Prelude.{not, ◌&&◌, ◌||◌, slice_get, zip, unwrap_or}
-use Rattle.std.specs.List.{AllByRecursion, AllZip, flat_map, filter_map, cons_option, find, list_any, position_or_len}
+use Rattle.std.specs.List.{AllByRecursion, AllZip, flat_map, filter_map, cons_option, list_any, position_or_len}
 use Rattle.std.specs.Option.{option_and_then}
 use Rattle.std.specs.Str.{bytes_eq}
-use Rattle.unit_tree.specs.Compositions.{Source, Start, AtPlace, Member, HasNoEvents, component_with, factor_of, place_of, source_from, source_of, member_with, members_of, composition_of}
-use Rattle.unit_tree.specs.Names.{Port, output_ports, is_among, instance_named, unit_named, unit_of_instance, unit_at, port_named, output_at, same_port}
+use Rattle.unit_tree.specs.Compositions.{Member, HasNoEvents, component_with, factor_of, place_of, source_from, source_of, member_with, composition_of}
+use Rattle.unit_tree.specs.Names.{Port, output_ports, is_among, instance_named, unit_named, unit_of_instance, port_named, output_at, same_port}
 use Rattle.unit_tree.specs.Orders.{IsIn, IsOrderlyAfter, HasNoCycle, port_of, outputs_in, outputs_of, sources_of, needs_of, needed_by}
 use Rattle.unit_tree.specs.Ports.{IsAmong, IsOrderedAfter, IsPlaceOrder, place_in, place_needed, places_needed, needs_of_places, needs_at}
 use Rattle.unit_tree.specs.declared.system.Instance.{Instance}

@@ -1,10 +1,10 @@
 -- Positions keep words in their types, and the agreed step is at most the proposal.
-use Rattle.std.proofs.Common.{◌≡◌, ℕ, suc, ◌-◌, ◌≤◌, ◌^◌, cond, Bool, true, false, ℤ, pos, List, [], ◌∷◌, map, length, Option, Some, None, Result, Ok, Err, refl, ap, sym, subst, ◌∙◌, arith, rules}
+use Rattle.std.proofs.Common.{◌≡◌, ℕ, ◌-◌, ◌≤◌, cond, Bool, true, false, ℤ, pos, List, [], ◌∷◌, map, Option, Some, None, Result, Ok, Err, refl, arith}
 use Rattle.std.proofs.lemmas.List.{length-map}
 use Rattle.std.proofs.Math.Nat.{one-le-pow}
 use Rattle.std.specs.Prelude.{zip, unwrap_or}
 use Rattle.std.specs.List.{AllByRecursion, AllZip, filter_map, cons_option}
-use Rattle.fixed_words.specs.Literals.{within_type, scaled_literal, word_of_literal}
+use Rattle.fixed_words.specs.Literals.{within_type, scaled_literal}
 use Rattle.fixed_words.specs.Types.{is_word_of}
 use Rattle.fixed_words.specs.declared.types.Fault.{Fault}
 use Rattle.fixed_words.specs.declared.types.Literal.{Literal}
@@ -13,13 +13,13 @@ use Rattle.fixed_words.specs.declared.types.LiteralFault.TheVariants.{Range}
 use Rattle.fixed_words.specs.declared.types.Ty.{Ty}
 use Rattle.fixed_words.specs.declared.types.Ty.TheVariants as types
 use Rattle.super_time.specs.LocalTime.{local_time, local_step}
-use Rattle.unit_tree.specs.Components.{Component, Moved, or_zero, start_word, initial, step_of}
-use Rattle.unit_tree.specs.Compositions.{Member, IsMember, Composition, AreMembers, literal_set, member_with, members_of, composition_of}
+use Rattle.unit_tree.specs.Components.{Moved, or_zero, start_word, initial, step_of}
+use Rattle.unit_tree.specs.Compositions.{Member, IsMember, Composition, AreMembers, member_with, composition_of}
 use Rattle.unit_tree.specs.Names.{unit_of_instance}
-use Rattle.unit_tree.specs.Negotiation.{is_held, inputs_at, step_at, reply_of, reply_at, state_after, agreed_step}
-use Rattle.unit_tree.specs.Ports.{Ports, Standing}
-use Rattle.unit_tree.specs.RunLaws.{KeepsWords, PositionsKeepWords}
-use Rattle.unit_tree.specs.Successor.{Position, first_position, after, agreed, proposed}
+use Rattle.unit_tree.specs.Negotiation.{is_held, inputs_at, step_at, reply_at, state_after, agreed_step}
+use Rattle.unit_tree.specs.Ports.{Ports}
+use Rattle.unit_tree.specs.RunLaws.{PositionsKeepWords}
+use Rattle.unit_tree.specs.Successor.{Position, agreed, proposed}
 use Rattle.unit_tree.specs.Trace.{AreWordsOf, HasWords}
 use Rattle.unit_tree.specs.WellFormed.{resolution_of}
 use Rattle.unit_tree.specs.declared.system.Instance.{Instance}

@@ -1,13 +1,13 @@
 -- A composition whose outputs have an order has exactly one trace.
 use Rattle.std.proofs.Common.{◌≡◌, ℕ, zero, suc, ◌+◌, ◌-◌, ◌*◌, ◌<◌, ◌≤◌, ◌==◌, cond, Bool, true, false, List, [], ◌∷◌, length, Option, Some, None, refl, ap, sym, subst, ◌∙◌, arith}
 use Rattle.std.proofs.lemmas.Bool.Decides.{nat_tests}
-use Rattle.std.specs.Prelude.{◌&&◌, ℤ}
+use Rattle.std.specs.Prelude.{◌&&◌}
 use Rattle.std.specs.List.{AllZip}
 use Rattle.super_time.specs.declared.point.Point.{Point}
 use Rattle.unit_tree.specs.Compositions.{Composition, AreMembers}
-use Rattle.unit_tree.specs.Ports.{Ports, IsPlaceOrder, IsAssignment, first_some}
-use Rattle.unit_tree.specs.RunLaws.{IsGreatest, HasOneAssignment, HasOneTrace}
-use Rattle.unit_tree.specs.Successor.{Position, when, first_position, limits, proposed, agreed, ends_at, ends_or, point_after, after, goes, successor, stop_end, zero_end}
+use Rattle.unit_tree.specs.Ports.{IsPlaceOrder, IsAssignment, first_some}
+use Rattle.unit_tree.specs.RunLaws.{HasOneTrace}
+use Rattle.unit_tree.specs.Successor.{Position, when, first_position, limits, agreed, ends_at, ends_or, after, goes, zero_end}
 use Rattle.unit_tree.specs.Trace.{Stand, IsStand, Goes, Follows, IsTrace, HasWords}
 use Rattle.unit_tree.specs.declared.ending.Ending.{Ending}
 use Rattle.unit_tree.proofs.AssignmentLaws.{none_at, one_assignment}

@@ -4,9 +4,8 @@ use Rattle.std.specs.Option.{option_map, option_and_then}
 use Rattle.fixed_words.specs.Operations.{Outcome}
 use Rattle.fixed_words.specs.Types.{is_word_of}
 use Rattle.unit_tree.specs.Components.{get_of}
-use Rattle.unit_tree.specs.Compositions.{Member, Composition}
+use Rattle.unit_tree.specs.Compositions.{Composition}
 use Rattle.unit_tree.specs.declared.unit.Input.{Input}
-use Rattle.unit_tree.specs.declared.unit.Output.{Output}
 
 -- The input, and the output, of some number at an instance.
 abbrev pub input_numbered : Composition → ℕ → ℕ → Option Input

@@ -1,7 +1,6 @@
 -- Negotiation of a step: the greatest steps that members ask for, the proposal, what each member makes of a step and
 -- replies, and the agreed step. Lengths are in ticks of the system, but for those that say local.
-use Rattle.std.specs.Prelude.{ℕ, zero, ◌-◌, ◌==◌, min, Bool, not, ◌&&◌, ℤ, pos, List, [], ◌∷◌, map, zip, if◌then◌else◌, Option, Some, None, Result, Ok, Err}
-use Rattle.std.specs.List.{filter_map}
+use Rattle.std.specs.Prelude.{ℕ, ◌-◌, ◌==◌, min, Bool, not, ◌&&◌, ℤ, pos, List, [], ◌∷◌, map, if◌then◌else◌, Option, Some, None, Result, Ok}
 use Rattle.std.specs.Option.{unwrap_or}
 use Rattle.fixed_words.specs.declared.types.Fault.{Fault}
 use Rattle.super_time.specs.LocalTime.{local_time, local_step, limit_of}

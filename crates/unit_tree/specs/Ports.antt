@@ -5,7 +5,7 @@ use Rattle.std.specs.List.{AllByRecursion, enumerate_from, flat_map, filter_map}
 use Rattle.std.specs.Option.{option_map, option_and_then}
 use Rattle.std.specs.Result.{result_ok, result_err}
 use Rattle.fixed_words.specs.Operations.{Outcome}
-use Rattle.unit_tree.specs.Components.{Component, start_word, get_of}
+use Rattle.unit_tree.specs.Components.{start_word, get_of}
 use Rattle.unit_tree.specs.Compositions.{Source, Start, AtPlace, Member, Composition}
 use Rattle.unit_tree.specs.Names.{is_among}
 use Rattle.unit_tree.specs.declared.ending.Ending.{Ending}

@@ -1,5 +1,5 @@
 -- Routes: the ports of a composition by numbers, so that no one who goes along an order looks a name up.
-use Rattle.std.specs.Prelude.{◌≡◌, ℕ, ◌<◌, ◌==◌, ℤ, List, [], ◌∷◌, ◌++◌, map, length, if◌then◌else◌, slice_get, Option, Some, None, ⊤, ◌⊎◌}
+use Rattle.std.specs.Prelude.{◌≡◌, ℕ, ◌<◌, ◌==◌, List, [], ◌∷◌, ◌++◌, map, length, if◌then◌else◌, slice_get, Option, Some, None, ⊤}
 use Rattle.std.specs.List.{AllByRecursion, enumerate_from, flat_map, filter_map}
 use Rattle.std.specs.Option.{option_map, unwrap_or}
 use Rattle.unit_tree.specs.Compositions.{Source, Start, AtPlace, Member, Composition}

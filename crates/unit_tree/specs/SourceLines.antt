@@ -1,6 +1,6 @@
 -- Source lines: for each canonical line of what a text says, the line of the text that it came from. The lines of a text
 -- stand in the order of its parts; canonical lines stand kind by kind, and each kind keeps its own order.
-use Rattle.std.specs.Prelude.{◌≡◌, ℕ, ◌+◌, ◌==◌, not, List, [], ◌∷◌, ◌++◌, map, length, take, drop}
+use Rattle.std.specs.Prelude.{◌≡◌, ℕ, ◌==◌, not, List, [], ◌∷◌, ◌++◌, map, length, take, drop}
 use Rattle.std.specs.List.{filter, flat_map, enumerate_from}
 use Rattle.unit_tree.specs.Lines.{source_lines, is_blank_line}
 use Rattle.unit_tree.specs.Parts.{Part, HasUnit, HasInstance, Connects, Stop, Longest, Zero, Rows, Samples, UnitPart, Resolution, HasParam, HasState, HasLocal, HasInput, HasEventIn, HasOutput, HasEventOut, Max, Step, part_forms, unit_part_forms}

@@ -1,5 +1,5 @@
 -- The successor of a position: the next one, or how the run ends there.
-use Rattle.std.specs.Prelude.{ℕ, suc, ◌+◌, ◌==◌, nat_lt, Bool, true, false, ◌&&◌, ℤ, List, [], ◌∷◌, map, zip, if◌then◌else◌, Option, Some, None, Result, Ok, Err}
+use Rattle.std.specs.Prelude.{ℕ, suc, ◌+◌, ◌==◌, nat_lt, Bool, true, false, ◌&&◌, ℤ, List, [], ◌∷◌, map, zip, if◌then◌else◌, Option, Some, None, Result, Ok}
 use Rattle.std.specs.List.{enumerate_from, filter_map}
 use Rattle.std.specs.Option.{option_map, option_and_then}
 use Rattle.std.specs.Result.{result_err}

@@ -1,11 +1,11 @@
 -- The trace of a system: the one list of positions from the start, each the successor of the one before.
-use Rattle.std.specs.Prelude.{◌≡◌, ℕ, zero, suc, ◌+◌, true, ◌&&◌, is_some, is_none, ℤ, List, [], ◌∷◌, map, if◌then◌else◌, Option, Some, None, Result, Ok, Err}
+use Rattle.std.specs.Prelude.{◌≡◌, ℕ, zero, suc, ◌+◌, true, ◌&&◌, is_some, is_none, ℤ, List, [], ◌∷◌, if◌then◌else◌, Option, Some, None, Result}
 use Rattle.std.specs.List.{AllZip, count_by, filter_map, sum_by}
 use Rattle.fixed_words.specs.Types.{is_word_of}
 use Rattle.fixed_words.specs.declared.types.Fault.{Fault}
 use Rattle.super_time.specs.declared.point.Point.{Point}
 use Rattle.unit_tree.specs.Components.{Moved}
-use Rattle.unit_tree.specs.Compositions.{Member, Composition}
+use Rattle.unit_tree.specs.Compositions.{Composition}
 use Rattle.unit_tree.specs.Ports.{Ports, IsAssignment, first_some, port_fault}
 use Rattle.unit_tree.specs.Successor.{Position, goes, ends, first_position, agreed, is_redone, trial, steps_by, stop_end, row_end, max_end, trial_end, successor}
 use Rattle.unit_tree.specs.declared.ending.Ending.{Ending}

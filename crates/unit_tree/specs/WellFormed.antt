@@ -1,8 +1,7 @@
 -- Well-formed systems. Each rule has a test, which a canonical line passes where it breaks the rule. The rules are
 -- judged in the order of their numbers, each over the whole system and only where all earlier ones hold.
-use Rattle.std.specs.Prelude.{◌≡◌, ℕ, ◌*◌, ◌/◌, ◌%◌, ◌^◌, max, Bool, true, false, not, ◌&&◌, ◌||◌, ◌==◌, nat_le, nat_lt, if◌then◌else◌, unsigned_abs, ℤ, List, [], ◌∷◌, ◌++◌, map, length, Option, Some, None, is_none, Result, Err}
+use Rattle.std.specs.Prelude.{◌≡◌, ℕ, ◌*◌, ◌^◌, max, Bool, true, false, not, ◌&&◌, ◌||◌, ◌==◌, nat_le, nat_lt, if◌then◌else◌, ℤ, List, [], ◌∷◌, ◌++◌, map, length, Option, Some, None, is_none, Result, Err}
 use Rattle.std.specs.Bool.{beq}
-use Rattle.std.specs.Int.{is_negative}
 use Rattle.std.specs.List.{AllByRecursion, list_any, count_by, enumerate_from, filter_map, flat_map, fold}
 use Rattle.std.specs.Option.{option_map, option_and_then, unwrap_or}
 use Rattle.std.specs.Ordering.{int_eq}
@@ -12,7 +11,6 @@ use Rattle.fixed_words.specs.Types.{kind_of, lowest, highest}
 use Rattle.fixed_words.specs.declared.types.Kind.{Kind}
 use Rattle.fixed_words.specs.declared.types.Kind.TheVariants as kinds
 use Rattle.fixed_words.specs.declared.types.Literal.{Literal}
-use Rattle.fixed_words.specs.declared.types.Literal.TheVariants as literal
 use Rattle.fixed_words.specs.declared.types.LiteralFault.{LiteralFault}
 use Rattle.fixed_words.specs.declared.types.LiteralFault.TheVariants.{Form, Range}
 use Rattle.fixed_words.specs.declared.types.Ty.{Ty}

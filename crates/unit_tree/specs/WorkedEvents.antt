@@ -4,12 +4,10 @@ use Rattle.std.specs.List.{repeat}
 use Rattle.fixed_words.specs.declared.types.Literal.TheVariants as literal
 use Rattle.fixed_words.specs.declared.types.Ty.{Ty}
 use Rattle.fixed_words.specs.declared.types.Ty.TheVariants as types
-use Rattle.unit_tree.specs.Canonical.{line_text}
 use Rattle.unit_tree.specs.Parts as parts
 use Rattle.unit_tree.specs.Parts.{Part, UnitPart, system_of, unit_of}
 use Rattle.unit_tree.specs.Phrases as phrase
 use Rattle.unit_tree.specs.Plain.{plain_form, presence_of, word_expression_of, zero_of}
-use Rattle.unit_tree.specs.Printable.{is_event_port}
 use Rattle.unit_tree.specs.Sites.{UnitScope, TopScope}
 use Rattle.unit_tree.specs.WellFormed.{refusal_of, exceeds, mistakes_kind}
 use Rattle.unit_tree.specs.WorkedPhrases.{Worked}
@@ -19,9 +17,7 @@ use Rattle.unit_tree.specs.declared.expr.Expr.{Expr}
 use Rattle.unit_tree.specs.declared.expr.Expr as expr
 use Rattle.unit_tree.specs.declared.expr.UnOp.TheVariants as of
 use Rattle.unit_tree.specs.declared.line.Line as line
-use Rattle.unit_tree.specs.declared.line_form.LineForm.{LineForm}
 use Rattle.unit_tree.specs.declared.line_form.LineForm.TheVariants as form
-use Rattle.unit_tree.specs.declared.system.System.{System}
 use Rattle.unit_tree.specs.declared.unit.EventIn.{EventIn}
 use Rattle.unit_tree.specs.declared.unit.EventOut.{EventOut}
 use Rattle.unit_tree.specs.declared.unit.Unit.{Unit}
