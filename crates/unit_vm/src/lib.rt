@@ -1,0 +1,8 @@
+//! The stack machine: valid code, and its runs.
+#![tactic(auto)]
+
+mod instruction;
+mod program;
+
+pub use instruction::{Flow, Instruction};
+pub use program::{CodeFacts, Entry, Program, Role, Sizes};
