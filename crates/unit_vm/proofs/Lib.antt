@@ -1,0 +1,5 @@
+pub mod Levels
+pub mod Acts
+pub mod Standing
+pub mod Cost
+pub mod Runs
