@@ -4,4 +4,5 @@ pub mod Instructions
 pub mod Loops
 pub mod Machine
 pub mod Programs
+pub mod Registers
 pub mod Valid

@@ -2,6 +2,7 @@
 #![tactic(auto)]
 
 mod instruction;
+mod machine;
 mod program;
 
 pub use instruction::{Flow, Instruction};
