@@ -3,3 +3,4 @@ pub mod Acts
 pub mod Standing
 pub mod Cost
 pub mod Runs
+pub mod Performs
