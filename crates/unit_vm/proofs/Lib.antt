@@ -4,3 +4,4 @@ pub mod Standing
 pub mod Cost
 pub mod Runs
 pub mod Performs
+pub mod Able
