@@ -5,3 +5,4 @@ pub mod Cost
 pub mod Runs
 pub mod Performs
 pub mod Able
+pub mod Going
