@@ -4,6 +4,7 @@
 mod instruction;
 mod machine;
 mod program;
+mod runs;
 
 pub use instruction::{Flow, Instruction};
 pub use program::{CodeFacts, Entry, Program, Role, Sizes};
