@@ -1,5 +1,7 @@
 pub use Rattle.fixed_words.specs.Types
 pub use Rattle.fixed_words.specs.Operations
+pub mod FrameLends
+pub mod Frames
 pub mod Instructions
 pub mod Loops
 pub mod Machine
