@@ -6,3 +6,5 @@ pub mod Lasting
 pub mod Performs
 pub mod Able
 pub mod Going
+pub mod Zeroing
+pub mod Rooms

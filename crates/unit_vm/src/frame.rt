@@ -11,11 +11,11 @@ use std::marker::Model;
 #[derive(Drop)]
 pub struct Frame {
     facts: CodeFacts,
-    cells: Vec<i64>,
-    loops: Vec<u32>,
-    slots: Vec<i64>,
-    accepted: u64,
-    result: i64,
+    pub(crate) cells: Vec<i64>,
+    pub(crate) loops: Vec<u32>,
+    pub(crate) slots: Vec<i64>,
+    pub(crate) accepted: u64,
+    pub(crate) result: i64,
 }
 
 impl Model for Frame {

@@ -1,12 +1,15 @@
 //! The stack machine: valid code, and its runs.
 #![tactic(auto)]
 
+mod code;
 mod frame;
 mod instruction;
 mod machine;
 mod program;
+mod running;
 mod runs;
 
+pub use code::Code;
 pub use frame::Frame;
 pub use instruction::{Flow, Instruction};
 pub use program::{CodeFacts, Entry, Program, Role, Sizes};

@@ -1,3 +1,7 @@
+ghost use Rattle.std.specs.Prelude.{◌≡◌};
+ghost use Rattle.std.specs.Option.{option_copied};
+ghost use Rattle.unit_vm.specs.Programs.{part_at};
+
 use crate::instruction::Instruction;
 use fixed_words::List;
 
@@ -46,4 +50,17 @@ pub struct CodeFacts {
     pub cost: u32,
     /// How many slots there are, those of the local time and the step counted.
     pub slots: u32,
+}
+
+impl Program {
+    /// The code that is run at an entry, if the program has it.
+    pub fn part(&self, entry: Entry) -> Option<&List<Instruction>>
+        ensures { option_copied result ≡ part_at self.now entry }
+    {
+        match entry {
+            Entry::Output(number) => self.outputs.get(number as usize),
+            Entry::Limit => self.limit.as_ref(),
+            Entry::Step => Some(&self.step),
+        }
+    }
 }
