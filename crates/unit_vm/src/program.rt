@@ -1,4 +1,5 @@
-ghost use Rattle.std.specs.Prelude.{◌≡◌};
+ghost use Rattle.std.specs.Prelude.{◌≡◌, ◌≤◌};
+ghost use Rattle.unit_vm.specs.Instructions.{slots_of, is_stored};
 ghost use Rattle.std.specs.Option.{option_copied};
 ghost use Rattle.unit_vm.specs.Programs.{part_at};
 
@@ -50,6 +51,28 @@ pub struct CodeFacts {
     pub cost: u32,
     /// How many slots there are, those of the local time and the step counted.
     pub slots: u32,
+}
+
+impl Sizes {
+    /// How many slots there are, those of the local time and the step counted.
+    pub fn slots(self) -> u32
+        requires states { self.states ≤ 64 }
+        requires inputs { self.inputs ≤ 32 }
+        requires locals { self.locals ≤ 64 }
+        ensures { result ≡ slots_of self }
+    {
+        self.states + self.inputs + self.locals + 2
+    }
+
+    /// Whether the slot may be written: a state's or a local's.
+    pub fn is_stored(self, slot: u32) -> bool
+        requires states { self.states ≤ 64 }
+        requires inputs { self.inputs ≤ 32 }
+        requires locals { self.locals ≤ 64 }
+        ensures { result ≡ is_stored self slot }
+    {
+        slot < self.states || self.states + self.inputs <= slot && slot < self.states + self.inputs + self.locals
+    }
 }
 
 impl Program {
