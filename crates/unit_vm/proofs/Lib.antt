@@ -8,3 +8,4 @@ pub mod Able
 pub mod Going
 pub mod Zeroing
 pub mod Rooms
+pub mod LoopTables

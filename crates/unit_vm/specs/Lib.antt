@@ -7,4 +7,5 @@ pub mod Loops
 pub mod Machine
 pub mod Programs
 pub mod Registers
+pub mod Tables
 pub mod Valid

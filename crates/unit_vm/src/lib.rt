@@ -1,6 +1,7 @@
 //! The stack machine: valid code, and its runs.
 #![tactic(auto)]
 
+mod around;
 mod code;
 mod frame;
 mod instruction;
