@@ -9,3 +9,4 @@ pub mod Going
 pub mod Zeroing
 pub mod Rooms
 pub mod LoopTables
+pub mod JumpsStaying

@@ -1,5 +1,5 @@
-ghost use Rattle.std.specs.Prelude.{◌≡◌, ◌+◌, ◌<◌, ◌^◌, IfOk, IfSome, IfNone};
-ghost use Rattle.unit_vm.specs.Tables.{row_behind, CanCount, IsCounted, HasLoops, IsLoopTable};
+ghost use Rattle.std.specs.Prelude.{◌≡◌, ◌↔◌, ◌+◌, ◌<◌, ◌^◌, IsTrue, IfOk, IfSome, IfNone};
+ghost use Rattle.unit_vm.specs.Tables.{row_behind, CanCount, IsCounted, HasLoops, IsLoopTable, same_innermost, stays, JumpsStay};
 
 use crate::instruction::{Flow, Instruction};
 use fixed_words::{List, NoMemory};
@@ -85,4 +85,41 @@ pub(crate) fn loop_table(alloc: Global, code: &[Instruction]) -> Result<Option<L
         return Ok(None);
     }
     Ok(Some(LoopTable { rows, cost, deepest }))
+}
+
+fn same_innermost(one: Option<u32>, other: Option<u32>) -> bool
+    ensures { result ≡ same_innermost one other }
+{
+    match (one, other) {
+        (None, None) => true,
+        (Some(one), Some(other)) => one == other,
+        _ => false,
+    }
+}
+
+/// Whether a jump at a place, if the instruction is one, stays in the part and in the loops around it.
+fn stays(flow: Flow, place: usize, rows: &[Around]) -> bool
+    requires { place < 2 ^ 62 }
+    ensures { result ≡ stays flow place rows.now }
+{
+    match flow {
+        Flow::Ahead(distance) | Flow::Branch(distance) => match (rows.get(place), rows.get(place + distance as usize)) {
+            (Some(here), Some(there)) => same_innermost(here.innermost, there.innermost),
+            _ => false,
+        },
+        _ => true,
+    }
+}
+
+/// Whether all jumps of a part do.
+pub(crate) fn jumps_stay(code: &[Instruction], table: &LoopTable) -> bool
+    requires { IsLoopTable code.now table.now }
+    ensures { IsTrue result ↔ JumpsStay code.now }
+{
+    for place in 0..code.len() {
+        if !stays(code[place].flow(), place, table.rows.as_slice()) {
+            return false;
+        }
+    }
+    true
 }

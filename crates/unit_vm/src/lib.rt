@@ -4,6 +4,7 @@
 mod around;
 mod code;
 mod frame;
+mod heights;
 mod instruction;
 mod machine;
 mod program;
