@@ -10,3 +10,4 @@ pub mod Zeroing
 pub mod Rooms
 pub mod LoopTables
 pub mod JumpsStaying
+pub mod HeightTables
