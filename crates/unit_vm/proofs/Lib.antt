@@ -11,3 +11,5 @@ pub mod Rooms
 pub mod LoopTables
 pub mod JumpsStaying
 pub mod HeightTables
+pub mod Judgements
+pub mod ProgramFacts

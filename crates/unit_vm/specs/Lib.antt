@@ -3,6 +3,7 @@ pub use Rattle.fixed_words.specs.Operations
 pub mod FrameLends
 pub mod Frames
 pub mod Instructions
+pub mod Judged
 pub mod Loops
 pub mod Machine
 pub mod Programs

@@ -6,6 +6,7 @@ mod code;
 mod frame;
 mod heights;
 mod instruction;
+mod judging;
 mod machine;
 mod program;
 mod running;
