@@ -13,3 +13,4 @@ pub mod JumpsStaying
 pub mod HeightTables
 pub mod Judgements
 pub mod ProgramFacts
+pub mod ReadSteps

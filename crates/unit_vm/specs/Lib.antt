@@ -7,6 +7,7 @@ pub mod Judged
 pub mod Loops
 pub mod Machine
 pub mod Programs
+pub mod Reading
 pub mod Registers
 pub mod Tables
 pub mod Valid

@@ -9,6 +9,7 @@ mod instruction;
 mod judging;
 mod machine;
 mod program;
+mod reading;
 mod running;
 mod runs;
 
