@@ -14,3 +14,4 @@ pub mod HeightTables
 pub mod Judgements
 pub mod ProgramFacts
 pub mod ReadSteps
+pub mod WriteSteps

@@ -12,6 +12,7 @@ mod program;
 mod reading;
 mod running;
 mod runs;
+mod writing;
 
 pub use code::Code;
 pub use frame::Frame;
