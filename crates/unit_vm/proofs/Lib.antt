@@ -15,3 +15,5 @@ pub mod Judgements
 pub mod ProgramFacts
 pub mod ReadSteps
 pub mod WriteSteps
+pub mod ReadBack
+pub mod ReadWhole
