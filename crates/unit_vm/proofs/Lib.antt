@@ -17,3 +17,5 @@ pub mod ReadSteps
 pub mod WriteSteps
 pub mod ReadBack
 pub mod ReadWhole
+pub mod ReadsBack
+pub mod Endings

@@ -1,9 +1,11 @@
 pub use Rattle.fixed_words.specs.Types
 pub use Rattle.fixed_words.specs.Operations
+pub mod Checking
 pub mod FrameLends
 pub mod Frames
 pub mod Instructions
 pub mod Judged
+pub mod Laws
 pub mod Loops
 pub mod Machine
 pub mod Programs

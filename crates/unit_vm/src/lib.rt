@@ -7,6 +7,7 @@ mod frame;
 mod heights;
 mod instruction;
 mod judging;
+mod laws;
 mod machine;
 mod program;
 mod reading;
@@ -14,7 +15,9 @@ mod running;
 mod runs;
 mod writing;
 
-pub use code::Code;
+pub use code::{Code, check_code};
 pub use frame::Frame;
+pub use laws::{code_is_one, valid_runs_end};
 pub use instruction::{Flow, Instruction};
 pub use program::{CodeFacts, Entry, Program, Role, Sizes};
+pub use running::run;
