@@ -84,7 +84,11 @@ pub(crate) fn loop_table(alloc: Global, code: &[Instruction]) -> Result<Option<L
     if here.depth > 0 {
         return Ok(None);
     }
-    Ok(Some(LoopTable { rows, cost, deepest }))
+    Ok(Some(LoopTable {
+        rows,
+        cost,
+        deepest,
+    }))
 }
 
 fn same_innermost(one: Option<u32>, other: Option<u32>) -> bool
@@ -103,7 +107,10 @@ fn stays(flow: Flow, place: usize, rows: &[Around]) -> bool
     ensures { result ≡ stays flow place rows.now }
 {
     match flow {
-        Flow::Ahead(distance) | Flow::Branch(distance) => match (rows.get(place), rows.get(place + distance as usize)) {
+        Flow::Ahead(distance) | Flow::Branch(distance) => match (
+            rows.get(place),
+            rows.get(place + distance as usize),
+        ) {
             (Some(here), Some(there)) => same_innermost(here.innermost, there.innermost),
             _ => false,
         },

@@ -13,10 +13,7 @@ pub enum Instruction {
     /// Pushes the slot's word.
     Load(u32),
     /// Pops a word and writes it to the slot; [`fixed_words::Fault::Range`] where it is none of the type's.
-    Store {
-        slot: u32,
-        ty: Ty,
-    },
+    Store { slot: u32, ty: Ty },
     Add,
     Subtract,
     Multiply,
@@ -100,7 +97,12 @@ impl Instruction {
         ensures { result ≡ takes self }
     {
         match self {
-            Instruction::Push(_) | Instruction::Load(_) | Instruction::Jump(_) | Instruction::Loop(_) | Instruction::Next(_) | Instruction::Done => 0,
+            Instruction::Push(_)
+            | Instruction::Load(_)
+            | Instruction::Jump(_)
+            | Instruction::Loop(_)
+            | Instruction::Next(_)
+            | Instruction::Done => 0,
             Instruction::Store { .. }
             | Instruction::Negate
             | Instruction::Magnitude
@@ -144,7 +146,8 @@ impl Instruction {
         match self {
             Instruction::Load(slot) => slot < sizes.slots(),
             Instruction::Store { slot, ty } => sizes.is_stored(slot) && is_known(ty),
-            Instruction::FixedMultiply(decimals) | Instruction::FixedDivide(decimals) => decimals <= 9,
+            Instruction::FixedMultiply(decimals) | Instruction::FixedDivide(decimals) => decimals
+                <= 9,
             Instruction::ScaleUp(decimals) | Instruction::ScaleDown(decimals) => decimals <= 9,
             Instruction::Jump(distance) | Instruction::JumpFalse(distance) => 1 <= distance,
             Instruction::Loop(count) => 1 <= count && count <= 1_000,

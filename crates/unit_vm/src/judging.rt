@@ -57,7 +57,12 @@ fn tallest(heights: &[Option<u32>]) -> u32
 }
 
 /// The facts of a part, or none where it is not valid.
-fn judge_part(alloc: Global, sizes: Sizes, role: Role, code: &[Instruction]) -> Result<Option<PartFacts>, NoMemory>
+fn judge_part(
+    alloc: Global,
+    sizes: Sizes,
+    role: Role,
+    code: &[Instruction],
+) -> Result<Option<PartFacts>, NoMemory>
     requires states { sizes.states ≤ 64 }
     requires inputs { sizes.inputs ≤ 32 }
     requires locals { sizes.locals ≤ 64 }
@@ -85,7 +90,11 @@ fn judge_part(alloc: Global, sizes: Sizes, role: Role, code: &[Instruction]) -> 
 }
 
 /// The facts of the outputs' parts, or none where one is not valid.
-fn judge_outputs(alloc: Global, sizes: Sizes, outputs: &[List<Instruction>]) -> Result<Option<PartFacts>, NoMemory>
+fn judge_outputs(
+    alloc: Global,
+    sizes: Sizes,
+    outputs: &[List<Instruction>],
+) -> Result<Option<PartFacts>, NoMemory>
     requires states { sizes.states ≤ 64 }
     requires inputs { sizes.inputs ≤ 32 }
     requires locals { sizes.locals ≤ 64 }
@@ -107,7 +116,12 @@ fn judge_outputs(alloc: Global, sizes: Sizes, outputs: &[List<Instruction>]) -> 
 }
 
 /// The facts of the parts behind them.
-fn judge_others(alloc: Global, sizes: Sizes, limit: &Option<List<Instruction>>, step: &[Instruction]) -> Result<Option<PartFacts>, NoMemory>
+fn judge_others(
+    alloc: Global,
+    sizes: Sizes,
+    limit: &Option<List<Instruction>>,
+    step: &[Instruction],
+) -> Result<Option<PartFacts>, NoMemory>
     requires states { sizes.states ≤ 64 }
     requires inputs { sizes.inputs ≤ 32 }
     requires locals { sizes.locals ≤ 64 }

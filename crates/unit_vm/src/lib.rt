@@ -17,7 +17,7 @@ mod writing;
 
 pub use code::{Code, check_code};
 pub use frame::Frame;
-pub use laws::{code_is_one, valid_runs_end};
 pub use instruction::{Flow, Instruction};
+pub use laws::{code_is_one, valid_runs_end};
 pub use program::{CodeFacts, Entry, Program, Role, Sizes};
 pub use running::run;

@@ -71,7 +71,8 @@ impl Sizes {
         requires locals { self.locals ≤ 64 }
         ensures { result ≡ is_stored self slot }
     {
-        slot < self.states || self.states + self.inputs <= slot && slot < self.states + self.inputs + self.locals
+        slot < self.states
+            || self.states + self.inputs <= slot && slot < self.states + self.inputs + self.locals
     }
 }
 

@@ -90,7 +90,10 @@ fn instruction_in(operation: i64, argument: i64) -> Instruction
         Instruction::Limit,
         Instruction::Done,
     ];
-    instructions.get(small(operation) as usize).copied().unwrap_or(Instruction::Done)
+    instructions
+        .get(small(operation) as usize)
+        .copied()
+        .unwrap_or(Instruction::Done)
 }
 
 /// Words as instructions, two each.
@@ -105,7 +108,12 @@ fn code_in(alloc: Global, words: &[i64]) -> Result<List<Instruction>, NoMemory>
 }
 
 /// The words between two places, as instructions.
-fn code_between(alloc: Global, words: &[i64], from: usize, to: usize) -> Result<List<Instruction>, NoMemory>
+fn code_between(
+    alloc: Global,
+    words: &[i64],
+    from: usize,
+    to: usize,
+) -> Result<List<Instruction>, NoMemory>
     ensures { IfOk result (λ code. code ≡ code_between words.now from to) }
 {
     let end = to.min(words.len());
@@ -152,7 +160,12 @@ fn outputs_in(alloc: Global, words: &[i64]) -> Result<List<List<Instruction>>, N
 {
     let mut outputs = List::new(alloc);
     for output in 0..outputs_of(words) {
-        let code = code_between(alloc, words, output_place(words, output), output_place(words, output + 1))?;
+        let code = code_between(
+            alloc,
+            words,
+            output_place(words, output),
+            output_place(words, output + 1),
+        )?;
         outputs.push(code)?;
     }
     Ok(outputs)
@@ -165,7 +178,12 @@ fn limit_in(alloc: Global, words: &[i64]) -> Result<Option<List<Instruction>>, N
         return Ok(None);
     }
     let outputs = outputs_of(words);
-    let code = code_between(alloc, words, number_at(words, 5 + outputs) as usize, number_at(words, 6 + outputs) as usize)?;
+    let code = code_between(
+        alloc,
+        words,
+        number_at(words, 5 + outputs) as usize,
+        number_at(words, 6 + outputs) as usize,
+    )?;
     Ok(Some(code))
 }
 
@@ -180,7 +198,12 @@ pub(crate) fn program_in(alloc: Global, words: &[i64]) -> Result<Program, NoMemo
     };
     let outputs = outputs_in(alloc, words)?;
     let limit = limit_in(alloc, words)?;
-    let step = code_between(alloc, words, number_at(words, 6 + outputs_of(words)) as usize, words.len())?;
+    let step = code_between(
+        alloc,
+        words,
+        number_at(words, 6 + outputs_of(words)) as usize,
+        words.len(),
+    )?;
     Ok(Program {
         sizes,
         outputs,

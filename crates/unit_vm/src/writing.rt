@@ -75,9 +75,15 @@ impl Instruction {
         match self {
             Instruction::Push(word) => word,
             Instruction::Store { slot, ty } => 32 * i64::from(slot) + i64::from(number_of(ty)),
-            Instruction::FixedMultiply(decimals) | Instruction::FixedDivide(decimals) => i64::from(decimals),
-            Instruction::ScaleUp(decimals) | Instruction::ScaleDown(decimals) => i64::from(decimals),
-            Instruction::Load(number) | Instruction::Jump(number) | Instruction::JumpFalse(number) => i64::from(number),
+            Instruction::FixedMultiply(decimals) | Instruction::FixedDivide(decimals) => i64::from(
+                decimals,
+            ),
+            Instruction::ScaleUp(decimals) | Instruction::ScaleDown(decimals) => i64::from(
+                decimals,
+            ),
+            Instruction::Load(number)
+            | Instruction::Jump(number)
+            | Instruction::JumpFalse(number) => i64::from(number),
             Instruction::Loop(number) | Instruction::Next(number) => i64::from(number),
             Instruction::Give(ty) => i64::from(number_of(ty)),
             _ => 0,
@@ -107,7 +113,11 @@ fn push_parts(words: &mut List<i64>, parts: &[List<Instruction>]) -> Result<(), 
 }
 
 /// Puts the places of parts that follow one another behind words. The result is the place behind them.
-fn push_places(words: &mut List<i64>, first: usize, parts: &[List<Instruction>]) -> Result<usize, NoMemory>
+fn push_places(
+    words: &mut List<i64>,
+    first: usize,
+    parts: &[List<Instruction>],
+) -> Result<usize, NoMemory>
     requires first { first ≤ 39 }
     requires short { AreShort parts.now }
     ensures { IfOk result (λ behind. (words.new ≡ words.old ++ places_from first parts.now) × (behind ≡ place_behind first parts.now) × (behind ≤ 6400039)) }

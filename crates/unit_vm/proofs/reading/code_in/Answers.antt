@@ -13,7 +13,7 @@ loop-pair-preserved c =
     let second : to_z w64 (of_z w64 two) ≡ two = search (rules, to_z-of_z) in
     let told = c.instruction_in.ensures ∙ (ap (λ x. instruction_in x (to_z w64 (of_z w64 two))) first ∙ ap (instruction_in one) second) in
     pair_next c.args.words.now c.loop-pair.pair c.loop-pair.code c.push.new.self c.loop-pair-test.true c.loop-pair.invariant
-      (c.in_ok-push.ensures.ok ∙ ap (λ (i : Instruction). c.loop-pair.code ++ i ∷ []) told)
+    (c.in_ok-push.ensures.ok ∙ ap (λ (i : Instruction). c.loop-pair.code ++ i ∷ []) told)
 
 pub returns : goal.returns
 returns c = pairs_all c.args.words.now c.loop-pair.pair c.loop-pair.code c.loop-pair-test.false c.loop-pair.invariant
