@@ -5,7 +5,6 @@ use Rattle.std.specs.Io.KnownBytes.{Appends, IsAtEnd}
 use Rattle.std.proofs.KnownBytes.{Appends-nil}
 use Rattle.unit_text.specs.Reading.{text_limit}
 use Rattle.unit_text.proofs.AnswerLemmas.{says_one, not_both, refused_once}
-use Rattle.unit_tree.proofs.TraceLaws.{traces_same}
 use Rattle.cosim_io.specs.Faults.{Rose}
 use Rattle.cosim_io.specs.Pieces.{AppendsPrefix}
 use Rattle.cosim_io.proofs.PieceLemmas.{AppendsPrefix-nil, AppendsPrefix-whole}
@@ -16,9 +15,12 @@ use Rattle.cosim_app.specs.Notes.{usage_note, read_fault_note, write_fault_note,
 use Rattle.cosim_app.specs.declared.status.Status.{Status}
 use Rattle.cosim_app.specs.declared.status.Status.TheVariants as status
 use Rattle.unit_tree.specs.Lines.{size_of}
-use Rattle.unit_tree.specs.Trace.{composition_of, IsTrace}
+use Rattle.unit_tree.specs.Compositions.{composition_of}
+use Rattle.unit_tree.specs.Trace.{IsTrace}
 use Rattle.unit_tree.specs.declared.system.System.{System}
+use Rattle.cosim_app.proofs.FormLaws.{runnable}
 use Rattle.cosim_app.proofs.JudgeLaws.{ends_unrefused}
+use Rattle.cosim_app.proofs.TraceExists.{traces_same}
 
 -- ---- One answer
 
@@ -26,9 +28,9 @@ use Rattle.cosim_app.proofs.JudgeLaws.{ends_unrefused}
 runs_same : (text : List ℕ) (one other : Answer) (a : AnswersRun text one) (b : AnswersRun text other) → one ≡ other
 runs_same text one other a b =
     let same_system : a.system ≡ b.system = says_one text a.system b.system a.accepted b.accepted in
-    let trace : IsTrace (composition_of b.system) a.positions a.ending = subst (λ (s : System). IsTrace (composition_of s) a.positions a.ending) same_system a.trace in
-    let same = traces_same (composition_of b.system) a.positions b.positions a.ending b.ending trace b.trace in
-    a.is ∙ ap (λ s. run_answer s a.positions a.ending) same_system ∙ ap (λ p. run_answer b.system p a.ending) same.0 ∙ ap (run_answer b.system b.positions) same.1 ∙ sym b.is
+    let trace : IsTrace (composition_of b.system) a.stands a.ending = subst (λ (s : System). IsTrace (composition_of s) a.stands a.ending) same_system a.trace in
+    let same = traces_same b.system (runnable text b.system b.accepted) a.stands b.stands a.ending b.ending trace b.trace in
+    a.is ∙ ap (λ s. run_answer s a.stands a.ending) same_system ∙ ap (λ p. run_answer b.system p a.ending) same.0 ∙ ap (run_answer b.system b.stands) same.1 ∙ sym b.is
 
 pub run_answers_same : (text : List ℕ) (one other : Answer) → RunAnswers text one → RunAnswers text other → one ≡ other
 run_answers_same text one other (inl a) (inl b) =
@@ -70,11 +72,17 @@ pub record Facts (words : List (List ℕ)) (before now : Streams) (wanted : Stat
   pub write_fault : wanted ≡ status.WriteFault → Rose before.put_faults now.put_faults
   pub refused : wanted ≡ status.Refused → IfSome before.left BreaksARule
   pub done : wanted ≡ status.Done → IfSome before.left (EndsWith status.Done)
+  pub zero_budget : wanted ≡ status.ZeroBudget → IfSome before.left (EndsWith status.ZeroBudget)
+  pub row_budget : wanted ≡ status.RowBudget → IfSome before.left (EndsWith status.RowBudget)
   pub unit_fault : wanted ≡ status.UnitFault → IfSome before.left (EndsWith status.UnitFault)
+  pub step_refused : wanted ≡ status.StepRefused → IfSome before.left (EndsWith status.StepRefused)
   pub put_greater : before.put_faults < now.put_faults → wanted ≡ status.WriteFault
   pub read_greater : before.read_faults < now.read_faults → wanted ≡ status.ReadFault
   pub done_read : wanted ≡ status.Done → IsAtEnd now.left
+  pub zero_budget_read : wanted ≡ status.ZeroBudget → IsAtEnd now.left
+  pub row_budget_read : wanted ≡ status.RowBudget → IsAtEnd now.left
   pub unit_fault_read : wanted ≡ status.UnitFault → IsAtEnd now.left
+  pub step_refused_read : wanted ≡ status.StepRefused → IsAtEnd now.left
   pub refused_read : wanted ≡ status.Refused → IsAtEnd now.left ⊎ IfSome before.left (λ text. text_limit < size_of text)
   pub usage_read : (words ≡ run_words → ⊥) → (now.left ≡ before.left) × (now.read_faults ≡ before.read_faults)
   pub read_fault_text : wanted ≡ status.ReadFault → text_of_note ≡ read_fault_note
@@ -110,14 +118,20 @@ promises_told words before now wanted given note facts (inl told) =
         write_fault = λ e. inl (facts.write_fault (sym is ∙ e));
         refused = λ e. facts.refused (sym is ∙ e);
         done = λ e. facts.done (sym is ∙ e);
+        zero_budget = λ e. facts.zero_budget (sym is ∙ e);
+        row_budget = λ e. facts.row_budget (sym is ∙ e);
         unit_fault = λ e. facts.unit_fault (sym is ∙ e);
+        step_refused = λ e. facts.step_refused (sym is ∙ e);
         put_greater = λ more. is ∙ facts.put_greater more;
         note_greater = λ more. absurd (omega arith);
         read_greater = λ more. inl (is ∙ facts.read_greater more);
       };
       whole_input = record {
         done = λ e. facts.done_read (sym is ∙ e);
+        zero_budget = λ e. facts.zero_budget_read (sym is ∙ e);
+        row_budget = λ e. facts.row_budget_read (sym is ∙ e);
         unit_fault = λ e. facts.unit_fault_read (sym is ∙ e);
+        step_refused = λ e. facts.step_refused_read (sym is ∙ e);
         refused = λ e. facts.refused_read (sym is ∙ e);
         usage = facts.usage_read;
       };
@@ -140,12 +154,15 @@ promises_told words before now wanted given note facts (inr failed) =
         write_fault = λ e. inr failed.2;
         refused = λ e. absurd (cc);
         done = λ e. absurd (cc);
+        zero_budget = λ e. absurd (cc);
+        row_budget = λ e. absurd (cc);
         unit_fault = λ e. absurd (cc);
+        step_refused = λ e. absurd (cc);
         put_greater = λ more. is;
         note_greater = λ more. is;
         read_greater = λ more. inr (is, failed.2);
       };
-      whole_input = record { done = λ e. absurd (cc); unit_fault = λ e. absurd (cc); refused = λ e. absurd (cc); usage = facts.usage_read };
+      whole_input = record { done = λ e. absurd (cc); zero_budget = λ e. absurd (cc); row_budget = λ e. absurd (cc); unit_fault = λ e. absurd (cc); step_refused = λ e. absurd (cc); refused = λ e. absurd (cc); usage = facts.usage_read };
       notes = record {
         read_fault = λ e. absurd (cc);
         write_fault = λ e quiet. absurd (quiet failed.2);
@@ -182,11 +199,17 @@ facts_usage words before now not left reads held puts = record {
   write_fault = λ e. absurd (cc);
   refused = λ e. absurd (cc);
   done = λ e. absurd (cc);
+  zero_budget = λ e. absurd (cc);
+  row_budget = λ e. absurd (cc);
   unit_fault = λ e. absurd (cc);
+  step_refused = λ e. absurd (cc);
   put_greater = λ more. absurd (omega arith);
   read_greater = λ more. absurd (omega arith);
   done_read = λ e. absurd (cc);
+  zero_budget_read = λ e. absurd (cc);
+  row_budget_read = λ e. absurd (cc);
   unit_fault_read = λ e. absurd (cc);
+  step_refused_read = λ e. absurd (cc);
   refused_read = λ e. absurd (cc);
   usage_read = λ _. (left, reads);
   read_fault_text = λ e. absurd (cc);
@@ -220,11 +243,17 @@ facts_read_fault words before now is_run nothing rose held puts = record {
   write_fault = λ e. absurd (cc);
   refused = λ e. absurd (cc);
   done = λ e. absurd (cc);
+  zero_budget = λ e. absurd (cc);
+  row_budget = λ e. absurd (cc);
   unit_fault = λ e. absurd (cc);
+  step_refused = λ e. absurd (cc);
   put_greater = λ more. absurd (omega arith);
   read_greater = λ more. refl;
   done_read = λ e. absurd (cc);
+  zero_budget_read = λ e. absurd (cc);
+  row_budget_read = λ e. absurd (cc);
   unit_fault_read = λ e. absurd (cc);
+  step_refused_read = λ e. absurd (cc);
   refused_read = λ e. absurd (cc);
   usage_read = λ not. absurd (not is_run);
   read_fault_text = λ _. refl;
@@ -244,11 +273,17 @@ facts_write_fault words before now is_run puts_front reads rose = record {
   write_fault = λ _. rose;
   refused = λ e. absurd (cc);
   done = λ e. absurd (cc);
+  zero_budget = λ e. absurd (cc);
+  row_budget = λ e. absurd (cc);
   unit_fault = λ e. absurd (cc);
+  step_refused = λ e. absurd (cc);
   put_greater = λ more. refl;
   read_greater = λ more. absurd (omega arith);
   done_read = λ e. absurd (cc);
+  zero_budget_read = λ e. absurd (cc);
+  row_budget_read = λ e. absurd (cc);
   unit_fault_read = λ e. absurd (cc);
+  step_refused_read = λ e. absurd (cc);
   refused_read = λ e. absurd (cc);
   usage_read = λ not. absurd (not is_run);
   read_fault_text = λ e. absurd (cc);
@@ -268,11 +303,17 @@ facts_no_memory words before now is_run puts_front reads puts = record {
   write_fault = λ e. absurd (cc);
   refused = λ e. absurd (cc);
   done = λ e. absurd (cc);
+  zero_budget = λ e. absurd (cc);
+  row_budget = λ e. absurd (cc);
   unit_fault = λ e. absurd (cc);
+  step_refused = λ e. absurd (cc);
   put_greater = λ more. absurd (omega arith);
   read_greater = λ more. absurd (omega arith);
   done_read = λ e. absurd (cc);
+  zero_budget_read = λ e. absurd (cc);
+  row_budget_read = λ e. absurd (cc);
   unit_fault_read = λ e. absurd (cc);
+  step_refused_read = λ e. absurd (cc);
   refused_read = λ e. absurd (cc);
   usage_read = λ not. absurd (not is_run);
   read_fault_text = λ e. absurd (cc);
@@ -306,7 +347,7 @@ breaks_a_rule (Some text) held held' given note gives is = breaks text gives.ans
 ends_so : (text : List ℕ) (answer : Answer) (end : Status) → (end ≡ status.Refused → ⊥) → RunAnswers text answer → answer.status ≡ end → EndsWith end text
 ends_so text answer end other (inl a) is = absurd (other (sym is ∙ ap (λ (x : Answer). x.status) a.is))
 ends_so text answer end other (inr a) is =
-    record { system = a.system; accepted = a.accepted; positions = a.positions; ending = a.ending; trace = a.trace; status = sym (ap (λ (x : Answer). x.status) a.is) ∙ is }
+    record { system = a.system; accepted = a.accepted; stands = a.stands; ending = a.ending; trace = a.trace; status = sym (ap (λ (x : Answer). x.status) a.is) ∙ is }
 
 ends_with : (left held held' : Option (List ℕ)) (given end : Status) (note : List ℕ) → (end ≡ status.Refused → ⊥) → IfSome left (λ text. PutsAnswer text held held' given note) → given ≡ end → IfSome left (EndsWith end)
 ends_with None held held' given end note other gives is = tt
@@ -344,11 +385,17 @@ facts_answered words before now given note is_run a =
       write_fault = λ e. absurd (own_is_other given status.WriteFault a.own (λ x. x) e);
       refused = breaks_a_rule before.left before.held now.held given note a.gives;
       done = ends_with before.left before.held now.held given status.Done note (λ e. absurd (cc)) a.gives;
+      zero_budget = ends_with before.left before.held now.held given status.ZeroBudget note (λ e. absurd (cc)) a.gives;
+      row_budget = ends_with before.left before.held now.held given status.RowBudget note (λ e. absurd (cc)) a.gives;
       unit_fault = ends_with before.left before.held now.held given status.UnitFault note (λ e. absurd (cc)) a.gives;
+      step_refused = ends_with before.left before.held now.held given status.StepRefused note (λ e. absurd (cc)) a.gives;
       put_greater = λ more. absurd (omega arith);
       read_greater = λ more. absurd (omega arith);
       done_read = λ e. read_to_end given before.left now.left (λ r. absurd (cc)) a.to_end;
+      zero_budget_read = λ e. read_to_end given before.left now.left (λ r. absurd (cc)) a.to_end;
+      row_budget_read = λ e. read_to_end given before.left now.left (λ r. absurd (cc)) a.to_end;
       unit_fault_read = λ e. read_to_end given before.left now.left (λ r. absurd (cc)) a.to_end;
+      step_refused_read = λ e. read_to_end given before.left now.left (λ r. absurd (cc)) a.to_end;
       refused_read = λ e. read_or_long given before.left now.left a.to_end;
       usage_read = λ not. absurd (not is_run);
       read_fault_text = λ e. absurd (own_is_other given status.ReadFault a.own (λ x. x) e);

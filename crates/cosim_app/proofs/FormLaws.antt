@@ -2,10 +2,10 @@
 use Rattle.std.proofs.Common.{◌≡◌, ℕ, zero, suc, ◌≤◌, ◌⊎◌, Bool, true, ◌&&◌, ℤ, pos, List, [], ◌∷◌, ◌++◌, map, Option, Some, None, Result, Ok, Err, refl, sym, ap, subst, ◌∙◌, inl, inr, arith, append-nil}
 use Rattle.std.specs.Prelude.{unsigned_abs}
 use Rattle.std.specs.List.{AllByRecursion}
+use Rattle.std.specs.Option.{option_map}
 use Rattle.fixed_words.specs.declared.types.Fault.{Fault}
 use Rattle.fixed_words.specs.declared.types.Ty.TheVariants.{Int64}
 use Rattle.unit_tree.specs.Lines.{lines_of}
-use Rattle.unit_tree.specs.Trace.{ticks_or}
 use Rattle.unit_tree.specs.Components.{variable}
 use Rattle.unit_tree.specs.Effects.{Effect, stored, assigned, effect_of, effect_of_lines, in_sequence, line_effect, part_is_ranged, lines_are_ranged}
 use Rattle.unit_tree.specs.Values.{◌>>=◌, AreTyped, node_is_ranged, is_ranged, value_of}
@@ -27,7 +27,7 @@ use Rattle.unit_text.specs.declared.form.Operand.{Operand}
 use Rattle.unit_text.specs.declared.form.Operand.TheVariants as operand
 use Rattle.unit_text.specs.declared.form.Source.{Source}
 use Rattle.cosim_app.specs.OneComponent.{IsPlain, AreDeclared}
-use Rattle.cosim_app.specs.Runnable.{IsRunnable}
+use Rattle.cosim_app.specs.Runnable.{whole, ticks_or, IsRunnable}
 
 -- ---- Its expressions and lines
 
@@ -89,6 +89,7 @@ states_declared (state ∷ states) = (tt, states_declared states)
 
 plain_unit : (source : Source) → IsPlain (unit_of source) (record { name = source.output; ty = Int64; needs = []; value = expr.Var source.shown }) (map line_of source.assignments)
 plain_unit source = record {
+  max = refl;
   params = refl;
   inputs = refl;
   locals = refl;
@@ -129,6 +130,10 @@ end_ranges source lines have =
     let behind_assignments = all_behind (form.Output source.output source.shown ∷ form.Step ∷ map form.Assign source.assignments) _ behind_states in
     behind_assignments.1.1.1.1
 
+longest_of_source : (longest : Option ℕ) → optional_literal longest ≡ option_map whole longest
+longest_of_source None = refl
+longest_of_source (Some longest) = refl
+
 runnable_source : (source : Source) → AllByRecursion IsInRange (form.Stop source.stop ∷ longest_line source.longest) → IsRunnable (system_of source)
 runnable_source source ranges = record {
   unit = unit_of source;
@@ -140,6 +145,14 @@ runnable_source source ranges = record {
   named = refl;
   plain = plain_unit source;
   declared = states_declared source.states;
+  version = refl;
+  resolution = refl;
+  rows = refl;
+  zeros = refl;
+  seconds = source.stop;
+  stop = refl;
+  steps = source.longest;
+  longest = longest_of_source source.longest;
   stop_fits = let within : source.stop ≤ 99999 = ranges.0 in rw (abs_pos source.stop) (omega arith);
   progress = progress_of source.stop source.longest ranges.1;
 }

@@ -1,6 +1,7 @@
 -- What a run has put and come to, as the answer of its text.
 use Rattle.std.proofs.Common.{◌≡◌, ℕ, ◌+◌, ◌<◌, List, length, length-append, arith, Option, Some, None, Result, Ok, Err, refl, sym, ap, subst, ◌∙◌, inl, inr}
 use Rattle.std.specs.Prelude.{IfSome}
+use Rattle.std.specs.Io.KnownBytes.{IsAtEnd}
 use Rattle.std.proofs.KnownBytes.{Appends-nil}
 use Rattle.unit_text.specs.Reading.{IsAccepted, IsRefused, IsAnswered, text_limit}
 use Rattle.unit_text.proofs.AnswerLemmas.{answered}
@@ -8,7 +9,7 @@ use Rattle.unit_tokens.proofs.LineLemmas.{length_le_size_of}
 use Rattle.unit_text.proofs.ReadingLemmas.{refused_long}
 use Rattle.unit_tree.specs.Lines.{size_of}
 use Rattle.unit_tree.specs.declared.ending.Ending.{Ending}
-use Rattle.unit_tree.specs.declared.ending.Ending.TheVariants.{Completed, Faulted}
+use Rattle.unit_tree.specs.declared.ending.Ending.TheVariants.{Completed, RowBudget, ZeroBudget, UnitFault, StepRefused}
 use Rattle.unit_tree.specs.declared.system.System.{System}
 use Rattle.cosim_io.specs.Pieces.{ConsumesExactly}
 use Rattle.cosim_io.proofs.PieceLemmas.{AppendsPrefix-nil, AppendsPrefix-whole}
@@ -33,7 +34,7 @@ puts_answer text system held held' result end given note accepted puts is given_
     let done = ended.whole trace.0 trace.1.0 trace.1.1 in
     record {
       answer = run_answer system trace.0 trace.1.0;
-      is = inr (record { system = system; accepted = accepted; positions = trace.0; ending = trace.1.0; trace = trace.1.1; is = refl });
+      is = inr (record { system = system; accepted = accepted; stands = trace.0; ending = trace.1.0; trace = trace.1.1; is = refl });
       out = done.0;
       notes = note_is ∙ ap (λ ending. ending_note system ending end.last) done.1 ∙ ap (ending_note system trace.1.0) done.2;
       same_status = given_is ∙ ap status_of done.1;
@@ -46,7 +47,7 @@ puts_front text system held held' result fault accepted puts is =
     let given_up = subst (PutsTrace system held held') is puts in
     record {
       answer = run_answer system trace.0 trace.1.0;
-      is = inr (record { system = system; accepted = accepted; positions = trace.0; ending = trace.1.0; trace = trace.1.1; is = refl });
+      is = inr (record { system = system; accepted = accepted; stands = trace.0; ending = trace.1.0; trace = trace.1.1; is = refl });
       front = given_up.front trace.0 trace.1.0 trace.1.1;
     }
 
@@ -58,23 +59,29 @@ puts_front_of text system held held' result end accepted puts is =
     let done = ended.whole trace.0 trace.1.0 trace.1.1 in
     record {
       answer = run_answer system trace.0 trace.1.0;
-      is = inr (record { system = system; accepted = accepted; positions = trace.0; ending = trace.1.0; trace = trace.1.1; is = refl });
+      is = inr (record { system = system; accepted = accepted; stands = trace.0; ending = trace.1.0; trace = trace.1.1; is = refl });
       front = AppendsPrefix-whole held held' (run_answer system trace.0 trace.1.0).out done.0;
     }
 
 -- the statuses of a trace's ends
 pub ends_own : (ending : Ending) (given : Status) → given ≡ status_of ending → IsOwn given
 ends_own Completed given is = subst IsOwn (sym is) tt
-ends_own (Faulted instance place fault) given is = subst IsOwn (sym is) tt
+ends_own RowBudget given is = subst IsOwn (sym is) tt
+ends_own ZeroBudget given is = subst IsOwn (sym is) tt
+ends_own (StepRefused instance asked accepted) given is = subst IsOwn (sym is) tt
+ends_own (UnitFault instance place fault) given is = subst IsOwn (sym is) tt
 
 pub ends_unrefused : (ending : Ending) (given : Status) → given ≡ status_of ending → given ≡ status.Refused → ⊥
 ends_unrefused Completed given is refused = cc
-ends_unrefused (Faulted instance place fault) given is refused = cc
+ends_unrefused RowBudget given is refused = cc
+ends_unrefused ZeroBudget given is refused = cc
+ends_unrefused (StepRefused instance asked accepted) given is refused = cc
+ends_unrefused (UnitFault instance place fault) given is refused = cc
 
 answer_of : (text : List ℕ) → IsAnswered text → (answer : Answer) × RunAnswers text answer
 answer_of text (inl (system, accepted)) =
     let trace = trace_exists system (runnable text system accepted) in
-    (run_answer system trace.0 trace.1.0, inr (record { system = system; accepted = accepted; positions = trace.0; ending = trace.1.0; trace = trace.1.1; is = refl }))
+    (run_answer system trace.0 trace.1.0, inr (record { system = system; accepted = accepted; stands = trace.0; ending = trace.1.0; trace = trace.1.1; is = refl }))
 answer_of text (inr refusal) =
     (refused_answer refusal.0 refusal.1, inl (record { line = refusal.0; rule = refusal.1; refused = refusal.2; is = refl }))
 
@@ -146,3 +153,25 @@ refuses_long left left' reads reads' held puts (verdict.Answered given note) tak
 refuses_long left left' reads reads' held puts verdict.NoMemory taken same is = (nothing_put left held, same, refl)
 refuses_long left left' reads reads' held puts verdict.ReadFault taken same is = absurd is
 refuses_long left left' reads reads' held puts verdict.WriteFault taken same is = absurd is
+
+gives_of : (left : Option (List ℕ)) (text : List ℕ) (held held' : Option (List ℕ)) (given : Status) (note : List ℕ) → IfSome left (λ all. text ≡ all) → PutsAnswer text held held' given note → IfSome left (λ all. PutsAnswer all held held' given note)
+gives_of None text held held' given note whole puts = tt
+gives_of (Some all) text held held' given note whole puts = subst (λ (t : List ℕ). PutsAnswer t held held' given note) whole puts
+
+front_of : (left : Option (List ℕ)) (text : List ℕ) (held held' : Option (List ℕ)) → IfSome left (λ all. text ≡ all) → PutsFront text held held' → IfSome left (λ all. PutsFront all held held')
+front_of None text held held' whole puts = tt
+front_of (Some all) text held held' whole puts = subst (λ (t : List ℕ). PutsFront t held held') whole puts
+
+-- the verdict on the whole input is that on its text
+pub judges_whole : (left left' : Option (List ℕ)) (reads reads' : ℕ) (held held' : Option (List ℕ)) (puts puts' : ℕ) (text : List ℕ) (v : Verdict) → IfSome left (λ all. text ≡ all) → IsAtEnd left' → reads' ≡ reads → JudgesText text held held' puts puts' v → JudgesInput left left' reads reads' held held' puts puts' v
+judges_whole left left' reads reads' held held' puts puts' text (verdict.Answered given note) whole ended same is = record {
+  gives = gives_of left text held held' given note.items whole is.0;
+  own = is.1;
+  same_reads = same;
+  same_puts = is.2;
+  untouched = is.3;
+  to_end = inl ended;
+}
+judges_whole left left' reads reads' held held' puts puts' text verdict.NoMemory whole ended same is = (front_of left text held held' whole is.0, same, is.1)
+judges_whole left left' reads reads' held held' puts puts' text verdict.WriteFault whole ended same is = (front_of left text held held' whole is.0, same, is.1)
+judges_whole left left' reads reads' held held' puts puts' text verdict.ReadFault whole ended same is = absurd is

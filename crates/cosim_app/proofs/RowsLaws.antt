@@ -1,5 +1,5 @@
 -- What each way through a run's loop has put, in terms of its trace.
-use Rattle.std.proofs.Common.{◌≡◌, ℕ, suc, ◌+◌, ◌-◌, ◌==◌, min, false, ℤ, List, [], ◌∷◌, ◌++◌, length, Option, Some, None, Result, Ok, Err, sym, ap, subst, ◌∙◌, arith, append_assoc, length-append}
+use Rattle.std.proofs.Common.{◌≡◌, ℕ, suc, ◌+◌, ◌-◌, ◌<◌, ◌≤◌, ◌==◌, ◌⊎◌, min, false, ℤ, List, [], ◌∷◌, ◌++◌, length, Option, Some, None, Result, Ok, Err, sym, ap, subst, ◌∙◌, arith, append_assoc, length-append}
 use Rattle.std.specs.Prelude.{IsErr}
 use Rattle.std.specs.Io.KnownBytes.{Appends}
 use Rattle.std.proofs.lemmas.List.{length-map}
@@ -8,7 +8,9 @@ use Rattle.fixed_words.specs.Operations.{Outcome}
 use Rattle.fixed_words.specs.declared.types.Fault.{Fault}
 use Rattle.unit_tree.specs.Components.{variables_of}
 use Rattle.unit_tree.specs.Effects.{effect_of_lines}
-use Rattle.unit_tree.specs.Trace.{Composition, Row, goes, ends, first_position, row_at, successor}
+use Rattle.unit_tree.specs.Compositions.{Composition}
+use Rattle.unit_tree.specs.Successor.{goes, ends, first_position, successor}
+use Rattle.unit_tree.specs.Trace.{Row, row_at}
 use Rattle.unit_tree.specs.Values.{IsSound}
 use Rattle.unit_tree.specs.declared.ending.Ending.{Ending}
 use Rattle.unit_tree.specs.declared.environment.Environment.{Environment}
@@ -22,40 +24,40 @@ use Rattle.cosim_app.specs.TraceText.{row_text}
 use Rattle.cosim_app.specs.declared.fault.RunEnd.{RunEnd}
 use Rattle.cosim_app.specs.declared.fault.RunFault.{RunFault}
 use Rattle.cosim_app.proofs.Going.{going_first, going_on, going_ends, going_breaks, going_front, going_front_row}
-use Rattle.cosim_app.proofs.OneLemmas.{given, row_is, step_goes}
+use Rattle.cosim_app.proofs.OneLemmas.{Shows, Hides, Stops, Leads, given, row_is, step_goes}
 use Rattle.cosim_app.proofs.RowsKept.{Standing, Kept}
 
 -- at the start nothing was put
 pub stands_first : (run : Composition) (line : Row → List ℕ) (words : List ℤ) (held : Option (List ℕ)) → first_position run ≡ at 0 words 0 → Standing run line 0 words held held
-stands_first run line words held start positions ending trace =
-    record { text = []; appended = Appends-nil held; going = going_first run line positions ending words start trace }
+stands_first run line words held start stands ending trace =
+    record { text = []; appended = Appends-nil held; going = going_first run line stands ending words start trace }
 
 -- a row was put, and the run goes on
-pub stands_on : (run : Composition) (line : Row → List ℕ) (t : ℕ) (words : List ℤ) (t' : ℕ) (words' : List ℤ) (row : Row) (held0 held held' : Option (List ℕ)) → ((number : ℕ) → row_at run (at t words number) ≡ Some row) → ((number : ℕ) → successor run (at t words number) ≡ goes (at t' words' (suc number))) → Appends held held' (line row) → Standing run line t words held0 held → Standing run line t' words' held0 held'
-stands_on run line t words t' words' row held0 held held' shows steps put standing positions ending trace =
-    let so_far = standing positions ending trace in
+pub stands_on : (run : Composition) (line : Row → List ℕ) (t : ℕ) (words : List ℤ) (t' : ℕ) (words' : List ℤ) (row : Row) (held0 held held' : Option (List ℕ)) → t < t' → Shows run t words row → Leads run t words t' words' → Appends held held' (line row) → Standing run line t words held0 held → Standing run line t' words' held0 held'
+stands_on run line t words t' words' row held0 held held' later_than shows steps put standing stands ending trace =
+    let so_far = standing stands ending trace in
     record {
       text = so_far.text ++ line row;
       appended = Appends-trans held0 held held' so_far.text (line row) so_far.appended put;
-      going = going_on run line positions ending t words so_far.text row t' words' shows steps so_far.going;
+      going = going_on run line stands ending t words so_far.text row t' words' later_than shows steps so_far.going;
     }
 
 -- the run ends here, behind its row
-pub puts_all : (run : Composition) (line : Row → List ℕ) (t : ℕ) (words : List ℤ) (row : Row) (end : Ending) (held0 held held' : Option (List ℕ)) → ((number : ℕ) → row_at run (at t words number) ≡ Some row) → ((number : ℕ) → successor run (at t words number) ≡ ends end) → Appends held held' (line row) → Standing run line t words held0 held → PutsRows run line held0 held' (Ok (record { ending = end; last = record { t = t; n = 0 } }))
+pub puts_all : (run : Composition) (line : Row → List ℕ) (t : ℕ) (words : List ℤ) (row : Row) (end : Ending) (held0 held held' : Option (List ℕ)) → Shows run t words row → Stops run t words end → Appends held held' (line row) → Standing run line t words held0 held → PutsRows run line held0 held' (Ok (record { ending = end; last = record { t = t; n = 0 } }))
 puts_all run line t words row end held0 held held' shows stops put standing = record {
-  whole = λ positions ending trace.
-      let so_far = standing positions ending trace in
-      let ended = going_ends run line positions ending t words so_far.text row end shows stops so_far.going in
+  whole = λ stands ending trace.
+      let so_far = standing stands ending trace in
+      let ended = going_ends run line stands ending t words so_far.text row end shows stops so_far.going in
       (subst (Appends held0 held') (sym ended.all) (Appends-trans held0 held held' so_far.text (line row) so_far.appended put), ended.is, ended.last);
   front = tt;
 }
 
 -- the run ends here without a row
-pub puts_before : (run : Composition) (line : Row → List ℕ) (t : ℕ) (words : List ℤ) (end : Ending) (held0 held : Option (List ℕ)) → ((number : ℕ) → row_at run (at t words number) ≡ None) → ((number : ℕ) → successor run (at t words number) ≡ ends end) → Standing run line t words held0 held → PutsRows run line held0 held (Ok (record { ending = end; last = record { t = t; n = 0 } }))
+pub puts_before : (run : Composition) (line : Row → List ℕ) (t : ℕ) (words : List ℤ) (end : Ending) (held0 held : Option (List ℕ)) → Hides run t words → Stops run t words end → Standing run line t words held0 held → PutsRows run line held0 held (Ok (record { ending = end; last = record { t = t; n = 0 } }))
 puts_before run line t words end held0 held hides stops standing = record {
-  whole = λ positions ending trace.
-      let so_far = standing positions ending trace in
-      let ended = going_breaks run line positions ending t words so_far.text end hides stops so_far.going in
+  whole = λ stands ending trace.
+      let so_far = standing stands ending trace in
+      let ended = going_breaks run line stands ending t words so_far.text end hides stops so_far.going in
       (subst (Appends held0 held) (sym ended.all) so_far.appended, ended.is, ended.last);
   front = tt;
 }
@@ -64,19 +66,19 @@ puts_before run line t words end held0 held hides stops standing = record {
 pub puts_front : (run : Composition) (line : Row → List ℕ) (t : ℕ) (words : List ℤ) (held0 held : Option (List ℕ)) (fault : RunFault) → Standing run line t words held0 held → PutsRows run line held0 held (Err fault)
 puts_front run line t words held0 held fault standing = record {
   whole = tt;
-  front = λ positions ending trace.
-      let so_far = standing positions ending trace in
-      let front = going_front run line positions ending t words so_far.text so_far.going in
+  front = λ stands ending trace.
+      let so_far = standing stands ending trace in
+      let front = going_front run line stands ending t words so_far.text so_far.going in
       subst (AppendsPrefix held0 held) (sym front.1) (AppendsPrefix-longer held0 held so_far.text front.0 (AppendsPrefix-whole held0 held so_far.text so_far.appended));
 }
 
 -- the run is given up inside a row
-pub puts_front_row : (run : Composition) (line : Row → List ℕ) (t : ℕ) (words : List ℤ) (row : Row) (held0 held held' : Option (List ℕ)) (fault : RunFault) → ((number : ℕ) → row_at run (at t words number) ≡ Some row) → AppendsPrefix held held' (line row) → Standing run line t words held0 held → PutsRows run line held0 held' (Err fault)
+pub puts_front_row : (run : Composition) (line : Row → List ℕ) (t : ℕ) (words : List ℤ) (row : Row) (held0 held held' : Option (List ℕ)) (fault : RunFault) → Shows run t words row → AppendsPrefix held held' (line row) → Standing run line t words held0 held → PutsRows run line held0 held' (Err fault)
 puts_front_row run line t words row held0 held held' fault shows put standing = record {
   whole = tt;
-  front = λ positions ending trace.
-      let so_far = standing positions ending trace in
-      let front = going_front_row run line positions ending t words so_far.text row shows so_far.going in
+  front = λ stands ending trace.
+      let so_far = standing stands ending trace in
+      let front = going_front_row run line stands ending t words so_far.text row shows so_far.going in
       let all = front.1 ∙ sym (append_assoc so_far.text (line row) front.0) in
       subst (AppendsPrefix held0 held') (sym all)
       (AppendsPrefix-longer held0 held' (so_far.text ++ line row) front.0 (AppendsPrefix-after held0 held held' so_far.text (line row) so_far.appended put));
@@ -87,7 +89,7 @@ pub puts_front_err : (run : Composition) (line : Row → List ℕ) (t : ℕ) (wo
 puts_front_err run line t words held0 held (Ok end) is standing = absurd (cc)
 puts_front_err run line t words held0 held (Err fault) is standing = puts_front run line t words held0 held fault standing
 
-pub puts_front_row_err : (run : Composition) (line : Row → List ℕ) (t : ℕ) (words : List ℤ) (row : Row) (held0 held held' : Option (List ℕ)) (result : Result RunEnd RunFault) → IsErr result → ((number : ℕ) → row_at run (at t words number) ≡ Some row) → AppendsPrefix held held' (line row) → Standing run line t words held0 held → PutsRows run line held0 held' result
+pub puts_front_row_err : (run : Composition) (line : Row → List ℕ) (t : ℕ) (words : List ℤ) (row : Row) (held0 held held' : Option (List ℕ)) (result : Result RunEnd RunFault) → IsErr result → Shows run t words row → AppendsPrefix held held' (line row) → Standing run line t words held0 held → PutsRows run line held0 held' result
 puts_front_row_err run line t words row held0 held held' (Ok end) is shows put standing = absurd (cc)
 puts_front_row_err run line t words row held0 held held' (Err fault) is shows put standing = puts_front_row run line t words row held0 held held' fault shows put standing
 
@@ -117,21 +119,26 @@ tried_is unit lines env left t h tried variables same_variables same_words did =
 states_only : (unit : Unit) (output : Output) (lines : List Line) → IsPlain unit output lines → length (variables_of unit) ≡ length unit.states
 states_only unit output lines plain = rw (plain.params, plain.inputs, plain.locals) (simp (length-append, length-map) (omega arith))
 
+-- a step from before the stop takes time
+step_takes : (stop longest t : ℕ) → (1 ≤ longest) ⊎ (stop ≡ 0) → t ≤ stop → (t == stop) ≡ false → 1 ≤ min (stop - t) longest
+step_takes stop longest t progress within more = grind (arith, progress)
+
 -- the run goes on behind a row and a step
-pub kept_on : (unit : Unit) (output : Output) (lines : List Line) (stop longest : ℕ) (env env' : Environment) (t h : ℕ) (word : ℤ) (held0 held held' : Option (List ℕ)) (faults0 faults faults' : ℕ) → IsPlain unit output lines → Kept unit output stop longest env t held0 held faults0 faults → given unit output env.words ≡ Ok word → (t == stop) ≡ false → h ≡ min (stop - t) longest → effect_of_lines lines (plain_env unit env.words t h) ≡ Ok env' → IsSound env' → env'.variables ≡ env.variables → faults' ≡ faults → ((instance : List ℕ) → Appends held held' (row_text (one_column instance output) (one_row t word))) → Kept unit output stop longest env' (t + h) held0 held' faults0 faults'
-kept_on unit output lines stop longest env env' t h word held0 held held' faults0 faults faults' plain kept is more step_is moves sound same_variables same put =
+pub kept_on : (unit : Unit) (output : Output) (lines : List Line) (stop longest : ℕ) (env env' : Environment) (t h : ℕ) (word : ℤ) (held0 held held' : Option (List ℕ)) (faults0 faults faults' : ℕ) → IsPlain unit output lines → stop ≤ 99999 → (1 ≤ longest) ⊎ (stop ≡ 0) → Kept unit output stop longest env t held0 held faults0 faults → given unit output env.words ≡ Ok word → (t == stop) ≡ false → h ≡ min (stop - t) longest → effect_of_lines lines (plain_env unit env.words t h) ≡ Ok env' → IsSound env' → env'.variables ≡ env.variables → faults' ≡ faults → ((instance : List ℕ) → Appends held held' (row_text (one_column instance output) (one_row t word))) → Kept unit output stop longest env' (t + h) held0 held' faults0 faults'
+kept_on unit output lines stop longest env env' t h word held0 held held' faults0 faults faults' plain fits progress kept is more step_is moves sound same_variables same put =
     let one_each : length env'.words ≡ length unit.states =
     sound.one_each ∙ ap length (same_variables ∙ kept.variables) ∙ states_only unit output lines plain in
+    let before = kept.before_stop in
+    let takes : 1 ≤ min (stop - t) longest = step_takes stop longest t progress before more in
     let moves' : effect_of_lines lines (plain_env unit env.words t (min (stop - t) longest)) ≡ Ok env' =
     ap (λ s. effect_of_lines lines (plain_env unit env.words t s)) (sym step_is) ∙ moves in
-    let next : (number : ℕ) → successor (one unit stop longest) (at t env.words number) ≡ goes (at (t + h) env'.words (suc number)) =
-    λ number. step_goes unit output lines stop longest t env.words word env' plain is more moves' one_each number ∙ ap (λ s. goes (at (t + s) env'.words (suc number))) (sym step_is) in
-    let before = kept.before_stop in
+    let next : Leads (one unit stop longest) t env.words (t + h) env'.words =
+    subst (λ s. Leads (one unit stop longest) t env.words (t + s) env'.words) (sym step_is) (step_goes unit output lines stop longest plain t env.words word env' is more before fits takes moves' one_each) in
     record {
       before_stop = omega arith;
       sound = sound;
       variables = same_variables ∙ kept.variables;
       same = same ∙ kept.same;
       standing = λ instance. stands_on (one unit stop longest) (row_text (one_column instance output)) t env.words (t + h) env'.words (one_row t word) held0 held held'
-          (row_is unit output lines stop longest t env.words word plain is) next (put instance) (kept.standing instance);
+          (omega arith) (row_is unit output lines stop longest plain t env.words word is) next (put instance) (kept.standing instance);
     }

@@ -2,9 +2,10 @@
 -- of its input.
 use Rattle.std.specs.Prelude.{◌≡◌, ℕ, List, [], ◌∷◌, codes, ◌⊎◌}
 use Rattle.unit_text.specs.Reading.{IsAccepted, IsRefused}
-use Rattle.unit_tree.specs.Trace.{Position, composition_of, IsTrace, last_point}
+use Rattle.unit_tree.specs.Compositions.{composition_of}
+use Rattle.unit_tree.specs.Trace.{Stand, IsTrace, last_point}
 use Rattle.unit_tree.specs.declared.ending.Ending.{Ending}
-use Rattle.unit_tree.specs.declared.ending.Ending.TheVariants.{Completed, Faulted}
+use Rattle.unit_tree.specs.declared.ending.Ending.TheVariants.{Completed, RowBudget, ZeroBudget, UnitFault, StepRefused}
 use Rattle.unit_tree.specs.declared.system.System.{System}
 use Rattle.cosim_app.specs.TraceText.{trace_text}
 use Rattle.cosim_app.specs.Notes.{usage_note, refused_note, ending_note}
@@ -28,12 +29,15 @@ refused_answer line rule = record { out = []; notes = refused_note line rule; st
 
 abbrev pub status_of : Ending → Status
 status_of Completed = status.Done
-status_of (Faulted instance place fault) = status.UnitFault
+status_of RowBudget = status.RowBudget
+status_of ZeroBudget = status.ZeroBudget
+status_of (UnitFault instance place fault) = status.UnitFault
+status_of (StepRefused instance asked accepted) = status.StepRefused
 
 -- The trace's text, and how it ended.
-abbrev pub run_answer : System → List Position → Ending → Answer
-run_answer system positions ending =
-    record { out = trace_text system positions; notes = ending_note system ending (last_point positions); status = status_of ending }
+abbrev pub run_answer : System → List Stand → Ending → Answer
+run_answer system stands ending =
+    record { out = trace_text system stands; notes = ending_note system ending (last_point stands); status = status_of ending }
 
 -- A text that is refused is answered by its line and rule.
 pub record AnswersRefusal (text : List ℕ) (answer : Answer) : Type 0 where
@@ -46,10 +50,10 @@ pub record AnswersRefusal (text : List ℕ) (answer : Answer) : Type 0 where
 pub record AnswersRun (text : List ℕ) (answer : Answer) : Type 0 where
   pub system : System
   pub accepted : IsAccepted text system
-  pub positions : List Position
+  pub stands : List Stand
   pub ending : Ending
-  pub trace : IsTrace (composition_of system) positions ending
-  pub is : answer ≡ run_answer system positions ending
+  pub trace : IsTrace (composition_of system) stands ending
+  pub is : answer ≡ run_answer system stands ending
 
 -- The answer of `run` for a text.
 abbrev pub RunAnswers : List ℕ → Answer → Type 0

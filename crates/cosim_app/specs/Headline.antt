@@ -4,7 +4,8 @@ use Rattle.std.specs.Prelude.{◌≡◌, ℕ, ◌<◌, List, Option, IfSome, ◌
 use Rattle.std.specs.Io.KnownBytes.{Appends, IsAtEnd}
 use Rattle.unit_text.specs.Reading.{IsAccepted, IsRefused, text_limit}
 use Rattle.unit_tree.specs.Lines.{size_of}
-use Rattle.unit_tree.specs.Trace.{Position, composition_of, IsTrace}
+use Rattle.unit_tree.specs.Compositions.{composition_of}
+use Rattle.unit_tree.specs.Trace.{Stand, IsTrace}
 use Rattle.unit_tree.specs.declared.ending.Ending.{Ending}
 use Rattle.unit_tree.specs.declared.system.System.{System}
 use Rattle.cosim_io.specs.Faults.{Rose}
@@ -58,9 +59,9 @@ pub record PrefixClause (words : List (List ℕ)) (before now : Streams) (given 
 pub record EndsWith (given : Status) (text : List ℕ) : Type 0 where
   pub system : System
   pub accepted : IsAccepted text system
-  pub positions : List Position
+  pub stands : List Stand
   pub ending : Ending
-  pub trace : IsTrace (composition_of system) positions ending
+  pub trace : IsTrace (composition_of system) stands ending
   pub status : status_of ending ≡ given
 
 -- Some line of the text breaks a rule.
@@ -78,7 +79,10 @@ pub record CauseClause (words : List (List ℕ)) (before now : Streams) (given :
   pub write_fault : given ≡ status.WriteFault → Rose before.put_faults now.put_faults ⊎ Rose before.note_faults now.note_faults
   pub refused : given ≡ status.Refused → IfSome before.left BreaksARule
   pub done : given ≡ status.Done → IfSome before.left (EndsWith status.Done)
+  pub zero_budget : given ≡ status.ZeroBudget → IfSome before.left (EndsWith status.ZeroBudget)
+  pub row_budget : given ≡ status.RowBudget → IfSome before.left (EndsWith status.RowBudget)
   pub unit_fault : given ≡ status.UnitFault → IfSome before.left (EndsWith status.UnitFault)
+  pub step_refused : given ≡ status.StepRefused → IfSome before.left (EndsWith status.StepRefused)
   pub put_greater : before.put_faults < now.put_faults → given ≡ status.WriteFault
   pub note_greater : before.note_faults < now.note_faults → given ≡ status.WriteFault
   pub read_greater : before.read_faults < now.read_faults → (given ≡ status.ReadFault) ⊎ ((given ≡ status.WriteFault) × Rose before.note_faults now.note_faults)
@@ -87,7 +91,10 @@ pub record CauseClause (words : List (List ℕ)) (before now : Streams) (given :
 -- read the source to its end; other words than those of a command read nothing.
 pub record WholeInputClause (words : List (List ℕ)) (before now : Streams) (given : Status) : Type 0 where
   pub done : given ≡ status.Done → IsAtEnd now.left
+  pub zero_budget : given ≡ status.ZeroBudget → IsAtEnd now.left
+  pub row_budget : given ≡ status.RowBudget → IsAtEnd now.left
   pub unit_fault : given ≡ status.UnitFault → IsAtEnd now.left
+  pub step_refused : given ≡ status.StepRefused → IsAtEnd now.left
   pub refused : given ≡ status.Refused → IsAtEnd now.left ⊎ IfSome before.left (λ text. text_limit < size_of text)
   pub usage : (words ≡ run_words → ⊥) → (now.left ≡ before.left) × (now.read_faults ≡ before.read_faults)
 

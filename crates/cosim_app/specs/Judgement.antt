@@ -30,7 +30,10 @@ pub record PutsFront (text : List ℕ) (held held' : Option (List ℕ)) : Type 0
 abbrev pub IsOwn : Status → Type 0
 IsOwn status.Done = ⊤
 IsOwn status.Refused = ⊤
+IsOwn status.ZeroBudget = ⊤
+IsOwn status.RowBudget = ⊤
 IsOwn status.UnitFault = ⊤
+IsOwn status.StepRefused = ⊤
 IsOwn _ = ⊥
 
 -- A run of a whole text has come to the verdict, and done so much to the output.

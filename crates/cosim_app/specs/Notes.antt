@@ -4,12 +4,12 @@ use Rattle.std.specs.Option.{option_and_then}
 use Rattle.std.specs.Fmt.{decimal}
 use Rattle.fixed_words.specs.declared.types.Fault.{Fault}
 use Rattle.fixed_words.specs.declared.types.Fault.TheVariants.{Overflow, Range, ZeroDivisor, Accept, Max}
-use Rattle.unit_tree.specs.Trace.{unit_named}
+use Rattle.unit_tree.specs.Names.{unit_named}
 use Rattle.unit_tree.specs.declared.ending.Ending.{Ending}
-use Rattle.unit_tree.specs.declared.ending.Ending.TheVariants.{Completed, Faulted}
+use Rattle.unit_tree.specs.declared.ending.Ending.TheVariants.{Completed, RowBudget, ZeroBudget, UnitFault, StepRefused}
 use Rattle.unit_tree.specs.declared.ending.Place.{Place}
 use Rattle.unit_tree.specs.declared.ending.Place.TheVariants as place
-use Rattle.unit_tree.specs.declared.point.Point.{Point}
+use Rattle.super_time.specs.declared.point.Point.{Point}
 use Rattle.unit_tree.specs.declared.system.System.{System}
 use Rattle.cosim_app.specs.TraceText.{line_end}
 
@@ -55,6 +55,7 @@ output_name system instance number =
 
 abbrev pub place_text : System → ℕ → Place → List ℕ
 place_text system instance (place.Output number) = codes " output " ++ output_name system instance number
+place_text system instance place.Max = codes " max"
 place_text system instance place.Step = codes " step"
 
 abbrev pub point_text : Point → List ℕ
@@ -65,7 +66,22 @@ abbrev pub fault_text : List ℕ → List ℕ → Fault → Point → List ℕ
 fault_text instance place fault point =
     note (codes "fault " ++ decimal (fault_number fault) ++ codes " of " ++ instance ++ place ++ codes " at " ++ point_text point)
 
+-- A budget that was spent at a point.
+abbrev pub budget_text : List ℕ → Point → List ℕ
+budget_text budget point = note (budget ++ codes " budget at " ++ point_text point)
+
+abbrev pub accepted_text : ℕ → Point → List ℕ
+accepted_text accepted point = codes ", accepted " ++ decimal accepted ++ codes ", at " ++ point_text point ++ line_end
+
+-- A step that an instance refused: its length, and what it accepted, in its local ticks.
+abbrev pub step_refused_text : List ℕ → ℕ → ℕ → Point → List ℕ
+step_refused_text instance asked accepted point =
+    codes "cosim: " ++ instance ++ codes " refused " ++ decimal asked ++ accepted_text accepted point
+
 -- The note of how a run ended at its last point: none where it came to its stop.
 abbrev pub ending_note : System → Ending → Point → List ℕ
 ending_note system Completed point = []
-ending_note system (Faulted instance where_ fault) point = fault_text (instance_name system instance) (place_text system instance where_) fault point
+ending_note system RowBudget point = budget_text (codes "row") point
+ending_note system ZeroBudget point = budget_text (codes "zero") point
+ending_note system (UnitFault instance where_ fault) point = fault_text (instance_name system instance) (place_text system instance where_) fault point
+ending_note system (StepRefused instance asked accepted) point = step_refused_text (instance_name system instance) asked accepted point

@@ -1,7 +1,11 @@
 -- Which systems are run: those of one plain component, and what a run of one puts.
-use Rattle.std.specs.Prelude.{◌≡◌, ℕ, ◌<◌, ◌≤◌, ◌^◌, List, [], ◌∷◌, Option, Result, IfOk, OnErr, ◌⊎◌}
+use Rattle.std.specs.Prelude.{◌≡◌, ℕ, ◌≤◌, pos, unsigned_abs, List, [], ◌∷◌, Option, Some, None, Result, IfOk, OnErr, ◌⊎◌}
 use Rattle.std.specs.Io.KnownBytes.{Appends}
-use Rattle.unit_tree.specs.Trace.{Position, composition_of, ticks_or, IsTrace, last_point}
+use Rattle.std.specs.Option.{option_map}
+use Rattle.fixed_words.specs.declared.types.Literal.{Literal}
+use Rattle.fixed_words.specs.declared.types.Literal.TheVariants as literal
+use Rattle.unit_tree.specs.Compositions.{composition_of}
+use Rattle.unit_tree.specs.Trace.{Stand, IsTrace, last_point}
 use Rattle.unit_tree.specs.declared.ending.Ending.{Ending}
 use Rattle.unit_tree.specs.declared.line.Line.{Line}
 use Rattle.unit_tree.specs.declared.system.Instance.{Instance}
@@ -13,6 +17,19 @@ use Rattle.cosim_app.specs.OneComponent.{IsPlain, AreDeclared}
 use Rattle.cosim_app.specs.TraceText.{trace_text}
 use Rattle.cosim_app.specs.declared.fault.RunEnd.{RunEnd}
 use Rattle.cosim_app.specs.declared.fault.RunFault.{RunFault}
+
+-- A whole number of seconds.
+abbrev pub whole : ℕ → Literal
+whole seconds = literal.Number (pos seconds) 0
+
+-- The digits of a number of seconds, which are its ticks where it is whole and a tick is a second.
+abbrev pub ticks_of : Literal → ℕ
+ticks_of (literal.Number word decimals) = unsigned_abs word
+ticks_of (literal.Truth told) = 0
+
+abbrev pub ticks_or : ℕ → Option Literal → ℕ
+ticks_or default None = default
+ticks_or default (Some given) = ticks_of given
 
 -- Where a system's run ends, and its longest step, in ticks.
 abbrev pub stop_of : System → ℕ
@@ -32,11 +49,19 @@ pub record IsRunnable (system : System) : Type 0 where
   pub named : instance.unit ≡ unit.name
   pub plain : IsPlain unit output lines
   pub declared : AreDeclared unit.states
-  pub stop_fits : stop_of system < 2 ^ 63
+  pub version : system.version ≡ 1
+  pub resolution : unit.resolution ≡ None
+  pub rows : system.rows ≡ None
+  pub zeros : system.zero ≡ None
+  pub seconds : ℕ
+  pub stop : system.stop ≡ Some (whole seconds)
+  pub steps : Option ℕ
+  pub longest : system.longest ≡ option_map whole steps
+  pub stop_fits : stop_of system ≤ 99999
   pub progress : (1 ≤ longest_of system) ⊎ (stop_of system ≡ 0)
 
 -- A run has put the text of the system's trace, whatever that is, and told how it ends; where it failed,
 -- it has put a front of that text.
 pub record PutsTrace (system : System) (old new : Option (List ℕ)) (result : Result RunEnd RunFault) : Type 0 where
-  pub whole : IfOk result (λ end. (positions : List Position) (ending : Ending) → IsTrace (composition_of system) positions ending → Appends old new (trace_text system positions) × (end.ending ≡ ending) × (end.last ≡ last_point positions))
-  pub front : OnErr result ((positions : List Position) (ending : Ending) → IsTrace (composition_of system) positions ending → AppendsPrefix old new (trace_text system positions))
+  pub whole : IfOk result (λ end. (stands : List Stand) (ending : Ending) → IsTrace (composition_of system) stands ending → Appends old new (trace_text system stands) × (end.ending ≡ ending) × (end.last ≡ last_point stands))
+  pub front : OnErr result ((stands : List Stand) (ending : Ending) → IsTrace (composition_of system) stands ending → AppendsPrefix old new (trace_text system stands))

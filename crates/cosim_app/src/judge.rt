@@ -21,7 +21,10 @@ fn status(ending: Ending) -> Status
 {
     match ending {
         Ending::Completed => Status::Done,
-        Ending::Faulted { .. } => Status::UnitFault,
+        Ending::RowBudget => Status::RowBudget,
+        Ending::ZeroBudget => Status::ZeroBudget,
+        Ending::UnitFault { .. } => Status::UnitFault,
+        Ending::StepRefused { .. } => Status::StepRefused,
     }
 }
 

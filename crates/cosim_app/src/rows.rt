@@ -1,5 +1,5 @@
 //! The rows of a run of one component, put as they come.
-ghost use Rattle.std.specs.Prelude.{◌≡◌, ◌<◌, ◌≤◌, ◌^◌, ◌⊎◌, List, ℕ, IfOk};
+ghost use Rattle.std.specs.Prelude.{◌≡◌, ◌≤◌, ◌⊎◌, List, ℕ, IfOk};
 ghost use Rattle.unit_tree.specs.Components.{initial, variables_of};
 ghost use Rattle.unit_tree.specs.Values.{IsSound};
 ghost use Rattle.cosim_io.specs.Faults.{Rose};
@@ -31,7 +31,7 @@ pub fn put_rows<O: Sink>(
 ) -> Result<RunEnd, RunFault>
     requires plain { IsPlain plan.unit.now plan.output.now plan.lines.now }
     requires start { StandsAtStart plan.unit.now env.old }
-    requires stop { plan.stop < 2 ^ 63 }
+    requires stop { plan.stop ≤ 99999 }
     requires progress { (1 ≤ plan.longest) ⊎ (plan.stop ≡ 0) }
     ensures rows { (instance : List ℕ) → PutsRows (one plan.entry.unit.now plan.entry.stop plan.entry.longest) (row_text (one_column instance plan.entry.output.now)) (O.held out.old) (O.held out.new) result }
     ensures first { IfOk result (λ end. IsOfFirst end.ending) }
@@ -43,7 +43,7 @@ pub fn put_rows<O: Sink>(
         let word = match output_word(plan.output, env) {
             Ok(word) => word,
             Err(fault) => {
-                let ending = Ending::Faulted {
+                let ending = Ending::UnitFault {
                     instance: 0,
                     place: Place::Output(0),
                     fault,
@@ -59,7 +59,7 @@ pub fn put_rows<O: Sink>(
         }
         let step = (plan.stop - t).min(plan.longest);
         if let Err(fault) = advance(plan.lines, env, t, step) {
-            let ending = Ending::Faulted {
+            let ending = Ending::UnitFault {
                 instance: 0,
                 place: Place::Step,
                 fault,

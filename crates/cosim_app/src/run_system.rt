@@ -1,6 +1,6 @@
 //! The run of a system of one plain component, from the header on.
 ghost use Rattle.std.specs.Prelude.{◌≡◌, IfOk};
-ghost use Rattle.unit_tree.specs.Trace.{ticks_of};
+ghost use Rattle.cosim_app.specs.Runnable.{ticks_of};
 ghost use Rattle.cosim_app.specs.OneComponent.{IsOfFirst, Tells};
 ghost use Rattle.cosim_app.specs.Runnable.{IsRunnable, PutsTrace, longest_of, stop_of};
 

@@ -16,8 +16,14 @@ pub enum Status {
     ReadFault,
     /// A write to the output or to the notes failed.
     WriteFault,
+    /// The trace ends with as many steps of length zero in a row as there may be.
+    ZeroBudget,
+    /// The trace ends with as many rows as there may be.
+    RowBudget,
     /// The trace ends by a fault of a component.
     UnitFault,
+    /// The trace ends by a component that refuses the agreed step.
+    StepRefused,
 }
 
 impl Status {
@@ -32,7 +38,10 @@ impl Status {
             Status::Refused => 3,
             Status::ReadFault => 4,
             Status::WriteFault => 5,
+            Status::ZeroBudget => 6,
+            Status::RowBudget => 7,
             Status::UnitFault => 8,
+            Status::StepRefused => 9,
         }
     }
 }

@@ -23,9 +23,9 @@ use Rattle.unit_tokens.proofs.Spelled.{spells, tokens_in}
 has_form : (some : LineForm) (line : List ℕ) (tokens : List Token) → tokens_in 30 (code_of line) ≡ Some tokens → WritesForm some tokens → HasForm some line
 has_form some line tokens is written = record { tokens = tokens; spelled = spells 30 (code_of line) tokens is; written = written }
 
-pub header : HasForm form.Header (codes "cosim 01")
+pub header : HasForm (form.Header 1) (codes "cosim 01")
 unfolding tokens_in keyword_of symbol_of word_at number_at symbol_at number_token bounded_number token_at
-header = has_form form.Header (codes "cosim 01") (token.Keyword word.Cosim ∷ token.Number 1 0 ∷ []) refl (record { tail = []; spelled = refl; tail_is = refl; counts = _ })
+header = has_form (form.Header 1) (codes "cosim 01") (token.Keyword word.Cosim ∷ token.Number 1 0 ∷ []) refl (record { tail = []; spelled = refl; tail_is = refl; counts = (omega arith, omega arith) })
 
 pub unit_line : HasForm (form.Unit (codes "Counter")) (codes "unit Counter # one state")
 unfolding tokens_in keyword_of symbol_of word_at number_at symbol_at number_token bounded_number token_at
@@ -67,9 +67,9 @@ pub longest_line : HasForm (form.Longest (literal.Number (pos 1) 0)) (codes "lon
 unfolding tokens_in keyword_of symbol_of word_at number_at symbol_at number_token bounded_number token_at
 longest_line = has_form (form.Longest (literal.Number (pos 1) 0)) (codes "longest 1") (token.Keyword word.Longest ∷ token.Number 1 0 ∷ []) refl (record { tail = token.Number 1 0 ∷ []; spelled = refl; tail_is = (1, omega arith, refl, refl); counts = _ })
 
-pub plain_header : HasForm form.Header (codes "cosim 1")
+pub plain_header : HasForm (form.Header 1) (codes "cosim 1")
 unfolding tokens_in keyword_of symbol_of word_at number_at symbol_at number_token bounded_number token_at
-plain_header = has_form form.Header (codes "cosim 1") (token.Keyword word.Cosim ∷ token.Number 1 0 ∷ []) refl (record { tail = []; spelled = refl; tail_is = refl; counts = _ })
+plain_header = has_form (form.Header 1) (codes "cosim 1") (token.Keyword word.Cosim ∷ token.Number 1 0 ∷ []) refl (record { tail = []; spelled = refl; tail_is = refl; counts = (omega arith, omega arith) })
 
 pub sample_line : HasForm (form.Sample (record { instance = codes "a"; port = codes "y" })) (codes "sample a.y")
 unfolding tokens_in keyword_of symbol_of word_at number_at symbol_at number_token bounded_number token_at
@@ -208,6 +208,24 @@ unfolding tokens_in keyword_of symbol_of word_at number_at symbol_at number_toke
 counter_instance = has_form (form.Instance (codes "a") (codes "Counter")) (codes "instance a:Counter") (token.Keyword word.Instance ∷ token.Name (codes "a") ∷ token.Symbol sign.Colon ∷ token.Name (codes "Counter") ∷ []) refl (record { tail = []; spelled = refl; tail_is = refl; counts = _ })
 
 -- The header with a comment so long that the line has a thousand bytes.
-pub long_header : HasForm form.Header (codes "cosim 1#" ++ letters 991 ++ (13 ∷ []))
+pub long_header : HasForm (form.Header 1) (codes "cosim 1#" ++ letters 991 ++ (13 ∷ []))
 unfolding tokens_in keyword_of symbol_of word_at number_at symbol_at number_token bounded_number token_at
-long_header = has_form form.Header (codes "cosim 1#" ++ letters 991 ++ (13 ∷ [])) (token.Keyword word.Cosim ∷ token.Number 1 0 ∷ []) refl (record { tail = []; spelled = refl; tail_is = refl; counts = _ })
+long_header = has_form (form.Header 1) (codes "cosim 1#" ++ letters 991 ++ (13 ∷ [])) (token.Keyword word.Cosim ∷ token.Number 1 0 ∷ []) refl (record { tail = []; spelled = refl; tail_is = refl; counts = (omega arith, omega arith) })
+
+-- ---- Version 2
+
+pub header_2 : HasForm (form.Header 2) (codes "cosim 2")
+unfolding tokens_in keyword_of symbol_of word_at number_at symbol_at number_token bounded_number token_at
+header_2 = has_form (form.Header 2) (codes "cosim 2") (token.Keyword word.Cosim ∷ token.Number 2 0 ∷ []) refl (record { tail = []; spelled = refl; tail_is = refl; counts = (omega arith, omega arith) })
+
+pub unit_relay : HasForm (form.Unit (codes "Relay")) (codes "unit Relay")
+unfolding tokens_in keyword_of symbol_of word_at number_at symbol_at number_token bounded_number token_at
+unit_relay = has_form (form.Unit (codes "Relay")) (codes "unit Relay") (token.Keyword word.Unit ∷ token.Name (codes "Relay") ∷ []) refl (record { tail = []; spelled = refl; tail_is = refl; counts = _ })
+
+pub event_input : HasForm (form.EventInput (record { name = codes "e"; ty = types.Int64 })) (codes "event input e : Int64")
+unfolding tokens_in keyword_of symbol_of word_at number_at symbol_at number_token bounded_number token_at
+event_input = has_form (form.EventInput (record { name = codes "e"; ty = types.Int64 })) (codes "event input e : Int64") (token.Keyword word.Event ∷ token.Keyword word.Input ∷ token.Name (codes "e") ∷ token.Symbol sign.Colon ∷ token.Name (codes "Int64") ∷ []) refl (record { tail = []; spelled = refl; tail_is = refl; counts = _ })
+
+pub event_output : HasForm (form.EventOutput (record { name = codes "p"; ty = types.Fixed 2; needs = codes "e" ∷ []; value = expr.Choose (expr.Present (codes "e")) (expr.Number (pos 50) 2) expr.Absent })) (codes "event output p : Fixed 2 needs e = if present(e) then 0.50 else absent")
+unfolding tokens_in keyword_of symbol_of word_at number_at symbol_at number_token bounded_number token_at
+event_output = has_form (form.EventOutput (record { name = codes "p"; ty = types.Fixed 2; needs = codes "e" ∷ []; value = expr.Choose (expr.Present (codes "e")) (expr.Number (pos 50) 2) expr.Absent })) (codes "event output p : Fixed 2 needs e = if present(e) then 0.50 else absent") (token.Keyword word.Event ∷ token.Keyword word.Output ∷ token.Name (codes "p") ∷ token.Symbol sign.Colon ∷ token.Name (codes "Fixed") ∷ token.Number 2 0 ∷ token.Keyword word.Needs ∷ token.Name (codes "e") ∷ token.Symbol sign.Is ∷ token.Keyword word.If ∷ token.Keyword word.Present ∷ token.Symbol sign.Open ∷ token.Name (codes "e") ∷ token.Symbol sign.Close ∷ token.Keyword word.Then ∷ token.Number 50 2 ∷ token.Keyword word.Else ∷ token.Keyword word.Absent ∷ []) refl (record { tail = token.Keyword word.If ∷ token.Keyword word.Present ∷ token.Symbol sign.Open ∷ token.Name (codes "e") ∷ token.Symbol sign.Close ∷ token.Keyword word.Then ∷ token.Number 50 2 ∷ token.Keyword word.Else ∷ token.Keyword word.Absent ∷ []; spelled = refl; tail_is = record { phrase = phrase.Choose (phrase.Present (codes "e")) (phrase.Number 50 2) phrase.Absent; is_tree = refl; spelled = refl; is_grammatical = refl }; counts = omega arith })

@@ -149,7 +149,9 @@ unit_of source = record {
   states = map state_of source.states;
   locals = [];
   inputs = [];
+  events_in = [];
   outputs = record { name = source.output; ty = Int64; needs = []; value = expr.Var source.shown } ∷ [];
+  events_out = [];
   max = None;
   step = Some (map line_of source.assignments);
 }
@@ -164,6 +166,7 @@ optional_literal (Some ticks) = Some (literal_of ticks)
 -- The system that a text says.
 abbrev pub system_of : Source → System
 system_of source = record {
+  version = 1;
   units = unit_of source ∷ [];
   instances = record { name = source.instance; unit = source.unit; settings = [] } ∷ [];
   wires = [];

@@ -7,6 +7,7 @@ use Rattle.unit_tree.specs.Canonical.{canonical_text}
 use Rattle.unit_tree.specs.Counter.{counter}
 use Rattle.unit_tree.specs.Parts.{bare_system}
 use Rattle.unit_tree.specs.Printable.{IsPrintable}
+use Rattle.unit_tree.specs.SourceLines.{ReadsFrom}
 use Rattle.unit_tree.specs.Texts.{Reads, IsRefused}
 use Rattle.unit_tree.specs.declared.expr.BinOp.TheVariants as by
 use Rattle.unit_tree.specs.declared.expr.Expr as expr
@@ -54,13 +55,16 @@ thermal_unit = record {
   states = record { name = codes "n"; ty = types.Fixed 1; start = literal.Number (pos 0) 1 } ∷ [];
   locals = [];
   inputs = record { name = codes "u"; ty = types.Int64; start = literal.Number (neg_ℤ (pos 9223372036854775808)) 0 } ∷ [];
+  events_in = [];
   outputs = record { name = codes "y"; ty = types.Bool; needs = codes "u" ∷ []; value = expr.Binary by.And (expr.Truth true) (expr.Unary of.Not (expr.Binary by.Lt (expr.Var (codes "n")) (expr.Number (pos 5) 1))) } ∷ [];
+  events_out = [];
   max = Some (expr.Var (codes "u"));
   step = None;
 }
 
 abbrev pub thermal : System
 thermal = record {
+  version = 1;
   units = thermal_unit ∷ [];
   instances = record { name = codes "a"; unit = codes "A"; settings = record { name = codes "k"; value = literal.Truth false } ∷ [] } ∷ [];
   wires = record { from = record { instance = codes "a"; port = codes "y" }; to = record { instance = codes "b"; port = codes "u" } } ∷ [];
@@ -111,13 +115,16 @@ mode_unit = record {
       ∷ [];
   locals = record { name = codes "x"; ty = types.Bool } ∷ record { name = codes "w"; ty = types.Fixed 9 } ∷ [];
   inputs = [];
+  events_in = [];
   outputs = [];
+  events_out = [];
   max = None;
   step = Some (mode_line ∷ []);
 }
 
 abbrev pub mode : System
 mode = record {
+  version = 1;
   units = mode_unit ∷ [];
   instances = [];
   wires = [];
@@ -153,6 +160,47 @@ mode_text = text_of (
     ∷ codes "longest 9223372036854775807"
     ∷ [])
 
+-- A text of version 2: event ports, of which one is present and absent by its expression. The event output stands before the
+-- event input, which comes first in canonical order.
+abbrev pub relay_text : List ℕ
+relay_text = text_of (
+    []
+    ∷ codes "cosim 2"
+    ∷ codes "unit Relay"
+    ∷ codes "event output p : Fixed 2 needs e = if present(e) then 0.50 else absent"
+    ∷ codes "event input e : Int64"
+    ∷ codes "end"
+    ∷ codes "stop 3"
+    ∷ [])
+
+abbrev pub relay_unit : Unit
+relay_unit = record {
+  name = codes "Relay";
+  resolution = None;
+  params = [];
+  states = [];
+  locals = [];
+  inputs = [];
+  events_in = record { name = codes "e"; ty = types.Int64 } ∷ [];
+  outputs = [];
+  events_out = record { name = codes "p"; ty = types.Fixed 2; needs = codes "e" ∷ []; value = expr.Choose (expr.Present (codes "e")) (expr.Number (pos 50) 2) expr.Absent } ∷ [];
+  max = None;
+  step = None;
+}
+
+abbrev pub relay : System
+relay = record {
+  version = 2;
+  units = relay_unit ∷ [];
+  instances = [];
+  wires = [];
+  stop = Some (literal.Number (pos 3) 0);
+  longest = None;
+  zero = None;
+  rows = None;
+  samples = [];
+}
+
 -- A letter so many times.
 abbrev pub letters : ℕ → List ℕ
 letters count = repeat count (codes "a")
@@ -165,7 +213,9 @@ pub record TextsAreRead : Type 0 where
   pub counter_is_read : Reads commented_counter counter
   pub thermal_is_read : Reads thermal_text thermal
   pub mode_is_read : Reads mode_text mode
-  pub long_line_is_read : Reads long_line_text bare_system
+  pub long_line_is_read : Reads long_line_text (bare_system 1)
+  -- the lines of the relay's text that its canonical lines came from
+  pub relay_is_read : ReadsFrom relay_text relay (2 ∷ 3 ∷ 5 ∷ 4 ∷ 6 ∷ 7 ∷ [])
   -- the counter has a canonical text, and it is read back
   pub counter_is_printable : IsPrintable counter
   pub canonical_is_read : Reads (canonical_text counter) counter
@@ -192,9 +242,14 @@ pub record TextsAreRefused : Type 0 where
   pub ten_decimals : IsRefused (codes "0.0000000001") 1 4
   pub above_all_numbers : IsRefused (codes "9223372036854775809") 1 4
   pub bare_point : IsRefused (codes "1.") 1 4
+  -- 4: a form of version 2 in a text of version 1, its header among them
+  pub later_version : IsRefused (text_of (codes "cosim 1" ∷ codes "cosim 2" ∷ [])) 2 4
+  pub event_of_version_1 : IsRefused (text_of (codes "cosim 1" ∷ codes "unit A" ∷ codes "event input e : Int64" ∷ codes "end" ∷ [])) 3 4
+  pub third_version : IsRefused (codes "cosim 3") 1 4
   -- 5 before 7: a form that may not stand there
   pub stray_end : IsRefused (codes "end") 1 5
   pub second_header : IsRefused (text_of (codes "cosim 1" ∷ codes "cosim 1" ∷ [])) 2 5
+  pub earlier_version : IsRefused (text_of (codes "cosim 2" ∷ codes "cosim 1" ∷ [])) 2 5
   -- 7: another form than the header first
   pub no_header : IsRefused (text_of ([] ∷ codes "unit A" ∷ [])) 2 7
   -- 6: a block is open at the end, at the last line, which may be blank

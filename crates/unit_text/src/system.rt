@@ -145,11 +145,14 @@ pub fn system_of(alloc: Global, source: Source) -> Result<System, NoMemory>
         states: states_of(alloc, states)?,
         locals: List::new(alloc),
         inputs: List::new(alloc),
+        events_in: List::new(alloc),
         outputs,
+        events_out: List::new(alloc),
         max: None,
         step: Some(lines_of(alloc, assignments)?),
     })?;
     Ok(System {
+        version: 1,
         units,
         instances,
         wires: List::new(alloc),

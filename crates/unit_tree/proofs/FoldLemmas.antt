@@ -1,17 +1,18 @@
 -- What a fold makes of one node of a tree: what its step gives for what it makes of the parts.
-use Rattle.std.proofs.Common.{◌≡◌, ℕ, ℤ, Bool, List, Some, map, sym, ap, ◌∙◌}
+use Rattle.std.proofs.Common.{◌≡◌, ℕ, ℤ, Bool, List, Option, Some, None, map, sym, ap, ◌∙◌}
+use Rattle.std.specs.Option.{option_map}
 use Rattle.unit_tree.specs.declared.expr.BinOp.{BinOp}
 use Rattle.unit_tree.specs.declared.expr.Expr as expr
 use Rattle.unit_tree.specs.declared.expr.Expr.{Expr, fold-Expr, the_lemmas as expr_lemmas}
 use Rattle.unit_tree.specs.declared.expr.Expr.TheFolds.{fold-roll-Expr}
 use Rattle.unit_tree.specs.declared.expr.Expr.TheOpen.{Expr-F}
-use Rattle.unit_tree.specs.declared.expr.Expr.TheVariants.{rolls-Number, rolls-Truth, rolls-Var, rolls-Time, rolls-Step, rolls-Unary, rolls-Binary, rolls-Clamp, rolls-Choose}
+use Rattle.unit_tree.specs.declared.expr.Expr.TheVariants.{rolls-Number, rolls-Truth, rolls-Var, rolls-Time, rolls-Step, rolls-Unary, rolls-Binary, rolls-Clamp, rolls-Choose, rolls-Absent, rolls-Present}
 use Rattle.unit_tree.specs.declared.expr.UnOp.{UnOp}
 use Rattle.unit_tree.specs.declared.line.Line as line
 use Rattle.unit_tree.specs.declared.line.Line.{Line, fold-Line, the_lemmas as line_lemmas}
 use Rattle.unit_tree.specs.declared.line.Line.TheFolds.{fold-roll-Line}
 use Rattle.unit_tree.specs.declared.line.Line.TheOpen.{Line-F}
-use Rattle.unit_tree.specs.declared.line.Line.TheVariants.{rolls-Assign, rolls-If}
+use Rattle.unit_tree.specs.declared.line.Line.TheVariants.{rolls-Assign, rolls-If, rolls-Repeat, rolls-Accept}
 
 -- ---- Expressions
 
@@ -42,6 +43,12 @@ fold-Clamp A step value low high = ap (fold-Expr A step) (sym (rolls-Clamp value
 pub fold-Choose : (A : Type 0) (step : Expr-F A → A) (cond then_part else_part : Expr) → fold-Expr A step (expr.Choose cond then_part else_part) ≡ step (Expr-F.Choose (fold-Expr A step cond) (fold-Expr A step then_part) (fold-Expr A step else_part))
 fold-Choose A step cond then_part else_part = ap (fold-Expr A step) (sym (rolls-Choose cond then_part else_part)) ∙ fold-roll-Expr A step (Expr-F.Choose cond then_part else_part)
 
+pub fold-Absent : (A : Type 0) (step : Expr-F A → A) → fold-Expr A step expr.Absent ≡ step Expr-F.Absent
+fold-Absent A step = ap (fold-Expr A step) (sym rolls-Absent) ∙ fold-roll-Expr A step Expr-F.Absent
+
+pub fold-Present : (A : Type 0) (step : Expr-F A → A) (name : List ℕ) → fold-Expr A step (expr.Present name) ≡ step (Expr-F.Present name)
+fold-Present A step name = ap (fold-Expr A step) (sym (rolls-Present name)) ∙ fold-roll-Expr A step (Expr-F.Present name)
+
 -- ---- Step lines
 
 pub fold-Assign : (A : Type 0) (step : Line-F A → A) (target : List ℕ) (value : Expr) → fold-Line A step (line.Assign target value) ≡ step (Line-F.Assign target value)
@@ -50,6 +57,16 @@ fold-Assign A step target value = ap (fold-Line A step) (sym (rolls-Assign targe
 pub fold-IfElse : (A : Type 0) (step : Line-F A → A) (cond : Expr) (then_lines else_lines : List Line) → fold-Line A step (line.If cond then_lines (Some else_lines)) ≡ step (Line-F.If cond (map (fold-Line A step) then_lines) (Some (map (fold-Line A step) else_lines)))
 fold-IfElse A step cond then_lines else_lines =
     ap (fold-Line A step) (sym (rolls-If cond then_lines (Some else_lines))) ∙ fold-roll-Line A step (Line-F.If cond then_lines (Some else_lines))
+
+pub fold-If : (A : Type 0) (step : Line-F A → A) (cond : Expr) (then_lines : List Line) (else_lines : Option (List Line)) → fold-Line A step (line.If cond then_lines else_lines) ≡ step (Line-F.If cond (map (fold-Line A step) then_lines) (option_map (map (fold-Line A step)) else_lines))
+fold-If A step cond then_lines None = ap (fold-Line A step) (sym (rolls-If cond then_lines None)) ∙ fold-roll-Line A step (Line-F.If cond then_lines None)
+fold-If A step cond then_lines (Some else_lines) = fold-IfElse A step cond then_lines else_lines
+
+pub fold-Repeat : (A : Type 0) (step : Line-F A → A) (count : ℕ) (body : List Line) → fold-Line A step (line.Repeat count body) ≡ step (Line-F.Repeat count (map (fold-Line A step) body))
+fold-Repeat A step count body = ap (fold-Line A step) (sym (rolls-Repeat count body)) ∙ fold-roll-Line A step (Line-F.Repeat count body)
+
+pub fold-Accept : (A : Type 0) (step : Line-F A → A) (value : Expr) → fold-Line A step (line.Accept value) ≡ step (Line-F.Accept value)
+fold-Accept A step value = ap (fold-Line A step) (sym (rolls-Accept value)) ∙ fold-roll-Line A step (Line-F.Accept value)
 
 -- What takes folds of expressions and lines apart down to their leaves.
 pub ruleset fold_laws = (expr_lemmas, line_lemmas)

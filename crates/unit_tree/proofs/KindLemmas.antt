@@ -6,7 +6,7 @@ use Rattle.unit_tree.specs.declared.expr.Expr as expr
 use Rattle.unit_tree.specs.declared.expr.Expr.{Expr}
 use Rattle.unit_tree.specs.declared.expr.Expr.TheOpen.{Expr-F}
 use Rattle.unit_tree.specs.declared.expr.UnOp.{UnOp}
-use Rattle.unit_tree.proofs.FoldLemmas.{fold-Number, fold-Truth, fold-Var, fold-Time, fold-Step, fold-Unary, fold-Binary, fold-Clamp, fold-Choose}
+use Rattle.unit_tree.proofs.FoldLemmas.{fold-Number, fold-Truth, fold-Var, fold-Time, fold-Step, fold-Unary, fold-Binary, fold-Clamp, fold-Choose, fold-Absent, fold-Present}
 
 pub kind-Number : (number : ℤ) (decimals : ℕ) (names : KindsOfNames) → kind_of_expression (expr.Number number decimals) names ≡ node_kind (Expr-F.Number number decimals) names
 kind-Number number decimals names = ap (λ (kinding : Kinding). kinding names) (fold-Number Kinding node_kind number decimals)
@@ -35,4 +35,10 @@ kind-Clamp value low high names = ap (λ (kinding : Kinding). kinding names) (fo
 pub kind-Choose : (cond then_part else_part : Expr) (names : KindsOfNames) → kind_of_expression (expr.Choose cond then_part else_part) names ≡ node_kind (Expr-F.Choose (kind_of_expression cond) (kind_of_expression then_part) (kind_of_expression else_part)) names
 kind-Choose cond then_part else_part names = ap (λ (kinding : Kinding). kinding names) (fold-Choose Kinding node_kind cond then_part else_part)
 
-pub ruleset kind_laws = (kind-Number, kind-Truth, kind-Var, kind-Time, kind-Step, kind-Unary, kind-Binary, kind-Clamp, kind-Choose)
+pub kind-Absent : (names : KindsOfNames) → kind_of_expression expr.Absent names ≡ node_kind Expr-F.Absent names
+kind-Absent names = ap (λ (kinding : Kinding). kinding names) (fold-Absent Kinding node_kind)
+
+pub kind-Present : (name : List ℕ) (names : KindsOfNames) → kind_of_expression (expr.Present name) names ≡ node_kind (Expr-F.Present name) names
+kind-Present name names = ap (λ (kinding : Kinding). kinding names) (fold-Present Kinding node_kind name)
+
+pub ruleset kind_laws = (kind-Number, kind-Truth, kind-Var, kind-Time, kind-Step, kind-Unary, kind-Binary, kind-Clamp, kind-Choose, kind-Absent, kind-Present)

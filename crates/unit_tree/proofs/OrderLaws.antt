@@ -11,7 +11,7 @@ in_front [] behind port stands = absurd stands
 in_front (first ∷ front) behind port (inl is) = inl is
 in_front (first ∷ front) behind port (inr later) = inr (in_front front behind port later)
 
-each_in : (P : PortName → Type 0) (ports : List PortName) (port : PortName) → AllByRecursion P ports → IsIn ports port → P port
+pub each_in : (P : PortName → Type 0) (ports : List PortName) (port : PortName) → AllByRecursion P ports → IsIn ports port → P port
 each_in P [] port all stands = absurd stands
 each_in P (first ∷ ports) port all (inl is) = subst P is all.0
 each_in P (first ∷ ports) port all (inr later) = each_in P ports port all.1 later

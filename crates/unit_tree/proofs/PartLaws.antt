@@ -11,6 +11,8 @@ use Rattle.unit_tree.specs.declared.system.Instance.{Instance}
 use Rattle.unit_tree.specs.declared.system.PortName.{PortName}
 use Rattle.unit_tree.specs.declared.system.System.{System}
 use Rattle.unit_tree.specs.declared.system.Wire.{Wire}
+use Rattle.unit_tree.specs.declared.unit.EventIn.{EventIn}
+use Rattle.unit_tree.specs.declared.unit.EventOut.{EventOut}
 use Rattle.unit_tree.specs.declared.unit.Input.{Input}
 use Rattle.unit_tree.specs.declared.unit.Local.{Local}
 use Rattle.unit_tree.specs.declared.unit.Output.{Output}
@@ -34,8 +36,11 @@ or_none : {A : Type 0} (given : Option A) → or_kept given None ≡ given
 or_none None = refl
 or_none (Some x) = refl
 
-grouped : {A : Type 0} (a b c d e f g h : List A) → a ++ b ++ c ++ d ++ e ++ f ++ g ++ h ≡ a ++ (b ++ (c ++ (d ++ (e ++ (f ++ (g ++ h))))))
+pub grouped : {A : Type 0} (a b c d e f g h : List A) → a ++ b ++ c ++ d ++ e ++ f ++ g ++ h ≡ a ++ (b ++ (c ++ (d ++ (e ++ (f ++ (g ++ h))))))
 grouped a b c d e f g h = simp append_assoc
+
+pub grouped_ten : {A : Type 0} (a b c d e f g h i j : List A) → a ++ b ++ c ++ d ++ e ++ f ++ g ++ h ++ i ++ j ≡ a ++ (b ++ (c ++ (d ++ (e ++ (f ++ (g ++ (h ++ (i ++ j))))))))
+grouped_ten a b c d e f g h i j = simp append_assoc
 
 -- ---- A unit
 
@@ -55,8 +60,14 @@ locals_said name = listed (unit_of name) parts.HasLocal (λ xs u. record u { loc
 inputs_said : (name : List ℕ) (xs : List Input) (rest : List UnitPart) (unit : Unit) → unit_of name rest ≡ unit → unit_of name (map parts.HasInput xs ++ rest) ≡ record unit { inputs = xs ++ unit.inputs }
 inputs_said name = listed (unit_of name) parts.HasInput (λ xs u. record u { inputs = xs ++ u.inputs }) (λ u. refl) (λ x others. refl) (λ x xs u. refl)
 
+events_in_said : (name : List ℕ) (xs : List EventIn) (rest : List UnitPart) (unit : Unit) → unit_of name rest ≡ unit → unit_of name (map parts.HasEventIn xs ++ rest) ≡ record unit { events_in = xs ++ unit.events_in }
+events_in_said name = listed (unit_of name) parts.HasEventIn (λ xs u. record u { events_in = xs ++ u.events_in }) (λ u. refl) (λ x others. refl) (λ x xs u. refl)
+
 outputs_said : (name : List ℕ) (xs : List Output) (rest : List UnitPart) (unit : Unit) → unit_of name rest ≡ unit → unit_of name (map parts.HasOutput xs ++ rest) ≡ record unit { outputs = xs ++ unit.outputs }
 outputs_said name = listed (unit_of name) parts.HasOutput (λ xs u. record u { outputs = xs ++ u.outputs }) (λ u. refl) (λ x others. refl) (λ x xs u. refl)
+
+events_out_said : (name : List ℕ) (xs : List EventOut) (rest : List UnitPart) (unit : Unit) → unit_of name rest ≡ unit → unit_of name (map parts.HasEventOut xs ++ rest) ≡ record unit { events_out = xs ++ unit.events_out }
+events_out_said name = listed (unit_of name) parts.HasEventOut (λ xs u. record u { events_out = xs ++ u.events_out }) (λ u. refl) (λ x others. refl) (λ x xs u. refl)
 
 max_said : (name : List ℕ) (given : Option Expr) (rest : List UnitPart) (unit : Unit) → unit_of name rest ≡ unit → unit_of name (optional parts.Max given ++ rest) ≡ record unit { max = or_kept given unit.max }
 max_said name None rest unit is = is
@@ -68,9 +79,10 @@ step_said name (Some lines) = refl
 
 pub unit_is : (unit : Unit) → unit_of unit.name (unit_parts unit) ≡ unit
 unit_is unit =
-    ap (unit_of unit.name) (grouped (optional parts.Resolution unit.resolution) (map parts.HasParam unit.params) (map parts.HasState unit.states) (map parts.HasLocal unit.locals) (map parts.HasInput unit.inputs) (map parts.HasOutput unit.outputs) (optional parts.Max unit.max) (optional parts.Step unit.step))
+    ap (unit_of unit.name) (grouped_ten (optional parts.Resolution unit.resolution) (map parts.HasParam unit.params) (map parts.HasState unit.states) (map parts.HasLocal unit.locals) (map parts.HasInput unit.inputs) (map parts.HasEventIn unit.events_in) (map parts.HasOutput unit.outputs) (map parts.HasEventOut unit.events_out) (optional parts.Max unit.max) (optional parts.Step unit.step))
     ∙ resolution_said unit.name unit.resolution _ _ (params_said unit.name unit.params _ _ (states_said unit.name unit.states _ _ (locals_said unit.name unit.locals _ _
-    (inputs_said unit.name unit.inputs _ _ (outputs_said unit.name unit.outputs _ _ (max_said unit.name unit.max _ _ (step_said unit.name unit.step)))))))
+    (inputs_said unit.name unit.inputs _ _ (events_in_said unit.name unit.events_in _ _ (outputs_said unit.name unit.outputs _ _ (events_out_said unit.name unit.events_out _ _
+    (max_said unit.name unit.max _ _ (step_said unit.name unit.step)))))))))
     ∙ simp (append-nil, or_none) refl
 
 -- ---- A system
@@ -85,38 +97,39 @@ units_are : (units : List Unit) → map said_unit units ≡ units
 units_are [] = refl
 units_are (unit ∷ units) = rw (unit_is unit, units_are units) refl
 
-units_said : (units : List Unit) (rest : List Part) (system : System) → system_of rest ≡ system → system_of (map canonical_unit units ++ rest) ≡ record system { units = map said_unit units ++ system.units }
-units_said = listed system_of canonical_unit (λ units s. record s { units = map said_unit units ++ s.units }) (λ s. refl) (λ x others. refl) (λ x xs s. refl)
+units_said : (version : ℕ) (units : List Unit) (rest : List Part) (system : System) → system_of version rest ≡ system → system_of version (map canonical_unit units ++ rest) ≡ record system { units = map said_unit units ++ system.units }
+units_said version = listed (system_of version) canonical_unit (λ units s. record s { units = map said_unit units ++ s.units }) (λ s. refl) (λ x others. refl) (λ x xs s. refl)
 
-instances_said : (xs : List Instance) (rest : List Part) (system : System) → system_of rest ≡ system → system_of (map parts.HasInstance xs ++ rest) ≡ record system { instances = xs ++ system.instances }
-instances_said = listed system_of parts.HasInstance (λ xs s. record s { instances = xs ++ s.instances }) (λ s. refl) (λ x others. refl) (λ x xs s. refl)
+instances_said : (version : ℕ) (xs : List Instance) (rest : List Part) (system : System) → system_of version rest ≡ system → system_of version (map parts.HasInstance xs ++ rest) ≡ record system { instances = xs ++ system.instances }
+instances_said version = listed (system_of version) parts.HasInstance (λ xs s. record s { instances = xs ++ s.instances }) (λ s. refl) (λ x others. refl) (λ x xs s. refl)
 
-wires_said : (xs : List Wire) (rest : List Part) (system : System) → system_of rest ≡ system → system_of (map parts.Connects xs ++ rest) ≡ record system { wires = xs ++ system.wires }
-wires_said = listed system_of parts.Connects (λ xs s. record s { wires = xs ++ s.wires }) (λ s. refl) (λ x others. refl) (λ x xs s. refl)
+wires_said : (version : ℕ) (xs : List Wire) (rest : List Part) (system : System) → system_of version rest ≡ system → system_of version (map parts.Connects xs ++ rest) ≡ record system { wires = xs ++ system.wires }
+wires_said version = listed (system_of version) parts.Connects (λ xs s. record s { wires = xs ++ s.wires }) (λ s. refl) (λ x others. refl) (λ x xs s. refl)
 
-stop_said : (given : Option Literal) (rest : List Part) (system : System) → system_of rest ≡ system → system_of (optional parts.Stop given ++ rest) ≡ record system { stop = or_kept given system.stop }
-stop_said None rest system is = is
-stop_said (Some x) rest system is = ap (with_part (parts.Stop x)) is
+stop_said : (version : ℕ) (given : Option Literal) (rest : List Part) (system : System) → system_of version rest ≡ system → system_of version (optional parts.Stop given ++ rest) ≡ record system { stop = or_kept given system.stop }
+stop_said version None rest system is = is
+stop_said version (Some x) rest system is = ap (with_part (parts.Stop x)) is
 
-longest_said : (given : Option Literal) (rest : List Part) (system : System) → system_of rest ≡ system → system_of (optional parts.Longest given ++ rest) ≡ record system { longest = or_kept given system.longest }
-longest_said None rest system is = is
-longest_said (Some x) rest system is = ap (with_part (parts.Longest x)) is
+longest_said : (version : ℕ) (given : Option Literal) (rest : List Part) (system : System) → system_of version rest ≡ system → system_of version (optional parts.Longest given ++ rest) ≡ record system { longest = or_kept given system.longest }
+longest_said version None rest system is = is
+longest_said version (Some x) rest system is = ap (with_part (parts.Longest x)) is
 
-zero_said : (given : Option ℕ) (rest : List Part) (system : System) → system_of rest ≡ system → system_of (optional parts.Zero given ++ rest) ≡ record system { zero = or_kept given system.zero }
-zero_said None rest system is = is
-zero_said (Some x) rest system is = ap (with_part (parts.Zero x)) is
+zero_said : (version : ℕ) (given : Option ℕ) (rest : List Part) (system : System) → system_of version rest ≡ system → system_of version (optional parts.Zero given ++ rest) ≡ record system { zero = or_kept given system.zero }
+zero_said version None rest system is = is
+zero_said version (Some x) rest system is = ap (with_part (parts.Zero x)) is
 
-rows_said : (given : Option ℕ) (rest : List Part) (system : System) → system_of rest ≡ system → system_of (optional parts.Rows given ++ rest) ≡ record system { rows = or_kept given system.rows }
-rows_said None rest system is = is
-rows_said (Some x) rest system is = ap (with_part (parts.Rows x)) is
+rows_said : (version : ℕ) (given : Option ℕ) (rest : List Part) (system : System) → system_of version rest ≡ system → system_of version (optional parts.Rows given ++ rest) ≡ record system { rows = or_kept given system.rows }
+rows_said version None rest system is = is
+rows_said version (Some x) rest system is = ap (with_part (parts.Rows x)) is
 
-samples_said : (samples : List PortName) → system_of (map parts.Samples samples) ≡ record bare_system { samples = samples }
-samples_said [] = refl
-samples_said (port ∷ samples) = ap (with_part (parts.Samples port)) (samples_said samples)
+samples_said : (version : ℕ) (samples : List PortName) → system_of version (map parts.Samples samples) ≡ record (bare_system version) { samples = samples }
+samples_said version [] = refl
+samples_said version (port ∷ samples) = ap (with_part (parts.Samples port)) (samples_said version samples)
 
-pub system_is : (system : System) → system_of (canonical_parts system) ≡ system
+pub system_is : (system : System) → system_of system.version (canonical_parts system) ≡ system
 system_is system =
-    ap system_of (grouped (map canonical_unit system.units) (map parts.HasInstance system.instances) (map parts.Connects system.wires) (optional parts.Stop system.stop) (optional parts.Longest system.longest) (optional parts.Zero system.zero) (optional parts.Rows system.rows) (map parts.Samples system.samples))
-    ∙ units_said system.units _ _ (instances_said system.instances _ _ (wires_said system.wires _ _ (stop_said system.stop _ _ (longest_said system.longest _ _
-    (zero_said system.zero _ _ (rows_said system.rows _ _ (samples_said system.samples)))))))
+    let v = system.version in
+    ap (system_of v) (grouped (map canonical_unit system.units) (map parts.HasInstance system.instances) (map parts.Connects system.wires) (optional parts.Stop system.stop) (optional parts.Longest system.longest) (optional parts.Zero system.zero) (optional parts.Rows system.rows) (map parts.Samples system.samples))
+    ∙ units_said v system.units _ _ (instances_said v system.instances _ _ (wires_said v system.wires _ _ (stop_said v system.stop _ _ (longest_said v system.longest _ _
+    (zero_said v system.zero _ _ (rows_said v system.rows _ _ (samples_said v system.samples)))))))
     ∙ simp (append-nil, or_none, units_are) refl

@@ -63,6 +63,8 @@ stands_where asked (phrase.Unary op arg) so allowed = rw allowed (rw (all_in_who
 stands_where asked (phrase.Binary op left right) so allowed = rw allowed (rw (all_in_whole (binary_level op)) at so)
 stands_where asked (phrase.Clamp value low high) so allowed = so
 stands_where asked (phrase.Choose condition then_part else_part) so allowed = rw allowed so
+stands_where asked phrase.Absent so allowed = refl
+stands_where asked (phrase.Present name) so allowed = refl
 
 placed_by : (allowed : Bool) (asked : Level) (inner : Phrase) → allows asked (level_of inner) ≡ allowed → stands Whole inner ≡ true → stands asked (cond allowed inner (phrase.Parens inner)) ≡ true
 placed_by true asked inner is so = stands_where asked inner so is
@@ -146,6 +148,8 @@ node (Expr-F.Clamp value low high) =
     subst Claim (sym (rolls-Clamp (bare value) (bare low) (bare high))) (right-Clamp (bare value) (bare low) (bare high) value.1 low.1 high.1)
 node (Expr-F.Choose condition then_part else_part) =
     subst Claim (sym (rolls-Choose (bare condition) (bare then_part) (bare else_part))) (right-Choose (bare condition) (bare then_part) (bare else_part) condition.1 then_part.1 else_part.1)
+node Expr-F.Absent = λ unsigned. record { is_tree = simp the_lemmas; stands_so = simp the_lemmas }
+node (Expr-F.Present name) = λ unsigned. record { is_tree = simp the_lemmas; stands_so = simp the_lemmas }
 
 pub right : (value : Expr) → is_unsigned value ≡ true → Right value
 right = ind-Expr Claim (λ x y is. subst (λ z. Claim (roll-Expr z)) is (node y))

@@ -37,7 +37,9 @@ unit_part_is unit (parts.HasParam param) = refl
 unit_part_is unit (parts.HasState state) = refl
 unit_part_is unit (parts.HasLocal local) = refl
 unit_part_is unit (parts.HasInput input) = refl
+unit_part_is unit (parts.HasEventIn event) = refl
 unit_part_is unit (parts.HasOutput output) = refl
+unit_part_is unit (parts.HasEventOut event) = refl
 unit_part_is unit (parts.Max value) = refl
 unit_part_is unit (parts.Step lines) = ap (λ inside. form.Step ∷ inside ++ (form.End ∷ [])) (alone_in (StepScope unit) (flat_map line_forms lines))
 
@@ -73,5 +75,5 @@ parts_are (part ∷ all) =
 
 pub sites_are : (system : System) → map line_at (sites_of system) ≡ canonical_forms system
 sites_are system =
-    lines_in TopScope [] (alone form.Header ∷ flat_map headed_part (canonical_parts system))
-    ∙ ap (λ rest. form.Header ∷ rest) (parts_are (canonical_parts system))
+    lines_in TopScope [] (alone (form.Header system.version) ∷ flat_map headed_part (canonical_parts system))
+    ∙ ap (λ rest. form.Header system.version ∷ rest) (parts_are (canonical_parts system))

@@ -1,6 +1,6 @@
 -- Blocks: which are open behind lines, and which lines may stand there.
-use Rattle.std.specs.Prelude.{Bool, true, false, not, ◌&&◌, nat_lt, List, [], ◌∷◌, ◌++◌, drop}
-use Rattle.std.specs.List.{fold, list_any, count_by, after_last}
+use Rattle.std.specs.Prelude.{Bool, true, false, not, ◌&&◌, nat_lt, List, [], ◌∷◌, ◌++◌, drop, if◌then◌else◌}
+use Rattle.std.specs.List.{fold, list_any, count_by}
 use Rattle.unit_tree.specs.LineForms.{are_alike}
 use Rattle.unit_tree.specs.declared.line_form.LineForm.{LineForm}
 use Rattle.unit_tree.specs.declared.line_form.LineForm.TheVariants as form
@@ -25,9 +25,35 @@ behind blocks (form.Instance name unit) = InInstance ∷ blocks
 behind blocks form.End = drop 1 blocks
 behind blocks _ = blocks
 
+-- ---- Where a line stands
+
+abbrev pub opens_unit : LineForm → Bool
+opens_unit (form.Unit name) = true
+opens_unit _ = false
+
+-- What a line stands behind: the open blocks, the innermost first; the lines since the last `unit`; and all lines.
+pub record Before : Type 0 where
+  pub open_blocks : List Block
+  pub in_unit : List LineForm
+  pub in_text : List LineForm
+
+abbrev pub no_lines : Before
+no_lines = record { open_blocks = []; in_unit = []; in_text = [] }
+
+-- One line more.
+abbrev pub and_line : Before → LineForm → Before
+and_line before line = record {
+  open_blocks = behind before.open_blocks line;
+  in_unit = if opens_unit line then [] else before.in_unit ++ (line ∷ []);
+  in_text = before.in_text ++ (line ∷ []);
+}
+
+abbrev pub and_lines : Before → List LineForm → Before
+and_lines before lines = fold and_line before lines
+
 -- The blocks that lines leave open.
 abbrev pub open_blocks : List LineForm → List Block
-open_blocks forms = fold behind [] forms
+open_blocks lines = (and_lines no_lines lines).open_blocks
 
 -- ---- Which lines a block may hold
 
@@ -62,7 +88,9 @@ holds_form blocks (form.Param param) = in_unit blocks
 holds_form blocks (form.State state) = in_unit blocks
 holds_form blocks (form.Local local) = in_unit blocks
 holds_form blocks (form.Input input) = in_unit blocks
+holds_form blocks (form.EventInput event) = in_unit blocks
 holds_form blocks (form.Output output) = in_unit blocks
+holds_form blocks (form.EventOutput event) = in_unit blocks
 holds_form blocks (form.Max value) = in_unit blocks
 holds_form blocks form.Step = in_unit blocks
 holds_form blocks form.End = not (at_top blocks)
@@ -76,28 +104,20 @@ holds_form blocks _ = at_top blocks
 
 -- ---- Lines that stand once
 
-abbrev pub opens_unit : LineForm → Bool
-opens_unit (form.Unit name) = true
-opens_unit _ = false
-
--- The lines behind the last `unit`.
-abbrev pub in_this_unit : List LineForm → List LineForm
-in_this_unit before = after_last opens_unit before
-
 -- The lines before a line of which none may be like it: `resolution`, `max` and `step` stand once in a unit, and the
 -- header, `stop`, `longest`, `zero` and `rows` once in a text.
-abbrev pub rivals : List LineForm → LineForm → List LineForm
-rivals before (form.Resolution decimals) = in_this_unit before
-rivals before (form.Max value) = in_this_unit before
-rivals before form.Step = in_this_unit before
-rivals before form.Header = before
-rivals before (form.Stop seconds) = before
-rivals before (form.Longest seconds) = before
-rivals before (form.Zero count) = before
-rivals before (form.Rows count) = before
+abbrev pub rivals : Before → LineForm → List LineForm
+rivals before (form.Resolution decimals) = before.in_unit
+rivals before (form.Max value) = before.in_unit
+rivals before form.Step = before.in_unit
+rivals before (form.Header version) = before.in_text
+rivals before (form.Stop seconds) = before.in_text
+rivals before (form.Longest seconds) = before.in_text
+rivals before (form.Zero count) = before.in_text
+rivals before (form.Rows count) = before.in_text
 rivals before _ = []
 
-abbrev pub has_rival : List LineForm → LineForm → Bool
+abbrev pub has_rival : Before → LineForm → Bool
 has_rival before line = list_any (are_alike line) (rivals before line)
 
 -- ---- Blocks in blocks
@@ -114,12 +134,12 @@ has_room blocks (form.If cond) = nat_lt (count_by is_inner blocks) 16
 has_room blocks (form.Repeat count) = nat_lt (count_by is_inner blocks) 16
 has_room blocks _ = true
 
--- The line may stand behind those before it.
-abbrev pub may_stand : List LineForm → LineForm → Bool
+-- The line may stand there.
+abbrev pub may_stand : Before → LineForm → Bool
 may_stand before line =
-    holds_form (open_blocks before) line && (not (has_rival before line) && has_room (open_blocks before) line)
+    holds_form before.open_blocks line && (not (has_rival before line) && has_room before.open_blocks line)
 
 -- Each line may stand behind those before it.
-abbrev pub are_placed : List LineForm → List LineForm → Bool
+abbrev pub are_placed : Before → List LineForm → Bool
 are_placed before [] = true
-are_placed before (line ∷ lines) = may_stand before line && are_placed (before ++ (line ∷ [])) lines
+are_placed before (line ∷ lines) = may_stand before line && are_placed (and_line before line) lines

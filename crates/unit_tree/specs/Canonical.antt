@@ -33,7 +33,9 @@ unit_parts unit =
     ++ map parts.HasState unit.states
     ++ map parts.HasLocal unit.locals
     ++ map parts.HasInput unit.inputs
+    ++ map parts.HasEventIn unit.events_in
     ++ map parts.HasOutput unit.outputs
+    ++ map parts.HasEventOut unit.events_out
     ++ optional parts.Max unit.max
     ++ optional parts.Step unit.step
 
@@ -51,7 +53,7 @@ canonical_parts system =
 
 -- The canonical lines of a system.
 abbrev pub canonical_forms : System → List LineForm
-canonical_forms system = text_forms (canonical_parts system)
+canonical_forms system = text_forms system.version (canonical_parts system)
 
 -- ---- Tokens
 
@@ -71,6 +73,8 @@ node_phrase (Expr-F.Binary op left right) =
     phrase.Binary op (placed (left_level (binary_level op)) left) (placed (right_level (binary_level op)) right)
 node_phrase (Expr-F.Clamp value low high) = phrase.Clamp value low high
 node_phrase (Expr-F.Choose cond then_part else_part) = phrase.Choose cond then_part else_part
+node_phrase Expr-F.Absent = phrase.Absent
+node_phrase (Expr-F.Present name) = phrase.Present name
 
 -- How an expression is written with no needless parentheses. Its numbers are not negative.
 abbrev pub canonical_phrase : Expr → Phrase

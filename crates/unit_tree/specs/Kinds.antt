@@ -64,7 +64,7 @@ KindsOfNames = List ℕ → Option Kind
 abbrev pub Kinding : Type 0
 Kinding = KindsOfNames → Option Kind
 
--- One node, with the kind of each part in its place.
+-- One node, with the kind of each part in its place. `absent` has no kind of its own.
 abbrev pub node_kind : Expr-F Kinding → Kinding
 node_kind (Expr-F.Number word decimals) names = Some (kind_of_number decimals)
 node_kind (Expr-F.Truth told) names = Some Truth
@@ -78,6 +78,8 @@ node_kind (Expr-F.Clamp value low high) names =
     option_and_then (λ x. option_and_then (λ l. option_and_then (λ h. where_holds (same_kind x l && (same_kind x h && is_number x)) x) (high names)) (low names)) (value names)
 node_kind (Expr-F.Choose cond then_part else_part) names =
     option_and_then (λ c. option_and_then (λ x. option_and_then (λ y. where_holds (same_kind c Truth && same_kind x y) x) (else_part names)) (then_part names)) (cond names)
+node_kind Expr-F.Absent names = None
+node_kind (Expr-F.Present name) names = Some Truth
 
 -- The kind of an expression, where each operand has the kind that its operation asks for.
 abbrev pub kind_of_expression : Expr → Kinding

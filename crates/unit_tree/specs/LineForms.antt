@@ -1,5 +1,5 @@
 -- The forms of lines: which tokens write each of them.
-use Rattle.std.specs.Prelude.{◌≡◌, ℕ, ◌^◌, ◌≤◌, ◌<◌, Bool, ℤ, pos, List, [], ◌∷◌, ◌++◌, codes, IsTrue, if◌then◌else◌, ⊤}
+use Rattle.std.specs.Prelude.{◌≡◌, ℕ, ◌^◌, ◌≤◌, ◌<◌, Bool, true, false, ◌||◌, ◌==◌, ℤ, pos, List, [], ◌∷◌, ◌++◌, codes, IsTrue, if◌then◌else◌, ⊤}
 use Rattle.std.specs.Str.{bytes_eq}
 use Rattle.fixed_words.specs.Literals.{with_sign}
 use Rattle.fixed_words.specs.Types.{AreDecimals, is_word_of}
@@ -10,7 +10,8 @@ use Rattle.fixed_words.specs.declared.types.Ty.TheVariants as types
 use Rattle.unit_tree.specs.Lines.{code_of}
 use Rattle.unit_tree.specs.Phrases.{keyword, symbol, whole, truth_word, Writes}
 use Rattle.unit_tree.specs.Tokens.{Spells, keyword_text}
-use Rattle.unit_tree.specs.declared.expr.Expr.{Expr}
+use Rattle.unit_tree.specs.declared.expr.Expr.{Expr, fold-Expr}
+use Rattle.unit_tree.specs.declared.expr.Expr.TheOpen.{Expr-F}
 use Rattle.unit_tree.specs.declared.line_form.LineForm.{LineForm}
 use Rattle.unit_tree.specs.declared.line_form.LineForm.TheVariants as form
 use Rattle.unit_tree.specs.declared.system.PortName.{PortName}
@@ -58,14 +59,16 @@ equals = symbol sign.Is ∷ []
 
 -- The tokens of a form in front of its literal or expression; all of them where it has none.
 abbrev pub front_tokens : LineForm → List Token
-front_tokens form.Header = keyword word.Cosim ∷ whole 1 ∷ []
+front_tokens (form.Header version) = keyword word.Cosim ∷ whole version ∷ []
 front_tokens (form.Unit name) = keyword word.Unit ∷ token.Name name ∷ []
 front_tokens (form.Resolution decimals) = keyword word.Resolution ∷ whole decimals ∷ []
 front_tokens (form.Param param) = declaration word.Param param.name param.ty ++ equals
 front_tokens (form.State state) = declaration word.State state.name state.ty ++ equals
 front_tokens (form.Local local) = declaration word.Local local.name local.ty
 front_tokens (form.Input input) = declaration word.Input input.name input.ty ++ equals
+front_tokens (form.EventInput event) = keyword word.Event ∷ declaration word.Input event.name event.ty
 front_tokens (form.Output output) = declaration word.Output output.name output.ty ++ needs_tokens output.needs ++ equals
+front_tokens (form.EventOutput event) = keyword word.Event ∷ declaration word.Output event.name event.ty ++ needs_tokens event.needs ++ equals
 front_tokens (form.Max value) = keyword word.Max ∷ []
 front_tokens form.Step = keyword word.Step ∷ []
 front_tokens form.End = keyword word.End ∷ []
@@ -109,6 +112,7 @@ tail_of (form.Setting setting) = OfLiteral setting.value
 tail_of (form.Stop seconds) = OfSeconds seconds
 tail_of (form.Longest seconds) = OfSeconds seconds
 tail_of (form.Output output) = OfExpression output.value
+tail_of (form.EventOutput event) = OfExpression event.value
 tail_of (form.Max value) = OfExpression value
 tail_of (form.Assign target value) = OfExpression value
 tail_of (form.If cond) = OfExpression cond
@@ -148,14 +152,17 @@ WritesTail (OfExpression value) tokens = Writes value tokens
 
 -- ---- Lines
 
--- The count, the resolution and the decimals of the type on a line are those that the language allows.
+-- The version, the count, the resolution and the decimals of the type on a line are those that the language allows.
 abbrev pub AreCountsInRange : LineForm → Type 0
+AreCountsInRange (form.Header version) = (1 ≤ version) × (version ≤ 2)
 AreCountsInRange (form.Resolution decimals) = decimals ≤ 9
 AreCountsInRange (form.Param param) = AreDecimals param.ty
 AreCountsInRange (form.State state) = AreDecimals state.ty
 AreCountsInRange (form.Local local) = AreDecimals local.ty
 AreCountsInRange (form.Input input) = AreDecimals input.ty
+AreCountsInRange (form.EventInput event) = AreDecimals event.ty
 AreCountsInRange (form.Output output) = AreDecimals output.ty
+AreCountsInRange (form.EventOutput event) = AreDecimals event.ty
 AreCountsInRange (form.Repeat count) = (1 ≤ count) × (count ≤ 1000)
 AreCountsInRange (form.Zero count) = count ≤ 10000
 AreCountsInRange (form.Rows count) = (1 ≤ count) × (count ≤ 100000)
@@ -173,3 +180,31 @@ pub record HasForm (form : LineForm) (line : List ℕ) : Type 0 where
   pub tokens : List Token
   pub spelled : Spells tokens (code_of line)
   pub written : WritesForm form tokens
+
+-- ---- What version 2 adds
+
+-- One node, with whether each part speaks of events.
+abbrev pub node_speaks_of_events : Expr-F Bool → Bool
+node_speaks_of_events (Expr-F.Unary op arg) = arg
+node_speaks_of_events (Expr-F.Binary op left right) = left || right
+node_speaks_of_events (Expr-F.Clamp value low high) = value || (low || high)
+node_speaks_of_events (Expr-F.Choose cond then_part else_part) = cond || (then_part || else_part)
+node_speaks_of_events Expr-F.Absent = true
+node_speaks_of_events (Expr-F.Present name) = true
+node_speaks_of_events _ = false
+
+-- Whether `absent` or `present` stands in an expression.
+abbrev pub speaks_of_events : Expr → Bool
+speaks_of_events = fold-Expr Bool node_speaks_of_events
+
+abbrev pub tail_speaks_of_events : Tail → Bool
+tail_speaks_of_events (OfExpression value) = speaks_of_events value
+tail_speaks_of_events _ = false
+
+-- Whether version 2 alone has the form: its own header, the lines of event ports, and those on which `absent` or
+-- `present` stands.
+abbrev pub is_of_version_2 : LineForm → Bool
+is_of_version_2 (form.Header version) = version == 2
+is_of_version_2 (form.EventInput event) = true
+is_of_version_2 (form.EventOutput event) = true
+is_of_version_2 some = tail_speaks_of_events (tail_of some)

@@ -4,7 +4,7 @@ use Rattle.std.specs.Prelude.{◌≡◌, ℕ, Bool, false, ◌&&◌, List, [], �
 use Rattle.std.specs.List.{AllByRecursion, flat_map, filter_map, find, enumerate_from}
 use Rattle.std.specs.Option.{option_map}
 use Rattle.std.specs.Str.{bytes_eq}
-use Rattle.unit_tree.specs.Names.{unit_of_instance, unit_at, output_at, same_port}
+use Rattle.unit_tree.specs.Names.{Port, output_ports, unit_of_instance, unit_at, output_at, same_port}
 use Rattle.unit_tree.specs.Sites.{Scope, UnitScope, sites_of}
 use Rattle.unit_tree.specs.declared.line_form.LineForm.{LineForm}
 use Rattle.unit_tree.specs.declared.line_form.LineForm.TheVariants as form
@@ -12,17 +12,16 @@ use Rattle.unit_tree.specs.declared.system.Instance.{Instance}
 use Rattle.unit_tree.specs.declared.system.PortName.{PortName}
 use Rattle.unit_tree.specs.declared.system.System.{System}
 use Rattle.unit_tree.specs.declared.system.Wire.{Wire}
-use Rattle.unit_tree.specs.declared.unit.Output.{Output}
 use Rattle.unit_tree.specs.declared.unit.Unit.{Unit}
 
 abbrev pub port_of : Instance → List ℕ → PortName
 port_of instance port = record { instance = instance.name; port = port }
 
-abbrev pub outputs_in : Option Unit → List Output
+abbrev pub outputs_in : Option Unit → List Port
 outputs_in None = []
-outputs_in (Some unit) = unit.outputs
+outputs_in (Some unit) = output_ports unit
 
--- All outputs of a system, by instance and then by declaration.
+-- All outputs of a system, by instance and then by declaration, where event outputs come after the plain ones.
 abbrev pub outputs_of : System → List PortName
 outputs_of system =
     flat_map (λ instance. map (λ output. port_of instance output.name) (outputs_in (unit_of_instance system instance))) system.instances
@@ -35,7 +34,7 @@ abbrev pub sources_of : System → PortName → List PortName
 sources_of system port = filter_map (source_if port) system.wires
 
 -- The inputs that an output names in its needs.
-abbrev pub needs_of : Option Output → List (List ℕ)
+abbrev pub needs_of : Option Port → List (List ℕ)
 needs_of None = []
 needs_of (Some output) = output.needs
 
@@ -86,6 +85,7 @@ pub record IsFirstWithoutOrder (system : System) (port : PortName) : Type 0 wher
 -- Whether a site is that of the output which a port names: the line of its unit that declares it.
 abbrev pub declares_output : List ℕ → Option Unit → Scope → LineForm → Bool
 declares_output name (Some unit) (UnitScope other) (form.Output output) = bytes_eq other.name unit.name && bytes_eq output.name name
+declares_output name (Some unit) (UnitScope other) (form.EventOutput event) = bytes_eq other.name unit.name && bytes_eq event.name name
 declares_output name _ _ _ = false
 
 -- The canonical line of an output, at which rule 15 refuses the system.

@@ -12,6 +12,8 @@ use Rattle.unit_tree.specs.declared.system.Instance.{Instance}
 use Rattle.unit_tree.specs.declared.system.PortName.{PortName}
 use Rattle.unit_tree.specs.declared.system.System.{System}
 use Rattle.unit_tree.specs.declared.system.Wire.{Wire}
+use Rattle.unit_tree.specs.declared.unit.EventIn.{EventIn}
+use Rattle.unit_tree.specs.declared.unit.EventOut.{EventOut}
 use Rattle.unit_tree.specs.declared.unit.Input.{Input}
 use Rattle.unit_tree.specs.declared.unit.Local.{Local}
 use Rattle.unit_tree.specs.declared.unit.Output.{Output}
@@ -47,7 +49,9 @@ pub data UnitPart : Type 0 where
   HasState : State → UnitPart
   HasLocal : Local → UnitPart
   HasInput : Input → UnitPart
+  HasEventIn : EventIn → UnitPart
   HasOutput : Output → UnitPart
+  HasEventOut : EventOut → UnitPart
   Max : Expr → UnitPart
   Step : List Line → UnitPart
 
@@ -58,7 +62,9 @@ unit_part_forms (HasParam param) = form.Param param ∷ []
 unit_part_forms (HasState state) = form.State state ∷ []
 unit_part_forms (HasLocal local) = form.Local local ∷ []
 unit_part_forms (HasInput input) = form.Input input ∷ []
+unit_part_forms (HasEventIn event) = form.EventInput event ∷ []
 unit_part_forms (HasOutput output) = form.Output output ∷ []
+unit_part_forms (HasEventOut event) = form.EventOutput event ∷ []
 unit_part_forms (Max value) = form.Max value ∷ []
 unit_part_forms (Step lines) = form.Step ∷ flat_map line_forms lines ++ (form.End ∷ [])
 
@@ -71,7 +77,9 @@ bare_unit name = record {
   states = [];
   locals = [];
   inputs = [];
+  events_in = [];
   outputs = [];
+  events_out = [];
   max = None;
   step = None;
 }
@@ -83,7 +91,9 @@ with_unit_part (HasParam param) unit = record unit { params = param ∷ unit.par
 with_unit_part (HasState state) unit = record unit { states = state ∷ unit.states }
 with_unit_part (HasLocal local) unit = record unit { locals = local ∷ unit.locals }
 with_unit_part (HasInput input) unit = record unit { inputs = input ∷ unit.inputs }
+with_unit_part (HasEventIn event) unit = record unit { events_in = event ∷ unit.events_in }
 with_unit_part (HasOutput output) unit = record unit { outputs = output ∷ unit.outputs }
+with_unit_part (HasEventOut event) unit = record unit { events_out = event ∷ unit.events_out }
 with_unit_part (Max value) unit = record unit { max = Some value }
 with_unit_part (Step lines) unit = record unit { step = Some lines }
 
@@ -116,9 +126,10 @@ part_forms (Zero count) = form.Zero count ∷ []
 part_forms (Rows count) = form.Rows count ∷ []
 part_forms (Samples port) = form.Sample port ∷ []
 
--- A system of which nothing is said.
-abbrev pub bare_system : System
-bare_system = record {
+-- A system of which nothing is said but its version.
+abbrev pub bare_system : ℕ → System
+bare_system version = record {
+  version = version;
   units = [];
   instances = [];
   wires = [];
@@ -140,11 +151,11 @@ with_part (Zero count) system = record system { zero = Some count }
 with_part (Rows count) system = record system { rows = Some count }
 with_part (Samples port) system = record system { samples = port ∷ system.samples }
 
--- The system that its parts say.
-abbrev pub system_of : List Part → System
-system_of [] = bare_system
-system_of (part ∷ parts) = with_part part (system_of parts)
+-- The system of a version that its parts say.
+abbrev pub system_of : ℕ → List Part → System
+system_of version [] = bare_system version
+system_of version (part ∷ parts) = with_part part (system_of version parts)
 
--- The lines of a text: the header, and those of its parts.
-abbrev pub text_forms : List Part → List LineForm
-text_forms parts = form.Header ∷ flat_map part_forms parts
+-- The lines of a text: the header with the version, and those of its parts.
+abbrev pub text_forms : ℕ → List Part → List LineForm
+text_forms version parts = form.Header version ∷ flat_map part_forms parts

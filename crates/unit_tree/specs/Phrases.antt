@@ -14,6 +14,7 @@
 --   primary     number | "true" | "false" | "t" | "h" | name | "(" whole ")" | "abs" "(" whole ")"
 --               | "int" "(" whole ")" | "fix" N "(" whole ")" | "min" "(" whole "," whole ")"
 --               | "max" "(" whole "," whole ")" | "clamp" "(" whole "," whole "," whole ")"
+--               and in version 2 also "absent" | "present" "(" name ")"
 use Rattle.std.specs.Prelude.{◌≡◌, ℕ, suc, ◌^◌, max, Bool, true, false, ◌&&◌, nat_le, nat_lt, pos, List, [], ◌∷◌, ◌++◌, IsTrue}
 use Rattle.unit_tree.specs.Values.{unary_is_ranged}
 use Rattle.unit_tree.specs.declared.expr.BinOp.{BinOp}
@@ -42,6 +43,8 @@ pub data Phrase : Type 0 where
   Binary : BinOp → Phrase → Phrase → Phrase
   Clamp : Phrase → Phrase → Phrase → Phrase
   Choose : Phrase → Phrase → Phrase → Phrase
+  Absent : Phrase
+  Present : List ℕ → Phrase
 
 -- The tree of an expression, which has no parentheses.
 abbrev pub tree_of : Phrase → Expr
@@ -55,6 +58,8 @@ tree_of (Unary op arg) = expr.Unary op (tree_of arg)
 tree_of (Binary op left right) = expr.Binary op (tree_of left) (tree_of right)
 tree_of (Clamp value low high) = expr.Clamp (tree_of value) (tree_of low) (tree_of high)
 tree_of (Choose cond then_part else_part) = expr.Choose (tree_of cond) (tree_of then_part) (tree_of else_part)
+tree_of Absent = expr.Absent
+tree_of (Present name) = expr.Present name
 
 -- ---- Tokens
 
@@ -124,6 +129,8 @@ phrase_tokens (Clamp value low high) =
     keyword word.Clamp ∷ in_parens (phrase_tokens value ++ (symbol sign.Comma ∷ phrase_tokens low ++ (symbol sign.Comma ∷ phrase_tokens high)))
 phrase_tokens (Choose cond then_part else_part) =
     keyword word.If ∷ phrase_tokens cond ++ (keyword word.Then ∷ phrase_tokens then_part ++ (keyword word.Else ∷ phrase_tokens else_part))
+phrase_tokens Absent = keyword word.Absent ∷ []
+phrase_tokens (Present name) = keyword word.Present ∷ in_parens (token.Name name ∷ [])
 
 -- ---- Levels
 
@@ -223,7 +230,8 @@ binary_nesting by.Max deepest = suc deepest
 binary_nesting _ deepest = deepest
 
 -- How many levels deep the parts of an expression are nested: each part inside parentheses or a call, each
--- part of an `if`, and each operand of `not` and of the prefix `-` is one level deeper than what is around it.
+-- part of an `if`, and each operand of `not` and of the prefix `-` is one level deeper than what is around it. The
+-- name in `present(u)` is no part.
 abbrev pub nesting : Phrase → ℕ
 nesting (Parens inner) = suc (nesting inner)
 nesting (Unary op arg) = suc (nesting arg)

@@ -1,17 +1,17 @@
 -- Systems whose numbers are in range, and systems that have a canonical text.
-use Rattle.std.specs.Prelude.{◌≤◌, ℕ, suc, max, Bool, true, false, ◌&&◌, nat_le, not, List, [], ◌∷◌, ◌++◌, map, length, Option, Some, None, IsTrue, ⊤}
+use Rattle.std.specs.Prelude.{◌≡◌, ◌≤◌, ℕ, suc, max, Bool, true, false, ◌&&◌, nat_le, not, List, [], ◌∷◌, ◌++◌, map, length, Option, Some, None, IsTrue, IsFalse, ⊤}
 use Rattle.std.specs.Int.{is_negative}
-use Rattle.std.specs.List.{AllByRecursion, list_all, fold}
+use Rattle.std.specs.List.{AllByRecursion, list_all, list_any, fold}
 use Rattle.fixed_words.specs.Types.{is_word_of}
 use Rattle.fixed_words.specs.declared.types.Literal.{Literal}
 use Rattle.fixed_words.specs.declared.types.Literal.TheVariants as literal
 use Rattle.fixed_words.specs.declared.types.Ty.TheVariants.{Int64}
 use Rattle.unit_tree.specs.Canonical.{canonical_forms, canonical_phrase, canonical_text, line_text}
-use Rattle.unit_tree.specs.LineForms.{Tail, Nothing, OfLiteral, OfSeconds, OfExpression, tail_of, AreCountsInRange}
+use Rattle.unit_tree.specs.LineForms.{Tail, Nothing, OfLiteral, OfSeconds, OfExpression, tail_of, AreCountsInRange, is_of_version_2}
 use Rattle.unit_tree.specs.Names.{names_in, expression_on}
 use Rattle.unit_tree.specs.Phrases.{nesting}
 use Rattle.unit_tree.specs.Texts.{text_limit, line_limit}
-use Rattle.unit_tree.specs.Tokens.{IsWord, IsReserved}
+use Rattle.unit_tree.specs.Tokens.{IsWord, IsName}
 use Rattle.unit_tree.specs.Values.{is_ranged}
 use Rattle.unit_tree.specs.declared.expr.Expr.{Expr, fold-Expr}
 use Rattle.unit_tree.specs.declared.expr.Expr.TheOpen.{Expr-F}
@@ -34,7 +34,9 @@ names_said (form.Param param) = param.name ∷ []
 names_said (form.State state) = state.name ∷ []
 names_said (form.Local local) = local.name ∷ []
 names_said (form.Input input) = input.name ∷ []
+names_said (form.EventInput event) = event.name ∷ []
 names_said (form.Output output) = output.name ∷ output.needs
+names_said (form.EventOutput event) = event.name ∷ event.needs
 names_said (form.Assign target value) = target ∷ []
 names_said (form.Instance name unit) = name ∷ unit ∷ []
 names_said (form.Setting setting) = setting.name ∷ []
@@ -61,16 +63,21 @@ IsTailInRange (OfExpression value) = IsTrue (is_ranged value)
 abbrev pub IsInRange : LineForm → Type 0
 IsInRange line = AreCountsInRange line × IsTailInRange (tail_of line)
 
--- The system is in range: its names are words, and its lines are in range.
+-- Whether the line declares an event port.
+abbrev pub is_event_port : LineForm → Bool
+is_event_port (form.EventInput event) = true
+is_event_port (form.EventOutput event) = true
+is_event_port _ = false
+
+-- The system is in range: its version is 1 or 2, and has no event ports where it is 1; its names are words; and the
+-- numbers on its lines are in range.
 pub record IsRanged (system : System) : Type 0 where
+  pub version : (1 ≤ system.version) × (system.version ≤ 2)
+  pub events : system.version ≡ 1 → IsFalse (list_any is_event_port (canonical_forms system))
   pub names : AllByRecursion (λ line. AllByRecursion IsWord (names_on line)) (canonical_forms system)
   pub numbers : AllByRecursion IsInRange (canonical_forms system)
 
 -- ---- Printable
-
--- A name is a word that is not reserved.
-abbrev pub IsName : List ℕ → Type 0
-IsName text = IsWord text × (IsReserved text → ⊥)
 
 -- One node, with whether each part has no negative number in its place.
 abbrev pub node_is_unsigned : Expr-F Bool → Bool
@@ -122,10 +129,12 @@ abbrev pub step_depth : Option (List Line) → ℕ
 step_depth None = 0
 step_depth (Some lines) = deepest (map line_depth lines)
 
--- The system has a canonical text: it is in range, its names are not reserved, its numbers are words with the
--- signs that the language allows, and its nesting, its blocks, its lines and its text keep their limits.
+-- The system has a canonical text: it is in range, and of version 2 where a line is of that version; its names are not
+-- reserved, its numbers are words with the signs that the language allows, and its nesting, its blocks, its lines and
+-- its text keep their limits.
 pub record IsPrintable (system : System) : Type 0 where
   pub ranged : IsRanged system
+  pub of_version : system.version ≡ 1 → IsFalse (list_any is_of_version_2 (canonical_forms system))
   pub names : AllByRecursion (λ line. AllByRecursion IsName (names_on line)) (canonical_forms system)
   pub tails : IsTrue (list_all (λ line. is_writable (tail_of line)) (canonical_forms system))
   pub blocks : IsTrue (list_all (λ unit. nat_le (step_depth unit.step) 16) system.units)

@@ -146,7 +146,8 @@ abbrev pub Meaning : Type 0
 Meaning = Environment → Result Value Fault
 
 -- One node, with the meaning of each part in its place. Operands are taken from left to right and the
--- first fault is the value; `if` takes its condition and then one of the two others.
+-- first fault is the value; `if` takes its condition and then one of the two others. An environment has words
+-- and no events: in it all event inputs are absent, and what is absent has the word 0.
 abbrev pub node_meaning : Expr-F Meaning → Meaning
 node_meaning (Expr-F.Number word decimals) env = Ok (record { kind = kind_of_number decimals; word = word })
 node_meaning (Expr-F.Truth told) env = Ok (truth told)
@@ -158,6 +159,8 @@ node_meaning (Expr-F.Binary op left right) env = left env >>= λ x. (right env >
 node_meaning (Expr-F.Clamp value low high) env = clamped_value (value env) (low env) (high env)
 node_meaning (Expr-F.Choose cond then_part else_part) env =
     cond env >>= λ c. (if holds c then then_part env else else_part env)
+node_meaning Expr-F.Absent env = Ok (record { kind = kinds.Int; word = pos 0 })
+node_meaning (Expr-F.Present name) env = Ok (truth false)
 
 -- The value of an expression in an environment.
 abbrev pub value_of : Expr → Meaning

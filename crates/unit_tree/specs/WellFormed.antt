@@ -1,8 +1,8 @@
 -- Well-formed systems. Each rule has a test, which a canonical line passes where it breaks the rule. The rules are
 -- judged in the order of their numbers, each over the whole system and only where all earlier ones hold.
-use Rattle.std.specs.Prelude.{◌≡◌, ℕ, ◌*◌, ◌/◌, ◌%◌, ◌^◌, max, Bool, true, false, not, ◌&&◌, ◌||◌, ◌==◌, nat_le, nat_lt, if◌then◌else◌, unsigned_abs, ℤ, List, [], ◌∷◌, ◌++◌, map, length, Option, Some, None, is_none, Result, Err}
-use Rattle.std.specs.Int.{is_negative}
-use Rattle.std.specs.List.{AllByRecursion, list_any, count_by, enumerate_from, filter_map, fold}
+use Rattle.std.specs.Prelude.{◌≡◌, ℕ, ◌*◌, ◌^◌, max, Bool, true, false, not, ◌&&◌, ◌||◌, ◌==◌, nat_le, nat_lt, if◌then◌else◌, ℤ, List, [], ◌∷◌, ◌++◌, map, length, Option, Some, None, is_none, Result, Err}
+use Rattle.std.specs.Bool.{beq}
+use Rattle.std.specs.List.{AllByRecursion, list_any, count_by, enumerate_from, filter_map, flat_map, fold}
 use Rattle.std.specs.Option.{option_map, option_and_then, unwrap_or}
 use Rattle.std.specs.Ordering.{int_eq}
 use Rattle.std.specs.Str.{bytes_eq}
@@ -11,16 +11,16 @@ use Rattle.fixed_words.specs.Types.{kind_of, lowest, highest}
 use Rattle.fixed_words.specs.declared.types.Kind.{Kind}
 use Rattle.fixed_words.specs.declared.types.Kind.TheVariants as kinds
 use Rattle.fixed_words.specs.declared.types.Literal.{Literal}
-use Rattle.fixed_words.specs.declared.types.Literal.TheVariants as literal
 use Rattle.fixed_words.specs.declared.types.LiteralFault.{LiteralFault}
 use Rattle.fixed_words.specs.declared.types.LiteralFault.TheVariants.{Form, Range}
 use Rattle.fixed_words.specs.declared.types.Ty.{Ty}
+use Rattle.super_time.specs.Seconds.{ticks_in}
 use Rattle.unit_tree.specs.Costs.{expression_call_cost, step_call_cost}
 use Rattle.unit_tree.specs.Kinds.{same_kind, has_kind, line_is_kinded}
-use Rattle.unit_tree.specs.LineForms.{are_alike}
-use Rattle.unit_tree.specs.Names.{names_in, depth_of, expression_on, is_among, are_among, param_names, input_names, output_names, output_uses, max_uses, step_uses, keeps_to, type_in, kinds_in, unit_of_instance, param_named, output_at, input_at, same_port}
+use Rattle.unit_tree.specs.LineForms.{are_alike, tail_of, tail_speaks_of_events}
+use Rattle.unit_tree.specs.Names.{names_in, depth_of, expression_on, is_empty, is_among, are_among, param_names, Port, input_names, output_names, output_uses, max_uses, step_uses, keeps_to, type_in, kinds_in, unit_named, unit_of_instance, param_named, output_at, input_at, same_port}
+use Rattle.unit_tree.specs.Plain.{word_expression_of, plain_unit, plain_forms}
 use Rattle.unit_tree.specs.Sites.{Site, Scope, TopScope, UnitScope, StepScope, InstanceScope, sites_of}
-use Rattle.unit_tree.specs.Trace.{unit_named}
 use Rattle.unit_tree.specs.declared.expr.Expr.{Expr}
 use Rattle.unit_tree.specs.declared.line.Line.{Line}
 use Rattle.unit_tree.specs.declared.line_form.LineForm.{LineForm}
@@ -53,7 +53,9 @@ name_declared (form.Param param) = Some param.name
 name_declared (form.State state) = Some state.name
 name_declared (form.Local local) = Some local.name
 name_declared (form.Input input) = Some input.name
+name_declared (form.EventInput event) = Some event.name
 name_declared (form.Output output) = Some output.name
+name_declared (form.EventOutput event) = Some event.name
 name_declared _ = None
 
 abbrev pub input_connected : LineForm → Option PortName
@@ -80,9 +82,13 @@ abbrev pub is_param_of : Option Unit → List ℕ → Bool
 is_param_of None name = false
 is_param_of (Some unit) name = is_among (param_names unit) name
 
+-- An output names what it may not use, or a need that is no input.
+abbrev pub misuses : Unit → List (List ℕ) → Expr → Bool
+misuses unit needs value = not (keeps_to (output_uses unit) value) || not (are_among (input_names unit) needs)
+
 abbrev pub misnames : System → Scope → LineForm → Bool
-misnames system (UnitScope unit) (form.Output output) =
-    not (keeps_to (output_uses unit) output.value) || not (are_among (input_names unit) output.needs)
+misnames system (UnitScope unit) (form.Output output) = misuses unit output.needs output.value
+misnames system (UnitScope unit) (form.EventOutput event) = misuses unit event.needs event.value
 misnames system (UnitScope unit) (form.Max value) = not (keeps_to (max_uses unit) value)
 misnames system (StepScope unit) (form.Assign target value) = is_none (type_in unit target) || not (keeps_to (step_uses unit) value)
 misnames system (StepScope unit) (form.If cond) = not (keeps_to (step_uses unit) cond)
@@ -93,7 +99,8 @@ misnames system TopScope (form.Connect wire) = is_none (output_at system wire.fr
 misnames system TopScope (form.Sample port) = is_none (output_at system port)
 misnames system _ _ = false
 
--- ---- Rule 10: a kind is wrong, or a literal has the wrong form for its type
+-- ---- Rule 10: a kind is wrong, `absent` stands where it may not, version 1 speaks of events, or a literal has the wrong
+-- form for its type
 
 -- The expression does not have the kind that is asked for, or an operand in it has a wrong one.
 abbrev pub is_not_of : Option Kind → Unit → Expr → Bool
@@ -120,15 +127,20 @@ abbrev pub on_literal : (Result ℤ LiteralFault → Bool) → Option (Result �
 on_literal test None = false
 on_literal test (Some read) = test read
 
+-- `absent` may stand as the whole expression of an event output, and as a branch of an `if` that may stand so. With a zero
+-- of the output's kind for each of these the expression has this kind. Any other `absent` has none.
 abbrev pub mistakes_kind : Scope → LineForm → Bool
 mistakes_kind (UnitScope unit) (form.Output output) = is_not_of (Some (kind_of output.ty)) unit output.value
+mistakes_kind (UnitScope unit) (form.EventOutput event) =
+    is_not_of (Some (kind_of event.ty)) unit (word_expression_of event.ty event.value)
 mistakes_kind (UnitScope unit) (form.Max value) = is_not_of (Some kinds.Int) unit value
 mistakes_kind (StepScope unit) line = not (line_is_kinded line (kinds_in unit))
 mistakes_kind _ _ = false
 
 abbrev pub is_of_wrong_kind : System → Site → Bool
 is_of_wrong_kind system site =
-    mistakes_kind site.scope site.line || on_literal is_misformed (literal_on system site.scope site.line)
+    mistakes_kind site.scope site.line
+    || (((system.version == 1) && tail_speaks_of_events (tail_of site.line)) || on_literal is_misformed (literal_on system site.scope site.line))
 
 -- ---- Rule 11: a literal is out of its type's range
 
@@ -139,11 +151,15 @@ is_beyond _ = false
 abbrev pub is_out_of_range : System → Site → Bool
 is_out_of_range system site = on_literal is_beyond (literal_on system site.scope site.line)
 
--- ---- Rule 12: an output uses an input that is not in its needs
+-- ---- Rule 12: an output uses an input, be it in `present`, that is not in its needs
+
+abbrev pub uses_other_input : Unit → List (List ℕ) → Expr → Bool
+uses_other_input unit needs value =
+    list_any (λ name. is_among (input_names unit) name && not (is_among needs name)) (names_in value)
 
 abbrev pub hides_need : Scope → LineForm → Bool
-hides_need (UnitScope unit) (form.Output output) =
-    list_any (λ name. is_among (input_names unit) name && not (is_among output.needs name)) (names_in output.value)
+hides_need (UnitScope unit) (form.Output output) = uses_other_input unit output.needs output.value
+hides_need (UnitScope unit) (form.EventOutput event) = uses_other_input unit event.needs event.value
 hides_need _ _ = false
 
 -- ---- Rule 13: an input is connected twice, at the second
@@ -151,23 +167,25 @@ hides_need _ _ = false
 abbrev pub connects_again : System → Site → Bool
 connects_again system site = says_again same_port input_connected site
 
--- ---- Rule 14: the types of a connection's ends are not equal
+-- ---- Rule 14: the types of a connection's ends are not equal, or one end alone is an event port
 
 -- Types are equal where their kinds and their ranges are.
 abbrev pub same_type : Ty → Ty → Bool
 same_type one other =
     same_kind (kind_of one) (kind_of other) && (int_eq (lowest one) (lowest other) && int_eq (highest one) (highest other))
 
-abbrev pub differ : Option Ty → Option Ty → Bool
-differ (Some one) (Some other) = not (same_type one other)
+abbrev pub differ : Option Port → Option Port → Bool
+differ (Some one) (Some other) = not (same_type one.ty other.ty) || not (beq one.is_event other.is_event)
 differ _ _ = false
 
 abbrev pub joins_other_types : System → LineForm → Bool
-joins_other_types system (form.Connect wire) =
-    differ (option_map (λ output. output.ty) (output_at system wire.from)) (option_map (λ input. input.ty) (input_at system wire.to))
+joins_other_types system (form.Connect wire) = differ (output_at system wire.from) (input_at system wire.to)
 joins_other_types system _ = false
 
 -- ---- Rule 16: there are too many of a kind, at the first too many
+--
+-- This rule and the next two are judged on the lines of the plain form that a line becomes: an event port, and a
+-- connection of event ports, are two.
 
 -- How many there may be in one scope.
 abbrev pub limit_of : LineForm → Option ℕ
@@ -182,15 +200,19 @@ limit_of (form.Connect wire) = Some 2048
 limit_of (form.Sample port) = Some 2048
 limit_of _ = None
 
--- As many as the limit came before.
-abbrev pub is_full : Option ℕ → ℕ → Bool
-is_full None came = false
-is_full (Some limit) came = nat_le limit came
+abbrev pub is_above : Option ℕ → ℕ → Bool
+is_above None count = false
+is_above (Some limit) count = nat_lt limit count
 
--- All lines between `step` and its own `end` count as step lines, of which there may be 500.
-abbrev pub exceeds : Scope → List LineForm → LineForm → Bool
-exceeds (StepScope unit) earlier line = nat_le 500 (length earlier)
-exceeds scope earlier line = is_full (limit_of line) (count_by (are_alike line) earlier)
+-- Among all lines of a scope so far there are more like this one than there may be. All lines between `step` and its own
+-- `end` count as step lines, of which there may be 500.
+abbrev pub is_one_too_many : Scope → List LineForm → LineForm → Bool
+is_one_too_many (StepScope unit) all line = nat_lt 500 (length all)
+is_one_too_many scope all line = is_above (limit_of line) (count_by (are_alike line) all)
+
+abbrev pub exceeds : System → Scope → List LineForm → LineForm → Bool
+exceeds system scope earlier line =
+    list_any (is_one_too_many scope (flat_map (plain_forms system scope) (earlier ++ (line ∷ [])))) (plain_forms system scope line)
 
 -- ---- Rule 17: an expression is deeper than 32
 
@@ -198,22 +220,28 @@ abbrev pub is_deep : Option Expr → Bool
 is_deep None = false
 is_deep (Some value) = nat_lt 32 (depth_of value)
 
+abbrev pub has_deep_expression : System → Scope → LineForm → Bool
+has_deep_expression system scope line = list_any (λ plain. is_deep (expression_on plain)) (plain_forms system scope line)
+
 -- ---- Rule 18: the cost of a call is above 100,000
 
 abbrev pub step_cost : Option (List Line) → ℕ
 step_cost None = 0
 step_cost (Some lines) = step_call_cost lines
 
-abbrev pub costs_too_much : Scope → LineForm → Bool
-costs_too_much (UnitScope unit) (form.Output output) = nat_lt 100000 (expression_call_cost output.value)
-costs_too_much (UnitScope unit) (form.Max value) = nat_lt 100000 (expression_call_cost value)
-costs_too_much (UnitScope unit) form.Step = nat_lt 100000 (step_cost unit.step)
-costs_too_much _ _ = false
+abbrev pub is_dear : Scope → LineForm → Bool
+is_dear (UnitScope unit) (form.Output output) = nat_lt 100000 (expression_call_cost output.value)
+is_dear (UnitScope unit) (form.Max value) = nat_lt 100000 (expression_call_cost value)
+is_dear (UnitScope unit) form.Step = nat_lt 100000 (step_cost (plain_unit unit).step)
+is_dear _ _ = false
+
+abbrev pub costs_too_much : System → Scope → LineForm → Bool
+costs_too_much system scope line = list_any (is_dear scope) (plain_forms system scope line)
 
 -- ---- Rule 19: there is no `stop`, at the header
 
 abbrev pub lacks_stop : System → LineForm → Bool
-lacks_stop system form.Header = is_none system.stop
+lacks_stop system (form.Header version) = is_none system.stop
 lacks_stop system _ = false
 
 -- ---- Rule 20: `stop` or `longest` is no whole number of ticks, or above 10^15 ticks, or `longest` is 0
@@ -226,12 +254,6 @@ unit_resolution (Some unit) = unwrap_or unit.resolution 0
 -- to the power of minus this many seconds.
 abbrev pub resolution_of : System → ℕ
 resolution_of system = fold max 0 (map (λ instance. unit_resolution (unit_of_instance system instance)) system.instances)
-
--- A number of seconds in ticks, where it is a whole number of them.
-abbrev pub ticks_in : ℕ → Literal → Option ℕ
-ticks_in resolution (literal.Truth told) = None
-ticks_in resolution (literal.Number number decimals) =
-    if not (is_negative number) && ((unsigned_abs number * 10 ^ resolution) % 10 ^ decimals == 0) then Some (unsigned_abs number * 10 ^ resolution / 10 ^ decimals) else None
 
 -- A number of ticks that a run may have, from the least one.
 abbrev pub is_length : ℕ → Option ℕ → Bool
@@ -258,12 +280,8 @@ assigns_read_only _ _ = false
 
 -- ---- Rule 23: there is no instance, at the header
 
-abbrev pub is_empty : {A : Type 0} → List A → Bool
-is_empty [] = true
-is_empty _ = false
-
 abbrev pub lacks_instance : System → LineForm → Bool
-lacks_instance system form.Header = is_empty system.instances
+lacks_instance system (form.Header version) = is_empty system.instances
 lacks_instance system _ = false
 
 -- ---- Rule 24: a parameter is set twice, a port sampled twice, at the second, or a need named twice
@@ -274,6 +292,7 @@ has_equals (name ∷ names) = is_among names name || has_equals names
 
 abbrev pub repeats_need : LineForm → Bool
 repeats_need (form.Output output) = has_equals output.needs
+repeats_need (form.EventOutput event) = has_equals event.needs
 repeats_need _ = false
 
 abbrev pub repeats_itself : System → Site → Bool
@@ -299,9 +318,9 @@ rules =
     ∷ rule 12 (λ system site. hides_need site.scope site.line)
     ∷ rule 13 connects_again
     ∷ rule 14 (λ system site. joins_other_types system site.line)
-    ∷ rule 16 (λ system site. exceeds site.scope site.earlier site.line)
-    ∷ rule 17 (λ system site. is_deep (expression_on site.line))
-    ∷ rule 18 (λ system site. costs_too_much site.scope site.line)
+    ∷ rule 16 (λ system site. exceeds system site.scope site.earlier site.line)
+    ∷ rule 17 (λ system site. has_deep_expression system site.scope site.line)
+    ∷ rule 18 (λ system site. costs_too_much system site.scope site.line)
     ∷ rule 19 (λ system site. lacks_stop system site.line)
     ∷ rule 20 (λ system site. mistimes system site.line)
     ∷ rule 21 (λ system site. has_too_many_rows system site.line)

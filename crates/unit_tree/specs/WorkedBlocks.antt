@@ -1,8 +1,8 @@
 -- Worked lines of texts: where each line ends, what it holds, and where a form may stand.
-use Rattle.std.specs.Prelude.{◌≡◌, true, false, List, [], ◌∷◌, ◌++◌, codes, pos}
+use Rattle.std.specs.Prelude.{◌≡◌, Bool, true, false, List, [], ◌∷◌, ◌++◌, codes, pos}
 use Rattle.std.specs.List.{repeat}
 use Rattle.fixed_words.specs.declared.types.Literal.TheVariants as literal
-use Rattle.unit_tree.specs.Blocks.{InUnit, InStep, InElse, open_blocks, may_stand}
+use Rattle.unit_tree.specs.Blocks.{InUnit, InStep, InElse, no_lines, and_lines, open_blocks, may_stand}
 use Rattle.unit_tree.specs.Lines.{source_lines, size_of, code_of, is_blank_line, has_forbidden_byte}
 use Rattle.unit_tree.specs.declared.expr.Expr as expr
 use Rattle.unit_tree.specs.declared.line_form.LineForm.{LineForm}
@@ -10,7 +10,7 @@ use Rattle.unit_tree.specs.declared.line_form.LineForm.TheVariants as form
 
 -- `cosim 1`, `unit A`, `step` and `if true`
 abbrev pub header : List LineForm
-header = form.Header ∷ []
+header = form.Header 1 ∷ []
 
 abbrev pub unit : List LineForm
 unit = header ++ (form.Unit (codes "A") ∷ [])
@@ -31,6 +31,10 @@ stop = form.Stop (literal.Number (pos 3) 0)
 -- `max 3`
 abbrev pub limit : LineForm
 limit = form.Max (expr.Number (pos 3) 0)
+
+-- Whether a line may stand behind these.
+abbrev pub stands_behind : List LineForm → LineForm → Bool
+stands_behind lines line = may_stand (and_lines no_lines lines) line
 
 pub record LinesAreWorked : Type 0 where
   -- a line ends with LF or with the text; one CR before the end is no part of it, and a second one is
@@ -53,24 +57,24 @@ pub record BlocksAreWorked : Type 0 where
   pub in_else : open_blocks (choice ++ (form.Else ∷ [])) ≡ InElse ∷ InStep ∷ InUnit ∷ []
   pub after_end : open_blocks (choice ++ (form.Else ∷ form.End ∷ [])) ≡ InStep ∷ InUnit ∷ []
   -- a form stands in its block alone
-  pub max_in_unit : may_stand unit (form.Max (expr.Truth true)) ≡ true
-  pub stop_in_unit : may_stand unit stop ≡ false
-  pub stop_at_top : may_stand (unit ++ (form.End ∷ [])) stop ≡ true
-  pub end_at_top : may_stand header form.End ≡ false
-  pub step_in_step : may_stand step form.Step ≡ false
-  pub assignment_in_choice : may_stand choice (form.Assign (codes "n") (expr.Truth true)) ≡ true
-  pub assignment_in_unit : may_stand unit (form.Assign (codes "n") (expr.Truth true)) ≡ false
+  pub max_in_unit : stands_behind unit (form.Max (expr.Truth true)) ≡ true
+  pub stop_in_unit : stands_behind unit stop ≡ false
+  pub stop_at_top : stands_behind (unit ++ (form.End ∷ [])) stop ≡ true
+  pub end_at_top : stands_behind header form.End ≡ false
+  pub step_in_step : stands_behind step form.Step ≡ false
+  pub assignment_in_choice : stands_behind choice (form.Assign (codes "n") (expr.Truth true)) ≡ true
+  pub assignment_in_unit : stands_behind unit (form.Assign (codes "n") (expr.Truth true)) ≡ false
   -- one `else` in an `if`, and none elsewhere
-  pub else_in_if : may_stand choice form.Else ≡ true
-  pub second_else : may_stand (choice ++ (form.Else ∷ [])) form.Else ≡ false
-  pub else_in_step : may_stand step form.Else ≡ false
-  pub else_of_outer : may_stand (choice ++ (form.Else ∷ branch ∷ [])) form.Else ≡ true
+  pub else_in_if : stands_behind choice form.Else ≡ true
+  pub second_else : stands_behind (choice ++ (form.Else ∷ [])) form.Else ≡ false
+  pub else_in_step : stands_behind step form.Else ≡ false
+  pub else_of_outer : stands_behind (choice ++ (form.Else ∷ branch ∷ [])) form.Else ≡ true
   -- lines that stand once
-  pub second_header : may_stand header form.Header ≡ false
-  pub second_stop : may_stand (header ++ (stop ∷ [])) stop ≡ false
-  pub second_max : may_stand (unit ++ (limit ∷ [])) limit ≡ false
-  pub max_of_next_unit : may_stand (unit ++ (limit ∷ form.End ∷ form.Unit (codes "B") ∷ [])) limit ≡ true
-  pub second_step : may_stand (step ++ (form.End ∷ [])) form.Step ≡ false
+  pub second_header : stands_behind header (form.Header 1) ≡ false
+  pub second_stop : stands_behind (header ++ (stop ∷ [])) stop ≡ false
+  pub second_max : stands_behind (unit ++ (limit ∷ [])) limit ≡ false
+  pub max_of_next_unit : stands_behind (unit ++ (limit ∷ form.End ∷ form.Unit (codes "B") ∷ [])) limit ≡ true
+  pub second_step : stands_behind (step ++ (form.End ∷ [])) form.Step ≡ false
   -- sixteen blocks in each other, those of `unit` and `step` not counted
-  pub sixteenth : may_stand (step ++ repeat 15 (branch ∷ [])) (form.Repeat 2) ≡ true
-  pub seventeenth : may_stand (step ++ repeat 16 (branch ∷ [])) (form.Repeat 2) ≡ false
+  pub sixteenth : stands_behind (step ++ repeat 15 (branch ∷ [])) (form.Repeat 2) ≡ true
+  pub seventeenth : stands_behind (step ++ repeat 16 (branch ∷ [])) (form.Repeat 2) ≡ false

@@ -4,18 +4,19 @@ use Rattle.std.specs.List.{repeat}
 use Rattle.fixed_words.specs.declared.types.Literal.TheVariants as literal
 use Rattle.fixed_words.specs.declared.types.Ty.TheVariants as types
 use Rattle.unit_tree.specs.LineForms.{AreCountsInRange}
-use Rattle.unit_tree.specs.Parts.{unit_of}
+use Rattle.unit_tree.specs.Parts.{unit_of, bare_system}
 use Rattle.unit_tree.specs.Printable.{is_seconds, is_word_literal, line_depth}
 use Rattle.unit_tree.specs.Sites.{Scope, TopScope, UnitScope, StepScope}
 use Rattle.unit_tree.specs.Texts.{text_limit, line_limit}
 use Rattle.unit_tree.specs.Tokens.{IsWord}
-use Rattle.unit_tree.specs.WellFormed.{exceeds}
-use Rattle.unit_tree.specs.WorkedSystems.{counts, number, one, port}
+use Rattle.unit_tree.specs.WellFormed.{exceeds, has_deep_expression}
+use Rattle.unit_tree.specs.WorkedSystems.{counts, minuses, number, one, port}
 use Rattle.unit_tree.specs.declared.expr.Expr as expr
 use Rattle.unit_tree.specs.declared.line.Line.{Line}
 use Rattle.unit_tree.specs.declared.line.Line as line
 use Rattle.unit_tree.specs.declared.line_form.LineForm.{LineForm}
 use Rattle.unit_tree.specs.declared.line_form.LineForm.TheVariants as form
+use Rattle.unit_tree.specs.declared.system.System.{System}
 
 abbrev pub in_a : Scope
 in_a = UnitScope (unit_of (codes "A") counts)
@@ -26,10 +27,14 @@ step_of_a = StepScope (unit_of (codes "A") counts)
 abbrev pub connection : LineForm
 connection = form.Connect (record { from = port (codes "a") (codes "y"); to = port (codes "b") (codes "u") })
 
+-- No system has the names of these lines, so none of their ports is one of events.
+abbrev pub no_system : System
+no_system = bare_system 1
+
 -- So many lines like this one may stand in the scope, and not one more.
 pub record MayBe (limit : ℕ) (scope : Scope) (some : LineForm) : Type 0 where
-  pub last : exceeds scope (repeat (limit - 1) (some ∷ [])) some ≡ false
-  pub first_too_many : exceeds scope (repeat limit (some ∷ [])) some ≡ true
+  pub last : exceeds no_system scope (repeat (limit - 1) (some ∷ [])) some ≡ false
+  pub first_too_many : exceeds no_system scope (repeat limit (some ∷ [])) some ≡ true
 
 -- So many blocks in each other.
 abbrev pub blocks : ℕ → Line
@@ -47,8 +52,12 @@ pub record LimitsAreWorked : Type 0 where
   pub inputs : MayBe 32 in_a (form.Input (record { name = codes "u"; ty = types.Int64; start = number 0 }))
   pub outputs : MayBe 32 in_a (form.Output (record { name = codes "y"; ty = types.Int64; needs = []; value = one }))
   pub step_lines : MayBe 500 step_of_a form.End
+  -- depth, on every line that has an expression
+  pub depth_32_in_if : has_deep_expression no_system step_of_a (form.If (minuses 31)) ≡ false
+  pub depth_33_in_if : has_deep_expression no_system step_of_a (form.If (minuses 32)) ≡ true
+  pub depth_33_in_accept : has_deep_expression no_system step_of_a (form.Accept (minuses 32)) ≡ true
   -- others do not count
-  pub only_alike : exceeds TopScope (repeat 64 (connection ∷ []) ++ repeat 63 (form.Unit (codes "A") ∷ form.End ∷ [])) (form.Unit (codes "B")) ≡ false
+  pub only_alike : exceeds no_system TopScope (repeat 64 (connection ∷ []) ++ repeat 63 (form.Unit (codes "A") ∷ form.End ∷ [])) (form.Unit (codes "B")) ≡ false
   -- numbers on a line
   pub resolutions : AreCountsInRange (form.Resolution 0) × AreCountsInRange (form.Resolution 9) × (AreCountsInRange (form.Resolution 10) → ⊥)
   pub repeats : AreCountsInRange (form.Repeat 1) × AreCountsInRange (form.Repeat 1000) × (AreCountsInRange (form.Repeat 0) → ⊥) × (AreCountsInRange (form.Repeat 1001) → ⊥)

@@ -144,10 +144,10 @@ thermostat_lines =
 
 -- The system breaks the rule, first at the canonical line, and none before it.
 abbrev pub Refused : List Part → ℕ → ℕ → Type 0
-Refused all rule line = refusal_of (system_of all) ≡ Some (record { by = rule; at = line })
+Refused all rule line = refusal_of (system_of 1 all) ≡ Some (record { by = rule; at = line })
 
 abbrev pub Accepted : List Part → Type 0
-Accepted all = refusal_of (system_of all) ≡ None
+Accepted all = refusal_of (system_of 1 all) ≡ None
 
 -- One instance `a` of a unit `A` with these parts, and `stop 3`.
 abbrev pub run_of : List UnitPart → List Part
@@ -168,7 +168,7 @@ abbrev pub instances : List ℕ → List Part
 instances letters = map (λ letter. instance (letter ∷ [])) letters
 
 pub record SystemsAreWorked : Type 0 where
-  pub thermostat_is : lines_of_system (system_of thermostat) ≡ thermostat_lines
+  pub thermostat_is : lines_of_system (system_of 1 thermostat) ≡ thermostat_lines
   pub accepted : Accepted (run_of counts)
   -- 8: the second of two equal names, in canonical order
   pub equal_units : Refused (unit_a counts ∷ run_of counts) 8 6
@@ -223,7 +223,7 @@ pub record SystemsAreWorked : Type 0 where
   pub variable_h : Refused (run_of (counts ++ (parts.Step (set (codes "n") (expr.Var (codes "h")) ∷ []) ∷ []))) 9 6
   pub step_in_max : Refused (run_of (parts.Max expr.Step ∷ [])) 9 3
   pub time_in_max : Accepted (run_of (parts.Max expr.Time ∷ []))
-  pub clocks_in_step : Accepted (run_of (counts ++ (parts.Step (set (codes "n") (sum expr.Time expr.Step) ∷ []) ∷ [])))
+  pub clocks_in_step : Accepted (run_of (counts ++ (parts.Step (set (codes "n") expr.Time ∷ set (codes "n") expr.Step ∷ []) ∷ [])))
   pub local_in_step : Accepted (run_of (parts.HasLocal (record { name = codes "n"; ty = types.Int64 }) ∷ parts.Step (set (codes "n") n ∷ []) ∷ []))
   pub name_in_if : Refused (run_of (parts.Step (line.If (expr.Var (codes "p")) [] None ∷ []) ∷ [])) 9 4
   pub name_in_accept : Refused (run_of (parts.Step (line.Repeat 2 (line.Accept (expr.Var (codes "p")) ∷ []) ∷ []) ∷ [])) 9 5
@@ -242,8 +242,6 @@ pub record SystemsAreWorked : Type 0 where
   pub range_of_an_input : Refused (run_of (parts.HasInput (record { name = codes "u"; ty = types.UInt8; start = number 256 }) ∷ [])) 11 3
   pub range_of_a_param : Refused (run_of (param_k types.UInt8 (literal.Number (neg_ℤ (pos 1)) 0) ∷ [])) 11 3
   -- 17 to 24: the other places and the ends of ranges
-  pub depth_33_in_if : Refused (run_of (parts.HasState (record { name = codes "n"; ty = types.Int64; start = number 0 }) ∷ parts.Step (line.If (expr.Binary by.Lt n (minuses 32)) [] None ∷ []) ∷ [])) 17 5
-  pub depth_33_in_accept : Refused (run_of (parts.HasState (record { name = codes "n"; ty = types.Int64; start = number 0 }) ∷ parts.Step (line.Accept (minuses 32) ∷ []) ∷ [])) 17 5
   pub cost_100000 : Accepted (run_of (counts ++ (parts.Step (line.Repeat 1000 (line.Repeat 94 [] ∷ set (codes "n") n ∷ []) ∷ line.Repeat 997 [] ∷ line.Repeat 999 [] ∷ []) ∷ [])))
   pub cost_100001 : Refused (run_of (counts ++ (parts.Step (line.Repeat 1000 (line.Repeat 94 [] ∷ set (codes "n") n ∷ []) ∷ line.Repeat 998 [] ∷ line.Repeat 999 [] ∷ []) ∷ []))) 18 5
   pub longest_run : Accepted (unit_a counts ∷ instance (codes "a") ∷ parts.Stop (number 1000000000000000) ∷ [])
@@ -276,9 +274,9 @@ ring_of_instances =
     unit_a (input_u ∷ output_y types.Int64 [] one ∷ []) ∷ instance (codes "a") ∷ instance (codes "b") ∷ joins (codes "a") (codes "b") ∷ joins (codes "b") (codes "a") ∷ stop ∷ []
 
 pub record OrdersAreWorked : Type 0 where
-  pub chain : IsOrderly (system_of (pair_with (joins (codes "b") (codes "a") ∷ []))) (y_of (codes "b") ∷ y_of (codes "a") ∷ [])
-  pub chain_has_all : HasNoCycle (system_of (pair_with (joins (codes "b") (codes "a") ∷ [])))
-  pub instances_only : HasNoCycle (system_of ring_of_instances)
-  pub first_of_ring : IsFirstWithoutOrder (system_of ring) (y_of (codes "a"))
-  pub line_of_ring : line_of_output (system_of ring) (y_of (codes "a")) ≡ Some 4
-  pub first_behind_ring : IsFirstWithoutOrder (system_of behind_ring) (y_of (codes "c"))
+  pub chain : IsOrderly (system_of 1 (pair_with (joins (codes "b") (codes "a") ∷ []))) (y_of (codes "b") ∷ y_of (codes "a") ∷ [])
+  pub chain_has_all : HasNoCycle (system_of 1 (pair_with (joins (codes "b") (codes "a") ∷ [])))
+  pub instances_only : HasNoCycle (system_of 1 ring_of_instances)
+  pub first_of_ring : IsFirstWithoutOrder (system_of 1 ring) (y_of (codes "a"))
+  pub line_of_ring : line_of_output (system_of 1 ring) (y_of (codes "a")) ≡ Some 4
+  pub first_behind_ring : IsFirstWithoutOrder (system_of 1 behind_ring) (y_of (codes "c"))

@@ -5,19 +5,31 @@ use fixed_words::Fault;
 pub enum Place {
     /// In an output, by its number in the unit, from 0.
     Output(u32),
+    /// In its greatest step, `max`.
+    Max,
     /// In a step.
     Step,
 }
 
-/// How a run ends.
+/// How a run ends. Instances are told by their numbers from 0.
 #[derive(Clone, Copy, Debug, PartialEq, Eq)]
 pub enum Ending {
     /// At its stop.
     Completed,
-    /// By a fault of an instance, which is told by its number from 0.
-    Faulted {
+    /// With as many rows as there may be.
+    RowBudget,
+    /// With as many steps of length zero in a row as there may be.
+    ZeroBudget,
+    /// By a fault of an instance.
+    UnitFault {
         instance: u32,
         place: Place,
         fault: Fault,
+    },
+    /// By an instance that accepts a shorter step than the agreed one. Both lengths are in its local ticks.
+    StepRefused {
+        instance: u32,
+        asked: u64,
+        accepted: u64,
     },
 }

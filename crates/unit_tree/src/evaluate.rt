@@ -228,5 +228,10 @@ pub fn value(expr: &Expr, env: &Environment) -> Result<Value, Fault>
                 value(no.get(), env)
             }
         }
+        Expr::Absent => Ok(Value {
+            kind: Kind::Int,
+            word: 0,
+        }),
+        Expr::Present(_) => Ok(truth(false)),
     }
 }

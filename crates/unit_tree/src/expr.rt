@@ -45,7 +45,7 @@ pub enum Expr {
         decimals: u8,
     },
     Truth(bool),
-    /// A parameter, state, local or input by its name.
+    /// A parameter, state, local or input by its name. An event input that is absent has the word 0.
     Var(Name),
     /// `t`, the local time.
     Time,
@@ -71,4 +71,8 @@ pub enum Expr {
         yes: Boxed<Expr>,
         no: Boxed<Expr>,
     },
+    /// `absent`: no event occurs. It is the value of an event output, or a choice of an `if` that is.
+    Absent,
+    /// `present(u)`: whether an event occurs at the event input `u`.
+    Present(Name),
 }

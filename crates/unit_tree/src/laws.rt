@@ -1,21 +1,11 @@
-ghost use Rattle.unit_tree.specs.Laws.{HasAtMostOneTrace};
-ghost use Rattle.unit_tree.specs.Counter.{CounterIsWorked};
+ghost use Rattle.unit_tree.specs.WorkedRuns.{CountersAreWorked, PortsAreWorked, StepsAreWorked, HeaterIsWorked};
 ghost use Rattle.unit_tree.specs.WorkedBlocks.{LinesAreWorked, BlocksAreWorked};
+ghost use Rattle.unit_tree.specs.WorkedEvents.{PlainFormsAreWorked, EventsAreWorked};
 ghost use Rattle.unit_tree.specs.WorkedLimits.{LimitsAreWorked};
 ghost use Rattle.unit_tree.specs.WorkedPhrases.{PhrasesAreWorked};
 ghost use Rattle.unit_tree.specs.WorkedSystems.{SystemsAreWorked, OrdersAreWorked};
-ghost use Rattle.unit_tree.specs.Language.{IsRefusedOnce, IsJudgedOnce, SitesAreCanonicalLines, CanonicalPartsSayTheSystem, CanonicalPhrasesAreRight, CyclesHaveNoOrder};
+ghost use Rattle.unit_tree.specs.Language.{IsRefusedOnce, IsJudgedOnce, SitesAreCanonicalLines, CanonicalPartsSayTheSystem, CanonicalPhrasesAreRight, CyclesHaveNoOrder, OutputsHaveLines, OutputsSeeTheirNeeds, SourceLinesAreRight};
 ghost use Rattle.unit_tree.specs.WorkedKinds.{KindsAreWorked, WrongKindsAreWorked, LineKindsAreWorked, CostsAreWorked};
-
-/// A law: a composition has at most one trace.
-pub fn at_most_one_trace()
-    ensures { HasAtMostOneTrace }
-{}
-
-/// The trace of a counter, worked out by hand, is the one that the definitions give.
-pub fn counter_is_worked()
-    ensures { CounterIsWorked }
-{}
 
 /// A law: a text is refused at one line and by one rule at most.
 pub fn texts_are_refused_once()
@@ -37,10 +27,25 @@ pub fn canonical_parts_say_the_system()
     ensures { CanonicalPartsSayTheSystem }
 {}
 
-/// A law: the canonical phrase of an expression without signs has its tree, and each part of it stands on a level
-/// that the grammar allows.
+/// A law: the canonical phrase of an expression whose numbers aren't negative has its tree, and each part of it stands on
+/// a level that the grammar allows.
 pub fn canonical_phrases_are_right()
     ensures { CanonicalPhrasesAreRight }
+{}
+
+/// A law: each output of a well-formed system has its canonical line.
+pub fn outputs_have_lines()
+    ensures { OutputsHaveLines }
+{}
+
+/// A law: the lines of a text, put into canonical order, are the canonical lines of its system, and each is kept once.
+pub fn source_lines_are_right()
+    ensures { SourceLinesAreRight }
+{}
+
+/// A law: what an output gives depends on the inputs in its needs alone.
+pub fn outputs_see_their_needs()
+    ensures { OutputsSeeTheirNeeds }
 {}
 
 /// A law: an output that depends on itself, or on one that does, stands in no orderly list.
@@ -68,6 +73,12 @@ pub fn systems_are_worked()
     ensures { SystemsAreWorked }
 {}
 
+/// Systems of version 2: their plain forms, and each rule that events change, worked out by hand.
+pub fn events_are_worked()
+    ensures plain_forms { PlainFormsAreWorked }
+    ensures rules { EventsAreWorked }
+{}
+
 /// Kinds and costs of expressions and step lines, worked out by hand, are those that the definitions give.
 pub fn kinds_and_costs_are_worked()
     ensures kinds { KindsAreWorked }
@@ -84,4 +95,12 @@ pub fn orders_are_worked()
 /// How many there may be of each, worked out at the limits.
 pub fn limits_are_worked()
     ensures { LimitsAreWorked }
+{}
+
+/// Traces worked out by hand are those that the definitions give.
+pub fn runs_are_worked()
+    ensures counters { CountersAreWorked }
+    ensures ports { PortsAreWorked }
+    ensures steps { StepsAreWorked }
+    ensures heater { HeaterIsWorked }
 {}

@@ -14,42 +14,52 @@
 //! `Printable` (the one printed text of a system). Which systems may run: `Names`, `Sites` and `WellFormed`
 //! (the lines that break each rule), and `Orders` (outputs without a cycle).
 //!
-//! `Language` has the laws of the language. The public functions without a body, as [`counter_is_worked`],
+//! `Language` has the laws of the language. The public functions without a body, as [`systems_are_worked`],
 //! are laws of these definitions; those of the files `Worked..` keep them honest on small cases.
 #![tactic(auto)]
 
+mod checked;
 mod effects;
 mod ending;
 mod environment;
 mod evaluate;
 mod expr;
+mod gets;
 mod laws;
 mod line;
 mod line_form;
-mod point;
+mod order;
+mod run_laws;
 mod system;
 mod token;
 mod unit;
 
+pub use checked::Checked;
 pub use effects::run_lines;
 pub use ending::{Ending, Place};
 pub use environment::{Environment, Value, Variable};
 pub use evaluate::value;
 pub use expr::{BinOp, Expr, UnOp};
 use fixed_words::List;
+pub use gets::Gets;
 pub use laws::{
-    at_most_one_trace, blocks_are_worked, canonical_parts_say_the_system,
-    canonical_phrases_are_right, counter_is_worked, cycles_have_no_order,
-    each_system_is_judged_once, kinds_and_costs_are_worked, limits_are_worked, lines_are_worked,
-    orders_are_worked, phrases_are_worked, sites_are_canonical_lines, systems_are_worked,
-    texts_are_refused_once,
+    blocks_are_worked, canonical_parts_say_the_system, canonical_phrases_are_right,
+    cycles_have_no_order, each_system_is_judged_once, events_are_worked,
+    kinds_and_costs_are_worked, limits_are_worked, lines_are_worked, orders_are_worked,
+    outputs_have_lines, outputs_see_their_needs, phrases_are_worked, runs_are_worked,
+    sites_are_canonical_lines, source_lines_are_right, systems_are_worked, texts_are_refused_once,
 };
 pub use line::Line;
 pub use line_form::LineForm;
-pub use point::Point;
+pub use order::{InputAt, Order, Route, Routes, StartWord};
+pub use run_laws::{
+    assignments_are_unique, ends_are_judged_in_order, ordered_runs_have_one_trace, runs_keep_words,
+    steps_are_negotiated, steps_keep_words, systems_have_one_trace, undefined_outputs_fault,
+};
+pub use super_time::Point;
 pub use system::{Column, Instance, PortName, Setting, System, Wire};
 pub use token::{Keyword, Symbol, Token};
-pub use unit::{Input, Local, Output, Param, State, Unit};
+pub use unit::{EventIn, EventOut, Input, Local, Output, Param, State, Unit};
 
 /// A name as its bytes: a word of at most 32 bytes that is not reserved.
 pub type Name = List<u8>;

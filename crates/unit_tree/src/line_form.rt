@@ -1,12 +1,14 @@
-use crate::{Expr, Input, Local, Name, Output, Param, PortName, Setting, State, Wire};
+use crate::{
+    EventIn, EventOut, Expr, Input, Local, Name, Output, Param, PortName, Setting, State, Wire,
+};
 use fixed_words::Literal;
 
 /// What a line of a model text says. A line with a block has no more than its head here: the lines of
 /// the block follow it, up to the block's own [`End`](LineForm::End).
 #[derive(Debug, Drop)]
 pub enum LineForm {
-    /// `cosim 1`
-    Header,
+    /// `cosim 1`, or `cosim 2`: the version of the language.
+    Header(u8),
     /// `unit A`, which opens a block.
     Unit(Name),
     /// `resolution E`, by how many decimal places a local tick lies below a second, from 0 to 9.
@@ -19,8 +21,12 @@ pub enum LineForm {
     Local(Local),
     /// `input u : T = L`
     Input(Input),
+    /// `event input u : T`
+    EventInput(EventIn),
     /// `output y : T = e`, or `output y : T needs u, v = e`
     Output(Output),
+    /// `event output y : T = e`, or `event output y : T needs u, v = e`
+    EventOutput(EventOut),
     /// `max e`
     Max(Expr),
     /// `step`, which opens a block.

@@ -23,7 +23,7 @@ pub struct PortName {
     pub port: Name,
 }
 
-/// A connection from an output to an input.
+/// A connection from an output to an input, or from an event output to an event input.
 #[derive(Debug, Drop)]
 pub struct Wire {
     pub from: PortName,
@@ -33,6 +33,8 @@ pub struct Wire {
 /// What a model text says.
 #[derive(Debug, Drop)]
 pub struct System {
+    /// Of the language: 1, or 2, which has event ports.
+    pub version: u8,
     pub units: List<Unit>,
     pub instances: List<Instance>,
     pub wires: List<Wire>,
@@ -40,9 +42,11 @@ pub struct System {
     pub stop: Option<Literal>,
     /// In seconds; no step is longer. It is `stop` where none is given.
     pub longest: Option<Literal>,
-    /// How many steps of length zero may follow each other; 100 where none is given.
+    /// How many steps of length zero may follow each other. Where none is given: 100 in version 1, and 1,000 in
+    /// version 2.
     pub zero: Option<u32>,
-    /// How many rows the trace has at most.
+    /// How many rows the trace has at most. Where none is given: the least of 100,000 in version 1, or 10,000 in
+    /// version 2, and of 1,000,000 shared among the instances.
     pub rows: Option<u32>,
     /// The outputs that the trace shows; all of them where none is sampled.
     pub samples: List<PortName>,
@@ -50,10 +54,15 @@ pub struct System {
 
 /// An output as a column of the trace: its instance and its number there, its place among all outputs
 /// by instance and declaration, and its type. All count from 0.
+///
+/// An event output is a column too. It is two outputs of the plain form: `place` is that of its word, and the
+/// output before it tells by 1 or 0 whether an event occurs.
 #[derive(Clone, Copy, Debug, PartialEq, Eq)]
 pub struct Column {
     pub instance: u32,
     pub output: u32,
     pub place: u32,
     pub ty: Ty,
+    /// Whether it is an event output, whose field is empty where no event occurs.
+    pub event: bool,
 }

@@ -41,7 +41,26 @@ pub struct Output {
     pub value: Expr,
 }
 
+/// An event input: a port at which an event with a value occurs, or none does. It is absent where nothing is
+/// connected to it.
+#[derive(Debug, Drop)]
+pub struct EventIn {
+    pub name: Name,
+    pub ty: Ty,
+}
+
+/// An event output: its value, or `absent`. It may depend on the current value of the inputs in `needs` alone.
+#[derive(Debug, Drop)]
+pub struct EventOut {
+    pub name: Name,
+    pub ty: Ty,
+    pub needs: List<Name>,
+    pub value: Expr,
+}
+
 /// A component model.
+///
+/// The event ports come after the plain ones wherever ports are counted or listed.
 #[derive(Debug, Drop)]
 pub struct Unit {
     pub name: Name,
@@ -51,7 +70,11 @@ pub struct Unit {
     pub states: List<State>,
     pub locals: List<Local>,
     pub inputs: List<Input>,
+    /// Only in version 2 of the language.
+    pub events_in: List<EventIn>,
     pub outputs: List<Output>,
+    /// Only in version 2 of the language.
+    pub events_out: List<EventOut>,
     /// The longest step that the component will accept, in local ticks; none sets no limit.
     pub max: Option<Expr>,
     /// What a step does; none keeps the state and accepts every step.

@@ -1,6 +1,7 @@
-use Rattle.std.proofs.Common.{◌≡◌, Err, ap, refl, rules}
+use Rattle.std.proofs.Common.{◌≡◌, List, ℕ, Err, ap, subst, refl, rules}
 use Rattle.cosim_io.specs.declared.whole.ReadEnd.{ReadEnd}
-use Rattle.cosim_app.proofs.JudgeLaws.{nothing_put, refuses_long}
+use Rattle.cosim_app.specs.Judgement.{JudgesText}
+use Rattle.cosim_app.proofs.JudgeLaws.{nothing_put, refuses_long, judges_whole}
 use Rattle.cosim_app.proofs.judge.judge.Goals as goal
 
 pub returns-in-Err-TooLong : goal.returns-in-Err-TooLong
@@ -10,3 +11,9 @@ returns-in-Err-TooLong g c =
 
 pub returns-in-Err-NoMemory : goal.returns-in-Err-NoMemory
 returns-in-Err-NoMemory g c = (nothing_put (g.S.Source.left c.args.source.now) (g.O.Sink.held c.args.out.now), search rules, refl)
+
+pub returns-in-Ok : goal.returns-in-Ok
+returns-in-Ok g c =
+    judges_whole (g.S.Source.left c.args.source.now) (g.S.Source.left c.read_all.new.source) (g.S.Source.faults c.args.source.now) (g.S.Source.faults c.read_all.new.source) (g.O.Sink.held c.args.out.now) (g.O.Sink.held c.judge_text.new.out) (g.O.Sink.faults c.args.out.now) (g.O.Sink.faults c.judge_text.new.out) c.in-Ok.text.items c.judge_text.result
+    c.in-Ok.ensures.all c.in-Ok.ensures.ended c.in-Ok.ensures.same
+    (subst (λ (text : List ℕ). JudgesText text (g.O.Sink.held c.args.out.now) (g.O.Sink.held c.judge_text.new.out) (g.O.Sink.faults c.args.out.now) (g.O.Sink.faults c.judge_text.new.out) c.judge_text.result) c.deref.ensures.value c.judge_text.ensures)

@@ -8,6 +8,7 @@ returns-clause-read c = record {
   thermal_is_read = read.thermal_is_read;
   mode_is_read = read.mode_is_read;
   long_line_is_read = read.long_line_is_read;
+  relay_is_read = read.relay_is_read;
   counter_is_printable = read.counter_is_printable;
   canonical_is_read = read.canonical_is_read;
 }
@@ -28,8 +29,12 @@ returns-clause-refused c = record {
   ten_decimals = refusal.ten_decimals_is;
   above_all_numbers = refusal.above_all_numbers_is;
   bare_point = refusal.bare_point_is;
+  later_version = refusal.later_version_is;
+  event_of_version_1 = refusal.event_of_version_1_is;
+  third_version = refusal.third_version_is;
   stray_end = refusal.stray_end_is;
   second_header = refusal.second_header_is;
+  earlier_version = refusal.earlier_version_is;
   no_header = refusal.no_header_is;
   unended = refusal.unended_is;
 }

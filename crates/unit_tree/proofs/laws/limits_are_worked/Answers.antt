@@ -1,5 +1,7 @@
 use Rattle.std.proofs.Common.{refl, arith}
+use Rattle.unit_tree.specs.declared.expr.Expr.{the_lemmas as expr_lemmas}
 use Rattle.unit_tree.specs.declared.line.Line.{the_lemmas as line_lemmas}
+use Rattle.unit_tree.proofs.PlainLemmas.{plain_measures}
 use Rattle.unit_tree.proofs.laws.limits_are_worked.Goals as goal
 
 pub returns : goal.returns
@@ -14,6 +16,9 @@ returns c = record {
   inputs = record { last = refl; first_too_many = refl };
   outputs = record { last = refl; first_too_many = refl };
   step_lines = record { last = refl; first_too_many = refl };
+  depth_32_in_if = simp plain_measures (simp expr_lemmas refl);
+  depth_33_in_if = simp plain_measures (simp expr_lemmas refl);
+  depth_33_in_accept = simp plain_measures (simp expr_lemmas refl);
   only_alike = refl;
   resolutions = (omega arith, omega arith, λ fits. omega arith);
   repeats = ((omega arith, omega arith), (omega arith, omega arith), (λ fits. omega (arith, fits.0)), λ fits. omega (arith, fits.1));

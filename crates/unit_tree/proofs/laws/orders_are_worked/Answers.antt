@@ -15,13 +15,13 @@ a_is_not_b : IsIn (y_of (codes "a") ∷ []) (y_of (codes "b")) → ⊥
 a_is_not_b (inl same) = let told : true ≡ false = ap (λ port. bytes_eq port.instance (codes "a")) same in absurd (cc told)
 a_is_not_b (inr none) = none
 
-chain_is : IsOrderly (system_of (pair_with (joins (codes "b") (codes "a") ∷ []))) (y_of (codes "b") ∷ y_of (codes "a") ∷ [])
+chain_is : IsOrderly (system_of 1 (pair_with (joins (codes "b") (codes "a") ∷ []))) (y_of (codes "b") ∷ y_of (codes "a") ∷ [])
 chain_is = (inr (inl refl), (λ none. none), _, (inl refl, b_is_not_a, (inl refl, _), _))
 
-ring_is : DependsOn (system_of ring) (y_of (codes "a")) (y_of (codes "a"))
+ring_is : DependsOn (system_of 1 ring) (y_of (codes "a")) (y_of (codes "a"))
 ring_is = through (y_of (codes "a")) (y_of (codes "b")) (y_of (codes "a")) (inl refl) (needs (y_of (codes "b")) (y_of (codes "a")) (inl refl))
 
-ring_is_there : DependsOn (system_of behind_ring) (y_of (codes "a")) (y_of (codes "a"))
+ring_is_there : DependsOn (system_of 1 behind_ring) (y_of (codes "a")) (y_of (codes "a"))
 ring_is_there = through (y_of (codes "a")) (y_of (codes "b")) (y_of (codes "a")) (inl refl) (needs (y_of (codes "b")) (y_of (codes "a")) (inl refl))
 
 pub returns : goal.returns
@@ -33,7 +33,7 @@ returns c = record {
     before = [];
     later = y_of (codes "b") ∷ [];
     cut = refl;
-    has_no_order = on_cycle (system_of ring) (y_of (codes "a")) ring_is;
+    has_no_order = on_cycle (system_of 1 ring) (y_of (codes "a")) ring_is;
     is_first = _;
   };
   line_of_ring = refl;
@@ -42,8 +42,8 @@ returns c = record {
     later = y_of (codes "a") ∷ y_of (codes "b") ∷ [];
     cut = refl;
     has_no_order =
-        behind_cycle (system_of behind_ring) (y_of (codes "c")) (y_of (codes "a")) (needs (y_of (codes "c")) (y_of (codes "a")) (inl refl))
-        (on_cycle (system_of behind_ring) (y_of (codes "a")) ring_is_there);
+        behind_cycle (system_of 1 behind_ring) (y_of (codes "c")) (y_of (codes "a")) (needs (y_of (codes "c")) (y_of (codes "a")) (inl refl))
+        (on_cycle (system_of 1 behind_ring) (y_of (codes "a")) ring_is_there);
     is_first = _;
   };
 }

@@ -3,6 +3,7 @@ use Rattle.std.specs.Fmt.{digits}
 use Rattle.unit_tree.specs.declared.expr.Expr.{the_lemmas as expr_lemmas}
 use Rattle.unit_tree.specs.declared.line.Line.{the_lemmas as line_lemmas}
 use Rattle.unit_tree.proofs.KindLemmas.{kind_laws}
+use Rattle.unit_tree.proofs.PlainLemmas.{plain_measures}
 use Rattle.unit_tree.proofs.laws.systems_are_worked.Goals as goal
 
 pub returns : goal.returns
@@ -32,8 +33,8 @@ returns c = record {
   hidden_need = simp (kind_laws, expr_lemmas, line_lemmas) refl;
   connected_twice = simp (kind_laws, expr_lemmas, line_lemmas) refl;
   other_type = simp (kind_laws, expr_lemmas, line_lemmas) refl;
-  depth_32 = simp (kind_laws, expr_lemmas, line_lemmas) refl;
-  depth_33 = simp (kind_laws, expr_lemmas, line_lemmas) refl;
+  depth_32 = simp plain_measures (simp (kind_laws, expr_lemmas, line_lemmas) refl);
+  depth_33 = simp plain_measures (simp (kind_laws, expr_lemmas, line_lemmas) refl);
   too_dear = simp (kind_laws, expr_lemmas, line_lemmas) refl;
   dear = simp (kind_laws, expr_lemmas, line_lemmas) refl;
   no_stop = simp (kind_laws, expr_lemmas, line_lemmas) refl;
@@ -71,8 +72,6 @@ returns c = record {
   range_of_a_setting = refl;
   range_of_an_input = refl;
   range_of_a_param = refl;
-  depth_33_in_if = simp (kind_laws, expr_lemmas, line_lemmas) refl;
-  depth_33_in_accept = simp (kind_laws, expr_lemmas, line_lemmas) refl;
   cost_100000 = simp (kind_laws, expr_lemmas, line_lemmas) refl;
   cost_100001 = simp (kind_laws, expr_lemmas, line_lemmas) refl;
   longest_run = simp (kind_laws, expr_lemmas, line_lemmas) refl;

@@ -1,0 +1,3 @@
+pub mod Laws
+pub mod LocalTime
+pub mod Seconds

@@ -1,0 +1,25 @@
+-- Seconds as ticks: a tick is ten to the power of minus the resolution, in seconds.
+use Rattle.std.specs.Prelude.{ℕ, ◌*◌, ◌/◌, ◌%◌, ◌^◌, ◌==◌, not, ◌&&◌, nat_lt, if◌then◌else◌, unsigned_abs, Option, Some, None, Result, Ok, Err}
+use Rattle.std.specs.Int.{is_negative}
+use Rattle.fixed_words.specs.declared.types.Literal.{Literal}
+use Rattle.fixed_words.specs.declared.types.Literal.TheVariants as literal
+use Rattle.super_time.specs.declared.seconds.SecondsFault.{SecondsFault}
+use Rattle.super_time.specs.declared.seconds.SecondsFault.TheVariants.{NotDecimal, NotMultiple, TooLarge}
+
+-- A literal that is no truth value and not negative is a number of seconds: so many units of ten to the power of
+-- minus its decimals. This is it in ticks, where it is a whole number of them.
+abbrev pub ticks_in : ℕ → Literal → Option ℕ
+ticks_in resolution (literal.Truth told) = None
+ticks_in resolution (literal.Number number decimals) =
+    if not (is_negative number) && ((unsigned_abs number * 10 ^ resolution) % 10 ^ decimals == 0) then Some (unsigned_abs number * 10 ^ resolution / 10 ^ decimals) else None
+
+-- A run has at most 10^15 ticks.
+abbrev pub within_run : Option ℕ → Result ℕ SecondsFault
+within_run None = Err NotMultiple
+within_run (Some ticks) = if nat_lt (10 ^ 15) ticks then Err TooLarge else Ok ticks
+
+-- The ticks that a literal is, or why it is none: it is judged first by its form, then by its value.
+abbrev pub seconds_of : ℕ → Literal → Result ℕ SecondsFault
+seconds_of resolution (literal.Truth told) = Err NotDecimal
+seconds_of resolution (literal.Number number decimals) =
+    if is_negative number then Err NotDecimal else within_run (ticks_in resolution (literal.Number number decimals))

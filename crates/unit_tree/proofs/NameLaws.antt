@@ -1,0 +1,225 @@
+-- Names that are declared once: what the first rule of a well-formed system says of instances and of outputs.
+use Rattle.std.proofs.Common.{◌≡◌, ℕ, ◌+◌, Bool, true, false, List, [], ◌∷◌, ◌++◌, map, Option, Some, None, inl, inr, refl, ap, sym, subst, ◌∙◌, ◌⊎◌}
+use Rattle.std.specs.Prelude.{◌||◌, cond, ⊤}
+use Rattle.std.specs.List.{AllByRecursion, list_any, flat_map, filter_map, find, enumerate_from, cons_option}
+use Rattle.std.specs.Str.{bytes_eq}
+use Rattle.std.proofs.lemmas.Grind.{flat_map-append}
+use Rattle.std.proofs.lemmas.List.Elements.{filter_map-append}
+use Rattle.std.proofs.lemmas.Slice.Eq.{bytes_eq-Decides}
+use Rattle.unit_tree.specs.Canonical.{optional, unit_parts, canonical_parts}
+use Rattle.unit_tree.specs.Parts as parts
+use Rattle.unit_tree.specs.Parts.{Part, UnitPart, unit_of}
+use Rattle.unit_tree.specs.Sites.{Scope, TopScope, UnitScope, InstanceScope, Site, Headed, alone, sites, headed_unit_part, headed_part, sites_of}
+use Rattle.unit_tree.specs.WellFormed.{IsWellFormed, redeclares, is_said, says_again, instance_declared, name_declared, unit_declared, number_where}
+use Rattle.unit_tree.specs.declared.line_form.LineForm.{LineForm}
+use Rattle.unit_tree.specs.declared.line_form.LineForm.TheVariants as form
+use Rattle.unit_tree.specs.declared.system.Instance.{Instance}
+use Rattle.unit_tree.specs.declared.system.System.{System}
+use Rattle.unit_tree.specs.declared.unit.Output.{Output}
+use Rattle.unit_tree.specs.declared.unit.Unit.{Unit}
+
+-- ---- Lists whose elements differ
+
+abbrev pub Has : {A : Type 0} → List A → A → Type 0
+Has [] x = ⊥
+Has (first ∷ others) x = (first ≡ x) ⊎ Has others x
+
+abbrev pub Distinct : {A : Type 0} → List A → Type 0
+Distinct [] = ⊤
+Distinct (first ∷ others) = (Has others first → ⊥) × Distinct others
+
+pub has_front : {A : Type 0} (front behind : List A) (x : A) → Has front x → Has (front ++ behind) x
+has_front [] behind x has = absurd has
+has_front (first ∷ front) behind x (inl is) = inl is
+has_front (first ∷ front) behind x (inr has) = inr (has_front front behind x has)
+
+pub has_behind : {A : Type 0} (front behind : List A) (x : A) → Has behind x → Has (front ++ behind) x
+has_behind [] behind x has = has
+has_behind (first ∷ front) behind x has = inr (has_behind front behind x has)
+
+pub has_either : {A : Type 0} (front behind : List A) (x : A) → Has (front ++ behind) x → Has front x ⊎ Has behind x
+has_either [] behind x has = inr has
+has_either (first ∷ front) behind x (inl is) = inl (inl is)
+has_either (first ∷ front) behind x (inr has) = elim (has_either front behind x has) [ inl h ↦ inl (inr h) | inr h ↦ inr h ]
+
+pub has_map : {A B : Type 0} (f : A → B) (xs : List A) (x : A) → Has xs x → Has (map f xs) (f x)
+has_map f [] x has = absurd has
+has_map f (first ∷ others) x (inl is) = inl (ap f is)
+has_map f (first ∷ others) x (inr has) = inr (has_map f others x has)
+
+pub same_bytes : (one other : List ℕ) → bytes_eq one other ≡ true → one ≡ other
+same_bytes one other is = (bytes_eq-Decides one other).0 is
+
+pub bytes_of : (one other : List ℕ) → one ≡ other → bytes_eq one other ≡ true
+bytes_of one other is = (bytes_eq-Decides one other).1 is
+
+true_is_false : {A : Type 0} (b : Bool) → b ≡ true → b ≡ false → A
+true_is_false true is isnt = absurd (cc)
+true_is_false false is isnt = absurd (cc)
+
+or_false : (one other : Bool) → (one || other) ≡ false → (one ≡ false) × (other ≡ false)
+or_false false other is = (refl, is)
+or_false true other is = absurd (cc)
+
+-- A name that equals none of some is not among them.
+not_among : (name : List ℕ) (names : List (List ℕ)) → list_any (bytes_eq name) names ≡ false → Has names name → ⊥
+not_among name [] none has = has
+not_among name (first ∷ names) none (inl is) = true_is_false (bytes_eq name first) (bytes_of name first (sym is)) (or_false (bytes_eq name first) (list_any (bytes_eq name) names) none).0
+not_among name (first ∷ names) none (inr has) = not_among name names (or_false (bytes_eq name first) (list_any (bytes_eq name) names) none).1 has
+
+-- The first of a name is the only one.
+found_by : {A : Type 0} (name : A → List ℕ) (x first : A) (others : List A) (named : Bool) → bytes_eq (name first) (name x) ≡ named → (Has (map name others) (name first) → ⊥) → (first ≡ x) ⊎ Has others x → (Has others x → find (λ y. bytes_eq (name y) (name x)) others ≡ Some x) → cond named (Some first) (find (λ y. bytes_eq (name y) (name x)) others) ≡ Some x
+found_by name x first others true is apart (inl same) later = ap Some same
+found_by name x first others true is apart (inr has) later =
+    absurd (apart (subst (Has (map name others)) (sym (same_bytes (name first) (name x) is)) (has_map name others x has)))
+found_by name x first others false is apart (inl same) later = true_is_false (bytes_eq (name first) (name x)) (bytes_of (name first) (name x) (ap name same)) is
+found_by name x first others false is apart (inr has) later = later has
+
+pub found : {A : Type 0} (name : A → List ℕ) (xs : List A) (x : A) → Distinct (map name xs) → Has xs x → find (λ y. bytes_eq (name y) (name x)) xs ≡ Some x
+found name [] x apart has = absurd has
+found name (first ∷ others) x apart has =
+    found_by name x first others (bytes_eq (name first) (name x)) refl apart.0 has (λ later. found name others x apart.1 later)
+
+-- ---- Lines that keep a rule
+
+kept_by : (breaks : Site → Bool) (number : ℕ) (site : Site) (all : List Site) (told : Bool) → breaks site ≡ told → cons_option (cond told (Some number) None) (filter_map (number_where breaks) (enumerate_from (number + 1) all)) ≡ [] → (breaks site ≡ false) × (filter_map (number_where breaks) (enumerate_from (number + 1) all) ≡ [])
+kept_by breaks number site all true is none = absurd (cc)
+kept_by breaks number site all false is none = (is, none)
+
+all_keep : (breaks : Site → Bool) (number : ℕ) (all : List Site) → filter_map (number_where breaks) (enumerate_from number all) ≡ [] → AllByRecursion (λ site. breaks site ≡ false) all
+all_keep breaks number [] none = tt
+all_keep breaks number (site ∷ all) none =
+    let both = kept_by breaks number site all (breaks site) refl none in
+    (both.0, all_keep breaks (number + 1) all both.1)
+
+module _ (P : Site → Type 0) where
+  all_front : (front behind : List Site) → AllByRecursion P (front ++ behind) → AllByRecursion P front × AllByRecursion P behind
+  all_front [] behind all = (tt, all)
+  all_front (site ∷ front) behind all = let rest = all_front front behind all.1 in ((all.0, rest.0), rest.1)
+
+  -- The same of lines with their blocks.
+  abbrev Hold : Scope → List LineForm → List Headed → Type 0
+  Hold scope earlier [] = ⊤
+  Hold scope earlier (headed ∷ others) = P (record { scope = scope; earlier = earlier; line = headed.head }) × AllByRecursion P headed.block × Hold scope (earlier ++ (headed.head ∷ [])) others
+
+  hold_all : (scope : Scope) (earlier : List LineForm) (headed : List Headed) → AllByRecursion P (sites scope earlier headed) → Hold scope earlier headed
+  hold_all scope earlier [] all = tt
+  hold_all scope earlier (first ∷ others) all =
+      let parts = all_front first.block (sites scope (earlier ++ (first.head ∷ [])) others) all.1 in
+      (all.0, parts.0, hold_all scope (earlier ++ (first.head ∷ [])) others parts.1)
+
+  hold_front : (scope : Scope) (earlier : List LineForm) (front behind : List Headed) → Hold scope earlier (front ++ behind) → Hold scope earlier front
+  hold_front scope earlier [] behind hold = tt
+  hold_front scope earlier (first ∷ front) behind hold = (hold.0, hold.1, hold_front scope (earlier ++ (first.head ∷ [])) front behind hold.2)
+
+  -- With what comes before.
+  hold_behind : (scope : Scope) (earlier : List LineForm) (front behind : List Headed) → Hold scope earlier (front ++ behind) → (before : List LineForm) × Hold scope before behind
+  hold_behind scope earlier [] behind hold = (earlier, hold)
+  hold_behind scope earlier (first ∷ front) behind hold = hold_behind scope (earlier ++ (first.head ∷ [])) front behind hold.2
+
+  module _ {A : Type 0} (head : A → Headed) (name : A → List ℕ) (asked : LineForm → Option (List ℕ)) (asks : (x : A) → asked (head x).head ≡ Some (name x)) (unsaid : (site : Site) → P site → is_said bytes_eq (filter_map asked site.earlier) (asked site.line) ≡ false) where
+    -- Things that are declared one after the other have different names, and none of an earlier line's.
+    apart : (scope : Scope) (earlier : List LineForm) (xs : List A) → Hold scope earlier (map head xs) → Distinct (map name xs) × ((one : List ℕ) → Has (map name xs) one → Has (filter_map asked earlier) one → ⊥)
+    apart scope earlier [] hold = (tt, λ one has before. has)
+    apart scope earlier (x ∷ xs) hold =
+        let rest = apart scope (earlier ++ ((head x).head ∷ [])) xs hold.2 in
+        let longer : filter_map asked (earlier ++ ((head x).head ∷ [])) ≡ filter_map asked earlier ++ (name x ∷ []) =
+        filter_map-append asked earlier ((head x).head ∷ []) ∙ ap (λ told. filter_map asked earlier ++ cons_option told []) (asks x) in
+        let others : (one : List ℕ) → Has (map name xs) one → Has (filter_map asked earlier ++ (name x ∷ [])) one → ⊥ =
+        λ one has before. rest.1 one has (subst (λ names. Has names one) (sym longer) before) in
+        let here : Has (filter_map asked earlier) (name x) → ⊥ =
+        not_among (name x) (filter_map asked earlier) (sym (ap (is_said bytes_eq (filter_map asked earlier)) (asks x)) ∙ unsaid _ hold.0) in (
+          (λ has. others (name x) has (has_behind (filter_map asked earlier) (name x ∷ []) (name x) (inl refl)), rest.0),
+          λ one has before. elim has [
+            | inl is ↦ here (subst (Has (filter_map asked earlier)) (sym is) before)
+            | inr later ↦ others one later (has_front (filter_map asked earlier) (name x ∷ []) one before)
+          ],
+        )
+
+-- ---- Instances and outputs
+
+-- The names of instances differ, and so do those of each unit's outputs.
+pub record NamesDiffer (system : System) : Type 0 where
+  pub instances : Distinct (map (λ instance. instance.name) system.instances)
+  pub outputs : AllByRecursion (λ unit. Distinct (map (λ output. output.name) unit.outputs)) system.units
+
+abbrev Keeps : System → Site → Type 0
+Keeps system site = redeclares system site ≡ false
+
+instance_unsaid : (system : System) (site : Site) → Keeps system site → is_said bytes_eq (filter_map instance_declared site.earlier) (instance_declared site.line) ≡ false
+instance_unsaid system site kept =
+    (or_false (says_again bytes_eq instance_declared site) (says_again bytes_eq name_declared site) (or_false (says_again bytes_eq unit_declared site) (says_again bytes_eq instance_declared site || says_again bytes_eq name_declared site) kept).1).0
+
+name_unsaid : (system : System) (site : Site) → Keeps system site → is_said bytes_eq (filter_map name_declared site.earlier) (name_declared site.line) ≡ false
+name_unsaid system site kept =
+    (or_false (says_again bytes_eq instance_declared site) (says_again bytes_eq name_declared site) (or_false (says_again bytes_eq unit_declared site) (says_again bytes_eq instance_declared site || says_again bytes_eq name_declared site) kept).1).1
+
+abbrev instance_head : Instance → Headed
+instance_head instance = record {
+  head = form.Instance instance.name instance.unit;
+  block = sites (InstanceScope instance) [] (map alone (map form.Setting instance.settings ++ (form.End ∷ [])));
+}
+
+instance_heads : (instances : List Instance) → flat_map headed_part (map parts.HasInstance instances) ≡ map instance_head instances
+instance_heads [] = refl
+instance_heads (instance ∷ instances) = ap (λ rest. instance_head instance ∷ rest) (instance_heads instances)
+
+output_heads : (unit : Unit) (outputs : List Output) → flat_map (headed_unit_part unit) (map parts.HasOutput outputs) ≡ map (λ output. alone (form.Output output)) outputs
+output_heads unit [] = refl
+output_heads unit (output ∷ outputs) = ap (λ rest. alone (form.Output output) ∷ rest) (output_heads unit outputs)
+
+module _ (system : System) where
+  abbrev P : Site → Type 0
+  P site = Keeps system site
+
+  drop_last : {A : Type 0} (f : A → List Headed) (scope : Scope) (earlier : List LineForm) (front behind : List A) → Hold P scope earlier (flat_map f (front ++ behind)) → Hold P scope earlier (flat_map f front)
+  drop_last f scope earlier front behind hold =
+      hold_front P scope earlier (flat_map f front) (flat_map f behind) (subst (Hold P scope earlier) (flat_map-append f front behind) hold)
+
+  -- The outputs of a unit.
+  unit_outputs : (unit : Unit) → AllByRecursion P (sites (UnitScope (unit_of unit.name (unit_parts unit))) [] (flat_map (headed_unit_part (unit_of unit.name (unit_parts unit))) (unit_parts unit) ++ (alone form.End ∷ []))) → Distinct (map (λ output. output.name) unit.outputs)
+  unit_outputs unit all =
+      let said : Unit = unit_of unit.name (unit_parts unit) in
+      let scope : Scope = UnitScope said in
+      let before : List UnitPart =
+      optional parts.Resolution unit.resolution ++ map parts.HasParam unit.params ++ map parts.HasState unit.states ++ map parts.HasLocal unit.locals ++ map parts.HasInput unit.inputs ++ map parts.HasEventIn unit.events_in in
+      let outputs : List UnitPart = map parts.HasOutput unit.outputs in
+      let events : List UnitPart = map parts.HasEventOut unit.events_out in
+      let greatest : List UnitPart = optional parts.Max unit.max in
+      let step : List UnitPart = optional parts.Step unit.step in
+      let whole = hold_front P scope [] (flat_map (headed_unit_part said) (unit_parts unit)) (alone form.End ∷ []) (hold_all P scope [] (flat_map (headed_unit_part said) (unit_parts unit) ++ (alone form.End ∷ [])) all) in
+      let without_step = drop_last (headed_unit_part said) scope [] (((before ++ outputs) ++ events) ++ greatest) step whole in
+      let without_max = drop_last (headed_unit_part said) scope [] ((before ++ outputs) ++ events) greatest without_step in
+      let without_events = drop_last (headed_unit_part said) scope [] (before ++ outputs) events without_max in
+      let here = hold_behind P scope [] (flat_map (headed_unit_part said) before) (flat_map (headed_unit_part said) outputs) (subst (Hold P scope []) (flat_map-append (headed_unit_part said) before outputs) without_events) in
+      (apart P (λ output. alone (form.Output output)) (λ output. output.name) name_declared (λ output. refl) (name_unsaid system) scope here.0 unit.outputs (subst (Hold P scope here.0) (output_heads said unit.outputs) here.1)).0
+
+  units_outputs : (units : List Unit) (earlier : List LineForm) → Hold P TopScope earlier (flat_map headed_part (map (λ unit. parts.HasUnit unit.name (unit_parts unit)) units)) → AllByRecursion (λ unit. Distinct (map (λ output. output.name) unit.outputs)) units
+  units_outputs [] earlier hold = tt
+  units_outputs (unit ∷ units) earlier hold = (unit_outputs unit hold.1, units_outputs units (earlier ++ (form.Unit unit.name ∷ [])) hold.2)
+
+  pub names_differ : IsWellFormed system → NamesDiffer system
+  names_differ kept =
+      let header : List LineForm = form.Header system.version ∷ [] in
+      let units : List Part = map (λ unit. parts.HasUnit unit.name (unit_parts unit)) system.units in
+      let instances : List Part = map parts.HasInstance system.instances in
+      let wires : List Part = map parts.Connects system.wires in
+      let stop : List Part = optional parts.Stop system.stop in
+      let longest : List Part = optional parts.Longest system.longest in
+      let zero_steps : List Part = optional parts.Zero system.zero in
+      let rows : List Part = optional parts.Rows system.rows in
+      let samples : List Part = map parts.Samples system.samples in
+      let all = all_keep (redeclares system) 1 (sites_of system) kept.0 in
+      let hold = (hold_all P TopScope [] (alone (form.Header system.version) ∷ flat_map headed_part (canonical_parts system)) all).2 in
+      let a = drop_last headed_part TopScope header ((((((units ++ instances) ++ wires) ++ stop) ++ longest) ++ zero_steps) ++ rows) samples hold in
+      let b = drop_last headed_part TopScope header (((((units ++ instances) ++ wires) ++ stop) ++ longest) ++ zero_steps) rows a in
+      let c = drop_last headed_part TopScope header ((((units ++ instances) ++ wires) ++ stop) ++ longest) zero_steps b in
+      let d = drop_last headed_part TopScope header (((units ++ instances) ++ wires) ++ stop) longest c in
+      let e = drop_last headed_part TopScope header ((units ++ instances) ++ wires) stop d in
+      let f = drop_last headed_part TopScope header (units ++ instances) wires e in
+      let parted = subst (Hold P TopScope header) (flat_map-append headed_part units instances) f in
+      let behind = hold_behind P TopScope header (flat_map headed_part units) (flat_map headed_part instances) parted in
+      record {
+        instances = (apart P instance_head (λ instance. instance.name) instance_declared (λ instance. refl) (instance_unsaid system) TopScope behind.0 system.instances (subst (Hold P TopScope behind.0) (instance_heads system.instances) behind.1)).0;
+        outputs = units_outputs system.units header (hold_front P TopScope header (flat_map headed_part units) (flat_map headed_part instances) parted);
+      }

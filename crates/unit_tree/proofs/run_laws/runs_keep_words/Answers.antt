@@ -1,0 +1,5 @@
+use Rattle.unit_tree.proofs.PositionLaws.{system_has_members, positions_keep}
+use Rattle.unit_tree.proofs.run_laws.runs_keep_words.Goals as goal
+
+pub returns : goal.returns
+returns c = record { members = system_has_members; words = positions_keep }

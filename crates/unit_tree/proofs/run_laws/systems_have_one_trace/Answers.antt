@@ -1,0 +1,14 @@
+use Rattle.unit_tree.proofs.NameLaws.{names_differ}
+use Rattle.unit_tree.proofs.PlaceOrders.{system_is_ordered}
+use Rattle.unit_tree.proofs.PositionLaws.{system_has_members}
+use Rattle.unit_tree.proofs.RunTraces.{one_trace}
+use Rattle.unit_tree.specs.Compositions.{composition_of}
+use Rattle.unit_tree.proofs.run_laws.systems_have_one_trace.Goals as goal
+
+pub returns-clause-order : goal.returns-clause-order
+returns-clause-order c = λ system plain kept no_cycle. system_is_ordered system plain (names_differ system kept) no_cycle
+
+pub returns-clause-trace : goal.returns-clause-trace
+returns-clause-trace c = λ system plain kept no_cycle.
+    let order = system_is_ordered system plain (names_differ system kept) no_cycle in
+    one_trace (composition_of system) order.0 (system_has_members system) order.1

@@ -1,0 +1,207 @@
+-- Worked systems of version 2: their lines, their plain form, and each rule that events change.
+use Rattle.std.specs.Prelude.{◌≡◌, ℕ, Bool, true, false, pos, List, [], ◌∷◌, ◌++◌, codes, Some, None}
+use Rattle.std.specs.List.{repeat}
+use Rattle.fixed_words.specs.declared.types.Literal.TheVariants as literal
+use Rattle.fixed_words.specs.declared.types.Ty.{Ty}
+use Rattle.fixed_words.specs.declared.types.Ty.TheVariants as types
+use Rattle.unit_tree.specs.Parts as parts
+use Rattle.unit_tree.specs.Parts.{Part, UnitPart, system_of, unit_of}
+use Rattle.unit_tree.specs.Phrases as phrase
+use Rattle.unit_tree.specs.Plain.{plain_form, presence_of, word_expression_of, zero_of}
+use Rattle.unit_tree.specs.Sites.{UnitScope, TopScope}
+use Rattle.unit_tree.specs.WellFormed.{refusal_of, exceeds, mistakes_kind}
+use Rattle.unit_tree.specs.WorkedPhrases.{Worked}
+use Rattle.unit_tree.specs.WorkedSystems.{Refused, n, one, sum, set, number, input_u, state_n, output_y, counts, unit_a, instance, port, wire, run_of, stop, lines_of_system}
+use Rattle.unit_tree.specs.declared.expr.BinOp.TheVariants as by
+use Rattle.unit_tree.specs.declared.expr.Expr.{Expr}
+use Rattle.unit_tree.specs.declared.expr.Expr as expr
+use Rattle.unit_tree.specs.declared.expr.UnOp.TheVariants as of
+use Rattle.unit_tree.specs.declared.line.Line as line
+use Rattle.unit_tree.specs.declared.line_form.LineForm.TheVariants as form
+use Rattle.unit_tree.specs.declared.unit.EventIn.{EventIn}
+use Rattle.unit_tree.specs.declared.unit.EventOut.{EventOut}
+use Rattle.unit_tree.specs.declared.unit.Unit.{Unit}
+
+-- ---- Parts
+
+abbrev pub e : Expr
+e = expr.Var (codes "e")
+
+-- `event input e : T`, `event output p : T needs .. = value`
+abbrev pub event_in : Ty → EventIn
+event_in ty = record { name = codes "e"; ty = ty }
+
+abbrev pub event_out : Ty → List (List ℕ) → Expr → EventOut
+event_out ty needs value = record { name = codes "p"; ty = ty; needs = needs; value = value }
+
+abbrev pub input_e : UnitPart
+input_e = parts.HasEventIn (event_in types.Int64)
+
+abbrev pub output_p : List (List ℕ) → Expr → UnitPart
+output_p needs value = parts.HasEventOut (event_out types.Int64 needs value)
+
+-- `if n == 1 then e else absent`
+abbrev pub at_times : Expr → Expr
+at_times value = expr.Choose (expr.Binary by.Eq n one) value expr.Absent
+
+-- ---- A pulse and a tally
+
+abbrev pub pulse : UnitPart
+pulse = output_p [] (at_times (sum n n))
+
+-- `if present(e)`, `got := got + e`, `end`
+abbrev pub tally : UnitPart
+tally = parts.Step (line.If (expr.Present (codes "e")) (set (codes "got") (sum (expr.Var (codes "got")) e) ∷ []) None ∷ [])
+
+abbrev pub got : UnitPart
+got = parts.HasState (record { name = codes "got"; ty = types.Int64; start = number 0 })
+
+abbrev pub output_k : Expr → UnitPart
+output_k value = parts.HasOutput (record { name = codes "k"; ty = types.Int64; needs = []; value = value })
+
+abbrev pub pulse_and_tally : List Part
+pulse_and_tally =
+    parts.HasUnit (codes "Pulse") (pulse ∷ state_n types.Int64 (number 0) ∷ [])
+    ∷ parts.HasUnit (codes "Tally") (input_e ∷ got ∷ output_k (expr.Var (codes "got")) ∷ tally ∷ [])
+    ∷ parts.HasInstance (record { name = codes "p"; unit = codes "Pulse"; settings = [] })
+    ∷ parts.HasInstance (record { name = codes "c"; unit = codes "Tally"; settings = [] })
+    ∷ wire (port (codes "p") (codes "p")) (port (codes "c") (codes "e"))
+    ∷ stop
+    ∷ []
+
+abbrev pub pulse_and_tally_lines : List (List ℕ)
+pulse_and_tally_lines =
+    codes "cosim 2"
+    ∷ codes "unit Pulse"
+    ∷ codes "state n:Int64=0"
+    ∷ codes "event output p:Int64=if n==1 then n+n else absent"
+    ∷ codes "end"
+    ∷ codes "unit Tally"
+    ∷ codes "state got:Int64=0"
+    ∷ codes "event input e:Int64"
+    ∷ codes "output k:Int64=got"
+    ∷ codes "step"
+    ∷ codes "if present(e)"
+    ∷ codes "got:=got+e"
+    ∷ codes "end"
+    ∷ codes "end"
+    ∷ codes "end"
+    ∷ codes "instance p:Pulse"
+    ∷ codes "end"
+    ∷ codes "instance c:Tally"
+    ∷ codes "end"
+    ∷ codes "connect p.p->c.e"
+    ∷ codes "stop 3"
+    ∷ []
+
+-- The parts of its plain form, in which `p?` and `e?` are names.
+abbrev pub at_times_else : Expr → Expr → Expr
+at_times_else value other = expr.Choose (expr.Binary by.Eq n one) value other
+
+abbrev pub plain_pulse : List UnitPart
+plain_pulse =
+    state_n types.Int64 (number 0)
+    ∷ parts.HasOutput (record { name = codes "p?"; ty = types.Bool; needs = []; value = at_times_else (expr.Truth true) (expr.Truth false) })
+    ∷ parts.HasOutput (record { name = codes "p"; ty = types.Int64; needs = []; value = at_times_else (sum n n) (expr.Number (pos 0) 0) })
+    ∷ []
+
+abbrev pub plain_tally : List UnitPart
+plain_tally =
+    parts.HasInput (record { name = codes "e?"; ty = types.Bool; start = literal.Truth false })
+    ∷ parts.HasInput (record { name = codes "e"; ty = types.Int64; start = number 0 })
+    ∷ got
+    ∷ output_k (expr.Var (codes "got"))
+    ∷ parts.Step (line.If (expr.Var (codes "e?")) (set (codes "got") (sum (expr.Var (codes "got")) e) ∷ []) None ∷ [])
+    ∷ []
+
+abbrev pub plain_pulse_and_tally : List Part
+plain_pulse_and_tally =
+    parts.HasUnit (codes "Pulse") plain_pulse
+    ∷ parts.HasUnit (codes "Tally") plain_tally
+    ∷ parts.HasInstance (record { name = codes "p"; unit = codes "Pulse"; settings = [] })
+    ∷ parts.HasInstance (record { name = codes "c"; unit = codes "Tally"; settings = [] })
+    ∷ wire (port (codes "p") (codes "p?")) (port (codes "c") (codes "e?"))
+    ∷ wire (port (codes "p") (codes "p")) (port (codes "c") (codes "e"))
+    ∷ stop
+    ∷ parts.Samples (port (codes "p") (codes "p"))
+    ∷ parts.Samples (port (codes "c") (codes "k"))
+    ∷ []
+
+pub record PlainFormsAreWorked : Type 0 where
+  pub lines : lines_of_system (system_of 2 pulse_and_tally) ≡ pulse_and_tally_lines
+  pub plain : plain_form (system_of 2 pulse_and_tally) ≡ system_of 2 plain_pulse_and_tally
+  -- a system of version 1 is its own
+  pub same : plain_form (system_of 1 (run_of counts)) ≡ system_of 1 (run_of counts)
+  -- needs, in which an event input is two, and an input that is plain stays one
+  pub needs : lines_of_system (plain_form (system_of 2 (unit_a (input_u ∷ input_e ∷ output_y types.Bool (codes "e" ∷ codes "u" ∷ []) (expr.Present (codes "e")) ∷ []) ∷ []))) ≡ codes "cosim 2" ∷ codes "unit A" ∷ codes "input u:Int64=0" ∷ codes "input e?:Bool=false" ∷ codes "input e:Int64=0" ∷ codes "output y:Bool needs e?,e,u=e?" ∷ codes "end" ∷ []
+  -- what an event output becomes: of `absent`, of a choice whose branches are choices, and of any other
+  pub absent_is : presence_of expr.Absent ≡ expr.Truth false
+  pub other_is : presence_of (sum n one) ≡ expr.Truth true
+  pub inner_is : presence_of (expr.Choose e (at_times n) n) ≡ expr.Choose e (expr.Choose (expr.Binary by.Eq n one) (expr.Truth true) (expr.Truth false)) (expr.Truth true)
+  pub word_is : word_expression_of (types.Fixed 2) (expr.Choose e (at_times n) n) ≡ expr.Choose e (expr.Choose (expr.Binary by.Eq n one) n (expr.Number (pos 0) 2)) n
+  -- the zero of each kind
+  pub zero_of_int : zero_of types.UInt8 ≡ expr.Number (pos 0) 0
+  pub zero_of_truth : zero_of types.Bool ≡ expr.Truth false
+  pub zero_of_fixed_0 : zero_of (types.Fixed 0) ≡ expr.Unary (of.ToFix 0) (expr.Number (pos 0) 0)
+  pub zero_of_fixed : zero_of (types.Fixed 3) ≡ expr.Number (pos 0) 3
+
+-- ---- Rules
+
+-- The system of version 2 breaks the rule, first at the canonical line, and none before it.
+abbrev pub Refused2 : List Part → ℕ → ℕ → Type 0
+Refused2 all rule at = refusal_of (system_of 2 all) ≡ Some (record { by = rule; at = at })
+
+abbrev pub Accepted2 : List Part → Type 0
+Accepted2 all = refusal_of (system_of 2 all) ≡ None
+
+-- Two instances of a unit with an input, an event input and an event output, and `stop 3`.
+abbrev pub event_pair : List Part → List Part
+event_pair wires =
+    unit_a (input_u ∷ input_e ∷ output_p [] one ∷ []) ∷ instance (codes "a") ∷ instance (codes "b") ∷ wires ++ (stop ∷ [])
+
+abbrev pub p_to_e : Part
+p_to_e = wire (port (codes "a") (codes "p")) (port (codes "b") (codes "e"))
+
+abbrev pub with_e : Unit
+with_e = unit_of (codes "A") (state_n types.Int64 (number 0) ∷ input_e ∷ [])
+
+-- An event output of `with_e` has a wrong kind.
+abbrev pub is_mistaken : Expr → Bool
+is_mistaken value = mistakes_kind (UnitScope with_e) (form.EventOutput (event_out types.Int64 [] value))
+
+pub record EventsAreWorked : Type 0 where
+  pub present_is : Worked (phrase.Unary of.Not (phrase.Present (codes "e"))) (codes "not present(e)") (codes "not present(e)")
+  pub absent_is : Worked (phrase.Choose (phrase.Present (codes "e")) phrase.Absent (phrase.Parens phrase.Absent)) (codes "if present(e)then absent else(absent)") (codes "if present(e)then absent else absent")
+  pub accepted : Accepted2 (event_pair (p_to_e ∷ []))
+  -- 8: event ports are names of their unit
+  pub equal_names : Refused2 (run_of (input_u ∷ parts.HasEventOut (record { name = codes "u"; ty = types.Int64; needs = []; value = expr.Absent }) ∷ [])) 8 4
+  -- 9: `present` of what is no event input; a need, a sample and a connection may be of event ports
+  pub presence_of_input : Refused2 (run_of (input_u ∷ output_p (codes "u" ∷ []) (expr.Present (codes "u")) ∷ [])) 9 4
+  pub presence_of_none : Refused2 (run_of (counts ++ (parts.Step (line.If (expr.Present (codes "e")) [] None ∷ []) ∷ []))) 9 6
+  pub event_output_read : Refused2 (run_of (output_p [] one ∷ parts.Max (expr.Var (codes "p")) ∷ [])) 9 4
+  pub no_such_event : Refused2 (event_pair (wire (port (codes "a") (codes "q")) (port (codes "b") (codes "e")) ∷ [])) 9 11
+  pub sampled : Accepted2 (event_pair (parts.Samples (port (codes "a") (codes "p")) ∷ []))
+  -- 10: kinds of the choices of an event output, and where `absent` may stand
+  pub choices : is_mistaken (expr.Choose (expr.Present (codes "e")) expr.Absent n) ≡ false
+  pub absent_alone : is_mistaken expr.Absent ≡ false
+  pub both_absent : is_mistaken (expr.Choose (expr.Present (codes "e")) expr.Absent expr.Absent) ≡ false
+  pub choice_of_other_kind : is_mistaken (expr.Choose (expr.Present (codes "e")) expr.Absent (expr.Truth true)) ≡ true
+  pub absent_in_sum : is_mistaken (sum n expr.Absent) ≡ true
+  pub absent_as_condition : is_mistaken (expr.Choose expr.Absent n n) ≡ true
+  pub absent_in_output : Refused2 (run_of (output_y types.Int64 [] expr.Absent ∷ [])) 10 3
+  pub absent_in_version_1 : Refused (run_of (output_y types.Int64 [] expr.Absent ∷ [])) 10 3
+  -- 12: `present` uses its input
+  pub hidden_presence : Refused2 (run_of (input_e ∷ output_y types.Bool [] (expr.Present (codes "e")) ∷ [])) 12 4
+  pub needed_presence : Accepted2 (run_of (input_e ∷ output_y types.Bool (codes "e" ∷ []) (expr.Present (codes "e")) ∷ []))
+  -- 13 and 14: connections of event ports
+  pub connected_twice : Refused2 (event_pair (p_to_e ∷ p_to_e ∷ [])) 13 12
+  pub to_a_plain_input : Refused2 (event_pair (wire (port (codes "a") (codes "p")) (port (codes "b") (codes "u")) ∷ [])) 14 11
+  -- 16: an event port, and a connection of events, are two; the samples are one each
+  pub sixteen_events : exceeds (system_of 2 []) (UnitScope with_e) (repeat 15 (form.EventInput (event_in types.Bool) ∷ [])) (form.EventInput (event_in types.Bool)) ≡ false
+  pub seventeen_events : exceeds (system_of 2 []) (UnitScope with_e) (repeat 16 (form.EventInput (event_in types.Bool) ∷ [])) (form.EventInput (event_in types.Bool)) ≡ true
+  pub inputs_before : exceeds (system_of 2 []) (UnitScope with_e) (repeat 31 (form.Input (record { name = codes "u"; ty = types.Bool; start = literal.Truth true }) ∷ [])) (form.EventInput (event_in types.Bool)) ≡ true
+  pub outputs_before : exceeds (system_of 2 []) (UnitScope with_e) (repeat 31 (form.Output (record { name = codes "y"; ty = types.Bool; needs = []; value = one }) ∷ [])) (form.EventOutput (event_out types.Bool [] expr.Absent)) ≡ true
+  pub connections : exceeds (system_of 2 (event_pair [])) TopScope (repeat 1024 (form.Connect (record { from = port (codes "a") (codes "p"); to = port (codes "b") (codes "e") }) ∷ [])) (form.Connect (record { from = port (codes "a") (codes "u"); to = port (codes "b") (codes "u") })) ≡ true
+  -- 22: an event input is not assigned; 24: a need is named twice
+  pub event_assigned : Refused2 (run_of (input_e ∷ parts.Step (set (codes "e") one ∷ []) ∷ [])) 22 5
+  pub needed_twice : Refused2 (run_of (input_e ∷ output_p (codes "e" ∷ codes "e" ∷ []) one ∷ [])) 24 4

@@ -1,0 +1,51 @@
+//! Laws of the definitions of a run.
+ghost use Rattle.unit_tree.specs.RunLaws.{AssignmentsAreUnique, UndefinedOutputsFault, ProposalsAreGreatest, RepliesAreAtMost, AgreedStepsAreLeast, AgreedStepsAreAtMost, StepsKeepWords, SystemsHaveMembers, RunsKeepWords, FirstEndsAreJudgedInOrder, EndsAreJudgedInOrder, OrderedRunsHaveOneTrace, SystemsHavePlaceOrders, SystemsHaveOneTrace};
+
+/// A law: where the outputs have an order, there is exactly one port assignment.
+pub fn assignments_are_unique()
+    ensures { AssignmentsAreUnique }
+{}
+
+/// A law: there is a port fault exactly where some output is undefined.
+pub fn undefined_outputs_fault()
+    ensures { UndefinedOutputsFault }
+{}
+
+/// A law: a proposal is the greatest length that is allowed, a reply is at most the step, and the agreed step is the
+/// least reply, so at most the proposal.
+pub fn steps_are_negotiated()
+    ensures proposal { ProposalsAreGreatest }
+    ensures reply { RepliesAreAtMost }
+    ensures agreed { AgreedStepsAreLeast }
+    ensures at_most { AgreedStepsAreAtMost }
+{}
+
+/// A law: a step of a component keeps its words in their types, and accepts at most its whole length.
+pub fn steps_keep_words()
+    ensures { StepsKeepWords }
+{}
+
+/// A law: a run keeps one state for each member, with words of their types.
+pub fn runs_keep_words()
+    ensures members { SystemsHaveMembers }
+    ensures words { RunsKeepWords }
+{}
+
+/// A law: a run ends by a port fault, or else at its stop, with its last row, or by a fault of a `max`; where it does
+/// not, the end in the trial comes first, then that of a step made anew, then that of the zero budget; and where there
+/// is none of them it goes on.
+pub fn ends_are_judged_in_order()
+    ensures before_trial { FirstEndsAreJudgedInOrder }
+    ensures from_trial { EndsAreJudgedInOrder }
+{}
+
+/// A law: a composition whose outputs have an order has exactly one trace.
+pub fn ordered_runs_have_one_trace()
+    ensures { OrderedRunsHaveOneTrace }
+{}
+
+/// A law: a system that is well-formed and without a cycle has an order of its places, and exactly one trace.
+pub fn systems_have_one_trace()
+    ensures order { SystemsHavePlaceOrders }
+    ensures trace { SystemsHaveOneTrace }
+{}
