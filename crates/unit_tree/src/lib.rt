@@ -6,9 +6,10 @@
 //!
 //! The definitions that every layer above speaks of stand in `specs/`. What a tree means: `Kinds` (which
 //! operands an operation takes), `Values` (what an expression is worth), `Effects` (what step lines do),
-//! `Costs` (the static cost of a call), `Components` (initial state, get and step of a unit), `LocalTime`,
-//! `Steps` (proposal, reply, agreed step) and `Trace` (port assignment, successor, and the one trace of a
-//! system). How a system is written: `Lines` and `Tokens` (how a text is cut), `Phrases` (the grammar of
+//! `Costs` (the static cost of a call) and `Components` (initial state, get, max and step of a unit). What a run of
+//! it is: `Compositions` (what is run, by numbers), `Ports` (port assignment), `Negotiation` (proposal, reply, agreed
+//! step), `Successor` and `Trace` (the one trace of a system); `Routes` and `Given` say it of calls by numbers, and
+//! `RunLaws` has the laws. How a system is written: `Lines` and `Tokens` (how a text is cut), `Phrases` (the grammar of
 //! expressions), `LineForms` (the forms of lines, each a [`LineForm`]), `Blocks` (where a form may stand),
 //! `Parts` and `Texts` (which text says which system, and where any other is refused), `Canonical` and
 //! `Printable` (the one printed text of a system). Which systems may run: `Names`, `Sites` and `WellFormed`
