@@ -17,6 +17,7 @@ pub mod PositionLaws
 pub mod RefusalLaws
 pub mod RouteLaws
 pub mod RunTraces
+pub mod SeenLaws
 pub mod SiteLaws
 pub mod StepLaws
 pub mod ValueLemmas

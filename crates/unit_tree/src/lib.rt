@@ -54,8 +54,9 @@ pub use line::Line;
 pub use line_form::LineForm;
 pub use order::{InputAt, Order, Route, Routes, StartWord};
 pub use run_laws::{
-    assignments_are_unique, ends_are_judged_in_order, ordered_runs_have_one_trace, runs_keep_words,
-    steps_are_negotiated, steps_keep_words, systems_have_one_trace, undefined_outputs_fault,
+    assignments_are_unique, ends_are_judged_in_order, ordered_runs_have_one_trace,
+    outputs_look_at_needs, runs_keep_words, steps_are_negotiated, steps_keep_words,
+    systems_have_one_trace, undefined_outputs_fault,
 };
 pub use super_time::Point;
 pub use system::{Column, Instance, PortName, Setting, System, Wire};
