@@ -8,6 +8,7 @@ use Rattle.unit_tree.specs.Compositions.{Composition, AreMembers, HasNoEvents, c
 use Rattle.unit_tree.specs.Names.{is_among}
 use Rattle.unit_tree.specs.Negotiation.{proposal_of, reply_of, agreed_step}
 use Rattle.unit_tree.specs.Orders.{HasNoCycle}
+use Rattle.unit_tree.specs.Plain.{plain_form}
 use Rattle.unit_tree.specs.Ports.{Ports, IsAmong, IsAssignment, IsPlaceOrder, port_fault}
 use Rattle.unit_tree.specs.Successor.{Position, goes, ends, first_position, after, agreed, proposed, is_redone, stop_end, row_end, max_end, trial_end, redo_end, redo_end_by, zero_end, successor}
 use Rattle.unit_tree.specs.Trace.{Stand, IsGoing, IsTrace, AreWordsOf, HasWords}
@@ -140,6 +141,10 @@ pub record HasOneTrace (run : Composition) : Type 0 where
 
 abbrev pub OrderedRunsHaveOneTrace : Type 0
 OrderedRunsHaveOneTrace = (run : Composition) (order : List ℕ) → AreMembers run → IsPlaceOrder run order → HasOneTrace run
+
+-- The plain form of a system of version 2 has no event ports.
+abbrev pub PlainFormsHaveNoEvents : Type 0
+PlainFormsHaveNoEvents = (system : System) → system.version ≡ 2 → HasNoEvents (plain_form system)
 
 -- Where a system that is well-formed has an order of its outputs, its composition has one of its places.
 abbrev pub SystemsHavePlaceOrders : Type 0

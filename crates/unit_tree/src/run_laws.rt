@@ -1,5 +1,5 @@
 //! Laws of the definitions of a run.
-ghost use Rattle.unit_tree.specs.RunLaws.{AssignmentsAreUnique, UndefinedOutputsFault, OutputsLookAtNeeds, OutputsAreWords, ProposalsAreGreatest, RepliesAreAtMost, AgreedStepsAreLeast, AgreedStepsAreAtMost, StepsKeepWords, SystemsHaveMembers, RunsKeepWords, FirstEndsAreJudgedInOrder, EndsAreJudgedInOrder, OrderedRunsHaveOneTrace, SystemsHavePlaceOrders, SystemsHaveOneTrace};
+ghost use Rattle.unit_tree.specs.RunLaws.{AssignmentsAreUnique, UndefinedOutputsFault, OutputsLookAtNeeds, OutputsAreWords, ProposalsAreGreatest, RepliesAreAtMost, AgreedStepsAreLeast, AgreedStepsAreAtMost, StepsKeepWords, SystemsHaveMembers, RunsKeepWords, FirstEndsAreJudgedInOrder, EndsAreJudgedInOrder, OrderedRunsHaveOneTrace, PlainFormsHaveNoEvents, SystemsHavePlaceOrders, SystemsHaveOneTrace};
 
 /// A law: where the outputs have an order, there is exactly one port assignment.
 pub fn assignments_are_unique()
@@ -50,8 +50,10 @@ pub fn ordered_runs_have_one_trace()
     ensures { OrderedRunsHaveOneTrace }
 {}
 
-/// A law: a system that is well-formed and without a cycle has an order of its places, and exactly one trace.
+/// A law: a system without event ports that is well-formed and without a cycle has an order of its places, and exactly
+/// one trace. A plain form has no event ports.
 pub fn systems_have_one_trace()
     ensures order { SystemsHavePlaceOrders }
     ensures trace { SystemsHaveOneTrace }
+    ensures plain { PlainFormsHaveNoEvents }
 {}
