@@ -29,7 +29,7 @@ pub record Bound {A B : Type 0} (first : Result A Fault) (next : A → Result B 
   pub was : first ≡ Ok between
   pub then_is : next between ≡ Ok last
 
-bound : {A B : Type 0} (first : Result A Fault) (next : A → Result B Fault) (last : B) → (first >>= next) ≡ Ok last → Bound first next last
+pub bound : {A B : Type 0} (first : Result A Fault) (next : A → Result B Fault) (last : B) → (first >>= next) ≡ Ok last → Bound first next last
 bound (Ok between) next last is = record { between = between; was = refl; then_is = is }
 bound (Err fault) next last is = absurd (cc)
 

@@ -5,7 +5,7 @@ use Rattle.std.specs.Option.{unwrap_or}
 use Rattle.fixed_words.specs.declared.types.Fault.{Fault}
 use Rattle.super_time.specs.LocalTime.{local_time, local_step, limit_of}
 use Rattle.unit_tree.specs.Components.{Moved, max_of, step_of}
-use Rattle.unit_tree.specs.Compositions.{Member}
+use Rattle.unit_tree.specs.Compositions.{Member, Composition}
 use Rattle.unit_tree.specs.Ports.{Ports, Standing, input_word}
 
 -- ---- The rules of step lengths
@@ -38,6 +38,10 @@ agreed_step h (reply ∷ replies) = least_of reply replies
 -- The words of a member's inputs. An undefined output, which ends a run before this counts, shows 0.
 abbrev pub inputs_at : Ports → Member → List ℤ
 inputs_at ports member = map (λ source. unwrap_or (input_word ports source) (pos 0)) member.sources
+
+-- The words of all inputs, member by member.
+abbrev pub all_inputs : Composition → Ports → List (List ℤ)
+all_inputs run ports = map (inputs_at ports) run.members
 
 -- What `max` of a member gives: its greatest local step, no limit, or a fault.
 abbrev pub max_at : ℕ → Ports → Standing → Result (Option ℕ) Fault

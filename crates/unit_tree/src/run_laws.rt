@@ -1,5 +1,5 @@
 //! Laws of the definitions of a run.
-ghost use Rattle.unit_tree.specs.RunLaws.{AssignmentsAreUnique, UndefinedOutputsFault, ProposalsAreGreatest, RepliesAreAtMost, AgreedStepsAreLeast, AgreedStepsAreAtMost, StepsKeepWords, SystemsHaveMembers, RunsKeepWords, FirstEndsAreJudgedInOrder, EndsAreJudgedInOrder, OrderedRunsHaveOneTrace, SystemsHavePlaceOrders, SystemsHaveOneTrace};
+ghost use Rattle.unit_tree.specs.RunLaws.{AssignmentsAreUnique, UndefinedOutputsFault, OutputsLookAtNeeds, OutputsAreWords, ProposalsAreGreatest, RepliesAreAtMost, AgreedStepsAreLeast, AgreedStepsAreAtMost, StepsKeepWords, SystemsHaveMembers, RunsKeepWords, FirstEndsAreJudgedInOrder, EndsAreJudgedInOrder, OrderedRunsHaveOneTrace, PlainFormsHaveNoEvents, SystemsHavePlaceOrders, SystemsHaveOneTrace};
 
 /// A law: where the outputs have an order, there is exactly one port assignment.
 pub fn assignments_are_unique()
@@ -9,6 +9,12 @@ pub fn assignments_are_unique()
 /// A law: there is a port fault exactly where some output is undefined.
 pub fn undefined_outputs_fault()
     ensures { UndefinedOutputsFault }
+{}
+
+/// A law: what get gives of an output depends on the inputs in its needs alone, and is a word of its type or a fault.
+pub fn outputs_look_at_needs()
+    ensures needs { OutputsLookAtNeeds }
+    ensures words { OutputsAreWords }
 {}
 
 /// A law: a proposal is the greatest length that is allowed, a reply is at most the step, and the agreed step is the
@@ -44,8 +50,10 @@ pub fn ordered_runs_have_one_trace()
     ensures { OrderedRunsHaveOneTrace }
 {}
 
-/// A law: a system that is well-formed and without a cycle has an order of its places, and exactly one trace.
+/// A law: a system without event ports that is well-formed and without a cycle has an order of its places, and exactly
+/// one trace. A plain form has no event ports.
 pub fn systems_have_one_trace()
     ensures order { SystemsHavePlaceOrders }
     ensures trace { SystemsHaveOneTrace }
+    ensures plain { PlainFormsHaveNoEvents }
 {}
