@@ -29,7 +29,8 @@ pub record IsJudgedOnce : Type 0 where
   pub refused : (system : System) (refusal : Refusal) → refusal_of system ≡ Some refusal → IsRefusal rules system refusal
   pub only : (system : System) (refusal : Refusal) → IsRefusal rules system refusal → refusal_of system ≡ Some refusal
 
--- The sites that rules speak of are the canonical lines, one for one, and each stands in its block.
+-- The sites that rules speak of are the canonical lines, one for one. Each stands in the block that the lines before it
+-- have opened, behind those of this block.
 pub record SitesAreCanonicalLines : Type 0 where
   pub lines : (system : System) → map (λ site. site.line) (sites_of system) ≡ canonical_forms system
   pub blocks : (system : System) (before later : List Site) (site : Site) → sites_of system ≡ before ++ (site ∷ later) → StandsBehind system before site
@@ -38,7 +39,7 @@ pub record SitesAreCanonicalLines : Type 0 where
 abbrev pub CanonicalPartsSayTheSystem : Type 0
 CanonicalPartsSayTheSystem = (system : System) → system_of system.version (canonical_parts system) ≡ system
 
--- The canonical phrase of an expression whose numbers have no sign is one of it, and each of its parts stands
+-- The canonical phrase of an expression whose numbers are words from 0 up is one of it, and each of its parts stands
 -- where the grammar allows it.
 pub record CanonicalPhraseIs (value : Expr) : Type 0 where
   pub is_tree : tree_of (canonical_phrase value) ≡ value
@@ -114,8 +115,8 @@ CanonicalTextIsReadBack = (system : System) → IsPrintable system → Reads (ca
 abbrev pub CanonicalLinesAreShortest : Type 0
 CanonicalLinesAreShortest = (some : LineForm) (line : List ℕ) → HasForm some line → length (line_text some) ≤ length line
 
--- A well-formed system has an order of all its outputs, or one output that is the first without an order.
+-- A system has an order of all its outputs, or one output that is the first without an order.
 pub record CyclesAreJudgedOnce : Type 0 where
-  pub judged : (system : System) → IsWellFormed system → HasNoCycle system ⊎ ((port : PortName) × IsFirstWithoutOrder system port)
+  pub judged : (system : System) → HasNoCycle system ⊎ ((port : PortName) × IsFirstWithoutOrder system port)
   pub not_both : (system : System) (port : PortName) → HasNoCycle system → IsFirstWithoutOrder system port → ⊥
   pub one_port : (system : System) (one other : PortName) → IsFirstWithoutOrder system one → IsFirstWithoutOrder system other → one ≡ other

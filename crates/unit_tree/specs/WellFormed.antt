@@ -1,6 +1,6 @@
 -- Well-formed systems. Each rule has a test, which a canonical line passes where it breaks the rule. The rules are
 -- judged in the order of their numbers, each over the whole system and only where all earlier ones hold.
-use Rattle.std.specs.Prelude.{◌≡◌, ℕ, ◌*◌, ◌^◌, max, Bool, true, false, not, ◌&&◌, ◌||◌, ◌==◌, nat_le, nat_lt, if◌then◌else◌, ℤ, List, [], ◌∷◌, ◌++◌, map, length, Option, Some, None, is_none, Result, Err}
+use Rattle.std.specs.Prelude.{◌≡◌, ℕ, ◌*◌, ◌^◌, max, Bool, true, false, not, ◌&&◌, ◌||◌, ◌==◌, nat_le, nat_lt, if◌then◌else◌, ℤ, List, [], ◌∷◌, ◌++◌, map, length, Option, Some, None, is_none, Result, Ok, Err}
 use Rattle.std.specs.Bool.{beq}
 use Rattle.std.specs.List.{AllByRecursion, list_any, count_by, enumerate_from, filter_map, flat_map, fold}
 use Rattle.std.specs.Option.{option_map, option_and_then, unwrap_or}
@@ -14,7 +14,8 @@ use Rattle.fixed_words.specs.declared.types.Literal.{Literal}
 use Rattle.fixed_words.specs.declared.types.LiteralFault.{LiteralFault}
 use Rattle.fixed_words.specs.declared.types.LiteralFault.TheVariants.{Form, Range}
 use Rattle.fixed_words.specs.declared.types.Ty.{Ty}
-use Rattle.super_time.specs.Seconds.{ticks_in}
+use Rattle.super_time.specs.Seconds.{seconds_of}
+use Rattle.super_time.specs.declared.seconds.SecondsFault.{SecondsFault}
 use Rattle.unit_tree.specs.Costs.{expression_call_cost, step_call_cost}
 use Rattle.unit_tree.specs.Kinds.{same_kind, has_kind, line_is_kinded}
 use Rattle.unit_tree.specs.LineForms.{are_alike, tail_of, tail_speaks_of_events}
@@ -255,14 +256,14 @@ unit_resolution (Some unit) = unwrap_or unit.resolution 0
 abbrev pub resolution_of : System → ℕ
 resolution_of system = fold max 0 (map (λ instance. unit_resolution (unit_of_instance system instance)) system.instances)
 
--- A number of ticks that a run may have, from the least one.
-abbrev pub is_length : ℕ → Option ℕ → Bool
-is_length least None = false
-is_length least (Some ticks) = nat_le least ticks && nat_le ticks (10 ^ 15)
+-- At least so many ticks.
+abbrev pub is_length : ℕ → Result ℕ SecondsFault → Bool
+is_length least (Ok ticks) = nat_le least ticks
+is_length least (Err fault) = false
 
 abbrev pub mistimes : System → LineForm → Bool
-mistimes system (form.Stop seconds) = not (is_length 0 (ticks_in (resolution_of system) seconds))
-mistimes system (form.Longest seconds) = not (is_length 1 (ticks_in (resolution_of system) seconds))
+mistimes system (form.Stop seconds) = not (is_length 0 (seconds_of (resolution_of system) seconds))
+mistimes system (form.Longest seconds) = not (is_length 1 (seconds_of (resolution_of system) seconds))
 mistimes system _ = false
 
 -- ---- Rule 21: rows times instances are above 1,000,000

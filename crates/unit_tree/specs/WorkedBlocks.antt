@@ -2,6 +2,7 @@
 use Rattle.std.specs.Prelude.{◌≡◌, Bool, true, false, List, [], ◌∷◌, ◌++◌, codes, pos}
 use Rattle.std.specs.List.{repeat}
 use Rattle.fixed_words.specs.declared.types.Literal.TheVariants as literal
+use Rattle.fixed_words.specs.declared.types.Ty.TheVariants.{Int64}
 use Rattle.unit_tree.specs.Blocks.{InUnit, InStep, InElse, no_lines, and_lines, open_blocks, may_stand}
 use Rattle.unit_tree.specs.Lines.{source_lines, size_of, code_of, is_blank_line, has_forbidden_byte}
 use Rattle.unit_tree.specs.declared.expr.Expr as expr
@@ -31,6 +32,10 @@ stop = form.Stop (literal.Number (pos 3) 0)
 -- `max 3`
 abbrev pub limit : LineForm
 limit = form.Max (expr.Number (pos 3) 0)
+
+-- `event input e : Int64`
+abbrev pub event : LineForm
+event = form.EventInput (record { name = codes "e"; ty = Int64 })
 
 -- Whether a line may stand behind these.
 abbrev pub stands_behind : List LineForm → LineForm → Bool
@@ -64,6 +69,9 @@ pub record BlocksAreWorked : Type 0 where
   pub step_in_step : stands_behind step form.Step ≡ false
   pub assignment_in_choice : stands_behind choice (form.Assign (codes "n") (expr.Truth true)) ≡ true
   pub assignment_in_unit : stands_behind unit (form.Assign (codes "n") (expr.Truth true)) ≡ false
+  pub event_in_unit : stands_behind unit event ≡ true
+  pub event_in_step : stands_behind step event ≡ false
+  pub event_at_top : stands_behind header event ≡ false
   -- one `else` in an `if`, and none elsewhere
   pub else_in_if : stands_behind choice form.Else ≡ true
   pub second_else : stands_behind (choice ++ (form.Else ∷ [])) form.Else ≡ false

@@ -92,6 +92,7 @@ pub record PhrasesAreWorked : Type 0 where
   -- parts are nested at most 64 levels deep
   pub level_64 : is_expression (wrapped 64 a) ≡ true
   pub level_65 : is_expression (wrapped 65 a) ≡ false
+  pub level_64_of_name : is_expression (wrapped 64 (phrase.Present (codes "a"))) ≡ true
   pub level_64_inside : is_expression (phrase.Binary by.Add a (phrase.Unary of.Neg (wrapped 63 a))) ≡ true
   pub nested_sum : nesting (phrase.Binary by.Add (phrase.Parens a) b) ≡ 1
   pub nested_call : nesting (phrase.Binary by.Min (phrase.Binary by.Max a b) c) ≡ 2

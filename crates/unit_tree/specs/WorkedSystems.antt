@@ -8,6 +8,8 @@ use Rattle.unit_tree.specs.Canonical.{canonical_forms, line_text}
 use Rattle.unit_tree.specs.Orders.{IsOrderly, HasNoCycle, IsFirstWithoutOrder, line_of_output}
 use Rattle.unit_tree.specs.Parts as parts
 use Rattle.unit_tree.specs.Parts.{Part, UnitPart, unit_of, system_of}
+use Rattle.unit_tree.specs.Sites.{Scope, TopScope, UnitScope, StepScope, InstanceScope, sites_of}
+use Rattle.unit_tree.specs.SourceLines.{in_canonical_order}
 use Rattle.unit_tree.specs.WellFormed.{refusal_of}
 use Rattle.unit_tree.specs.declared.expr.BinOp.TheVariants as by
 use Rattle.unit_tree.specs.declared.expr.Expr.{Expr}
@@ -18,6 +20,7 @@ use Rattle.unit_tree.specs.declared.line.Line as line
 use Rattle.unit_tree.specs.declared.system.PortName.{PortName}
 use Rattle.unit_tree.specs.declared.system.Setting.{Setting}
 use Rattle.unit_tree.specs.declared.system.System.{System}
+use Rattle.unit_tree.specs.declared.unit.Unit.{Unit}
 
 -- ---- Parts
 
@@ -167,8 +170,35 @@ pair_with wires =
 abbrev pub instances : List ℕ → List Part
 instances letters = map (λ letter. instance (letter ∷ [])) letters
 
+-- A step whose last lines are the `end` of its `if`, its own `end`, and that of its unit.
+abbrev pub choosing : List UnitPart
+choosing = parts.Step (line.If (expr.Truth true) (line.Accept one ∷ []) None ∷ []) ∷ []
+
+abbrev pub choosing_unit : Unit
+choosing_unit = unit_of (codes "A") choosing
+
+abbrev pub choosing_scopes : List Scope
+choosing_scopes =
+    TopScope
+    ∷ TopScope
+    ∷ UnitScope choosing_unit
+    ∷ StepScope choosing_unit
+    ∷ StepScope choosing_unit
+    ∷ StepScope choosing_unit
+    ∷ UnitScope choosing_unit
+    ∷ UnitScope choosing_unit
+    ∷ TopScope
+    ∷ InstanceScope (record { name = codes "a"; unit = codes "A"; settings = [] })
+    ∷ TopScope
+    ∷ []
+
 pub record SystemsAreWorked : Type 0 where
   pub thermostat_is : lines_of_system (system_of 1 thermostat) ≡ thermostat_lines
+  -- the lines of a text, by number, in canonical order
+  pub instance_first : in_canonical_order {A = ℕ} (instance (codes "a") ∷ unit_a [] ∷ []) (1 ∷ 2 ∷ 3 ∷ 4 ∷ 5 ∷ []) ≡ 1 ∷ 4 ∷ 5 ∷ 2 ∷ 3 ∷ []
+  pub step_first : in_canonical_order {A = ℕ} (a_to_b ∷ unit_a (choosing ++ counts) ∷ a_to_b ∷ []) (1 ∷ 2 ∷ 3 ∷ 4 ∷ 5 ∷ 6 ∷ 7 ∷ 8 ∷ 9 ∷ 10 ∷ 11 ∷ 12 ∷ []) ≡ 1 ∷ 3 ∷ 9 ∷ 10 ∷ 4 ∷ 5 ∷ 6 ∷ 7 ∷ 8 ∷ 11 ∷ 2 ∷ 12 ∷ []
+  -- the scope of each line
+  pub scopes : map (λ site. site.scope) (sites_of (system_of 1 (run_of choosing))) ≡ choosing_scopes
   pub accepted : Accepted (run_of counts)
   -- 8: the second of two equal names, in canonical order
   pub equal_units : Refused (unit_a counts ∷ run_of counts) 8 6
@@ -202,7 +232,6 @@ pub record SystemsAreWorked : Type 0 where
   pub depth_33 : Refused (run_of (state_n types.Int64 (number 0) ∷ output_y types.Int64 [] (minuses 32) ∷ [])) 17 4
   -- 18: 1 + 1000 * (1 + 33 * (2 + 1) + 1) + 1 is 101002
   pub too_dear : Refused (run_of (counts ++ (parts.Step (line.Repeat 1000 (line.Repeat 33 (set (codes "n") n ∷ []) ∷ []) ∷ []) ∷ []))) 18 5
-  pub dear : Accepted (run_of (counts ++ (parts.Step (line.Repeat 1000 (line.Repeat 32 (set (codes "n") n ∷ []) ∷ []) ∷ []) ∷ [])))
   -- 19 to 24
   pub no_stop : Refused (unit_a counts ∷ instance (codes "a") ∷ []) 19 1
   pub half_a_tick : Refused (parts.Longest (literal.Number (pos 5) 1) ∷ run_of counts) 20 9

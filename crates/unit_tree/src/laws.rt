@@ -17,7 +17,8 @@ pub fn each_system_is_judged_once()
     ensures { IsJudgedOnce }
 {}
 
-/// A law: the rules of a system speak of its canonical lines, one for one.
+/// A law: the rules of a system speak of its canonical lines, one for one, each in its block and behind the lines before
+/// it there.
 pub fn sites_are_canonical_lines()
     ensures { SitesAreCanonicalLines }
 {}
@@ -27,8 +28,8 @@ pub fn canonical_parts_say_the_system()
     ensures { CanonicalPartsSayTheSystem }
 {}
 
-/// A law: the canonical phrase of an expression whose numbers aren't negative has its tree, and each part of it stands on
-/// a level that the grammar allows.
+/// A law: the canonical phrase of an expression whose numbers are words from 0 up has its tree, and each part of it
+/// stands on a level that the grammar allows.
 pub fn canonical_phrases_are_right()
     ensures { CanonicalPhrasesAreRight }
 {}

@@ -31,6 +31,7 @@ returns c = record {
   too_great = record { text_is = refl; ungrammatical = refl };
   level_64 = refl;
   level_65 = refl;
+  level_64_of_name = refl;
   level_64_inside = refl;
   not_not = record { text_is = refl; grammatical = refl; shortest_is = simp the_lemmas refl };
   equal_truths = record { text_is = refl; grammatical = refl; shortest_is = simp the_lemmas refl };

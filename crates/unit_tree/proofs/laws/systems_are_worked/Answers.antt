@@ -10,6 +10,9 @@ pub returns : goal.returns
 unfolding digits
 returns c = record {
   thermostat_is = simp (kind_laws, expr_lemmas, line_lemmas) refl;
+  instance_first = refl;
+  step_first = simp line_lemmas refl;
+  scopes = simp line_lemmas refl;
   accepted = simp (kind_laws, expr_lemmas, line_lemmas) refl;
   equal_units = refl;
   equal_instances = refl;
@@ -36,7 +39,6 @@ returns c = record {
   depth_32 = simp plain_measures (simp (kind_laws, expr_lemmas, line_lemmas) refl);
   depth_33 = simp plain_measures (simp (kind_laws, expr_lemmas, line_lemmas) refl);
   too_dear = simp (kind_laws, expr_lemmas, line_lemmas) refl;
-  dear = simp (kind_laws, expr_lemmas, line_lemmas) refl;
   no_stop = simp (kind_laws, expr_lemmas, line_lemmas) refl;
   half_a_tick = simp (kind_laws, expr_lemmas, line_lemmas) refl;
   whole_by_value = simp (kind_laws, expr_lemmas, line_lemmas) refl;
