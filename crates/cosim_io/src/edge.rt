@@ -6,6 +6,9 @@ ghost use Rattle.cosim_io.specs.Pieces.{AppendsPrefix};
 use crate::{Failed, Sink, Source};
 use std::io::{Read, Write};
 
+#[cfg(test)]
+mod tests;
+
 /// A source over any reader of std. Each `Err` of a read is a fault, one that was only interrupted too.
 #[derive(Drop)]
 pub struct StdSource<R: Read> {

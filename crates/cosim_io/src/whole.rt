@@ -45,7 +45,8 @@ const CHUNK: usize = 4096;
 /// Reads all the bytes that are left, up to the end of input, where these are at most `limit` bytes.
 ///
 /// No more than the byte after the limit is taken: `TooLong` comes as soon as that one was, and leaves the rest unread.
-/// `Fault` comes at the first read that fails. After `Fault` and `NoMemory` the bytes that were taken are lost.
+/// `Fault` comes at the first read that fails, before which at most `limit` bytes were taken. After `Fault` and
+/// `NoMemory` the bytes that were taken are lost.
 pub fn read_all<S: Source>(alloc: Global, source: &mut S, limit: usize) -> Result<Vec<u8>, ReadEnd>
     ensures all { IfOk result (λ bytes. IfSome (S.left source.old) (λ left. bytes.items ≡ left)) }
     ensures ended { OnOk result (IsAtEnd (S.left source.new)) }
@@ -57,8 +58,9 @@ pub fn read_all<S: Source>(alloc: Global, source: &mut S, limit: usize) -> Resul
     ensures longer { IsLongerThan (S.left source.old) limit → IsErr result }
     ensures taken { ConsumesAtMost (S.left source.old) (S.left source.new) (limit + 1) }
 
-    // It doesn't give up by itself, and no fault goes untold.
+    // It doesn't give up by itself, no fault goes untold, and no byte after the limit was taken before one.
     ensures fault { IsErrOf result ReadEnd.Fault → Rose (S.faults source.old) (S.faults source.new) }
+    ensures fault_taken { IsErrOf result ReadEnd.Fault → ConsumesAtMost (S.left source.old) (S.left source.new) limit }
     ensures greater { S.faults source.old < S.faults source.new → IsErrOf result ReadEnd.Fault }
     ensures later { S.faults source.old ≤ S.faults source.new }
 {

@@ -1,14 +1,12 @@
--- The floor of a quotient by the code's cases, and how far it, times the divisor, is from the dividend.
-use Rattle.std.proofs.Common.{◌≡◌, ◌≢◌, ℕ, false, ltb, zero, suc, ◌+◌, ◌*◌, ◌/◌, ◌^◌, ◌≤◌, if◌then◌else◌, refl, sym, ap, ◌∙◌, arith, ℤ, pos, negsuc, ◌*ℤ◌, ◌-ℤ◌, neg_ℤ, w64, SFits}
-use Rattle.std.specs.Int.RustNames.{unsigned_abs}
-use Rattle.std.specs.Int.{w128, int_div_euclid, is_negative}
-use Rattle.std.specs.Int.Signed.{nat_abs-le}
+-- The floor of a quotient by the signs of both.
+use Rattle.std.proofs.Common.{◌≡◌, ◌≢◌, ℕ, false, ltb, zero, suc, ◌+◌, ◌*◌, ◌/◌, if◌then◌else◌, refl, sym, ap, ◌∙◌, arith, ℤ, pos, negsuc, ◌*ℤ◌, neg_ℤ}
+use Rattle.std.specs.Int.{int_div_euclid, is_negative}
 use Rattle.std.proofs.Math.Nat.{mul-div-mul_right, div-div-eq-div-mul}
 use Rattle.std.proofs.lemmas.Nat.{div-mul-add}
-use Rattle.std.proofs.lemmas.Int.{unsigned_abs-mul, fits_signed_from_abs, ints}
+use Rattle.std.proofs.lemmas.Int.{ints}
 use Rattle.fixed_words.specs.Operations.{floor_quotient}
 
-never_below_zero : (b : ℕ) → ltb b 0 ≡ false
+pub never_below_zero : (b : ℕ) → ltb b 0 ≡ false
 never_below_zero b = grind arith
 
 -- a common factor that is positive cancels
@@ -43,43 +41,3 @@ pub by_sign : (d v : ℤ) → v ≢ pos 0 → floor_quotient d v ≡ (if is_nega
 by_sign d (pos zero) some = absurd (some refl)
 by_sign d (pos (suc b)) some = rw (never_below_zero (suc b)) (by_positive d b)
 by_sign d (negsuc b) some = by_negative d b
-
-part_within : (a b : ℕ) → b * (a / b) ≤ a + b
-part_within a zero = omega arith
-part_within a (suc b) = omega arith
-
-part_after : (a b : ℕ) → b * suc (a / b) ≤ suc a + b
-part_after a zero = omega arith
-part_after a (suc b) = omega arith
-
-abs_pos : (n : ℕ) → unsigned_abs (pos n) ≡ n
-abs_pos n = omega arith
-
-abs_negsuc : (n : ℕ) → unsigned_abs (negsuc n) ≡ suc n
-abs_negsuc n = omega arith
-
-abs_neg : (d : ℤ) → unsigned_abs (neg_ℤ d) ≡ unsigned_abs d
-abs_neg d = omega (arith, ints)
-
-scaled_within : (d : ℤ) (b : ℕ) → suc b * unsigned_abs (int_div_euclid d (pos (suc b))) ≤ unsigned_abs d + suc b
-scaled_within (pos a) b = simp abs_pos (part_within a (suc b))
-scaled_within (negsuc a) b = simp abs_negsuc (part_after a (suc b))
-
-pub multiple_within : (d v : ℤ) → unsigned_abs (v *ℤ floor_quotient d v) ≤ unsigned_abs d + unsigned_abs v
-multiple_within d (pos zero) = simp (unsigned_abs-mul, abs_pos) (omega arith)
-multiple_within d (pos (suc b)) = rw (by_positive d b) (simp (unsigned_abs-mul, abs_pos) (scaled_within d b))
-multiple_within d (negsuc b) = rw (by_negative d b) (simp (unsigned_abs-mul, abs_negsuc) (omega (arith, scaled_within (neg_ℤ d) b, abs_neg d)))
-
-pub multiple_fits : (d v q : ℤ) → SFits w64 d → SFits w64 v → q ≡ floor_quotient d v → SFits w128 (v *ℤ q)
-multiple_fits d v q fits_d fits_v is =
-    let d_within : unsigned_abs d ≤ 2 ^ 63 = nat_abs-le d fits_d.sfits in
-    let v_within : unsigned_abs v ≤ 2 ^ 63 = nat_abs-le v fits_v.sfits in
-    let within = multiple_within d v in
-    rw is (fits_signed_from_abs w128 (v *ℤ floor_quotient d v) (omega arith))
-
-pub left_fits : (d v q : ℤ) → SFits w64 d → SFits w64 v → q ≡ floor_quotient d v → SFits w128 (d -ℤ v *ℤ q)
-left_fits d v q fits_d fits_v is =
-    let d_within : unsigned_abs d ≤ 2 ^ 63 = nat_abs-le d fits_d.sfits in
-    let v_within : unsigned_abs v ≤ 2 ^ 63 = nat_abs-le v fits_v.sfits in
-    let within = multiple_within d v in
-    rw is (fits_signed_from_abs w128 (d -ℤ v *ℤ floor_quotient d v) (omega (arith, ints)))

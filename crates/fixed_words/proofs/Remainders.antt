@@ -1,13 +1,10 @@
 -- What the floor of a quotient leaves, by the signs of both.
-use Rattle.std.proofs.Common.{◌≡◌, ◌≢◌, ℕ, false, ltb, zero, suc, ◌-◌, ◌%◌, ◌<◌, inl, inr, refl, sym, ap, ◌∙◌, subst, arith, ℤ, pos, negsuc, neg_ℤ, ◌-ℤ◌, ◌*ℤ◌}
+use Rattle.std.proofs.Common.{◌≡◌, ◌≢◌, ℕ, zero, suc, ◌-◌, ◌%◌, ◌<◌, inl, inr, refl, sym, ap, ◌∙◌, subst, arith, ℤ, pos, negsuc, neg_ℤ, ◌-ℤ◌, ◌*ℤ◌}
 use Rattle.std.specs.Int.{int_div_euclid, is_negative}
 use Rattle.std.specs.Int.RustNames.{unsigned_abs}
 use Rattle.std.proofs.lemmas.Int.{ints}
 use Rattle.fixed_words.specs.Laws.{left_over, IsFloor}
-use Rattle.fixed_words.proofs.Floors.{by_positive, by_negative}
-
-never_below_zero : (b : ℕ) → ltb b 0 ≡ false
-never_below_zero b = grind arith
+use Rattle.fixed_words.proofs.Floors.{by_positive, by_negative, never_below_zero}
 
 over_positive : (d : ℤ) (b : ℕ) → left_over d (pos (suc b)) ≡ d -ℤ (pos (suc b) *ℤ int_div_euclid d (pos (suc b)))
 over_positive d b = ap (λ q. d -ℤ (pos (suc b) *ℤ q)) (by_positive d b)
@@ -15,16 +12,19 @@ over_positive d b = ap (λ q. d -ℤ (pos (suc b) *ℤ q)) (by_positive d b)
 over_negative : (d : ℤ) (b : ℕ) → left_over d (negsuc b) ≡ d -ℤ (negsuc b *ℤ int_div_euclid (neg_ℤ d) (pos (suc b)))
 over_negative d b = ap (λ q. d -ℤ (negsuc b *ℤ q)) (by_negative d b)
 
-positive_by_positive : (a b : ℕ) → left_over (pos a) (pos (suc b)) ≡ pos (a % suc b)
+pub positive_by_positive : (a b : ℕ) → left_over (pos a) (pos (suc b)) ≡ pos (a % suc b)
 positive_by_positive a b = over_positive (pos a) b ∙ omega (arith, ints)
 
-negative_by_positive : (a b : ℕ) → left_over (negsuc a) (pos (suc b)) ≡ pos (b - a % suc b)
+pub negative_by_positive : (a b : ℕ) → left_over (negsuc a) (pos (suc b)) ≡ pos (b - a % suc b)
 negative_by_positive a b = over_positive (negsuc a) b ∙ omega (arith, ints)
 
-positive_by_negative : (a b : ℕ) → left_over (pos (suc a)) (negsuc b) ≡ neg_ℤ (pos (b - a % suc b))
+pub positive_by_negative : (a b : ℕ) → left_over (pos (suc a)) (negsuc b) ≡ neg_ℤ (pos (b - a % suc b))
 positive_by_negative a b = over_negative (pos (suc a)) b ∙ omega (arith, ints)
 
-negative_by_negative : (a b : ℕ) → left_over (negsuc a) (negsuc b) ≡ neg_ℤ (pos (suc a % suc b))
+pub nothing_by_negative : (b : ℕ) → left_over (pos zero) (negsuc b) ≡ pos 0
+nothing_by_negative b = over_negative (pos zero) b ∙ omega (arith, ints)
+
+pub negative_by_negative : (a b : ℕ) → left_over (negsuc a) (negsuc b) ≡ neg_ℤ (pos (suc a % suc b))
 negative_by_negative a b = over_negative (negsuc a) b ∙ omega (arith, ints)
 
 -- what is left of a positive divisor's multiples
@@ -49,6 +49,6 @@ pub is_floor : (dividend divisor : ℤ) → divisor ≢ pos 0 → IsFloor divide
 is_floor dividend (pos zero) some = absurd (some refl)
 is_floor (pos a) (pos (suc b)) some = left_positive (pos a) b (a % suc b) (positive_by_positive a b) (omega arith)
 is_floor (negsuc a) (pos (suc b)) some = left_positive (negsuc a) b (b - a % suc b) (negative_by_positive a b) (omega arith)
-is_floor (pos zero) (negsuc b) some = left_negative (pos zero) b 0 (over_negative (pos zero) b ∙ omega (arith, ints)) (omega arith)
+is_floor (pos zero) (negsuc b) some = left_negative (pos zero) b 0 (nothing_by_negative b) (omega arith)
 is_floor (pos (suc a)) (negsuc b) some = left_negative (pos (suc a)) b (b - a % suc b) (positive_by_negative a b) (omega arith)
 is_floor (negsuc a) (negsuc b) some = left_negative (negsuc a) b (suc a % suc b) (negative_by_negative a b) (omega arith)

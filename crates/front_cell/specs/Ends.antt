@@ -7,10 +7,11 @@ use Rattle.front_cell.specs.declared.front.Front.{Front}
 abbrev pub CellId : Type 0
 CellId = TableId
 
--- a writer: its cell, what it stored last, and how many loads the readers that it took in had made
+-- a writer: its cell, what it stored last, how many stores it made, and how many loads the readers that it took in had made
 pub record WriterState : Type 0 where
   pub cell : CellId
   pub front : Front
+  pub stores : ℕ
   pub joined : ℕ
 
 -- a reader: its cell, what its last load gave, or before the first the writer's front at the split, and how many loads it made

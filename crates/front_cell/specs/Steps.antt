@@ -5,9 +5,9 @@ use Rattle.front_cell.specs.declared.front.Front.{Front}
 use Rattle.front_cell.specs.declared.view.View.{View}
 use Rattle.front_cell.specs.declared.view.View.TheVariants.{Wrote, Saw, Spent}
 
--- a store: the writer's view has what the cell then holds
+-- a store: the writer's view has what the cell then holds, and has one store more
 abbrev pub Stores : View → Front → Front → View → Type 0
-Stores (Wrote front joined) before after w = w ≡ Wrote after joined
+Stores (Wrote front stores joined) before after w = w ≡ Wrote after (stores + 1) joined
 Stores _ before after w = Unit {0}
 
 -- a load: the reader has seen what the cell holds, which is not behind what it saw before, and has one load more
@@ -17,10 +17,10 @@ Loads _ before after w = Unit {0}
 
 -- a split: the new reader has seen what the writer stored last, and has made no load
 abbrev pub reader_of : View → View
-reader_of (Wrote front joined) = Saw front 0
+reader_of (Wrote front stores joined) = Saw front 0
 reader_of _ = Spent
 
 -- a join: the writer has taken the reader's loads in
 abbrev pub after_join : View → View → View
-after_join (Wrote front joined) (Saw seen loads) = Wrote front (joined + loads)
+after_join (Wrote front stores joined) (Saw seen loads) = Wrote front stores (joined + loads)
 after_join v _ = v

@@ -34,27 +34,31 @@ impl FrontCell {
     ///
     /// `AllocError` where there is no memory for it.
     pub fn new(alloc: Global) -> Result<(FrontCell, Writer), AllocError>
-        ensures { IfOk result (λ made. made.1 ≡ record { cell = made.0; front = opening; joined = 0 }) }
+        ensures { IfOk result (λ made. made.1 ≡ record { cell = made.0; front = opening; stores = 0; joined = 0 }) }
     {
         let front = Front::open_at(0);
         let (words, pass) = RuledSeqCell::ruled(alloc, front)?;
         Ok((FrontCell { words }, Writer { pass, front }))
     }
 
-    /// Stores a number of rows, which is no smaller than the last, while the run is open.
+    /// Stores a number of rows, which is no smaller than the last, while the run is open. It is one store: no reader
+    /// sees another number on the way.
     pub fn advance<R: Wait>(&self, rt: &R, writer: &mut Writer, rows: u64)
         requires own { writer.old.cell ≡ self.now }
         requires forward { writer.old.front.rows ≤ rows }
         requires still_open { writer.old.front.closed ≡ false }
-        ensures { writer.new ≡ record writer.old { front = open_at rows } }
+        ensures { writer.new ≡ record writer.old { front = open_at rows; stores = writer.old.stores + 1 } }
     {
         self.store(rt, writer, Front::open_at(rows));
     }
 
-    /// Closes the run. A second close changes nothing.
+    /// Closes the run, by one store. A second close leaves the front as it is, by one store or none.
     pub fn close<R: Wait>(&self, rt: &R, writer: &mut Writer)
         requires { writer.old.cell ≡ self.now }
-        ensures { writer.new ≡ record writer.old { front = closed_at writer.old.front } }
+        ensures closed { writer.new ≡ record writer.old { front = closed_at writer.old.front; stores = writer.new.stores } }
+        ensures one_store { writer.old.front.closed ≡ false → writer.new.stores ≡ writer.old.stores + 1 }
+        ensures no_fewer { writer.old.stores ≤ writer.new.stores }
+        ensures at_most_one { writer.new.stores ≤ writer.old.stores + 1 }
     {
         let next = writer.front.to_closed();
         self.store(rt, writer, next);
@@ -64,7 +68,7 @@ impl FrontCell {
     fn store<R: Wait>(&self, rt: &R, writer: &mut Writer, next: Front)
         requires own { writer.old.cell ≡ self.now }
         requires forward { IsBehind writer.old.front next }
-        ensures { writer.new ≡ record writer.old { front = next } }
+        ensures { writer.new ≡ record writer.old { front = next; stores = writer.old.stores + 1 } }
     {
         self.words.swap_as::<Store, R>(rt, &mut writer.pass, next);
         writer.front = next;

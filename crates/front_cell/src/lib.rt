@@ -6,10 +6,12 @@
 //!
 //! # What the layer above may use
 //!
-//! A contract sees a cell as which cell it is; a writer as its cell, the front that it stored last, and the loads of the
-//! readers that it took in; a reader as its cell, the front that it saw last, and the number of its loads
-//! (`specs/Ends.antt`). A reader begins with the writer's front and no load. A read is one load more, its answer is what
-//! the reader has then seen, and this is not behind what the reader had seen before: its number is no smaller, and closed
+//! A contract sees a cell as which cell it is; a writer as its cell, the front that it stored last, the number of its
+//! stores, and the loads of the readers that it took in; a reader as its cell, the front that it saw last, and the number
+//! of its loads (`specs/Ends.antt`). An advance is one store more, so no reader sees a number that the writer was not
+//! advanced to. A close is one store more where the run is open, and at most one where it is closed; a split and a join
+//! store nothing. A reader begins with the writer's front and no load. A read is one load more, its answer is what the
+//! reader has then seen, and this is not behind what the reader had seen before: its number is no smaller, and closed
 //! stays closed (`specs/Front.antt`). So it is not behind the writer's front at the split either. Nothing else is known of
 //! what another thread stores.
 //!
@@ -23,7 +25,8 @@
 //! of them the cell holds what the writer stored last, no reader has seen more rows than the cell has, and none has seen
 //! closed unless the cell is closed (`specs/Rule.antt`). What a step does to the view of its end stands in
 //! `specs/Steps.antt`. A reader's view changes by its own loads, and ends by its join, which leaves the one view of a
-//! spent end, of which the rule says nothing. Views are data of the proofs alone, so loads are counted without bound.
+//! spent end, of which the rule says nothing. Views are data of the proofs alone, so stores and loads are counted without
+//! bound.
 //!
 //! [`writer_never_goes_back`] says what follows for all stores from the opening, and [`reader_never_goes_back`] for all
 //! reads from a split (`specs/Laws.antt`).

@@ -7,8 +7,9 @@ use crossbeam_utils::rule::{Outcome, Protocol};
 /// What one end of a cell has done. It is there for the proofs alone: no value of it is made, and so its numbers have no
 /// bound.
 pub enum View {
-    /// The writer's: what it stored last, and how many loads the readers that it took in had made.
-    Wrote(Front, u64),
+    /// The writer's: what it stored last, how many stores it made, and how many loads the readers that it took in had
+    /// made.
+    Wrote(Front, u64, u64),
     /// A reader's: what its last load gave, or before the first what the writer had stored, and how many loads it made.
     Saw(Front, u64),
     /// That of a reader which was joined away.
@@ -25,7 +26,7 @@ impl Protocol<Front, View> for InStep {
 
     ghost holds = { IsInStep };
 
-    ghost first = { Wrote opening 0 };
+    ghost first = { Wrote opening 0 0 };
 }
 
 /// What a store does to the writer's view.

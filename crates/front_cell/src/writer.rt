@@ -5,8 +5,8 @@ use std::marker::Model;
 
 /// The one writer of a cell.
 ///
-/// Contracts see it as `WriterState`: its cell, the front that it stored last, which is what the cell holds, and how
-/// many loads the readers that it took in had made.
+/// Contracts see it as `WriterState`: its cell, the front that it stored last, which is what the cell holds, how many
+/// stores it made, and how many loads the readers that it took in had made.
 #[derive(Drop)]
 pub struct Writer {
     pub(crate) pass: EndPass,

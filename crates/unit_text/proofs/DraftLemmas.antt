@@ -17,7 +17,8 @@ use Rattle.unit_text.specs.declared.form.Declared.{Declared}
 use Rattle.unit_text.specs.declared.form.FirstFormLine.{FirstFormLine}
 use Rattle.unit_text.specs.declared.form.FirstFormLine.TheVariants as form
 use Rattle.unit_text.specs.declared.form.Source.{Source}
-use Rattle.unit_text.proofs.NameLemmas.{names, IsName, names_state_is, names_state_no, is_declared_is, distinct_push}
+use Rattle.unit_tree.specs.Tokens.{IsName}
+use Rattle.unit_text.proofs.NameLemmas.{names, names_state_is, names_state_no, is_declared_is, distinct_push}
 
 -- The draft that lines lead to.
 abbrev pub run : Draft → List FirstFormLine → Option Draft
@@ -92,10 +93,10 @@ record Adds (stage : Stage) (source : Source) (line : FirstFormLine) (next : Dra
   lines : begun next.stage next.source ≡ begun stage source ++ line ∷ []
 
 name_of_unit : (name text : List ℕ) → HasForm (form.Unit name) text → IsName name
-name_of_unit name text has = (has.spelled.2.1.spelling.1, has.spelled.2.1.spelling.2)
+name_of_unit name text has = has.spelled.2.1.spelling.1
 
 name_of_state : (state : Declared) (text : List ℕ) → HasForm (form.State state) text → IsName state.name
-name_of_state state text has = (has.spelled.2.1.spelling.1, has.spelled.2.1.spelling.2)
+name_of_state state text has = has.spelled.2.1.spelling.1
 
 some_is : (one other : Draft) → ◌≡◌ {A = Option Draft} (Some one) (Some other) → one ≡ other
 some_is one other e = cc

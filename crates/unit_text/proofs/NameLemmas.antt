@@ -7,7 +7,7 @@ use Rattle.std.proofs.lemmas.Bool.{and_parts, and_from, or_cases, or_left, or_ri
 use Rattle.std.proofs.lemmas.Bool.Decides.{nat_tests}
 use Rattle.std.proofs.lemmas.List.Elements.{Contains-append_cases, Contains-append_right, Contains-push_cases}
 use Rattle.std.proofs.lemmas.Slice.Eq.{bytes_eq-Decides}
-use Rattle.unit_tree.specs.Tokens.{IsWord, IsReserved, is_letter, is_word_byte}
+use Rattle.unit_tree.specs.Tokens.{IsWord, IsName, is_letter, is_word_byte}
 use Rattle.unit_text.specs.FirstForm.{AreDistinct, IsDeclared}
 use Rattle.unit_text.specs.Nesting.{names_state, is_declared}
 use Rattle.unit_tokens.specs.Scanning.{keyword_of}
@@ -90,9 +90,6 @@ distinct_middle (x ∷ xs) name ys are c =
     ]
 
 -- ---- a name that no state has
-
-abbrev pub IsName : List ℕ → Type 0
-IsName name = IsWord name × (IsReserved name → ⊥)
 
 -- the test of a name that computes
 abbrev is_name : List ℕ → Bool

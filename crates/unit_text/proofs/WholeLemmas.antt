@@ -4,7 +4,7 @@ use Rattle.std.specs.List.{AllByRecursion, Contains}
 use Rattle.std.proofs.lemmas.Bool.{and_parts, false≢true}
 use Rattle.std.proofs.lemmas.Bool.Decides.{nat_tests}
 use Rattle.std.proofs.lemmas.List.{append-nil, length-append, length-map, map-append}
-use Rattle.unit_tree.specs.Tokens.{IsNumber, IsSpelling, Ends, Spells, symbol_text, is_blank, is_letter, is_digit}
+use Rattle.unit_tree.specs.Tokens.{IsName, IsNumber, IsSpelling, Ends, Spells, symbol_text, is_blank, is_letter, is_digit}
 use Rattle.unit_tree.specs.declared.token.Token.{Token}
 use Rattle.unit_tree.specs.declared.token.Token.TheVariants as token
 use Rattle.unit_text.specs.FirstForm.{longest_line, forms_of, state_names, IsAssignment, AreDistinct, IsOfForm, tokens_of, IsInRange}
@@ -20,7 +20,7 @@ use Rattle.unit_text.specs.declared.form.FirstFormLine.TheVariants as form
 use Rattle.unit_text.specs.declared.form.Source.{Source}
 use Rattle.unit_text.proofs.DraftLemmas.{run, run-append, opening, begun, IsEmpty, IsOpen, IsSound, Holds, holds_none, holds_more}
 use Rattle.unit_text.proofs.FormLemmas.{one_form}
-use Rattle.unit_text.proofs.NameLemmas.{names, IsName, bytes_eq-same, names_state_again, names_state_not, is_declared_again, distinct_middle, some_name, int64_is, letter_is}
+use Rattle.unit_text.proofs.NameLemmas.{names, bytes_eq-same, names_state_again, names_state_not, is_declared_again, distinct_middle, some_name, int64_is, letter_is}
 use Rattle.unit_tokens.proofs.TableLemmas.{is_symbol_text, symbol_is_text}
 
 -- ---- a whole text is read
@@ -157,7 +157,7 @@ IsName-short [] is = omega arith
 IsName-short (x ∷ xs) is = omega (arith, is.0.2)
 
 name_is : (name : List ℕ) → IsName name → IsSpelling (token.Name name) name
-name_is name is = (refl, is.0, is.1)
+name_is name is = (refl, is)
 
 write_header : Written form.Header
 write_header = from_texts form.Header (codes "cosim" ∷ codes "1" ∷ []) (refl, (one_is, tt)) tt (omega arith)

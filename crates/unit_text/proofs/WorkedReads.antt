@@ -13,10 +13,10 @@ use Rattle.unit_tree.specs.Lines.{source_lines, size_of, is_blank_line}
 use Rattle.unit_tree.specs.LineForms.{HasForm, tail_of, is_of_version_2}
 use Rattle.unit_tree.specs.Parts as parts
 use Rattle.unit_tree.specs.Parts.{Part, text_forms, bare_system}
-use Rattle.unit_tree.specs.Printable.{is_event_port, IsInRange, IsName, IsPrintable, is_writable, names_on, step_depth}
+use Rattle.unit_tree.specs.Printable.{is_event_port, IsInRange, IsPrintable, is_writable, names_on, step_depth}
 use Rattle.unit_tree.specs.SourceLines.{ReadsFrom}
 use Rattle.unit_tree.specs.Texts.{BeginsVersion2, HasFormIn, HaveForms, Reads, text_limit, line_limit}
-use Rattle.unit_tree.specs.Tokens.{IsWord}
+use Rattle.unit_tree.specs.Tokens.{IsWord, IsName}
 use Rattle.unit_tree.specs.declared.expr.BinOp.TheVariants as by
 use Rattle.unit_tree.specs.declared.expr.Expr as expr
 use Rattle.unit_tree.specs.declared.expr.Expr.{the_lemmas as expr_lemmas}

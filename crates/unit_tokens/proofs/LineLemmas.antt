@@ -1,9 +1,11 @@
 -- Lemmas on the lines of a text.
-use Rattle.std.proofs.Common.{◌≡◌, ℕ, suc, ◌+◌, ◌<◌, ◌≤◌, true, false, not, cond, List, [], ◌∷◌, ◌++◌, length, take, drop, refl, ap, sym, ◌∙◌, arith, ◌==◌, add-one, one-add}
-use Rattle.std.specs.List.{onto_first, prefix_len, sum_by}
+use Rattle.std.proofs.Common.{◌≡◌, ℕ, suc, ◌+◌, ◌<◌, ◌≤◌, Bool, true, false, not, cond, List, [], ◌∷◌, ◌++◌, length, take, drop, refl, ap, sym, ◌∙◌, arith, ◌==◌, add-one, one-add}
+use Rattle.std.specs.List.{list_all, onto_first, prefix_len, sum_by}
 use Rattle.std.proofs.lemmas.List.{drop_all}
+use Rattle.std.proofs.lemmas.Bool.{eqb-true}
 use Rattle.std.proofs.lemmas.List.Sums.{sum_by-cons}
 use Rattle.unit_tree.specs.Lines.{lines_of, size_of}
+use Rattle.unit_tokens.proofs.FrontLemmas.{front_passes}
 
 -- how many bytes come before the first end
 abbrev pub line_length : List ℕ → ℕ
@@ -28,6 +30,25 @@ lines_of_cut text n some at = rw (at, add-one) (lines_of_cut_suc text some)
 pub lines_of_one : (text : List ℕ) (n : ℕ) → 0 < length text → length text ≤ n → n ≡ prefix_len (λ byte. not (byte == 10)) text → lines_of text ≡ take n text ∷ lines_of (drop n text)
 lines_of_one text n some past at =
     lines_of_cut text n some at ∙ ap (λ rest. take n text ∷ lines_of rest) (drop_all (n + 1) text (omega arith) ∙ sym (drop_all n text past))
+
+-- a line has no end
+pub line_of_cut : (text : List ℕ) (n : ℕ) → n ≡ prefix_len (λ byte. not (byte == 10)) text → list_all (λ byte. not (byte == 10)) (take n text) ≡ true
+line_of_cut text n at = rw at (front_passes (λ byte. not (byte == 10)) text)
+
+-- where an end follows it, the text is the line, that end and what is behind it
+behind_case : (byte : ℕ) (text : List ℕ) (b : Bool) → (byte == 10) ≡ b → (line_length text < length text → text ≡ take (line_length text) text ++ 10 ∷ drop (suc (line_length text)) text) → cond (not b) (1 + line_length text) 0 < suc (length text)
+    → byte ∷ text ≡ take (cond (not b) (1 + line_length text) 0) (byte ∷ text) ++ 10 ∷ drop (suc (cond (not b) (1 + line_length text) 0)) (byte ∷ text)
+behind_case byte text true is later more = ap (λ first. first ∷ text) (eqb-true byte 10 is)
+behind_case byte text false is later more = let within : line_length text < length text = omega arith in rw (one-add (line_length text)) (ap (λ rest. byte ∷ rest) (later within))
+
+pub behind_suc : (text : List ℕ) → line_length text < length text → text ≡ take (line_length text) text ++ 10 ∷ drop (suc (line_length text)) text
+behind_suc [] more = absurd (omega arith)
+behind_suc (byte ∷ text) more = behind_case byte text (byte == 10) refl (behind_suc text) more
+
+pub behind_cut : (text : List ℕ) (n : ℕ) → n < length text → n ≡ prefix_len (λ byte. not (byte == 10)) text → text ≡ take n text ++ 10 ∷ drop (n + 1) text
+behind_cut text n more at = rw (at, add-one) (behind_suc text (rw (← at) more))
+
+pub ruleset line_laws = (lines_of_cut, lines_of_one, line_of_cut, behind_cut)
 
 -- the size of lines
 abbrev pub size : List (List ℕ) → ℕ

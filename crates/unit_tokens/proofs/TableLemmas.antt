@@ -1,17 +1,15 @@
--- The tables of keywords and symbols have each of them, and find it by its text.
+-- Each keyword and symbol is found by its text.
 use Rattle.std.proofs.Common.{◌≡◌, ℕ, Bool, true, false, not, cond, ◌&&◌, List, [], ◌∷◌, refl, sym, Some, None}
 use Rattle.std.specs.Prelude.{find}
 use Rattle.std.specs.List.{list_all}
 use Rattle.std.specs.Str.{bytes_eq}
-use Rattle.std.proofs.lemmas.Bool.{and_parts}
 use Rattle.std.proofs.lemmas.Slice.Eq.{bytes_eq-Decides}
 use Rattle.unit_tree.specs.Tokens.{is_blank, is_digit, is_letter, is_word_byte, keyword_text, symbol_text, begins_with, IsReserved}
 use Rattle.unit_tree.specs.declared.token.Keyword.{Keyword}
 use Rattle.unit_tree.specs.declared.token.Keyword.TheVariants as word
 use Rattle.unit_tree.specs.declared.token.Symbol.{Symbol}
 use Rattle.unit_tree.specs.declared.token.Symbol.TheVariants as sign
-use Rattle.unit_tokens.specs.Scanning.{keyword_of, symbol_of}
-use Rattle.unit_tokens.specs.declared.scanning.TheConstants.{KEYWORDS, SYMBOLS}
+use Rattle.unit_tokens.specs.Scanning.{keywords_like, symbols_like, keyword_of, symbol_of}
 
 -- what is found passes the test, and what each element passes
 find_passes_case : {X : Type 0} (test : X → Bool) (y : X) (ys : List X) (x : X) (b : Bool) → test y ≡ b → (find test ys ≡ Some x → test x ≡ true) → cond b (Some y) (find test ys) ≡ Some x → test x ≡ true
@@ -21,16 +19,6 @@ find_passes_case test y ys x false fails later found = later found
 find_passes : {X : Type 0} (test : X → Bool) (xs : List X) (x : X) → find test xs ≡ Some x → test x ≡ true
 find_passes test [] x e = absurd cc
 find_passes test (y ∷ ys) x e = find_passes_case test y ys x (test y) refl (find_passes test ys x) e
-
-find_all_case : {X : Type 0} (test all : X → Bool) (y : X) (ys : List X) (x : X) (b : Bool) → all y ≡ true → (find test ys ≡ Some x → all x ≡ true) → cond b (Some y) (find test ys) ≡ Some x → all x ≡ true
-find_all_case test all y ys x true here later found = let same : y ≡ x = cc in rw (← same) here
-find_all_case test all y ys x false here later found = later found
-
-find_all : {X : Type 0} (test all : X → Bool) (xs : List X) (x : X) → find test xs ≡ Some x → list_all all xs ≡ true → all x ≡ true
-find_all test all [] x e every = absurd cc
-find_all test all (y ∷ ys) x e every =
-    let parts = and_parts (all y) (list_all all ys) every in
-    find_all_case test all y ys x (test y) parts.0 (λ found. find_all test all ys x found parts.1) e
 
 -- ---- keywords
 
@@ -81,7 +69,7 @@ keyword_of-keyword_text word.Absent = refl
 pub keyword_of_is : (text : List ℕ) (keyword : Keyword) → keyword_of text ≡ Some keyword → text ≡ keyword_text keyword
 unfolding keyword_of
 keyword_of_is text keyword e =
-    sym ((bytes_eq-Decides (keyword_text keyword) text).0 (find_passes (λ k. bytes_eq (keyword_text k) text) KEYWORDS keyword e))
+    sym ((bytes_eq-Decides (keyword_text keyword) text).0 (find_passes (λ k. bytes_eq (keyword_text k) text) (keywords_like text) keyword e))
 
 pub keyword_of_none : (text : List ℕ) → keyword_of text ≡ None → IsReserved text → ⊥
 keyword_of_none text e (keyword, spelled) =
@@ -93,9 +81,47 @@ abbrev pub is_word_text : List ℕ → Bool
 is_word_text text = begins_with is_letter text && list_all is_word_byte text
 
 pub keyword_is_word : (keyword : Keyword) → is_word_text (keyword_text keyword) ≡ true
-unfolding keyword_of
-keyword_is_word keyword =
-    find_all (λ k. bytes_eq (keyword_text k) (keyword_text keyword)) (λ k. is_word_text (keyword_text k)) KEYWORDS keyword (keyword_of-keyword_text keyword) refl
+keyword_is_word word.Cosim = refl
+keyword_is_word word.Unit = refl
+keyword_is_word word.Resolution = refl
+keyword_is_word word.Param = refl
+keyword_is_word word.State = refl
+keyword_is_word word.Local = refl
+keyword_is_word word.Input = refl
+keyword_is_word word.Output = refl
+keyword_is_word word.Needs = refl
+keyword_is_word word.Max = refl
+keyword_is_word word.Step = refl
+keyword_is_word word.Repeat = refl
+keyword_is_word word.Accept = refl
+keyword_is_word word.End = refl
+keyword_is_word word.Instance = refl
+keyword_is_word word.Connect = refl
+keyword_is_word word.Stop = refl
+keyword_is_word word.Longest = refl
+keyword_is_word word.Zero = refl
+keyword_is_word word.Rows = refl
+keyword_is_word word.Sample = refl
+keyword_is_word word.If = refl
+keyword_is_word word.Then = refl
+keyword_is_word word.Else = refl
+keyword_is_word word.And = refl
+keyword_is_word word.Or = refl
+keyword_is_word word.Not = refl
+keyword_is_word word.Div = refl
+keyword_is_word word.Mod = refl
+keyword_is_word word.Abs = refl
+keyword_is_word word.Min = refl
+keyword_is_word word.Clamp = refl
+keyword_is_word word.Int = refl
+keyword_is_word word.Fix = refl
+keyword_is_word word.True = refl
+keyword_is_word word.False = refl
+keyword_is_word word.Time = refl
+keyword_is_word word.Length = refl
+keyword_is_word word.Event = refl
+keyword_is_word word.Present = refl
+keyword_is_word word.Absent = refl
 
 -- ---- symbols
 
@@ -123,7 +149,7 @@ symbol_of-symbol_text sign.Point = refl
 pub symbol_of_is : (text : List ℕ) (symbol : Symbol) → symbol_of text ≡ Some symbol → text ≡ symbol_text symbol
 unfolding symbol_of
 symbol_of_is text symbol e =
-    sym ((bytes_eq-Decides (symbol_text symbol) text).0 (find_passes (λ s. bytes_eq (symbol_text s) text) SYMBOLS symbol e))
+    sym ((bytes_eq-Decides (symbol_text symbol) text).0 (find_passes (λ k. bytes_eq (symbol_text k) text) (symbols_like text) symbol e))
 
 -- one byte or two, the first no blank, no letter and no digit, and the second no blank
 abbrev pub is_symbol_text : List ℕ → Bool
@@ -133,6 +159,21 @@ is_symbol_text (first ∷ second ∷ []) = not (is_blank first) && not (is_lette
 is_symbol_text (first ∷ second ∷ third ∷ others) = false
 
 pub symbol_is_text : (symbol : Symbol) → is_symbol_text (symbol_text symbol) ≡ true
-unfolding symbol_of
-symbol_is_text symbol =
-    find_all (λ s. bytes_eq (symbol_text s) (symbol_text symbol)) (λ s. is_symbol_text (symbol_text s)) SYMBOLS symbol (symbol_of-symbol_text symbol) refl
+symbol_is_text sign.Assign = refl
+symbol_is_text sign.Arrow = refl
+symbol_is_text sign.Equals = refl
+symbol_is_text sign.Differs = refl
+symbol_is_text sign.AtMost = refl
+symbol_is_text sign.AtLeast = refl
+symbol_is_text sign.Colon = refl
+symbol_is_text sign.Is = refl
+symbol_is_text sign.Less = refl
+symbol_is_text sign.Greater = refl
+symbol_is_text sign.Plus = refl
+symbol_is_text sign.Minus = refl
+symbol_is_text sign.Star = refl
+symbol_is_text sign.Slash = refl
+symbol_is_text sign.Open = refl
+symbol_is_text sign.Close = refl
+symbol_is_text sign.Comma = refl
+symbol_is_text sign.Point = refl

@@ -169,7 +169,7 @@ symbol_again symbol rest longest =
 
 pub token_again : (first : Token) (text rest : List ℕ) → IsSpelling first text → Ends first rest → token_at (text ++ rest) ≡ Some (first, rest)
 token_again (token.Keyword keyword) text rest spelled ends = rw spelled (keyword_again keyword rest ends)
-token_again (token.Name name) text rest spelled ends = rw spelled.0 (name_again name rest spelled.1 spelled.2 ends)
+token_again (token.Name name) text rest spelled ends = rw spelled.0 (name_again name rest spelled.1.0 spelled.1.1 ends)
 token_again (token.Number digits decimals) text rest spelled ends = number_again digits decimals text rest spelled ends.0 ends.1
 token_again (token.Symbol symbol) text rest spelled ends = rw spelled (symbol_again symbol rest ends)
 
@@ -200,7 +200,7 @@ number_apart digits decimals text rest is =
 
 token_apart : (first : Token) (text rest : List ℕ) → IsSpelling first text → begins_with is_blank (text ++ rest) ≡ false
 token_apart (token.Keyword keyword) text rest spelled = rw spelled (word_apart (keyword_text keyword) rest (keyword_is_word keyword))
-token_apart (token.Name name) text rest spelled = rw spelled.0 (word_apart name rest (IsWord-text name spelled.1).0)
+token_apart (token.Name name) text rest spelled = rw spelled.0 (word_apart name rest (IsWord-text name spelled.1.0).0)
 token_apart (token.Number digits decimals) text rest spelled = number_apart digits decimals text rest spelled
 token_apart (token.Symbol symbol) text rest spelled = rw spelled (sign_apart (symbol_text symbol) rest (symbol_is_text symbol))
 
@@ -237,7 +237,7 @@ name_case text first rest true long word free stops e = absurd cc
 name_case text first rest false short word free stops e =
     let same : token.Name text ≡ first = cc in
     let within : length text ≤ 32 = grind (arith, nat_tests) in
-    rw (← same) ((refl, word_is text within word, free), stops)
+    rw (← same) ((refl, (word_is text within word, free)), stops)
   where
     word_is : (text : List ℕ) → length text ≤ 32 → IsTrue (is_word_text text) → IsWord text
     word_is [] within word = absurd cc

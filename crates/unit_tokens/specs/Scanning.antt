@@ -5,12 +5,13 @@ use Rattle.std.specs.List.{prefix_len}
 use Rattle.std.specs.Str.{bytes_eq}
 use Rattle.unit_tree.specs.Tokens.{is_digit, is_letter, is_word_byte, keyword_text, symbol_text, number_from, begins_with, Spells}
 use Rattle.unit_tree.specs.declared.token.Keyword.{Keyword}
+use Rattle.unit_tree.specs.declared.token.Keyword.TheVariants as word
 use Rattle.unit_tree.specs.declared.token.Symbol.{Symbol}
+use Rattle.unit_tree.specs.declared.token.Symbol.TheVariants as sign
 use Rattle.unit_tree.specs.declared.token.Token.{Token}
 use Rattle.unit_tree.specs.declared.token.Token.TheVariants as token
 use Rattle.unit_tokens.specs.declared.fault.Unread.{Unread}
 use Rattle.unit_tokens.specs.declared.fault.Unread.TheVariants as unread
-use Rattle.unit_tokens.specs.declared.scanning.TheConstants.{KEYWORDS, SYMBOLS}
 
 -- What a reading says of its answer: it holds of what was read, and of none only where nothing may be read.
 -- Want of memory says nothing.
@@ -31,13 +32,59 @@ GivesFront (Ok x) read = read ≡ Some (x.0, x.1.now)
 GivesFront (Err unread.NoForm) read = read ≡ None
 GivesFront (Err unread.NoMemory) read = ⊤
 
+-- The keywords, and the symbols, that begin with the byte.
+abbrev pub keywords_from : ℕ → List Keyword
+keywords_from first =
+    if first == 97 then word.Accept ∷ word.And ∷ word.Abs ∷ word.Absent ∷ [] else (
+    if first == 99 then word.Cosim ∷ word.Connect ∷ word.Clamp ∷ [] else (
+    if first == 100 then word.Div ∷ [] else (
+    if first == 101 then word.End ∷ word.Else ∷ word.Event ∷ [] else (
+    if first == 102 then word.Fix ∷ word.False ∷ [] else (
+    if first == 104 then word.Length ∷ [] else (
+    if first == 105 then word.Input ∷ word.Instance ∷ word.If ∷ word.Int ∷ [] else (
+    if first == 108 then word.Local ∷ word.Longest ∷ [] else (
+    if first == 109 then word.Max ∷ word.Mod ∷ word.Min ∷ [] else (
+    if first == 110 then word.Needs ∷ word.Not ∷ [] else (
+    if first == 111 then word.Output ∷ word.Or ∷ [] else (
+    if first == 112 then word.Param ∷ word.Present ∷ [] else (
+    if first == 114 then word.Resolution ∷ word.Repeat ∷ word.Rows ∷ [] else (
+    if first == 115 then word.State ∷ word.Step ∷ word.Stop ∷ word.Sample ∷ [] else (
+    if first == 116 then word.Then ∷ word.True ∷ word.Time ∷ [] else (
+    if first == 117 then word.Unit ∷ [] else (
+    if first == 122 then word.Zero ∷ [] else []))))))))))))))))
+
+abbrev pub symbols_from : ℕ → List Symbol
+symbols_from first =
+    if first == 33 then sign.Differs ∷ [] else (
+    if first == 40 then sign.Open ∷ [] else (
+    if first == 41 then sign.Close ∷ [] else (
+    if first == 42 then sign.Star ∷ [] else (
+    if first == 43 then sign.Plus ∷ [] else (
+    if first == 44 then sign.Comma ∷ [] else (
+    if first == 45 then sign.Arrow ∷ sign.Minus ∷ [] else (
+    if first == 46 then sign.Point ∷ [] else (
+    if first == 47 then sign.Slash ∷ [] else (
+    if first == 58 then sign.Assign ∷ sign.Colon ∷ [] else (
+    if first == 60 then sign.AtMost ∷ sign.Less ∷ [] else (
+    if first == 61 then sign.Equals ∷ sign.Is ∷ [] else (
+    if first == 62 then sign.AtLeast ∷ sign.Greater ∷ [] else []))))))))))))
+
+-- The keywords, and the symbols, that begin with the text's first byte.
+abbrev pub keywords_like : List ℕ → List Keyword
+keywords_like [] = []
+keywords_like (first ∷ others) = keywords_from first
+
+abbrev pub symbols_like : List ℕ → List Symbol
+symbols_like [] = []
+symbols_like (first ∷ others) = symbols_from first
+
 -- The keyword that the text spells.
 unfoldable pub keyword_of : List ℕ → Option Keyword
-keyword_of text = find (λ keyword. bytes_eq (keyword_text keyword) text) KEYWORDS
+keyword_of text = find (λ keyword. bytes_eq (keyword_text keyword) text) (keywords_like text)
 
 -- The symbol that the text spells.
 unfoldable pub symbol_of : List ℕ → Option Symbol
-symbol_of text = find (λ symbol. bytes_eq (symbol_text symbol) text) SYMBOLS
+symbol_of text = find (λ symbol. bytes_eq (symbol_text symbol) text) (symbols_like text)
 
 -- The token of a word that may be a keyword: if it is none, a name of at most 32 bytes.
 abbrev pub named : List ℕ → Option Keyword → Option Token

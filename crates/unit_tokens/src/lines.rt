@@ -1,5 +1,5 @@
-ghost use Rattle.std.specs.Prelude.{◌≡◌, ◌<◌, ◌≤◌, ◌+◌, ◌∷◌, ◌==◌, not, length};
-ghost use Rattle.std.specs.List.{prefix_len};
+ghost use Rattle.std.specs.Prelude.{◌≡◌, ◌⊎◌, ◌<◌, ◌≤◌, ◌+◌, [], ◌∷◌, ◌++◌, ◌==◌, not, length, IsTrue};
+ghost use Rattle.std.specs.List.{list_all, prefix_len};
 ghost use Rattle.unit_tree.specs.Lines.{lines_of, size_of};
 
 /// What ends a line.
@@ -13,11 +13,14 @@ fn line_length(text: &[u8]) -> usize
     text.iter().take_while(|byte| **byte != LINE_END).count()
 }
 
-/// The first line, without its end, and the text behind it.
-#[tactic(auto, using(crate::proofs::LineLemmas::lines_of_cut, crate::proofs::LineLemmas::lines_of_one))]
+/// The first line, without its end, and the text behind it: all of the text where no line feed stands in it, and then
+/// nothing is behind it.
+#[tactic(auto, using(crate::proofs::LineLemmas::line_laws))]
 pub fn cut_line(text: &[u8]) -> (&[u8], &[u8])
     requires { 0 < length text.now }
     ensures cut { lines_of text.now ≡ result.0.now ∷ lines_of result.1.now }
+    ensures one_line { IsTrue (list_all (λ byte. not (byte == 10)) result.0.now) }
+    ensures behind { (text.now ≡ result.0.now ++ 10 ∷ result.1.now) ⊎ ((text.now ≡ result.0.now) × (result.1.now ≡ [])) }
     ensures shorter { length result.1.now < length text.now }
 {
     let length = line_length(text);

@@ -1,77 +1,12 @@
 ghost use Rattle.std.specs.Prelude.{◌≡◌, ◌≤◌, ◌<◌, ◌+◌, ◌-◌, ◌*◌, ◌^◌, ◌∷◌, length, take, drop, IfOk};
 ghost use Rattle.std.specs.List.{prefix_len};
 ghost use Rattle.unit_tree.specs.Tokens.{is_blank, is_letter, is_digit, is_word_byte, keyword_text, symbol_text, number_from, begins_with};
-ghost use Rattle.unit_tokens.specs.Scanning.{Gives, GivesFront, ReadsAs, keyword_of, symbol_of, word_token, word_at, bounded_number, fraction_of, number_token, number_at, symbol_at, token_at, TokensAre};
+ghost use Rattle.unit_tokens.specs.Scanning.{Gives, GivesFront, ReadsAs, keywords_from, symbols_from, keywords_like, symbols_like, keyword_of, symbol_of, word_token, word_at, bounded_number, fraction_of, number_token, number_at, symbol_at, token_at, TokensAre};
 
 use crate::fault::Unread;
 use fixed_words::List;
 use std::alloc::Global;
 use unit_tree::{Keyword, Symbol, Token};
-
-const KEYWORDS: [Keyword; 41] = [
-    Keyword::Cosim,
-    Keyword::Unit,
-    Keyword::Resolution,
-    Keyword::Param,
-    Keyword::State,
-    Keyword::Local,
-    Keyword::Input,
-    Keyword::Output,
-    Keyword::Needs,
-    Keyword::Max,
-    Keyword::Step,
-    Keyword::Repeat,
-    Keyword::Accept,
-    Keyword::End,
-    Keyword::Instance,
-    Keyword::Connect,
-    Keyword::Stop,
-    Keyword::Longest,
-    Keyword::Zero,
-    Keyword::Rows,
-    Keyword::Sample,
-    Keyword::If,
-    Keyword::Then,
-    Keyword::Else,
-    Keyword::And,
-    Keyword::Or,
-    Keyword::Not,
-    Keyword::Div,
-    Keyword::Mod,
-    Keyword::Abs,
-    Keyword::Min,
-    Keyword::Clamp,
-    Keyword::Int,
-    Keyword::Fix,
-    Keyword::True,
-    Keyword::False,
-    Keyword::Time,
-    Keyword::Length,
-    Keyword::Event,
-    Keyword::Present,
-    Keyword::Absent,
-];
-
-const SYMBOLS: [Symbol; 18] = [
-    Symbol::Assign,
-    Symbol::Arrow,
-    Symbol::Equals,
-    Symbol::Differs,
-    Symbol::AtMost,
-    Symbol::AtLeast,
-    Symbol::Colon,
-    Symbol::Is,
-    Symbol::Less,
-    Symbol::Greater,
-    Symbol::Plus,
-    Symbol::Minus,
-    Symbol::Star,
-    Symbol::Slash,
-    Symbol::Open,
-    Symbol::Close,
-    Symbol::Comma,
-    Symbol::Point,
-];
 
 /// The most bytes that a name may have.
 const LONGEST_NAME: usize = 32;
@@ -155,21 +90,96 @@ fn symbol_text(symbol: Symbol) -> &'static [u8]
     }
 }
 
+/// The keywords that begin with this byte: no more than four.
+fn keywords_from(first: u8) -> &'static [Keyword]
+    ensures { result.now ≡ keywords_from first }
+{
+    match first {
+        b'a' => &[Keyword::Accept, Keyword::And, Keyword::Abs, Keyword::Absent],
+        b'c' => &[Keyword::Cosim, Keyword::Connect, Keyword::Clamp],
+        b'd' => &[Keyword::Div],
+        b'e' => &[Keyword::End, Keyword::Else, Keyword::Event],
+        b'f' => &[Keyword::Fix, Keyword::False],
+        b'h' => &[Keyword::Length],
+        b'i' => &[Keyword::Input, Keyword::Instance, Keyword::If, Keyword::Int],
+        b'l' => &[Keyword::Local, Keyword::Longest],
+        b'm' => &[Keyword::Max, Keyword::Mod, Keyword::Min],
+        b'n' => &[Keyword::Needs, Keyword::Not],
+        b'o' => &[Keyword::Output, Keyword::Or],
+        b'p' => &[Keyword::Param, Keyword::Present],
+        b'r' => &[Keyword::Resolution, Keyword::Repeat, Keyword::Rows],
+        b's' => &[
+            Keyword::State,
+            Keyword::Step,
+            Keyword::Stop,
+            Keyword::Sample,
+        ],
+        b't' => &[Keyword::Then, Keyword::True, Keyword::Time],
+        b'u' => &[Keyword::Unit],
+        b'z' => &[Keyword::Zero],
+        _ => &[],
+    }
+}
+
+/// The symbols that begin with this byte: no more than two.
+fn symbols_from(first: u8) -> &'static [Symbol]
+    ensures { result.now ≡ symbols_from first }
+{
+    match first {
+        b'!' => &[Symbol::Differs],
+        b'(' => &[Symbol::Open],
+        b')' => &[Symbol::Close],
+        b'*' => &[Symbol::Star],
+        b'+' => &[Symbol::Plus],
+        b',' => &[Symbol::Comma],
+        b'-' => &[Symbol::Arrow, Symbol::Minus],
+        b'.' => &[Symbol::Point],
+        b'/' => &[Symbol::Slash],
+        b':' => &[Symbol::Assign, Symbol::Colon],
+        b'<' => &[Symbol::AtMost, Symbol::Less],
+        b'=' => &[Symbol::Equals, Symbol::Is],
+        b'>' => &[Symbol::AtLeast, Symbol::Greater],
+        _ => &[],
+    }
+}
+
+/// The keywords that begin with the text's first byte.
+fn keywords_like(text: &[u8]) -> &'static [Keyword]
+    ensures { result.now ≡ keywords_like text.now }
+{
+    match text {
+        [] => &[],
+        [first, ..] => keywords_from(*first),
+    }
+}
+
+/// The keyword that the text spells: one of the few that begin with its first byte.
 #[tactic(auto, unfolding(crate::specs::Scanning::keyword_of))]
 fn keyword_of(text: &[u8]) -> Option<Keyword>
     ensures { result ≡ keyword_of text.now }
 {
-    KEYWORDS
+    keywords_like(text)
         .iter()
         .copied()
         .find(|keyword| keyword_text(*keyword) == text)
 }
 
+/// The symbols that begin with the text's first byte.
+fn symbols_like(text: &[u8]) -> &'static [Symbol]
+    ensures { result.now ≡ symbols_like text.now }
+{
+    match text {
+        [] => &[],
+        [first, ..] => symbols_from(*first),
+    }
+}
+
+/// The symbol that the text spells: one of the few that begin with its first byte.
 #[tactic(auto, unfolding(crate::specs::Scanning::symbol_of))]
 fn symbol_of(text: &[u8]) -> Option<Symbol>
     ensures { result ≡ symbol_of text.now }
 {
-    SYMBOLS
+    symbols_like(text)
         .iter()
         .copied()
         .find(|symbol| symbol_text(*symbol) == text)

@@ -36,10 +36,10 @@ or_none : {A : Type 0} (given : Option A) → or_kept given None ≡ given
 or_none None = refl
 or_none (Some x) = refl
 
-grouped : {A : Type 0} (a b c d e f g h : List A) → a ++ b ++ c ++ d ++ e ++ f ++ g ++ h ≡ a ++ (b ++ (c ++ (d ++ (e ++ (f ++ (g ++ h))))))
+pub grouped : {A : Type 0} (a b c d e f g h : List A) → a ++ b ++ c ++ d ++ e ++ f ++ g ++ h ≡ a ++ (b ++ (c ++ (d ++ (e ++ (f ++ (g ++ h))))))
 grouped a b c d e f g h = simp append_assoc
 
-grouped_ten : {A : Type 0} (a b c d e f g h i j : List A) → a ++ b ++ c ++ d ++ e ++ f ++ g ++ h ++ i ++ j ≡ a ++ (b ++ (c ++ (d ++ (e ++ (f ++ (g ++ (h ++ (i ++ j))))))))
+pub grouped_ten : {A : Type 0} (a b c d e f g h i j : List A) → a ++ b ++ c ++ d ++ e ++ f ++ g ++ h ++ i ++ j ≡ a ++ (b ++ (c ++ (d ++ (e ++ (f ++ (g ++ (h ++ (i ++ j))))))))
 grouped_ten a b c d e f g h i j = simp append_assoc
 
 -- ---- A unit

@@ -1,22 +1,28 @@
 -- Laws of the language. Those of the first part are proved; those of the second say what a reader, a checker and a
 -- printer of the language owe, and are not proved yet.
-use Rattle.std.specs.Prelude.{◌≡◌, ◌≤◌, ◌⊎◌, ◌↔◌, ℕ, List, [], ◌∷◌, map, length, Some, None, IsTrue}
+use Rattle.std.specs.Prelude.{◌≡◌, ◌≤◌, ◌⊎◌, ◌↔◌, ⊤, ℕ, ℤ, List, [], ◌∷◌, ◌++◌, map, length, Some, None, IsTrue, IsFalse}
+use Rattle.std.specs.List.Sorted.{IsPermutation}
 use Rattle.unit_tree.specs.Blocks.{no_lines, open_blocks, are_placed}
 use Rattle.unit_tree.specs.Canonical.{canonical_parts, canonical_forms, canonical_phrase, canonical_text, line_text}
+use Rattle.unit_tree.specs.Components.{Component, get_of}
 use Rattle.unit_tree.specs.LineForms.{HasForm}
 use Rattle.unit_tree.specs.Lines.{source_lines}
-use Rattle.unit_tree.specs.Orders.{DependsOn, HasNoOrder, HasNoCycle, IsFirstWithoutOrder}
+use Rattle.unit_tree.specs.Names.{is_among}
+use Rattle.unit_tree.specs.Orders.{IsIn, DependsOn, HasNoOrder, HasNoCycle, IsFirstWithoutOrder, outputs_of, line_of_output}
 use Rattle.unit_tree.specs.Parts.{Part, text_forms, system_of}
 use Rattle.unit_tree.specs.Phrases.{Whole, stands, tree_of}
 use Rattle.unit_tree.specs.Printable.{IsPrintable, is_unsigned}
-use Rattle.unit_tree.specs.Sites.{sites_of}
+use Rattle.unit_tree.specs.Sites.{Site, StandsBehind, sites_of}
+use Rattle.unit_tree.specs.SourceLines.{in_canonical_order}
 use Rattle.unit_tree.specs.Texts.{HaveForms, Reads, IsRefused}
-use Rattle.unit_tree.specs.WellFormed.{Refusal, IsWellFormed, IsRefusal, refusal_of, rules}
+use Rattle.unit_tree.specs.WellFormed.{Refusal, IsWellFormed, IsRefusal, refusal_of, rules, uses_other_input}
 use Rattle.unit_tree.specs.declared.expr.Expr.{Expr}
 use Rattle.unit_tree.specs.declared.line_form.LineForm.{LineForm}
 use Rattle.unit_tree.specs.declared.line_form.LineForm.TheVariants as form
 use Rattle.unit_tree.specs.declared.system.PortName.{PortName}
 use Rattle.unit_tree.specs.declared.system.System.{System}
+use Rattle.unit_tree.specs.declared.unit.Input.{Input}
+use Rattle.unit_tree.specs.declared.unit.Output.{Output}
 
 -- ---- Proved
 
@@ -27,9 +33,10 @@ pub record IsJudgedOnce : Type 0 where
   pub refused : (system : System) (refusal : Refusal) → refusal_of system ≡ Some refusal → IsRefusal rules system refusal
   pub only : (system : System) (refusal : Refusal) → IsRefusal rules system refusal → refusal_of system ≡ Some refusal
 
--- The sites that rules speak of are the canonical lines, one for one.
-abbrev pub SitesAreCanonicalLines : Type 0
-SitesAreCanonicalLines = (system : System) → map (λ site. site.line) (sites_of system) ≡ canonical_forms system
+-- The sites that rules speak of are the canonical lines, one for one, and each stands in its block.
+pub record SitesAreCanonicalLines : Type 0 where
+  pub lines : (system : System) → map (λ site. site.line) (sites_of system) ≡ canonical_forms system
+  pub blocks : (system : System) (before later : List Site) (site : Site) → sites_of system ≡ before ++ (site ∷ later) → StandsBehind system before site
 
 -- The canonical parts of a system say this system.
 abbrev pub CanonicalPartsSayTheSystem : Type 0
@@ -44,11 +51,32 @@ pub record CanonicalPhraseIs (value : Expr) : Type 0 where
 abbrev pub CanonicalPhrasesAreRight : Type 0
 CanonicalPhrasesAreRight = (value : Expr) → IsTrue (is_unsigned value) → CanonicalPhraseIs value
 
+-- Two lists of words agree at the inputs that are named: a word of each for every input, and the same where it is named.
+abbrev pub AgreeAt : List (List ℕ) → List Input → List ℤ → List ℤ → Type 0
+AgreeAt names [] [] [] = ⊤
+AgreeAt names (input ∷ inputs) (word ∷ words) (other ∷ others) = (IsTrue (is_among names input.name) → word ≡ other) × AgreeAt names inputs words others
+AgreeAt names _ _ _ = ⊥
+
+-- What an output that uses no input but those in its needs gives depends on these alone: other inputs may have any word.
+abbrev pub OutputsSeeTheirNeeds : Type 0
+OutputsSeeTheirNeeds =
+    (component : Component) (state inputs others : List ℤ) (output : Output) → length component.params ≡ length component.unit.params → length state ≡ length component.unit.states → IsFalse (uses_other_input component.unit output.needs output.value) → AgreeAt output.needs component.unit.inputs inputs others → get_of component state inputs output ≡ get_of component state others output
+
 -- An output that depends on itself lies on a cycle: it stands in no orderly list, and nor does any output that
 -- depends on such a one.
 pub record CyclesHaveNoOrder : Type 0 where
   pub on_cycle : (system : System) (port : PortName) → DependsOn system port port → HasNoOrder system port
   pub behind_cycle : (system : System) (port other : PortName) → DependsOn system port other → HasNoOrder system other → HasNoOrder system port
+
+-- Each output of a well-formed system has its canonical line, at which the rule of cycles can name it.
+abbrev pub OutputsHaveLines : Type 0
+OutputsHaveLines = (system : System) (port : PortName) → IsWellFormed system → IsIn (outputs_of system) port → (line : ℕ) × (line_of_output system port ≡ Some line)
+
+-- The lines of parts that stand where they may, put into canonical order, are the canonical lines of what the parts say; and
+-- the numbers of a text's lines are put into this order each once.
+pub record SourceLinesAreRight : Type 0 where
+  pub forms : (version : ℕ) (parts : List Part) → IsTrue (are_placed no_lines (text_forms version parts)) → in_canonical_order parts (text_forms version parts) ≡ canonical_forms (system_of version parts)
+  pub each_once : (version : ℕ) (parts : List Part) (lines : List ℕ) → length lines ≡ length (text_forms version parts) → IsPermutation (in_canonical_order parts lines) lines
 
 -- A text is refused at one line and by one rule at most.
 abbrev pub IsRefusedOnce : Type 0

@@ -11,7 +11,7 @@ use Rattle.unit_tree.specs.LineForms.{Tail, Nothing, OfLiteral, OfSeconds, OfExp
 use Rattle.unit_tree.specs.Names.{names_in, expression_on}
 use Rattle.unit_tree.specs.Phrases.{nesting}
 use Rattle.unit_tree.specs.Texts.{text_limit, line_limit}
-use Rattle.unit_tree.specs.Tokens.{IsWord, IsReserved}
+use Rattle.unit_tree.specs.Tokens.{IsWord, IsName}
 use Rattle.unit_tree.specs.Values.{is_ranged}
 use Rattle.unit_tree.specs.declared.expr.Expr.{Expr, fold-Expr}
 use Rattle.unit_tree.specs.declared.expr.Expr.TheOpen.{Expr-F}
@@ -78,10 +78,6 @@ pub record IsRanged (system : System) : Type 0 where
   pub numbers : AllByRecursion IsInRange (canonical_forms system)
 
 -- ---- Printable
-
--- A name is a word that is not reserved.
-abbrev pub IsName : List ℕ → Type 0
-IsName text = IsWord text × (IsReserved text → ⊥)
 
 -- One node, with whether each part has no negative number in its place.
 abbrev pub node_is_unsigned : Expr-F Bool → Bool

@@ -35,18 +35,6 @@ UndefinedOutputsFault =
 
 -- ---- Outputs
 
--- Words of inputs, one each, that are the same where an output needs them.
-abbrev pub AgreeOn : List (List ℕ) → List Input → List ℤ → List ℤ → Type 0
-AgreeOn needs [] [] [] = ⊤
-AgreeOn needs (input ∷ inputs) (one ∷ ones) (other ∷ others) = (is_among needs input.name ≡ true → one ≡ other) × AgreeOn needs inputs ones others
-AgreeOn needs _ _ _ = ⊥
-
--- What get gives of an output that uses no other inputs than those in its needs, as the outputs of a well-formed
--- system do, depends on these alone.
-abbrev pub OutputsLookAtNeeds : Type 0
-OutputsLookAtNeeds =
-    (component : Component) (state one other : List ℤ) (output : Output) → length component.params ≡ length component.unit.params → length state ≡ length component.unit.states → AgreeOn output.needs component.unit.inputs one other → uses_other_input component.unit output.needs output.value ≡ false → get_of component state one output ≡ get_of component state other output
-
 -- What get gives is a word of the output's type, or a fault.
 abbrev pub OutputsAreWords : Type 0
 OutputsAreWords =

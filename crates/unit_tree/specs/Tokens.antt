@@ -92,10 +92,14 @@ IsWord (first ∷ others) = IsTrue (is_letter first) × IsTrue (list_all is_word
 abbrev pub IsReserved : List ℕ → Type 0
 IsReserved text = (keyword : Keyword) × (text ≡ keyword_text keyword)
 
+-- A name is a word that is not reserved.
+abbrev pub IsName : List ℕ → Type 0
+IsName text = IsWord text × (IsReserved text → ⊥)
+
 -- The text spells the token.
 abbrev pub IsSpelling : Token → List ℕ → Type 0
 IsSpelling (token.Keyword keyword) text = text ≡ keyword_text keyword
-IsSpelling (token.Name name) text = (text ≡ name) × IsWord name × (IsReserved name → ⊥)
+IsSpelling (token.Name name) text = (text ≡ name) × IsName name
 IsSpelling (token.Number digits decimals) text = IsNumber digits decimals text
 IsSpelling (token.Symbol symbol) text = text ≡ symbol_text symbol
 

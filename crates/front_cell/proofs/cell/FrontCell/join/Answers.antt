@@ -8,4 +8,4 @@ split_pass-fresh-requires g c = (search rules, (search rules, (search rules, han
 pub join_pass-requires : goal.join_pass-requires
 join_pass-requires g c =
     let reader = c.split_pass-fresh.ensures.given.1 ∙ c.reader.invariant.2 in
-    (search rules, (search rules, (search rules, joins _ _ _ _ _ _ _ _ c.writer.invariant.1 reader)))
+    (search rules, (search rules, (search rules, joins _ _ _ _ _ _ _ _ _ c.writer.invariant.2 reader)))

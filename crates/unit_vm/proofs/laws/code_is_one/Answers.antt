@@ -1,0 +1,5 @@
+use Rattle.unit_vm.proofs.Endings.{code_is_one_lem}
+use Rattle.unit_vm.proofs.laws.code_is_one.Goals as goal
+
+pub returns : goal.returns
+returns c = code_is_one_lem

@@ -1,0 +1,15 @@
+pub use Rattle.fixed_words.specs.Types
+pub use Rattle.fixed_words.specs.Operations
+pub mod Checking
+pub mod FrameLends
+pub mod Frames
+pub mod Instructions
+pub mod Judged
+pub mod Laws
+pub mod Loops
+pub mod Machine
+pub mod Programs
+pub mod Reading
+pub mod Registers
+pub mod Tables
+pub mod Valid

@@ -1,0 +1,74 @@
+ghost use Rattle.std.specs.Prelude.{◌≡◌, ◌≤◌, length, IfOk};
+ghost use Rattle.std.specs.Borrow.{sem};
+ghost use Rattle.unit_vm.specs.Frames.{new_frame};
+
+use crate::program::CodeFacts;
+use fixed_words::NoMemory;
+use std::alloc::Global;
+use std::marker::Model;
+
+/// What a run works in: slots, room for the stacks, and what the last run left.
+#[derive(Drop)]
+pub struct Frame {
+    facts: CodeFacts,
+    pub(crate) cells: Vec<i64>,
+    pub(crate) loops: Vec<u32>,
+    pub(crate) slots: Vec<i64>,
+    pub(crate) accepted: u64,
+    pub(crate) result: i64,
+}
+
+impl Model for Frame {
+    ghost use Rattle.std.specs.Prelude.{◌≡◌, length};
+    ghost use Rattle.unit_vm.specs.Frames.{Held};
+
+    ghost Value = { Held };
+
+    ghost view = { λ f. record { facts = f.facts; slots = f.slots.items; accepted = f.accepted; result = f.result } };
+
+    ghost invariant = { λ f. (length f.cells.items ≡ f.facts.stack) × (length f.loops.items ≡ f.facts.loops) × (length f.slots.items ≡ f.facts.slots) };
+}
+
+impl Frame {
+    ghost use Rattle.unit_vm.specs.FrameLends.{LendsSlots};
+
+    /// A frame with room for every run of code with these facts. Its slots are 0.
+    pub fn new(alloc: Global, facts: CodeFacts) -> Result<Frame, NoMemory>
+        ensures { IfOk result (λ frame. frame ≡ new_frame facts) }
+    {
+        let cells = vec![in alloc; 0i64; facts.stack as usize]?;
+        let loops = vec![in alloc; 0u32; facts.loops as usize]?;
+        let slots = vec![in alloc; 0i64; facts.slots as usize]?;
+        Ok(Frame {
+            facts,
+            cells,
+            loops,
+            slots,
+            accepted: 0,
+            result: 0,
+        })
+    }
+
+    /// The slots: states, inputs and locals in their order, the local time and the step.
+    pub fn slots(&mut self) -> &mut [i64]
+        ensures* writes_back { sem 𝓛 (LendsSlots self.entry result) }
+        ensures value { result.now ≡ self.old.slots }
+        ensures each { length self.old.slots ≡ self.old.facts.slots }
+    {
+        self.slots.as_mut_slice()
+    }
+
+    /// The length that the last run accepted, if it met no fault.
+    pub fn accepted(&self) -> u64
+        ensures { result ≡ self.now.accepted }
+    {
+        self.accepted
+    }
+
+    /// The word that the last run gave that gave one, if none met a fault since.
+    pub fn result(&self) -> i64
+        ensures { result ≡ self.now.result }
+    {
+        self.result
+    }
+}

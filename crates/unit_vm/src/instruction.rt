@@ -1,0 +1,180 @@
+ghost use Rattle.std.specs.Prelude.{◌≡◌, ◌≤◌};
+ghost use Rattle.unit_vm.specs.Instructions.{flow_of, takes, leaves, slots_of, is_stored, is_type, is_argued, fits_role};
+
+use crate::program::{Role, Sizes};
+use fixed_words::Ty;
+
+/// An instruction of the stack machine. It takes its operands from the stack of words, the last one
+/// from the top.
+#[derive(Clone, Copy, Debug)]
+pub enum Instruction {
+    /// Pushes the word.
+    Push(i64),
+    /// Pushes the slot's word.
+    Load(u32),
+    /// Pops a word and writes it to the slot; [`fixed_words::Fault::Range`] where it is none of the type's.
+    Store { slot: u32, ty: Ty },
+    Add,
+    Subtract,
+    Multiply,
+    Divide,
+    Remainder,
+    Negate,
+    Magnitude,
+    Min,
+    Max,
+    /// Takes a word, a low and a high bound.
+    Clamp,
+    Equal,
+    NotEqual,
+    Less,
+    LessOrEqual,
+    Greater,
+    GreaterOrEqual,
+    And,
+    Or,
+    Not,
+    /// `*` of fixed-point words with so many decimals.
+    FixedMultiply(u8),
+    /// `/` of fixed-point words with so many decimals.
+    FixedDivide(u8),
+    /// Gives the word so many decimals more.
+    ScaleUp(u8),
+    /// Takes so many decimals from the word.
+    ScaleDown(u8),
+    /// Goes on so many instructions ahead.
+    Jump(u32),
+    /// Pops a word; goes on so many instructions ahead where it is 0, and else to the next one.
+    JumpFalse(u32),
+    /// Begins a loop of so many turns.
+    Loop(u32),
+    /// Ends a turn: goes so many instructions back for the next one, or on after the last.
+    Next(u32),
+    /// Pops the accepted length; [`fixed_words::Fault::Accept`] where it is negative or above the step's.
+    Accept,
+    /// Pops an output and ends the run; [`fixed_words::Fault::Range`] where it is none of the type's.
+    Give(Ty),
+    /// Pops a greatest step and ends the run; [`fixed_words::Fault::Max`] where it is negative.
+    Limit,
+    /// Ends the run.
+    Done,
+}
+
+/// Where an instruction leads, apart from what it does to words.
+#[derive(Clone, Copy, Debug)]
+pub enum Flow {
+    /// To the next one.
+    On,
+    /// So many ahead.
+    Ahead(u32),
+    /// To the next one or so many ahead.
+    Branch(u32),
+    /// To the next one, which is the first of a loop of so many turns.
+    Open(u32),
+    /// So many back, or to the next one.
+    Back(u32),
+    /// Nowhere: the run ends.
+    End,
+}
+
+impl Instruction {
+    /// Where it leads.
+    pub fn flow(self) -> Flow
+        ensures { result ≡ flow_of self }
+    {
+        match self {
+            Instruction::Jump(distance) => Flow::Ahead(distance),
+            Instruction::JumpFalse(distance) => Flow::Branch(distance),
+            Instruction::Loop(count) => Flow::Open(count),
+            Instruction::Next(distance) => Flow::Back(distance),
+            Instruction::Give(_) | Instruction::Limit | Instruction::Done => Flow::End,
+            _ => Flow::On,
+        }
+    }
+
+    /// How many words it pops.
+    pub fn takes(self) -> u32
+        ensures { result ≡ takes self }
+    {
+        match self {
+            Instruction::Push(_)
+            | Instruction::Load(_)
+            | Instruction::Jump(_)
+            | Instruction::Loop(_)
+            | Instruction::Next(_)
+            | Instruction::Done => 0,
+            Instruction::Store { .. }
+            | Instruction::Negate
+            | Instruction::Magnitude
+            | Instruction::Not
+            | Instruction::ScaleUp(_)
+            | Instruction::ScaleDown(_)
+            | Instruction::JumpFalse(_)
+            | Instruction::Accept
+            | Instruction::Give(_)
+            | Instruction::Limit => 1,
+            Instruction::Clamp => 3,
+            _ => 2,
+        }
+    }
+
+    /// How many words it pushes then.
+    pub fn leaves(self) -> u32
+        ensures { result ≡ leaves self }
+    {
+        match self {
+            Instruction::Store { .. }
+            | Instruction::Jump(_)
+            | Instruction::JumpFalse(_)
+            | Instruction::Loop(_)
+            | Instruction::Next(_)
+            | Instruction::Accept
+            | Instruction::Give(_)
+            | Instruction::Limit
+            | Instruction::Done => 0,
+            _ => 1,
+        }
+    }
+
+    /// Whether its argument is one that the table of operations allows, and the slot that it names is there.
+    pub(crate) fn is_argued(self, sizes: Sizes) -> bool
+        requires states { sizes.states ≤ 64 }
+        requires inputs { sizes.inputs ≤ 32 }
+        requires locals { sizes.locals ≤ 64 }
+        ensures { result ≡ is_argued sizes self }
+    {
+        match self {
+            Instruction::Load(slot) => slot < sizes.slots(),
+            Instruction::Store { slot, ty } => sizes.is_stored(slot) && is_known(ty),
+            Instruction::FixedMultiply(decimals) | Instruction::FixedDivide(decimals) => decimals
+                <= 9,
+            Instruction::ScaleUp(decimals) | Instruction::ScaleDown(decimals) => decimals <= 9,
+            Instruction::Jump(distance) | Instruction::JumpFalse(distance) => 1 <= distance,
+            Instruction::Loop(count) => 1 <= count && count <= 1_000,
+            Instruction::Give(ty) => is_known(ty),
+            _ => true,
+        }
+    }
+
+    /// Whether it may stand in a part for this use.
+    pub(crate) fn fits(self, role: Role) -> bool
+        ensures { result ≡ fits_role role self }
+    {
+        match (role, self) {
+            (Role::Output, Instruction::Limit | Instruction::Done) => false,
+            (Role::Limit, Instruction::Give(_) | Instruction::Done) => false,
+            (Role::Step, Instruction::Give(_) | Instruction::Limit) => false,
+            _ => true,
+        }
+    }
+}
+
+/// Whether a fixed-point type has at most 9 decimals.
+fn is_known(ty: Ty) -> bool
+    ensures { result ≡ is_type ty }
+{
+    match ty {
+        Ty::Fixed(decimals) => decimals <= 9,
+        _ => true,
+    }
+}

@@ -1,0 +1,12 @@
+ghost use Rattle.unit_vm.specs.Laws.{ValidRunsEnd, CodeIsOne};
+
+/// A law: a run of valid code is over after as many instructions as its part costs at most, without a
+/// missing operand, slot or instruction, and with both stacks within the code's facts.
+pub fn valid_runs_end()
+    ensures { ValidRunsEnd }
+{}
+
+/// A law: words are valid code of one program at most, with one list of facts.
+pub fn code_is_one()
+    ensures { CodeIsOne }
+{}

@@ -1,0 +1,41 @@
+//! The stack machine: what a component's code is, when it is valid, and what a run of it gives.
+//!
+//! Code is a list of words: a table of entries and two words an instruction. [`Code::new`] and
+//! [`check_code`] tell valid code from all other words, and give its facts: how high the stacks get, what
+//! a run costs at most, how many slots a frame has. [`Code::new`] decodes the words once; [`run`]
+//! follows the instructions and tests nothing that validity promises: no operand, place or slot can be
+//! missing. It takes no memory.
+//!
+//! The layer above uses [`Code`], [`Frame`] and [`run`], and writes code by [`Program`] and
+//! [`Instruction`].
+//!
+//! Definitions: `specs/Instructions.antt` (the table of operations), `specs/Programs.antt` (a program as
+//! words), `specs/Loops.antt` (loops and cost, by the text), `specs/Valid.antt` (valid code and its facts),
+//! `specs/Machine.antt` (one instruction, and a run), `specs/Frames.antt` (what a run leaves in a frame),
+//! `specs/Laws.antt`. How it is gone about stands in `specs/Registers.antt` (the state in registers and
+//! cells), `specs/Reading.antt` (words as a program), `specs/Tables.antt` and `specs/Judged.antt` (loops
+//! and heights by place).
+#![tactic(auto)]
+
+mod around;
+mod code;
+mod frame;
+mod heights;
+mod instruction;
+mod judging;
+mod laws;
+mod machine;
+mod program;
+mod reading;
+mod running;
+mod runs;
+#[cfg(test)]
+mod tests;
+mod writing;
+
+pub use code::{Code, check_code};
+pub use frame::Frame;
+pub use instruction::{Flow, Instruction};
+pub use laws::{code_is_one, valid_runs_end};
+pub use program::{CodeFacts, Entry, Program, Role, Sizes};
+pub use running::run;

@@ -1,0 +1,127 @@
+use crate::{Code, Entry, Frame, check_code, run};
+use fixed_words::{Fault, List, NoMemory};
+use std::alloc::Global;
+use std::test::Fail;
+
+/// What a step leaves: how it ended, the state and the accepted length.
+#[derive(Clone, Copy, Debug, PartialEq, Eq)]
+struct Left {
+    ended: Result<(), Fault>,
+    state: i64,
+    accepted: u64,
+}
+
+fn ends_at(state: i64, accepted: u64) -> Left {
+    Left {
+        ended: Ok(()),
+        state,
+        accepted,
+    }
+}
+
+/// The words of code with one state, no output and this step.
+fn code_words(alloc: Global, step: &[i64]) -> Result<List<i64>, NoMemory> {
+    let mut words = List::from_slice(alloc, &[0, 1, 0, 0, 0, 0, 7])?;
+    for word in step {
+        words.push(*word)?;
+    }
+    Ok(words)
+}
+
+/// What the step leaves from state 7 over a length of 10; none where the words are no valid code.
+fn leaves(alloc: Global, step: &[i64]) -> Result<Option<Left>, NoMemory> {
+    let code = match Code::new(alloc, code_words(alloc, step)?)? {
+        Some(code) => code,
+        None => return Ok(None),
+    };
+    let mut frame = Frame::new(alloc, code.facts())?;
+    let slots = frame.slots();
+    if slots.len() == 3 {
+        slots[0] = 7;
+        slots[2] = 10;
+    }
+    let ended = run(&code, Entry::Step, &mut frame);
+    let state = match ended {
+        Ok(()) => frame.slots().first().copied().unwrap_or(0),
+        Err(_) => 0,
+    };
+    let accepted = match ended {
+        Ok(()) => frame.accepted(),
+        Err(_) => 0,
+    };
+    Ok(Some(Left {
+        ended,
+        state,
+        accepted,
+    }))
+}
+
+fn faulted(fault: Fault) -> Left {
+    Left {
+        ended: Err(fault),
+        state: 0,
+        accepted: 0,
+    }
+}
+
+#[test]
+fn steps_leave_what_they_should(rt: HostRuntime) -> Result<(), Fail> {
+    let table: [(&[i64], Option<Left>); 14] = [
+        (&[1, 0, 0, 5, 3, 0, 2, 6, 33, 0], Some(ends_at(12, 10))),
+        (&[0, 2, 1, 0, 4, 0, 2, 6, 33, 0], Some(ends_at(-5, 10))),
+        (&[0, -7, 0, 3, 7, 0, 2, 6, 33, 0], Some(ends_at(2, 10))),
+        (
+            &[0, 1, 0, 0, 6, 0, 2, 6, 33, 0],
+            Some(faulted(Fault::ZeroDivisor)),
+        ),
+        (
+            &[0, i64::MAX, 0, 1, 3, 0, 2, 6, 33, 0],
+            Some(faulted(Fault::Overflow)),
+        ),
+        (&[0, 300, 2, 1, 33, 0], Some(faulted(Fault::Range))),
+        (&[0, 4, 30, 0, 33, 0], Some(ends_at(7, 4))),
+        (&[0, 11, 30, 0, 33, 0], Some(faulted(Fault::Accept))),
+        (&[0, 0, 27, 3, 0, 1, 2, 6, 33, 0], Some(ends_at(7, 10))),
+        (&[0, 2, 27, 3, 0, 1, 2, 6, 33, 0], Some(ends_at(1, 10))),
+        // a loop of four turns in a loop of three
+        (
+            &[28, 3, 28, 4, 1, 0, 0, 1, 3, 0, 2, 6, 29, 4, 29, 6, 33, 0],
+            Some(ends_at(19, 10)),
+        ),
+        // a jump out of the part, a place that no way reaches, and an operand that is not there
+        (&[26, 5, 33, 0], None),
+        (&[26, 2, 0, 1, 33, 0], None),
+        (&[3, 0, 33, 0], None),
+    ];
+    for (step, wanted) in table {
+        assert_eq!(rt; leaves(rt.alloc(), step)?, wanted, "{step:?}");
+    }
+    Ok(())
+}
+
+#[test]
+fn thirty_nested_clamps_need_61_words(rt: HostRuntime) -> Result<(), Fail> {
+    let mut step = List::new(rt.alloc());
+    for _depth in 0..30 {
+        for word in [0, 1, 0, 0] {
+            step.push(word)?;
+        }
+    }
+    step.push(0)?;
+    step.push(9)?;
+    for _depth in 0..30 {
+        step.push(12)?;
+        step.push(0)?;
+    }
+    for word in [2, 6, 33, 0] {
+        step.push(word)?;
+    }
+    let words = code_words(rt.alloc(), step.as_slice())?;
+    let facts = check_code(rt.alloc(), words.as_slice())?.ok_or("no valid code")?;
+    assert_eq!(rt; facts.stack, 61);
+    assert_eq!(rt; facts.loops, 0);
+    assert_eq!(rt; facts.cost, 93);
+    assert_eq!(rt; facts.slots, 3);
+    assert_eq!(rt; leaves(rt.alloc(), step.as_slice())?, Some(ends_at(1, 10)));
+    Ok(())
+}
