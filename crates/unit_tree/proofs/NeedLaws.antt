@@ -1,6 +1,6 @@
 -- What an output gives depends on the words of the names that it uses, and so on the inputs in its needs alone.
 use Rattle.std.proofs.Common.{◌≡◌, ℕ, ℤ, pos, Bool, true, false, cond, List, [], ◌∷◌, ◌++◌, map, length, append_assoc, refl, ap, sym, subst, ◌∙◌}
-use Rattle.std.specs.Prelude.{Result, not, ◌&&◌, ◌||◌, IsTrue, IsFalse}
+use Rattle.std.specs.Prelude.{Result, not, ◌&&◌, ◌||◌, IsFalse}
 use Rattle.std.specs.List.{AllByRecursion, list_any}
 use Rattle.std.specs.Str.{bytes_eq}
 use Rattle.std.proofs.lemmas.List.{length-append, length-map}

@@ -1,5 +1,5 @@
 -- Positions keep words in their types, and the agreed step is at most the proposal.
-use Rattle.std.proofs.Common.{◌≡◌, ℕ, ◌-◌, ◌≤◌, cond, Bool, true, false, ℤ, pos, List, [], ◌∷◌, map, Option, Some, None, Result, Ok, Err, refl, arith}
+use Rattle.std.proofs.Common.{subst, ◌≡◌, ℕ, ◌-◌, ◌≤◌, cond, Bool, true, false, ℤ, pos, List, [], ◌∷◌, map, Option, Some, None, Result, Ok, Err, refl, arith}
 use Rattle.std.proofs.lemmas.List.{length-map}
 use Rattle.std.proofs.Math.Nat.{one-le-pow}
 use Rattle.std.specs.Prelude.{zip, unwrap_or}
@@ -19,7 +19,7 @@ use Rattle.unit_tree.specs.Compositions.{Member, IsMember, Composition, AreMembe
 use Rattle.unit_tree.specs.Names.{unit_of_instance}
 use Rattle.unit_tree.specs.Negotiation.{is_held, inputs_at, step_at, reply_at, state_after, agreed_step}
 use Rattle.unit_tree.specs.Ports.{Ports}
-use Rattle.unit_tree.specs.RunLaws.{PositionsKeepWords}
+use Rattle.unit_tree.specs.RunLaws.{OutputsAreWords, PositionsKeepWords}
 use Rattle.unit_tree.specs.Successor.{Position, agreed, proposed}
 use Rattle.unit_tree.specs.Trace.{AreWordsOf, HasWords}
 use Rattle.unit_tree.specs.Values.{value_of}

@@ -1,21 +1,19 @@
 -- Laws of runs.
-use Rattle.std.specs.Prelude.{⊤, ◌≡◌, ◌↔◌, ℕ, ◌≤◌, ◌-◌, true, false, ℤ, List, [], ◌∷◌, length, is_some, Some, None, Ok}
+use Rattle.std.specs.Prelude.{◌≡◌, ◌↔◌, ℕ, ◌≤◌, ◌-◌, true, false, ℤ, List, ◌∷◌, length, is_some, Some, None, Ok}
 use Rattle.std.specs.List.{AllByRecursion, list_all}
 use Rattle.fixed_words.specs.Types.{is_word_of}
 use Rattle.super_time.specs.LocalTime.{local_step}
 use Rattle.unit_tree.specs.Components.{Component, Moved, get_of, step_of}
 use Rattle.unit_tree.specs.Compositions.{Composition, AreMembers, HasNoEvents, composition_of}
-use Rattle.unit_tree.specs.Names.{is_among}
 use Rattle.unit_tree.specs.Negotiation.{proposal_of, reply_of, agreed_step}
 use Rattle.unit_tree.specs.Orders.{HasNoCycle}
 use Rattle.unit_tree.specs.Plain.{plain_form}
 use Rattle.unit_tree.specs.Ports.{Ports, IsAmong, IsAssignment, IsPlaceOrder, port_fault}
 use Rattle.unit_tree.specs.Successor.{Position, goes, ends, first_position, after, agreed, proposed, is_redone, stop_end, row_end, max_end, trial_end, redo_end, redo_end_by, zero_end, successor}
 use Rattle.unit_tree.specs.Trace.{Stand, IsGoing, IsTrace, AreWordsOf, HasWords}
-use Rattle.unit_tree.specs.WellFormed.{IsWellFormed, uses_other_input}
+use Rattle.unit_tree.specs.WellFormed.{IsWellFormed}
 use Rattle.unit_tree.specs.declared.ending.Ending.{Ending}
 use Rattle.unit_tree.specs.declared.system.System.{System}
-use Rattle.unit_tree.specs.declared.unit.Input.{Input}
 use Rattle.unit_tree.specs.declared.unit.Output.{Output}
 
 -- A composition whose places have an order has exactly one port assignment for states, of which each member has one.
