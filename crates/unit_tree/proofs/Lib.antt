@@ -10,7 +10,6 @@ pub mod KindLemmas
 pub mod LineLaws
 pub mod MeaningLemmas
 pub mod NameLaws
-pub mod NeedLaws
 pub mod OrderLaws
 pub mod PartLaws
 pub mod PhraseLaws
@@ -21,6 +20,7 @@ pub mod RankLaws
 pub mod RefusalLaws
 pub mod RouteLaws
 pub mod RunTraces
+pub mod SeenLaws
 pub mod SiteLaws
 pub mod SourceLaws
 pub mod StepLaws

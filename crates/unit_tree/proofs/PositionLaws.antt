@@ -1,5 +1,5 @@
 -- Positions keep words in their types, and the agreed step is at most the proposal.
-use Rattle.std.proofs.Common.{subst, ◌≡◌, ℕ, ◌-◌, ◌≤◌, cond, Bool, true, false, ℤ, pos, List, [], ◌∷◌, map, Option, Some, None, Result, Ok, Err, refl, arith}
+use Rattle.std.proofs.Common.{◌≡◌, ℕ, ◌-◌, ◌≤◌, cond, Bool, true, false, ℤ, pos, List, [], ◌∷◌, map, Option, Some, None, Result, Ok, Err, refl, arith}
 use Rattle.std.proofs.lemmas.List.{length-map}
 use Rattle.std.proofs.Math.Nat.{one-le-pow}
 use Rattle.std.specs.Prelude.{zip, unwrap_or}
@@ -7,28 +7,26 @@ use Rattle.std.specs.List.{AllByRecursion, AllZip, filter_map, cons_option}
 use Rattle.fixed_words.specs.Literals.{within_type, scaled_literal}
 use Rattle.fixed_words.specs.Types.{is_word_of}
 use Rattle.fixed_words.specs.declared.types.Fault.{Fault}
-use Rattle.fixed_words.specs.declared.types.Fault.TheVariants as word_fault
 use Rattle.fixed_words.specs.declared.types.Literal.{Literal}
 use Rattle.fixed_words.specs.declared.types.LiteralFault.{LiteralFault}
 use Rattle.fixed_words.specs.declared.types.LiteralFault.TheVariants.{Range}
 use Rattle.fixed_words.specs.declared.types.Ty.{Ty}
 use Rattle.fixed_words.specs.declared.types.Ty.TheVariants as types
 use Rattle.super_time.specs.LocalTime.{local_time, local_step}
-use Rattle.unit_tree.specs.Components.{environment_of, given_as, Moved, or_zero, start_word, initial, step_of}
+use Rattle.unit_tree.specs.Components.{Moved, or_zero, start_word, initial, step_of}
 use Rattle.unit_tree.specs.Compositions.{Member, IsMember, Composition, AreMembers, member_with, composition_of}
 use Rattle.unit_tree.specs.Names.{unit_of_instance}
 use Rattle.unit_tree.specs.Negotiation.{is_held, inputs_at, step_at, reply_at, state_after, agreed_step}
 use Rattle.unit_tree.specs.Ports.{Ports}
-use Rattle.unit_tree.specs.RunLaws.{OutputsAreWords, PositionsKeepWords}
+use Rattle.unit_tree.specs.RunLaws.{PositionsKeepWords}
 use Rattle.unit_tree.specs.Successor.{Position, agreed, proposed}
 use Rattle.unit_tree.specs.Trace.{AreWordsOf, HasWords}
-use Rattle.unit_tree.specs.Values.{value_of}
 use Rattle.unit_tree.specs.WellFormed.{resolution_of}
 use Rattle.unit_tree.specs.declared.system.Instance.{Instance}
 use Rattle.unit_tree.specs.declared.system.System.{System}
 use Rattle.unit_tree.specs.declared.unit.State.{State}
 use Rattle.unit_tree.specs.declared.unit.Unit.{Unit}
-use Rattle.unit_tree.proofs.EffectKeeps.{bound, step_keeps}
+use Rattle.unit_tree.proofs.EffectKeeps.{step_keeps}
 use Rattle.unit_tree.proofs.StepLaws.{reply_is_at_most, agreed_is_least}
 
 abbrev Words : Member → List ℤ → Type 0
@@ -124,14 +122,3 @@ members_are system (instance ∷ instances) = member_is system instance (unit_of
 
 pub system_has_members : (system : System) → AreMembers (composition_of system)
 system_has_members system = members_are system system.instances
-
--- ---- Outputs
-
-given_fits : (fits : Bool) (ty : Ty) (given word : ℤ) → is_word_of ty given ≡ fits → cond fits (Ok given) (Err word_fault.Range) ≡ Ok word → is_word_of ty word ≡ true
-given_fits true ty given word is same = let equal : given ≡ word = cc in subst (λ w. is_word_of ty w ≡ true) equal is
-given_fits false ty given word is same = absurd (cc)
-
-pub get_fits : OutputsAreWords
-get_fits component state inputs output word is =
-    let found = bound (value_of output.value (environment_of component state inputs 0 0)) (given_as output.ty) word is in
-    given_fits (is_word_of output.ty found.between.word) output.ty found.between.word word refl found.then_is

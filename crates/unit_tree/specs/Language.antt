@@ -1,13 +1,11 @@
 -- Laws of the language. Those of the first part are proved; those of the second say what a reader, a checker and a
 -- printer of the language owe, and are not proved yet.
-use Rattle.std.specs.Prelude.{◌≡◌, ◌≤◌, ◌⊎◌, ◌↔◌, ⊤, ℕ, ℤ, List, [], ◌∷◌, ◌++◌, map, length, Some, None, IsTrue, IsFalse}
+use Rattle.std.specs.Prelude.{◌≡◌, ◌≤◌, ◌⊎◌, ◌↔◌, ℕ, List, [], ◌∷◌, ◌++◌, map, length, Some, None, IsTrue}
 use Rattle.std.specs.List.Sorted.{IsPermutation}
 use Rattle.unit_tree.specs.Blocks.{no_lines, open_blocks, are_placed}
 use Rattle.unit_tree.specs.Canonical.{canonical_parts, canonical_forms, canonical_phrase, canonical_text, line_text}
-use Rattle.unit_tree.specs.Components.{Component, get_of}
 use Rattle.unit_tree.specs.LineForms.{HasForm}
 use Rattle.unit_tree.specs.Lines.{source_lines}
-use Rattle.unit_tree.specs.Names.{is_among}
 use Rattle.unit_tree.specs.Orders.{IsIn, DependsOn, HasNoOrder, HasNoCycle, IsFirstWithoutOrder, outputs_of, line_of_output}
 use Rattle.unit_tree.specs.Parts.{Part, text_forms, system_of}
 use Rattle.unit_tree.specs.Phrases.{Whole, stands, tree_of}
@@ -15,14 +13,12 @@ use Rattle.unit_tree.specs.Printable.{IsPrintable, is_unsigned}
 use Rattle.unit_tree.specs.Sites.{Site, StandsBehind, sites_of}
 use Rattle.unit_tree.specs.SourceLines.{in_canonical_order}
 use Rattle.unit_tree.specs.Texts.{HaveForms, Reads, IsRefused}
-use Rattle.unit_tree.specs.WellFormed.{Refusal, IsWellFormed, IsRefusal, refusal_of, rules, uses_other_input}
+use Rattle.unit_tree.specs.WellFormed.{Refusal, IsWellFormed, IsRefusal, refusal_of, rules}
 use Rattle.unit_tree.specs.declared.expr.Expr.{Expr}
 use Rattle.unit_tree.specs.declared.line_form.LineForm.{LineForm}
 use Rattle.unit_tree.specs.declared.line_form.LineForm.TheVariants as form
 use Rattle.unit_tree.specs.declared.system.PortName.{PortName}
 use Rattle.unit_tree.specs.declared.system.System.{System}
-use Rattle.unit_tree.specs.declared.unit.Input.{Input}
-use Rattle.unit_tree.specs.declared.unit.Output.{Output}
 
 -- ---- Proved
 
@@ -50,17 +46,6 @@ pub record CanonicalPhraseIs (value : Expr) : Type 0 where
 
 abbrev pub CanonicalPhrasesAreRight : Type 0
 CanonicalPhrasesAreRight = (value : Expr) → IsTrue (is_unsigned value) → CanonicalPhraseIs value
-
--- Two lists of words agree at the inputs that are named: a word of each for every input, and the same where it is named.
-abbrev pub AgreeAt : List (List ℕ) → List Input → List ℤ → List ℤ → Type 0
-AgreeAt names [] [] [] = ⊤
-AgreeAt names (input ∷ inputs) (word ∷ words) (other ∷ others) = (IsTrue (is_among names input.name) → word ≡ other) × AgreeAt names inputs words others
-AgreeAt names _ _ _ = ⊥
-
--- What an output that uses no input but those in its needs gives depends on these alone: other inputs may have any word.
-abbrev pub OutputsSeeTheirNeeds : Type 0
-OutputsSeeTheirNeeds =
-    (component : Component) (state inputs others : List ℤ) (output : Output) → length component.params ≡ length component.unit.params → length state ≡ length component.unit.states → IsFalse (uses_other_input component.unit output.needs output.value) → AgreeAt output.needs component.unit.inputs inputs others → get_of component state inputs output ≡ get_of component state others output
 
 -- An output that depends on itself lies on a cycle: it stands in no orderly list, and nor does any output that
 -- depends on such a one.

@@ -1,19 +1,21 @@
 -- Laws of runs.
-use Rattle.std.specs.Prelude.{◌≡◌, ◌↔◌, ℕ, ◌≤◌, ◌-◌, true, false, ℤ, List, ◌∷◌, length, is_some, Some, None, Ok}
+use Rattle.std.specs.Prelude.{⊤, ◌≡◌, ◌↔◌, ℕ, ◌≤◌, ◌-◌, true, false, ℤ, List, [], ◌∷◌, length, is_some, Some, None, Ok}
 use Rattle.std.specs.List.{AllByRecursion, list_all}
 use Rattle.fixed_words.specs.Types.{is_word_of}
 use Rattle.super_time.specs.LocalTime.{local_step}
 use Rattle.unit_tree.specs.Components.{Component, Moved, get_of, step_of}
 use Rattle.unit_tree.specs.Compositions.{Composition, AreMembers, HasNoEvents, composition_of}
+use Rattle.unit_tree.specs.Names.{is_among}
 use Rattle.unit_tree.specs.Negotiation.{proposal_of, reply_of, agreed_step}
 use Rattle.unit_tree.specs.Orders.{HasNoCycle}
 use Rattle.unit_tree.specs.Plain.{plain_form}
 use Rattle.unit_tree.specs.Ports.{Ports, IsAmong, IsAssignment, IsPlaceOrder, port_fault}
 use Rattle.unit_tree.specs.Successor.{Position, goes, ends, first_position, after, agreed, proposed, is_redone, stop_end, row_end, max_end, trial_end, redo_end, redo_end_by, zero_end, successor}
 use Rattle.unit_tree.specs.Trace.{Stand, IsGoing, IsTrace, AreWordsOf, HasWords}
-use Rattle.unit_tree.specs.WellFormed.{IsWellFormed}
+use Rattle.unit_tree.specs.WellFormed.{IsWellFormed, uses_other_input}
 use Rattle.unit_tree.specs.declared.ending.Ending.{Ending}
 use Rattle.unit_tree.specs.declared.system.System.{System}
+use Rattle.unit_tree.specs.declared.unit.Input.{Input}
 use Rattle.unit_tree.specs.declared.unit.Output.{Output}
 
 -- A composition whose places have an order has exactly one port assignment for states, of which each member has one.
@@ -32,6 +34,18 @@ UndefinedOutputsFault =
     (run : Composition) (order : List ℕ) (states : List (List ℤ)) (ports : Ports) → IsPlaceOrder run order → length states ≡ length run.members → IsAssignment run states ports → (port_fault run states ports ≡ None) ↔ (list_all is_some ports ≡ true)
 
 -- ---- Outputs
+
+-- Words of inputs, one each, that are the same where an output needs them.
+abbrev pub AgreeOn : List (List ℕ) → List Input → List ℤ → List ℤ → Type 0
+AgreeOn needs [] [] [] = ⊤
+AgreeOn needs (input ∷ inputs) (one ∷ ones) (other ∷ others) = (is_among needs input.name ≡ true → one ≡ other) × AgreeOn needs inputs ones others
+AgreeOn needs _ _ _ = ⊥
+
+-- What get gives of an output that uses no other inputs than those in its needs, as the outputs of a well-formed
+-- system do, depends on these alone.
+abbrev pub OutputsLookAtNeeds : Type 0
+OutputsLookAtNeeds =
+    (component : Component) (state one other : List ℤ) (output : Output) → length component.params ≡ length component.unit.params → length state ≡ length component.unit.states → AgreeOn output.needs component.unit.inputs one other → uses_other_input component.unit output.needs output.value ≡ false → get_of component state one output ≡ get_of component state other output
 
 -- What get gives is a word of the output's type, or a fault.
 abbrev pub OutputsAreWords : Type 0

@@ -4,7 +4,7 @@ ghost use Rattle.unit_tree.specs.WorkedEvents.{PlainFormsAreWorked, EventsAreWor
 ghost use Rattle.unit_tree.specs.WorkedLimits.{LimitsAreWorked};
 ghost use Rattle.unit_tree.specs.WorkedPhrases.{PhrasesAreWorked};
 ghost use Rattle.unit_tree.specs.WorkedSystems.{SystemsAreWorked, OrdersAreWorked};
-ghost use Rattle.unit_tree.specs.Language.{IsRefusedOnce, IsJudgedOnce, SitesAreCanonicalLines, CanonicalPartsSayTheSystem, CanonicalPhrasesAreRight, CyclesHaveNoOrder, OutputsHaveLines, OutputsSeeTheirNeeds, SourceLinesAreRight};
+ghost use Rattle.unit_tree.specs.Language.{IsRefusedOnce, IsJudgedOnce, SitesAreCanonicalLines, CanonicalPartsSayTheSystem, CanonicalPhrasesAreRight, CyclesHaveNoOrder, OutputsHaveLines, SourceLinesAreRight};
 ghost use Rattle.unit_tree.specs.WorkedKinds.{KindsAreWorked, WrongKindsAreWorked, LineKindsAreWorked, CostsAreWorked};
 
 /// A law: a text is refused at one line and by one rule at most.
@@ -41,11 +41,6 @@ pub fn outputs_have_lines()
 /// A law: the lines of a text, put into canonical order, are the canonical lines of its system, and each is kept once.
 pub fn source_lines_are_right()
     ensures { SourceLinesAreRight }
-{}
-
-/// A law: what an output gives depends on the inputs in its needs alone.
-pub fn outputs_see_their_needs()
-    ensures { OutputsSeeTheirNeeds }
 {}
 
 /// A law: an output that depends on itself, or on one that does, stands in no orderly list.

@@ -47,15 +47,15 @@ pub use laws::{
     blocks_are_worked, canonical_parts_say_the_system, canonical_phrases_are_right,
     cycles_have_no_order, each_system_is_judged_once, events_are_worked,
     kinds_and_costs_are_worked, limits_are_worked, lines_are_worked, orders_are_worked,
-    outputs_have_lines, outputs_see_their_needs, phrases_are_worked, runs_are_worked,
-    sites_are_canonical_lines, source_lines_are_right, systems_are_worked, texts_are_refused_once,
+    outputs_have_lines, phrases_are_worked, runs_are_worked, sites_are_canonical_lines,
+    source_lines_are_right, systems_are_worked, texts_are_refused_once,
 };
 pub use line::Line;
 pub use line_form::LineForm;
 pub use order::{InputAt, Order, Route, Routes, StartWord};
 pub use run_laws::{
     assignments_are_unique, ends_are_judged_in_order, ordered_runs_have_one_trace,
-    outputs_are_words, runs_keep_words, steps_are_negotiated, steps_keep_words,
+    outputs_look_at_needs, runs_keep_words, steps_are_negotiated, steps_keep_words,
     systems_have_one_trace, undefined_outputs_fault,
 };
 pub use super_time::Point;

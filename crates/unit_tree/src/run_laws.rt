@@ -1,5 +1,5 @@
 //! Laws of the definitions of a run.
-ghost use Rattle.unit_tree.specs.RunLaws.{AssignmentsAreUnique, UndefinedOutputsFault, OutputsAreWords, ProposalsAreGreatest, RepliesAreAtMost, AgreedStepsAreLeast, AgreedStepsAreAtMost, StepsKeepWords, SystemsHaveMembers, RunsKeepWords, FirstEndsAreJudgedInOrder, EndsAreJudgedInOrder, OrderedRunsHaveOneTrace, PlainFormsHaveNoEvents, SystemsHavePlaceOrders, SystemsHaveOneTrace};
+ghost use Rattle.unit_tree.specs.RunLaws.{AssignmentsAreUnique, UndefinedOutputsFault, OutputsLookAtNeeds, OutputsAreWords, ProposalsAreGreatest, RepliesAreAtMost, AgreedStepsAreLeast, AgreedStepsAreAtMost, StepsKeepWords, SystemsHaveMembers, RunsKeepWords, FirstEndsAreJudgedInOrder, EndsAreJudgedInOrder, OrderedRunsHaveOneTrace, PlainFormsHaveNoEvents, SystemsHavePlaceOrders, SystemsHaveOneTrace};
 
 /// A law: where the outputs have an order, there is exactly one port assignment.
 pub fn assignments_are_unique()
@@ -11,9 +11,10 @@ pub fn undefined_outputs_fault()
     ensures { UndefinedOutputsFault }
 {}
 
-/// A law: what get gives of an output is a word of its type, or a fault.
-pub fn outputs_are_words()
-    ensures { OutputsAreWords }
+/// A law: what get gives of an output depends on the inputs in its needs alone, and is a word of its type or a fault.
+pub fn outputs_look_at_needs()
+    ensures needs { OutputsLookAtNeeds }
+    ensures words { OutputsAreWords }
 {}
 
 /// A law: a proposal is the greatest length that is allowed, a reply is at most the step, and the agreed step is the

@@ -13,3 +13,4 @@ pub mod Reading
 pub mod Registers
 pub mod Tables
 pub mod Valid
+pub mod Worked

@@ -1,4 +1,5 @@
 ghost use Rattle.unit_vm.specs.Laws.{ValidRunsEnd, CodeIsOne};
+ghost use Rattle.unit_vm.specs.Worked.{MachineIsWorked};
 
 /// A law: a run of valid code is over after as many instructions as its part costs at most, without a
 /// missing operand, slot or instruction, and with both stacks within the code's facts.
@@ -9,4 +10,9 @@ pub fn valid_runs_end()
 /// A law: words are valid code of one program at most, with one list of facts.
 pub fn code_is_one()
     ensures { CodeIsOne }
+{}
+
+/// A law: small runs, costs and words are on the definitions those that were worked out by hand.
+pub fn machine_is_worked()
+    ensures { MachineIsWorked }
 {}

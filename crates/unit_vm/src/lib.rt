@@ -12,7 +12,7 @@
 //! Definitions: `specs/Instructions.antt` (the table of operations), `specs/Programs.antt` (a program as
 //! words), `specs/Loops.antt` (loops and cost, by the text), `specs/Valid.antt` (valid code and its facts),
 //! `specs/Machine.antt` (one instruction, and a run), `specs/Frames.antt` (what a run leaves in a frame),
-//! `specs/Laws.antt`. How it is gone about stands in `specs/Registers.antt` (the state in registers and
+//! `specs/Laws.antt`, `specs/Worked.antt`. How it is gone about stands in `specs/Registers.antt` (the state in registers and
 //! cells), `specs/Reading.antt` (words as a program), `specs/Tables.antt` and `specs/Judged.antt` (loops
 //! and heights by place).
 #![tactic(auto)]
@@ -36,6 +36,6 @@ mod writing;
 pub use code::{Code, check_code};
 pub use frame::Frame;
 pub use instruction::{Flow, Instruction};
-pub use laws::{code_is_one, valid_runs_end};
+pub use laws::{code_is_one, machine_is_worked, valid_runs_end};
 pub use program::{CodeFacts, Entry, Program, Role, Sizes};
 pub use running::run;

@@ -1,4 +1,4 @@
-use Rattle.std.proofs.Common.{◌≡◌, ℕ, ◌<◌, length, Some, false, true, refl, subst, arith, pos}
+use Rattle.std.proofs.Common.{◌≡◌, length, refl, subst, arith, pos}
 use Rattle.std.proofs.lemmas.Option.{slice_get-get_or}
 use Rattle.unit_vm.specs.declared.instruction.Instruction.TheVariants.{Push}
 use Rattle.unit_vm.proofs.Going.{read_at}

@@ -1,5 +1,4 @@
 use Rattle.std.proofs.Common.{◌≡◌, ℕ, ◌<◌}
-use Rattle.unit_vm.proofs.JumpsStaying.{StayBelow}
 use Rattle.unit_vm.specs.declared.instruction.Instruction.{Instruction}
 use Rattle.std.specs.Prelude.{slice_get, true, Some}
 use Rattle.unit_vm.specs.Tables.{stays}

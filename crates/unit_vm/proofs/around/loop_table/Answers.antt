@@ -1,9 +1,9 @@
-use Rattle.std.proofs.Common.{◌≡◌, ℕ, ◌<◌, ◌≤◌, ◌^◌, length, Some, None, refl, sym, subst, arith, ◌∙◌, rules, pos, lit<, Fits, w32}
+use Rattle.std.proofs.Common.{◌<◌, ◌^◌, sym, subst, arith, ◌∙◌, rules, pos, lit<}
 use Rattle.std.proofs.lemmas.Option.{slice_get-get_or}
 use Rattle.unit_vm.specs.declared.instruction.Instruction.TheVariants.{Push}
-use Rattle.unit_vm.specs.Tables.{row_behind, CanCount, IsCounted, HasLoops, IsLoopTable}
+use Rattle.unit_vm.specs.Tables.{CanCount}
 use Rattle.unit_vm.proofs.Going.{read_at}
-use Rattle.unit_vm.proofs.LoopTables.{walked_on, too_dear, place_small, depth_small, can_count, not_closed, left_open, whole_table, told_by, walked_as, walked_to}
+use Rattle.unit_vm.proofs.LoopTables.{walked_on, too_dear, place_small, depth_small, can_count, not_closed, whole_table, told_by, walked_as, walked_to}
 use Rattle.unit_vm.proofs.around.loop_table.Goals as goal
 
 pub returns-then-cost-gt-GREATEST_COST-clause-none : goal.returns-then-cost-gt-GREATEST_COST-clause-none

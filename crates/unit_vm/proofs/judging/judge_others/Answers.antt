@@ -1,4 +1,4 @@
-use Rattle.std.proofs.Common.{◌≡◌, ◌∷◌, [], None, Some, ◌∙◌, sym, subst, ap}
+use Rattle.std.proofs.Common.{◌∷◌, [], Some, ◌∙◌, sym, subst, ap}
 use Rattle.unit_vm.specs.declared.program.Role.TheVariants as role
 use Rattle.unit_vm.specs.Programs.{with_limit}
 use Rattle.unit_vm.specs.Judged.{IsJudged, AreJudged, step_part, merged}

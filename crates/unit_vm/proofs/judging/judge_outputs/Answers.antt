@@ -1,7 +1,7 @@
-use Rattle.std.proofs.Common.{◌≡◌, length, map, take, Some, None, sym, subst, arith}
+use Rattle.std.proofs.Common.{subst}
 use Rattle.unit_vm.specs.Programs.{output_part}
-use Rattle.unit_vm.specs.Judged.{IsJudged, IsNoPart, AreJudged}
-use Rattle.unit_vm.proofs.Judgements.{some_of, none_of, read_part, outputs_more, outputs_none, outputs_all, judged_as}
+use Rattle.unit_vm.specs.Judged.{IsJudged, IsNoPart}
+use Rattle.unit_vm.proofs.Judgements.{some_of, none_of, read_part, outputs_more, outputs_none, judged_as}
 use Rattle.unit_vm.proofs.judging.judge_outputs.Goals as goal
 
 pub returns-in-None-clause-none : goal.returns-in-None-clause-none

@@ -1,4 +1,4 @@
-use Rattle.std.proofs.Common.{◌≡◌, ℕ, true, false, refl, sym, ◌∙◌, subst, ap}
+use Rattle.std.proofs.Common.{ℕ, sym, ◌∙◌, ap}
 use Rattle.unit_vm.specs.Valid.{greatest}
 use Rattle.unit_vm.specs.Tables.{heights_in, IsLoopTable, HasHeights, IsReached}
 use Rattle.std.specs.Prelude.{Vec, Option}

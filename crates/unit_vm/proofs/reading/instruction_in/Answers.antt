@@ -1,8 +1,7 @@
-use Rattle.std.proofs.Common.{◌≡◌, ℕ, ℤ, List, ◌∷◌, ◌/◌, ◌%◌, ◌≤◌, arith, get_or, ap, ◌∙◌, sym, rules, to_z, of_z, w64}
+use Rattle.std.proofs.Common.{◌≡◌, ℕ, ℤ, ◌%◌, ◌≤◌, arith, get_or, ap, ◌∙◌, rules, to_z, of_z, w64}
 use Rattle.std.proofs.lemmas.Int.{to_z-of_z}
 use Rattle.std.specs.Prelude.{unwrap_or, option_copied}
 use Rattle.fixed_words.specs.declared.types.Ty.{Ty}
-use Rattle.unit_vm.specs.declared.instruction.Instruction.{Instruction}
 use Rattle.unit_vm.specs.declared.instruction.Instruction.TheVariants.{Done}
 use Rattle.unit_vm.specs.Reading.{small, type_at, with_argument}
 use Rattle.unit_vm.proofs.reading.instruction_in.Goals as goal

@@ -1,4 +1,4 @@
-use Rattle.std.proofs.Common.{◌≡◌, ℤ, pos, List, ◌∷◌, [], ◌++◌, ap, ◌∙◌, rules}
+use Rattle.std.proofs.Common.{◌≡◌, pos, ◌∷◌, [], ◌++◌, rules}
 use Rattle.std.proofs.lemmas.Option.{slice_get-get_or}
 use Rattle.unit_vm.specs.declared.instruction.Instruction.TheVariants.{Push}
 use Rattle.unit_vm.specs.Instructions.{operation_of, argument_of}

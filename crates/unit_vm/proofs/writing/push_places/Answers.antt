@@ -1,4 +1,4 @@
-use Rattle.std.proofs.Common.{◌≡◌, ℕ, ◌≤◌, ◌+◌, ◌*◌, length, pos, ◌∷◌, [], ◌++◌, ap, ◌∙◌, rules, subst, sym, arith}
+use Rattle.std.proofs.Common.{◌≡◌, ◌+◌, ◌*◌, pos, ◌∷◌, [], ◌++◌, ap, rules}
 use Rattle.unit_vm.proofs.Judgements.{read_part}
 use Rattle.unit_vm.proofs.WriteSteps.{placed_more}
 use Rattle.unit_vm.proofs.writing.push_places.Goals as goal

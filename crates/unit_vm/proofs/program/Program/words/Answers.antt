@@ -1,7 +1,7 @@
-use Rattle.std.proofs.Common.{◌≡◌, ℤ, List, ◌++◌, sym, ap, ◌∙◌, subst}
+use Rattle.std.proofs.Common.{ℤ, List, ◌++◌, ap, ◌∙◌}
 use Rattle.unit_vm.specs.declared.instruction.Instruction.{Instruction}
 use Rattle.unit_vm.specs.Instructions.{written}
-use Rattle.unit_vm.specs.Programs.{joined, code_of_limit, table_of, all_code}
+use Rattle.unit_vm.specs.Programs.{joined, code_of_limit, all_code}
 use Rattle.unit_vm.proofs.WriteSteps.{words_joined}
 use Rattle.unit_vm.proofs.program.Program.words.Goals as goal
 
