@@ -1,9 +1,9 @@
 -- The successor of a stand of one component.
-use Rattle.std.proofs.Common.{◌≡◌, ℕ, suc, ◌+◌, ◌-◌, ◌/◌, ◌<◌, ◌≤◌, ◌==◌, min, Bool, true, false, cond, ℤ, List, [], ◌∷◌, ◌++◌, map, length, take, Option, Some, None, Result, Ok, Err, refl, ap, sym, ◌∙◌, arith, append-nil}
+use Rattle.std.proofs.Common.{◌≡◌, ℕ, suc, ◌+◌, ◌-◌, ◌/◌, ◌≤◌, ◌==◌, min, Bool, true, false, cond, ℤ, List, [], ◌∷◌, ◌++◌, map, length, take, Some, None, Result, Ok, Err, refl, ap, ◌∙◌, arith, append-nil}
 use Rattle.std.proofs.lemmas.Bool.Decides.{nat_tests}
 use Rattle.std.proofs.lemmas.List.{take_all}
 use Rattle.std.specs.Prelude.{not, ◌&&◌, nat_lt, zip}
-use Rattle.std.specs.List.{enumerate_from, filter_map, cons_option}
+use Rattle.std.specs.List.{enumerate_from, cons_option}
 use Rattle.std.specs.Option.{option_map, option_and_then}
 use Rattle.std.specs.Result.{result_ok, result_err}
 use Rattle.fixed_words.specs.Operations.{Outcome}
@@ -13,8 +13,7 @@ use Rattle.unit_tree.specs.Compositions.{Member, Composition}
 use Rattle.unit_tree.specs.Effects.{effect_of_lines}
 use Rattle.unit_tree.specs.Negotiation.{least_of, is_held, reply_of, reply_at, agreed_step, limit_told, state_after}
 use Rattle.unit_tree.specs.Ports.{Ports, Outlet, seen_by, all_there, given_at, word_at, fault_at, first_some, outlets, right_sides, port_fault}
-use Rattle.unit_tree.specs.RunLaws.{EndsInOrder}
-use Rattle.unit_tree.specs.Successor.{Position, goes, ends, when, first_told, max_end_of, max_end, step_end_of, point_after, proposed, agreed, is_redone, trial, steps_by, replies_to, stop_end, row_end, trial_end, zero_end, after, successor}
+use Rattle.unit_tree.specs.Successor.{Position, goes, ends, when, first_told, max_end_of, step_end_of, point_after, proposed, agreed, trial, steps_by, replies_to, stop_end, after, successor}
 use Rattle.unit_tree.specs.Trace.{Stand, Row, IsStand, IsGoing, row_unless, row_at}
 use Rattle.unit_tree.specs.Values.{◌>>=◌, value_of}
 use Rattle.unit_tree.specs.declared.ending.Ending.{Ending}

@@ -1,5 +1,5 @@
 -- A runnable system as one component, and the text of its trace.
-use Rattle.std.proofs.Common.{◌≡◌, ℕ, ◌-◌, ◌*◌, ◌/◌, ◌%◌, ◌^◌, ◌==◌, min, max, length, pos, arith, true, false, List, [], ◌∷◌, ◌++◌, map, Option, Some, None, Result, Ok, Err, refl, sym, ap, eq-eqb, subst, ◌∙◌}
+use Rattle.std.proofs.Common.{◌≡◌, ℕ, ◌-◌, ◌*◌, ◌/◌, ◌%◌, ◌^◌, ◌==◌, max, length, pos, arith, true, false, List, [], ◌∷◌, ◌++◌, map, Option, Some, None, Result, Ok, Err, refl, sym, ap, eq-eqb, subst, ◌∙◌}
 use Rattle.std.specs.Prelude.{IsErr, cond, not, ◌&&◌, unsigned_abs, unwrap_or, fold}
 use Rattle.std.specs.Int.{is_negative}
 use Rattle.std.specs.Option.{option_map}
@@ -16,7 +16,6 @@ use Rattle.unit_tree.specs.Compositions as composition
 use Rattle.unit_tree.specs.Compositions.{Member, Composition, literal_set, default_zeros, default_rows, factor_of, source_of, member_with, members_of, composition_of}
 use Rattle.unit_tree.specs.Names.{unit_named}
 use Rattle.unit_tree.specs.Trace.{Stand, rows_of, IsTrace}
-use Rattle.unit_tree.specs.declared.system.Instance.{Instance}
 use Rattle.unit_tree.specs.declared.system.System.{System}
 use Rattle.unit_tree.specs.declared.unit.Output.{Output}
 use Rattle.unit_tree.specs.declared.unit.Unit.{Unit}

@@ -1,8 +1,8 @@
 -- A runnable system has exactly one trace.
-use Rattle.std.proofs.Common.{◌≡◌, ℕ, zero, suc, ◌<◌, ◌≤◌, List, [], ◌∷◌, length, sym, ap, subst, ◌∙◌, inl, refl, arith}
+use Rattle.std.proofs.Common.{◌≡◌, ℕ, List, [], ◌∷◌, length, sym, ap, subst, ◌∙◌, inl, arith}
 use Rattle.std.specs.Prelude.{map, ◌++◌, zip, unwrap_or, slice_get}
 use Rattle.std.specs.List.{AllByRecursion, filter_map}
-use Rattle.unit_tree.specs.Compositions.{Composition, composition_of, AreMembers}
+use Rattle.unit_tree.specs.Compositions.{composition_of, AreMembers}
 use Rattle.unit_tree.specs.Ports.{IsAmong, IsPlaceOrder, needs_of_places, place_needed, places_needed}
 use Rattle.unit_tree.specs.RunLaws.{HasOneTrace}
 use Rattle.unit_tree.specs.Trace.{Stand, IsTrace}
