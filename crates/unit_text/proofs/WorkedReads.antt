@@ -116,14 +116,17 @@ thermal_is_old = simp expr_lemmas refl
 thermal_lines : HaveForms (source_lines thermal_text) (text_forms 1 thermal_parts) (source_lines thermal_text)
 thermal_lines = in_any_text (source_lines thermal_text) (text_forms 1 thermal_parts) (filled thermal_text) thermal_is_old (plain_header, (sample_line, (half_stop, (zero_line, (unit_a, (max_line, (bool_output, (input_line, (fixed_state, (resolution_line, (end_line, (rows_line, (connect_line, (instance_a, (setting_line, (end_line, _))))))))))))))))
 
-pub thermal_is_read : Reads thermal_text thermal
+pub thermal_is_read : ReadsFrom thermal_text thermal (1 ∷ 5 ∷ 10 ∷ 9 ∷ 8 ∷ 7 ∷ 6 ∷ 11 ∷ 14 ∷ 15 ∷ 16 ∷ 13 ∷ 3 ∷ 4 ∷ 12 ∷ 2 ∷ [])
 thermal_is_read = record {
-  parts = thermal_parts;
-  says = refl;
-  lines = thermal_lines;
-  placed = refl;
-  short = leb-true (size_of thermal_text) text_limit refl;
-  lines_short = refl;
+  reads = record {
+    parts = thermal_parts;
+    says = refl;
+    lines = thermal_lines;
+    placed = refl;
+    short = leb-true (size_of thermal_text) text_limit refl;
+    lines_short = refl;
+  };
+  are_lines = refl;
 }
 
 abbrev mode_parts : List Part

@@ -211,10 +211,10 @@ long_line_text = text_of (returned (codes "cosim 1#" ++ letters 991 ++ (13 ∷ [
 
 pub record TextsAreRead : Type 0 where
   pub counter_is_read : Reads commented_counter counter
-  pub thermal_is_read : Reads thermal_text thermal
+  -- the lines of the text that the canonical lines came from, where its parts stand in another order
+  pub thermal_is_read : ReadsFrom thermal_text thermal (1 ∷ 5 ∷ 10 ∷ 9 ∷ 8 ∷ 7 ∷ 6 ∷ 11 ∷ 14 ∷ 15 ∷ 16 ∷ 13 ∷ 3 ∷ 4 ∷ 12 ∷ 2 ∷ [])
   pub mode_is_read : Reads mode_text mode
   pub long_line_is_read : Reads long_line_text (bare_system 1)
-  -- the lines of the relay's text that its canonical lines came from
   pub relay_is_read : ReadsFrom relay_text relay (2 ∷ 3 ∷ 5 ∷ 4 ∷ 6 ∷ 7 ∷ [])
   -- the counter has a canonical text, and it is read back
   pub counter_is_printable : IsPrintable counter

@@ -54,6 +54,22 @@ fn made_pairs(alloc: Global, bits: u32) -> Result<Vec<(i64, i64)>, AllocError> {
     Ok(pairs)
 }
 
+/// Whether both give the same for each pair, word or fault.
+fn agree<F, G>(pairs: &[(i64, i64)], word: F, wide: G) -> bool
+where
+    F: Fn(i64, i64) -> Result<i64, Fault>,
+    G: Fn(i64, i64) -> Result<i64, Fault>,
+    requires word { F.IsAlwaysCallable word }
+    requires wide { G.IsAlwaysCallable wide }
+{
+    for &(a, b) in pairs {
+        if word(a, b) != wide(a, b) {
+            return false;
+        }
+    }
+    true
+}
+
 /// What the operation gives for all pairs, added up, so that no call can be left out.
 fn total<F: Fn(i64, i64) -> Result<i64, Fault>>(pairs: &[(i64, i64)], operation: F) -> i64
     requires { F.IsAlwaysCallable operation }
@@ -114,13 +130,14 @@ impl<'a, R: Clock + Print> Bench<'a, R> {
         requires word { F.IsAlwaysCallable word }
         requires wide { G.IsAlwaysCallable wide }
     {
+        let are_same = agree(&self.pairs, &word, &wide);
         if !self.plan.is_timed {
-            let answer = told(total(&self.pairs, word) == total(&self.pairs, wide));
+            let answer = told(are_same);
             return println!(self.rt; "{name}: {answer}");
         }
         let (word_total, word_time) = timed(self.rt, &mut self.pairs, word)?;
         let (wide_total, wide_time) = timed(self.rt, &mut self.pairs, wide)?;
-        let answer = told(word_total == wide_total);
+        let answer = told(are_same && word_total == wide_total);
         let (word_whole, word_tenths) = nanoseconds_a_call(word_time);
         let (wide_whole, wide_tenths) = nanoseconds_a_call(wide_time);
         println!(self.rt;
