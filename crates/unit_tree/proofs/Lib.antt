@@ -15,6 +15,7 @@ pub mod PartLaws
 pub mod PhraseLaws
 pub mod PlaceOrders
 pub mod PlainLemmas
+pub mod PlainLines
 pub mod PositionLaws
 pub mod RankLaws
 pub mod RefusalLaws

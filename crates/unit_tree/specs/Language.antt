@@ -1,6 +1,7 @@
 -- Laws of the language. Those of the first part are proved; those of the second say what a reader, a checker and a
 -- printer of the language owe, and are not proved yet.
 use Rattle.std.specs.Prelude.{◌≡◌, ◌≤◌, ◌⊎◌, ◌↔◌, ℕ, List, [], ◌∷◌, ◌++◌, map, length, Some, None, IsTrue}
+use Rattle.std.specs.List.{flat_map}
 use Rattle.std.specs.List.Sorted.{IsPermutation}
 use Rattle.unit_tree.specs.Blocks.{no_lines, open_blocks, are_placed}
 use Rattle.unit_tree.specs.Canonical.{canonical_parts, canonical_forms, canonical_phrase, canonical_text, line_text}
@@ -9,6 +10,7 @@ use Rattle.unit_tree.specs.Lines.{source_lines}
 use Rattle.unit_tree.specs.Orders.{IsIn, DependsOn, HasNoOrder, HasNoCycle, IsFirstWithoutOrder, outputs_of, line_of_output}
 use Rattle.unit_tree.specs.Parts.{Part, text_forms, system_of}
 use Rattle.unit_tree.specs.Phrases.{Whole, stands, tree_of}
+use Rattle.unit_tree.specs.Plain.{plain_form, plain_forms}
 use Rattle.unit_tree.specs.Printable.{IsPrintable, is_unsigned}
 use Rattle.unit_tree.specs.Sites.{Site, StandsBehind, sites_of}
 use Rattle.unit_tree.specs.SourceLines.{in_canonical_order}
@@ -34,6 +36,12 @@ pub record IsJudgedOnce : Type 0 where
 pub record SitesAreCanonicalLines : Type 0 where
   pub lines : (system : System) → map (λ site. site.line) (sites_of system) ≡ canonical_forms system
   pub blocks : (system : System) (before later : List Site) (site : Site) → sites_of system ≡ before ++ (site ∷ later) → StandsBehind system before site
+
+-- For a system of version 2 the lines of the plain form that its lines become are, one behind the other, the canonical
+-- lines of the plain form; what is sampled stays as it was written.
+abbrev pub PlainLinesAreThose : Type 0
+PlainLinesAreThose =
+    (system : System) → system.version ≡ 2 → flat_map (λ site. plain_forms system site.scope site.line) (sites_of system) ≡ canonical_forms (record (plain_form system) { samples = system.samples })
 
 -- The canonical parts of a system say this system.
 abbrev pub CanonicalPartsSayTheSystem : Type 0

@@ -4,7 +4,7 @@ ghost use Rattle.unit_tree.specs.WorkedEvents.{PlainFormsAreWorked, EventsAreWor
 ghost use Rattle.unit_tree.specs.WorkedLimits.{LimitsAreWorked};
 ghost use Rattle.unit_tree.specs.WorkedPhrases.{PhrasesAreWorked};
 ghost use Rattle.unit_tree.specs.WorkedSystems.{SystemsAreWorked, OrdersAreWorked};
-ghost use Rattle.unit_tree.specs.Language.{IsRefusedOnce, IsJudgedOnce, SitesAreCanonicalLines, CanonicalPartsSayTheSystem, CanonicalPhrasesAreRight, CyclesHaveNoOrder, OutputsHaveLines, SourceLinesAreRight};
+ghost use Rattle.unit_tree.specs.Language.{IsRefusedOnce, IsJudgedOnce, SitesAreCanonicalLines, PlainLinesAreThose, CanonicalPartsSayTheSystem, CanonicalPhrasesAreRight, CyclesHaveNoOrder, OutputsHaveLines, SourceLinesAreRight};
 ghost use Rattle.unit_tree.specs.WorkedKinds.{KindsAreWorked, WrongKindsAreWorked, LineKindsAreWorked, CostsAreWorked};
 
 /// A law: a text is refused at one line and by one rule at most.
@@ -21,6 +21,12 @@ pub fn each_system_is_judged_once()
 /// it there.
 pub fn sites_are_canonical_lines()
     ensures { SitesAreCanonicalLines }
+{}
+
+/// A law: for a system of version 2 the lines that its lines become in the plain form are the canonical lines of the plain
+/// form.
+pub fn plain_lines_are_those()
+    ensures { PlainLinesAreThose }
 {}
 
 /// A law: the canonical parts of a system say this system.

@@ -47,8 +47,8 @@ pub use laws::{
     blocks_are_worked, canonical_parts_say_the_system, canonical_phrases_are_right,
     cycles_have_no_order, each_system_is_judged_once, events_are_worked,
     kinds_and_costs_are_worked, limits_are_worked, lines_are_worked, orders_are_worked,
-    outputs_have_lines, phrases_are_worked, runs_are_worked, sites_are_canonical_lines,
-    source_lines_are_right, systems_are_worked, texts_are_refused_once,
+    outputs_have_lines, phrases_are_worked, plain_lines_are_those, runs_are_worked,
+    sites_are_canonical_lines, source_lines_are_right, systems_are_worked, texts_are_refused_once,
 };
 pub use line::Line;
 pub use line_form::LineForm;
