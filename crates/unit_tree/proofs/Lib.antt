@@ -4,6 +4,7 @@ pub mod EffectKeeps
 pub mod EffectLemmas
 pub mod EndLaws
 pub mod EquationLaws
+pub mod EventLaws
 pub mod FoldLemmas
 pub mod JudgementLaws
 pub mod KindLemmas

@@ -4,12 +4,13 @@ use Rattle.std.specs.List.{AllByRecursion, list_all}
 use Rattle.fixed_words.specs.Types.{is_word_of}
 use Rattle.super_time.specs.LocalTime.{local_step}
 use Rattle.unit_tree.specs.Components.{Component, Moved, get_of, step_of}
-use Rattle.unit_tree.specs.Compositions.{Composition, AreMembers, HasNoEvents, composition_of}
+use Rattle.unit_tree.specs.Compositions.{Composition, AreMembers, HasNoEvents, composition_of, run_of}
 use Rattle.unit_tree.specs.Names.{is_among}
 use Rattle.unit_tree.specs.Negotiation.{proposal_of, reply_of, agreed_step}
 use Rattle.unit_tree.specs.Orders.{HasNoCycle}
 use Rattle.unit_tree.specs.Plain.{plain_form}
 use Rattle.unit_tree.specs.Ports.{Ports, IsAmong, IsAssignment, IsPlaceOrder, port_fault}
+use Rattle.unit_tree.specs.Printable.{IsRanged}
 use Rattle.unit_tree.specs.Successor.{Position, goes, ends, first_position, after, agreed, proposed, is_redone, stop_end, row_end, max_end, trial_end, redo_end, redo_end_by, zero_end, successor}
 use Rattle.unit_tree.specs.Trace.{Stand, IsGoing, IsTrace, AreWordsOf, HasWords}
 use Rattle.unit_tree.specs.WellFormed.{IsWellFormed, uses_other_input}
@@ -142,9 +143,9 @@ pub record HasOneTrace (run : Composition) : Type 0 where
 abbrev pub OrderedRunsHaveOneTrace : Type 0
 OrderedRunsHaveOneTrace = (run : Composition) (order : List ℕ) → AreMembers run → IsPlaceOrder run order → HasOneTrace run
 
--- The plain form of a system of version 2 has no event ports.
+-- The plain form of a system in range has no event ports.
 abbrev pub PlainFormsHaveNoEvents : Type 0
-PlainFormsHaveNoEvents = (system : System) → system.version ≡ 2 → HasNoEvents (plain_form system)
+PlainFormsHaveNoEvents = (system : System) → IsRanged system → HasNoEvents (plain_form system)
 
 -- Where a system that is well-formed has an order of its outputs, its composition has one of its places.
 abbrev pub SystemsHavePlaceOrders : Type 0
@@ -154,3 +155,16 @@ SystemsHavePlaceOrders =
 -- A system that is well-formed and has no cycle has exactly one trace. It is told of systems without event ports.
 abbrev pub SystemsHaveOneTrace : Type 0
 SystemsHaveOneTrace = (system : System) → HasNoEvents system → IsWellFormed system → HasNoCycle system → HasOneTrace (composition_of system)
+
+-- So has what is run of a system of version 1 in range.
+abbrev pub RunsOfVersion1HaveOneTrace : Type 0
+RunsOfVersion1HaveOneTrace =
+    (system : System) → IsRanged system → system.version ≡ 1 → IsWellFormed system → HasNoCycle system → HasOneTrace (run_of system)
+
+-- ---- Owed, and not proved yet
+
+-- The plain form of a system in range that is well-formed is well-formed, and has no cycle where the system has none. With
+-- this a system of version 2 has exactly one trace too.
+pub record PlainFormsAreJudgedAlike : Type 0 where
+  pub well_formed : (system : System) → IsRanged system → IsWellFormed system → IsWellFormed (plain_form system)
+  pub no_cycle : (system : System) → IsRanged system → IsWellFormed system → HasNoCycle system → HasNoCycle (plain_form system)

@@ -5,12 +5,13 @@ use Rattle.fixed_words.specs.declared.types.Literal.{Literal}
 use Rattle.fixed_words.specs.declared.types.Literal.TheVariants as literal
 use Rattle.fixed_words.specs.declared.types.Ty.{Ty}
 use Rattle.fixed_words.specs.declared.types.Ty.TheVariants as types
-use Rattle.unit_tree.specs.Compositions.{Composition, composition_of}
+use Rattle.unit_tree.specs.Compositions.{Composition, composition_of, run_of}
 use Rattle.unit_tree.specs.Parts as parts
 use Rattle.unit_tree.specs.Parts.{Part, UnitPart, system_of}
 use Rattle.unit_tree.specs.Ports.{IsPlaceOrder}
 use Rattle.unit_tree.specs.Routes.{routes_of}
 use Rattle.unit_tree.specs.Successor.{first_position}
+use Rattle.unit_tree.specs.WorkedEvents.{pulse_and_tally, plain_pulse_and_tally}
 use Rattle.unit_tree.specs.Trace.{Stand, Goes, IsStand, IsTrace, rows_of, cells_of}
 use Rattle.unit_tree.specs.declared.ending.Ending.{Ending}
 use Rattle.unit_tree.specs.declared.ending.Ending.TheVariants.{Completed, RowBudget, ZeroBudget, UnitFault, StepRefused}
@@ -290,13 +291,43 @@ begins =
 abbrev pub begun : ℕ → ℕ → ℕ → ℕ → Stand
 begun k t n first = stand k t n ((pos first ∷ pos t ∷ []) ∷ []) (pos t ∷ [])
 
+abbrev pub pulsed : ℕ → ℕ → ℕ → ℕ → ℕ → Stand
+pulsed k occurs word got shown = stand k k 0 (two k got) (pos occurs ∷ pos word ∷ pos shown ∷ [])
+
 abbrev pub four_and_seven_stands : List Stand
 four_and_seven_stands = both_at 0 0 ∷ both_at 1 4 ∷ both_at 2 8 ∷ both_at 3 10 ∷ []
 
 abbrev pub clocks_stands : List Stand
 clocks_stands = clocked 0 0 0 ∷ clocked 1 7 0 ∷ clocked 2 14 1 ∷ clocked 3 20 2 ∷ []
 
+abbrev pub divides_by_four : List Part
+divides_by_four =
+    at_most_c
+    ∷ parts.HasUnit (codes "G") (
+    state_of (codes "n") 0
+    ∷ output_of (codes "y") [] n
+    ∷ parts.Step (line.Assign (codes "n") (expr.Binary by.Div (number 1) (expr.Binary by.Sub expr.Step (number 4))) ∷ [])
+    ∷ [])
+    ∷ instance (codes "a") (codes "F") []
+    ∷ instance (codes "b") (codes "G") []
+    ∷ parts.Stop (whole 10)
+    ∷ []
+
+abbrev pub accepts_none : List Part
+accepts_none =
+    parts.HasUnit (codes "G") (state_of (codes "n") 0 ∷ output_of (codes "y") [] n ∷ accepts (number 0) ∷ [])
+    ∷ instance (codes "a") (codes "G") []
+    ∷ parts.Stop (whole 10)
+    ∷ parts.Zero 0
+    ∷ []
+
 pub record StepsAreWorked : Type 0 where
+  pub redo_fault : RunsTo divides_by_four (both_at 0 0 ∷ []) (UnitFault 1 place.Step fault.ZeroDivisor)
+  pub redo_cells : cells_of (composition_of (system_of 1 divides_by_four)) (both_at 0 0 ∷ []) ≡ 4
+  pub redo_zero : RunsTo accepts_none (counted 0 ∷ []) ZeroBudget
+  pub zero_cells : cells_of (composition_of (system_of 1 accepts_none)) (counted 0 ∷ []) ≡ 2
+  pub defaults : ((run_of (system_of 2 pulse_and_tally)).zero_budget ≡ 1000) × ((run_of (system_of 2 pulse_and_tally)).row_budget ≡ 10000)
+  pub pulse : IsTrace (composition_of (system_of 2 plain_pulse_and_tally)) (pulsed 0 0 0 0 0 ∷ pulsed 1 1 10 0 0 ∷ pulsed 2 0 0 10 10 ∷ pulsed 3 1 30 10 10 ∷ pulsed 4 0 0 40 40 ∷ []) Completed
   pub shorter : RunsTo four_and_seven four_and_seven_stands Completed
   pub shorter_cells : cells_of (composition_of (system_of 1 four_and_seven)) four_and_seven_stands ≡ 10
   pub refused : RunsTo four_and_three (both_at 0 0 ∷ []) (StepRefused 1 4 3)

@@ -36,6 +36,12 @@ returns-clause-ports c = record {
 
 pub returns-clause-steps : goal.returns-clause-steps
 returns-clause-steps c = record {
+  pulse = (refl, simp meaning_laws refl, ((simp meaning_laws refl, simp meaning_laws refl), ((simp meaning_laws refl, simp meaning_laws refl), ((simp meaning_laws refl, simp meaning_laws refl), ((simp meaning_laws refl, simp meaning_laws refl), simp meaning_laws refl)))));
+  redo_fault = (refl, simp meaning_laws refl, simp meaning_laws refl);
+  redo_cells = simp meaning_laws refl;
+  redo_zero = (refl, simp meaning_laws refl, simp meaning_laws refl);
+  zero_cells = simp meaning_laws refl;
+  defaults = (refl, refl);
   shorter = (refl, simp meaning_laws refl, ((simp meaning_laws refl, simp meaning_laws refl), ((simp meaning_laws refl, simp meaning_laws refl), ((simp meaning_laws refl, simp meaning_laws refl), simp meaning_laws refl))));
   shorter_cells = simp meaning_laws refl;
   refused = (refl, simp meaning_laws refl, simp meaning_laws refl);
