@@ -27,7 +27,7 @@ use Rattle.unit_text.specs.declared.form.Operand.{Operand}
 use Rattle.unit_text.specs.declared.form.Operand.TheVariants as operand
 use Rattle.unit_text.specs.declared.form.Source.{Source}
 use Rattle.cosim_app.specs.OneComponent.{IsPlain, AreDeclared}
-use Rattle.cosim_app.specs.Runnable.{whole, ticks_or, IsRunnable}
+use Rattle.cosim_app.specs.Runnable.{whole, digits_or, IsRunnable}
 
 -- ---- Its expressions and lines
 
@@ -108,7 +108,7 @@ abs_pos : (n : ℕ) → unsigned_abs (pos n) ≡ n
 abs_pos n = omega arith
 
 -- steps take time
-progress_of : (stop : ℕ) (longest : Option ℕ) → AllByRecursion IsInRange (longest_line longest) → (1 ≤ ticks_or (unsigned_abs (pos stop)) (optional_literal longest)) ⊎ (unsigned_abs (pos stop) ≡ 0)
+progress_of : (stop : ℕ) (longest : Option ℕ) → AllByRecursion IsInRange (longest_line longest) → (1 ≤ digits_or (unsigned_abs (pos stop)) (optional_literal longest)) ⊎ (unsigned_abs (pos stop) ≡ 0)
 progress_of zero None ranges = inr (abs_pos 0)
 progress_of (suc stop) None ranges = inl (rw (abs_pos (suc stop)) (omega arith))
 progress_of stop (Some longest) ranges = inl (rw (abs_pos longest) ranges.0.0)

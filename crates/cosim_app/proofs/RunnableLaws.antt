@@ -22,7 +22,7 @@ use Rattle.unit_tree.specs.declared.unit.Unit.{Unit}
 use Rattle.cosim_io.specs.Pieces.{AppendsPrefix}
 use Rattle.cosim_io.proofs.PieceLemmas.{AppendsPrefix-after, AppendsPrefix-longer}
 use Rattle.cosim_app.specs.OneComponent.{one, one_column, text_of_rows, PutsRows}
-use Rattle.cosim_app.specs.Runnable.{whole, ticks_or, IsRunnable, PutsTrace, stop_of, longest_of}
+use Rattle.cosim_app.specs.Runnable.{whole, digits_or, IsRunnable, PutsTrace, stop_of, longest_of}
 use Rattle.cosim_app.specs.TraceText.{columns_in, columns_of, header_text, row_text, trace_text}
 use Rattle.cosim_app.specs.declared.fault.RunEnd.{RunEnd}
 use Rattle.cosim_app.specs.declared.fault.RunFault.{RunFault}
@@ -80,9 +80,9 @@ stop_is system r =
     ap (λ resolution. composition.ticks_or 0 resolution system.stop) (resolution_is system r)
     ∙ ap (composition.ticks_or 0 0) r.stop
     ∙ ap (λ ticks. unwrap_or ticks 0) (whole_ticks r.seconds)
-    ∙ sym (ap (ticks_or 0) r.stop ∙ digits_are r.seconds)
+    ∙ sym (ap (digits_or 0) r.stop ∙ digits_are r.seconds)
 
-steps_by : (default : ℕ) (steps : Option ℕ) → composition.ticks_or default 0 (option_map whole steps) ≡ ticks_or default (option_map whole steps)
+steps_by : (default : ℕ) (steps : Option ℕ) → composition.ticks_or default 0 (option_map whole steps) ≡ digits_or default (option_map whole steps)
 steps_by default None = refl
 steps_by default (Some steps) = ap (λ ticks. unwrap_or ticks 0) (whole_ticks steps) ∙ sym (digits_are steps)
 
@@ -92,7 +92,7 @@ longest_is system r =
     ∙ ap (λ resolution. composition.ticks_or (stop_of system) resolution system.longest) (resolution_is system r)
     ∙ ap (composition.ticks_or (stop_of system) 0) r.longest
     ∙ steps_by (stop_of system) r.steps
-    ∙ sym (ap (ticks_or (stop_of system)) r.longest)
+    ∙ sym (ap (digits_or (stop_of system)) r.longest)
 
 rows_are : (system : System) (r : IsRunnable system) → unwrap_or system.rows (default_rows system.version (length system.instances)) ≡ 100000
 rows_are system r =

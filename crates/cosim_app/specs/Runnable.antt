@@ -22,21 +22,21 @@ use Rattle.cosim_app.specs.declared.fault.RunFault.{RunFault}
 abbrev pub whole : ℕ → Literal
 whole seconds = literal.Number (pos seconds) 0
 
--- The digits of a number of seconds, which are its ticks where it is whole and a tick is a second.
-abbrev pub ticks_of : Literal → ℕ
-ticks_of (literal.Number word decimals) = unsigned_abs word
-ticks_of (literal.Truth told) = 0
+-- The digits of a number of seconds. Those of a runnable system are whole and its tick is a second, so they are its ticks.
+abbrev pub digits_of : Literal → ℕ
+digits_of (literal.Number word decimals) = unsigned_abs word
+digits_of (literal.Truth told) = 0
 
-abbrev pub ticks_or : ℕ → Option Literal → ℕ
-ticks_or default None = default
-ticks_or default (Some given) = ticks_of given
+abbrev pub digits_or : ℕ → Option Literal → ℕ
+digits_or default None = default
+digits_or default (Some given) = digits_of given
 
--- Where a system's run ends, and its longest step, in ticks.
+-- Where a runnable system's run ends, and its longest step, in ticks.
 abbrev pub stop_of : System → ℕ
-stop_of system = ticks_or 0 system.stop
+stop_of system = digits_or 0 system.stop
 
 abbrev pub longest_of : System → ℕ
-longest_of system = ticks_or (stop_of system) system.longest
+longest_of system = digits_or (stop_of system) system.longest
 
 -- The system is one instance of one plain unit, and each of its steps takes time.
 pub record IsRunnable (system : System) : Type 0 where

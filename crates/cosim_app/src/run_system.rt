@@ -1,6 +1,6 @@
 //! The run of a system of one plain component, from the header on.
 ghost use Rattle.std.specs.Prelude.{◌≡◌, IfOk};
-ghost use Rattle.cosim_app.specs.Runnable.{ticks_of};
+ghost use Rattle.cosim_app.specs.Runnable.{digits_of};
 ghost use Rattle.cosim_app.specs.OneComponent.{IsOfFirst, Tells};
 ghost use Rattle.cosim_app.specs.Runnable.{IsRunnable, PutsTrace, longest_of, stop_of};
 
@@ -15,7 +15,7 @@ use unit_tree::{Environment, System};
 
 /// A number of seconds in ticks of one second each.
 fn ticks(literal: Literal) -> u64
-    ensures { result ≡ ticks_of literal }
+    ensures { result ≡ digits_of literal }
 {
     match literal {
         Literal::Number { word, .. } => word.unsigned_abs(),

@@ -16,7 +16,7 @@ pub enum Status {
     ReadFault,
     /// A write to the output or to the notes failed.
     WriteFault,
-    /// The trace ends with as many steps of length zero in a row as there may be.
+    /// The trace ends where one step of length zero more is agreed than there may be in a row.
     ZeroBudget,
     /// The trace ends with as many rows as there may be.
     RowBudget,

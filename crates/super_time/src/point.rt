@@ -1,6 +1,4 @@
 /// A point of superdense time: ticks, and how many steps of length zero came before at that time.
-///
-/// Points are in lexicographic order.
 #[derive(Clone, Copy, Debug, PartialEq, Eq)]
 pub struct Point {
     /// In ticks of the system.

@@ -105,7 +105,7 @@ default_zeros version = if version == 2 then 1000 else 100
 abbrev pub default_rows : ℕ → ℕ → ℕ
 default_rows version instances = min (if version == 2 then 10000 else 100000) (1000000 / instances)
 
--- A system without event ports, as every plain form is.
+-- A system without event ports, as the plain form of every system in range is.
 abbrev pub HasNoEvents : System → Type 0
 HasNoEvents system = AllByRecursion (λ unit. (unit.events_in ≡ []) × (unit.events_out ≡ [])) system.units
 

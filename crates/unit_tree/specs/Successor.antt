@@ -104,7 +104,7 @@ redo_end_by run at ports h = first_told (redo_end_of at.point.t h) (zip run.memb
 abbrev pub redo_end : Composition → Position → Ports → Option Ending
 redo_end run at ports = if is_redone run at ports then redo_end_by run at ports (agreed run at ports) else None
 
--- With the last step of length zero that there may be.
+-- Where as many steps of length zero have been made in a row as there may be, and the agreed step is one more.
 abbrev pub zero_end : Composition → Position → Ports → Option Ending
 zero_end run at ports = when ((agreed run at ports == 0) && (at.point.n == run.zero_budget)) ZeroBudget
 

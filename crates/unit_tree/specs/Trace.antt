@@ -34,7 +34,7 @@ abbrev pub IsTrace : Composition → List Stand → Ending → Type 0
 IsTrace run [] ending = ⊥
 IsTrace run (first ∷ others) ending = (first.at ≡ first_position run) × IsStand run first × Follows run first others ending
 
--- The run does not end at the stand before its trial: no output faults, it is not at its stop, it may have more rows,
+-- At the stand the run comes to its trial: no output faults, it is not at its stop, it may have more rows,
 -- and no `max` faults.
 pub record IsGoing (run : Composition) (stand : Stand) : Type 0 where
   pub ports_known : port_fault run stand.at.states stand.ports ≡ None

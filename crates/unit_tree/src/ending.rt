@@ -3,7 +3,7 @@ use fixed_words::Fault;
 /// Where in a component a fault was.
 #[derive(Clone, Copy, Debug, PartialEq, Eq)]
 pub enum Place {
-    /// In an output, by its number in the unit, from 0.
+    /// In an output, by its number in the plain form of the unit, from 0: there an event output is two.
     Output(u32),
     /// In its greatest step, `max`.
     Max,
@@ -18,7 +18,7 @@ pub enum Ending {
     Completed,
     /// With as many rows as there may be.
     RowBudget,
-    /// With as many steps of length zero in a row as there may be.
+    /// Where as many steps of length zero have been made in a row as there may be, and the agreed step is one more.
     ZeroBudget,
     /// By a fault of an instance.
     UnitFault {
