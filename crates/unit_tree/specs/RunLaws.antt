@@ -4,12 +4,13 @@ use Rattle.std.specs.List.{AllByRecursion, list_all}
 use Rattle.fixed_words.specs.Types.{is_word_of}
 use Rattle.super_time.specs.LocalTime.{local_step}
 use Rattle.unit_tree.specs.Components.{Component, Moved, get_of, step_of}
-use Rattle.unit_tree.specs.Compositions.{Composition, AreMembers, HasNoEvents, composition_of}
+use Rattle.unit_tree.specs.Compositions.{Composition, AreMembers, HasNoEvents, composition_of, run_of}
 use Rattle.unit_tree.specs.Names.{is_among}
 use Rattle.unit_tree.specs.Negotiation.{proposal_of, reply_of, agreed_step}
 use Rattle.unit_tree.specs.Orders.{HasNoCycle}
 use Rattle.unit_tree.specs.Plain.{plain_form}
 use Rattle.unit_tree.specs.Ports.{Ports, IsAmong, IsAssignment, IsPlaceOrder, port_fault}
+use Rattle.unit_tree.specs.Printable.{IsRanged}
 use Rattle.unit_tree.specs.Successor.{Position, goes, ends, first_position, after, agreed, proposed, is_redone, stop_end, row_end, max_end, trial_end, redo_end, redo_end_by, zero_end, successor}
 use Rattle.unit_tree.specs.Trace.{Stand, IsGoing, IsTrace, AreWordsOf, HasWords}
 use Rattle.unit_tree.specs.WellFormed.{IsWellFormed, uses_other_input}
@@ -154,3 +155,7 @@ SystemsHavePlaceOrders =
 -- A system that is well-formed and has no cycle has exactly one trace. It is told of systems without event ports.
 abbrev pub SystemsHaveOneTrace : Type 0
 SystemsHaveOneTrace = (system : System) → HasNoEvents system → IsWellFormed system → HasNoCycle system → HasOneTrace (composition_of system)
+
+-- So has what is run of a system of version 2 in range.
+abbrev pub RunsOfVersion2HaveOneTrace : Type 0
+RunsOfVersion2HaveOneTrace = (system : System) → IsRanged system → system.version ≡ 2 → IsWellFormed system → HasNoCycle system → HasOneTrace (run_of system)

@@ -1,11 +1,13 @@
 use Rattle.unit_tree.proofs.NameLaws.{names_differ}
 use Rattle.unit_tree.proofs.PlaceOrders.{system_is_ordered}
+use Rattle.unit_tree.proofs.PlainOrders.{plain_of, plain_names_differ, plain_has_no_cycle}
 use Rattle.unit_tree.proofs.PositionLaws.{system_has_members}
 use Rattle.unit_tree.proofs.RunTraces.{one_trace}
 use Rattle.std.proofs.Common.{◌≡◌, ◌==◌, cond, List, [], ◌∷◌, map, refl, sym, subst}
-use Rattle.std.specs.List.{AllByRecursion, flat_map}
+use Rattle.std.specs.List.{AllByRecursion}
 use Rattle.unit_tree.specs.Compositions.{HasNoEvents, composition_of}
-use Rattle.unit_tree.specs.Plain.{plain_unit, plain_wires, samples_or_all}
+use Rattle.unit_tree.specs.Plain.{plain_unit}
+use Rattle.unit_tree.specs.RunLaws.{HasOneTrace}
 use Rattle.unit_tree.specs.declared.unit.Unit.{Unit}
 use Rattle.unit_tree.proofs.run_laws.systems_have_one_trace.Goals as goal
 
@@ -23,8 +25,10 @@ no_events (unit ∷ units) = ((refl, refl), no_events units)
 
 pub returns-clause-plain : goal.returns-clause-plain
 returns-clause-plain c = λ system is.
-    subst (λ version. HasNoEvents (cond (version == 2) (record system {
-      units = map plain_unit system.units;
-      wires = flat_map (plain_wires system) system.wires;
-      samples = samples_or_all system;
-    }) system)) (sym is) (no_events system.units)
+    subst (λ version. HasNoEvents (cond (version == 2) (plain_of system) system)) (sym is) (no_events system.units)
+
+pub returns-clause-version_2 : goal.returns-clause-version_2
+returns-clause-version_2 c = λ system ranged is kept no_cycle.
+    let order = system_is_ordered (plain_of system) (no_events system.units) (plain_names_differ system ranged kept) (plain_has_no_cycle system ranged kept no_cycle) in
+    subst (λ version. HasOneTrace (composition_of (cond (version == 2) (plain_of system) system))) (sym is)
+    (one_trace (composition_of (plain_of system)) order.0 (system_has_members (plain_of system)) order.1)
