@@ -7,7 +7,7 @@ use Rattle.unit_tree.specs.Canonical.{optional, unit_parts, canonical_parts, can
 use Rattle.unit_tree.specs.Compositions.{HasNoEvents}
 use Rattle.unit_tree.specs.Parts as parts
 use Rattle.unit_tree.specs.Parts.{Part, UnitPart, unit_part_forms, part_forms}
-use Rattle.unit_tree.specs.Plain.{plain_unit, plain_wires, plain_form, samples_or_all}
+use Rattle.unit_tree.specs.Plain.{plain_unit, plain_form}
 use Rattle.unit_tree.specs.Printable.{IsRanged, is_event_port}
 use Rattle.unit_tree.specs.declared.line_form.LineForm.{LineForm}
 use Rattle.unit_tree.specs.declared.line_form.LineForm.TheVariants as form
@@ -15,6 +15,7 @@ use Rattle.unit_tree.specs.declared.system.System.{System}
 use Rattle.unit_tree.specs.declared.unit.EventIn.{EventIn}
 use Rattle.unit_tree.specs.declared.unit.EventOut.{EventOut}
 use Rattle.unit_tree.specs.declared.unit.Unit.{Unit}
+use Rattle.unit_tree.proofs.PlainOrders.{plain_of}
 
 -- ---- Lines that declare no event port
 
@@ -95,25 +96,16 @@ version_1_without_events system ranged is = without_events system (ranged.events
 -- ---- Plain forms
 
 pub plain_form_1 : (system : System) → system.version ≡ 1 → plain_form system ≡ system
-plain_form_1 system is = ap (λ version. cond (version == 2) (record system {
-  units = map plain_unit system.units;
-  wires = flat_map (plain_wires system) system.wires;
-  samples = samples_or_all system;
-}) system) is
+plain_form_1 system is = ap (λ version. cond (version == 2) (plain_of system) system) is
 
 plain_units_have_none : (units : List Unit) → AllByRecursion (λ unit. (unit.events_in ≡ []) × (unit.events_out ≡ [])) (map plain_unit units)
 plain_units_have_none [] = tt
 plain_units_have_none (unit ∷ units) = ((refl, refl), plain_units_have_none units)
 
-pub plain_form_2 : (system : System) → system.version ≡ 2 → HasNoEvents (plain_form system)
-plain_form_2 system is =
-    subst (λ version. HasNoEvents (cond (version == 2) (record system {
-      units = map plain_unit system.units;
-      wires = flat_map (plain_wires system) system.wires;
-      samples = samples_or_all system;
-    }) system)) (sym is) (plain_units_have_none system.units)
+pub plain_of_without_events : (system : System) → HasNoEvents (plain_of system)
+plain_of_without_events system = plain_units_have_none system.units
 
-one_or_two : (version : ℕ) → 1 ≤ version → version ≤ 2 → (version ≡ 1) ⊎ (version ≡ 2)
+pub one_or_two : (version : ℕ) → 1 ≤ version → version ≤ 2 → (version ≡ 1) ⊎ (version ≡ 2)
 one_or_two zero least most = absurd (omega arith)
 one_or_two (suc zero) least most = inl refl
 one_or_two (suc (suc zero)) least most = inr refl
@@ -124,4 +116,4 @@ plain_form_without_events system ranged = by_version (one_or_two system.version 
   where
     by_version : (system.version ≡ 1) ⊎ (system.version ≡ 2) → HasNoEvents (plain_form system)
     by_version (inl is) = subst HasNoEvents (sym (plain_form_1 system is)) (version_1_without_events system ranged is)
-    by_version (inr is) = plain_form_2 system is
+    by_version (inr is) = subst (λ version. HasNoEvents (cond (version == 2) (plain_of system) system)) (sym is) (plain_of_without_events system)

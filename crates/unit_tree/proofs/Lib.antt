@@ -17,6 +17,8 @@ pub mod PhraseLaws
 pub mod PlaceOrders
 pub mod PlainLemmas
 pub mod PlainLines
+pub mod PlainNames
+pub mod PlainOrders
 pub mod PositionLaws
 pub mod RankLaws
 pub mod RefusalLaws

@@ -1,5 +1,5 @@
 -- Names that are declared once: what the first rule of a well-formed system says of instances and of outputs.
-use Rattle.std.proofs.Common.{◌≡◌, ℕ, ◌+◌, Bool, true, false, List, [], ◌∷◌, ◌++◌, map, Option, Some, None, inl, inr, refl, ap, sym, subst, ◌∙◌, ◌⊎◌}
+use Rattle.std.proofs.Common.{◌≡◌, ℕ, ◌+◌, Bool, true, false, List, [], ◌∷◌, ◌++◌, append_assoc, map, Option, Some, None, inl, inr, refl, ap, sym, subst, ◌∙◌, ◌⊎◌}
 use Rattle.std.specs.Prelude.{◌||◌, cond, ⊤}
 use Rattle.std.specs.List.{AllByRecursion, list_any, flat_map, filter_map, find, enumerate_from, cons_option}
 use Rattle.std.specs.Str.{bytes_eq}
@@ -7,6 +7,7 @@ use Rattle.std.proofs.lemmas.Grind.{flat_map-append}
 use Rattle.std.proofs.lemmas.List.Elements.{filter_map-append}
 use Rattle.std.proofs.lemmas.Slice.Eq.{bytes_eq-Decides}
 use Rattle.unit_tree.specs.Canonical.{optional, unit_parts, canonical_parts}
+use Rattle.unit_tree.specs.Names.{Port, output_names}
 use Rattle.unit_tree.specs.Parts as parts
 use Rattle.unit_tree.specs.Parts.{Part, UnitPart, unit_of}
 use Rattle.unit_tree.specs.Sites.{Scope, TopScope, UnitScope, InstanceScope, Site, Headed, alone, sites, headed_unit_part, headed_part, sites_of}
@@ -15,6 +16,7 @@ use Rattle.unit_tree.specs.declared.line_form.LineForm.{LineForm}
 use Rattle.unit_tree.specs.declared.line_form.LineForm.TheVariants as form
 use Rattle.unit_tree.specs.declared.system.Instance.{Instance}
 use Rattle.unit_tree.specs.declared.system.System.{System}
+use Rattle.unit_tree.specs.declared.unit.EventOut.{EventOut}
 use Rattle.unit_tree.specs.declared.unit.Output.{Output}
 use Rattle.unit_tree.specs.declared.unit.Unit.{Unit}
 
@@ -143,6 +145,11 @@ pub record NamesDiffer (system : System) : Type 0 where
   pub instances : Distinct (map (λ instance. instance.name) system.instances)
   pub outputs : AllByRecursion (λ unit. Distinct (map (λ output. output.name) unit.outputs)) system.units
 
+-- The same of all outputs, event outputs among them.
+pub record PortsDiffer (system : System) : Type 0 where
+  pub instances : Distinct (map (λ instance. instance.name) system.instances)
+  pub outputs : AllByRecursion (λ unit. Distinct (output_names unit)) system.units
+
 abbrev Keeps : System → Site → Type 0
 Keeps system site = redeclares system site ≡ false
 
@@ -164,9 +171,52 @@ instance_heads : (instances : List Instance) → flat_map headed_part (map parts
 instance_heads [] = refl
 instance_heads (instance ∷ instances) = ap (λ rest. instance_head instance ∷ rest) (instance_heads instances)
 
-output_heads : (unit : Unit) (outputs : List Output) → flat_map (headed_unit_part unit) (map parts.HasOutput outputs) ≡ map (λ output. alone (form.Output output)) outputs
-output_heads unit [] = refl
-output_heads unit (output ∷ outputs) = ap (λ rest. alone (form.Output output) ∷ rest) (output_heads unit outputs)
+-- What declares an output.
+data Declaring : Type 0 where
+  OfOutput : Output → Declaring
+  OfEvent : EventOut → Declaring
+
+abbrev declaring_head : Declaring → Headed
+declaring_head (OfOutput output) = alone (form.Output output)
+declaring_head (OfEvent event) = alone (form.EventOutput event)
+
+abbrev declaring_name : Declaring → List ℕ
+declaring_name (OfOutput output) = output.name
+declaring_name (OfEvent event) = event.name
+
+declaring_asks : (declaring : Declaring) → name_declared (declaring_head declaring).head ≡ Some (declaring_name declaring)
+declaring_asks (OfOutput output) = refl
+declaring_asks (OfEvent event) = refl
+
+abbrev all_declaring : List Output → List EventOut → List Declaring
+all_declaring outputs events = map OfOutput outputs ++ map OfEvent events
+
+output_heads : (unit : Unit) (outputs : List Output) (events : List EventOut) → flat_map (headed_unit_part unit) (map parts.HasOutput outputs ++ map parts.HasEventOut events) ≡ map declaring_head (all_declaring outputs events)
+output_heads unit [] [] = refl
+output_heads unit [] (event ∷ events) = ap (λ rest. alone (form.EventOutput event) ∷ rest) (output_heads unit [] events)
+output_heads unit (output ∷ outputs) events = ap (λ rest. alone (form.Output output) ∷ rest) (output_heads unit outputs events)
+
+abbrev names_declared : List Output → List EventOut → List (List ℕ)
+names_declared outputs events =
+    map (λ (port : Port). port.name) (map (λ output. record { name = output.name; ty = output.ty; is_event = false; needs = output.needs }) outputs ++ map (λ event. record { name = event.name; ty = event.ty; is_event = true; needs = event.needs }) events)
+
+declaring_names : (outputs : List Output) (events : List EventOut) → map declaring_name (all_declaring outputs events) ≡ names_declared outputs events
+declaring_names [] [] = refl
+declaring_names [] (event ∷ events) = ap (λ rest. event.name ∷ rest) (declaring_names [] events)
+declaring_names (output ∷ outputs) events = ap (λ rest. output.name ∷ rest) (declaring_names outputs events)
+
+plain_apart : (outputs : List Output) (events : List EventOut) → Distinct (names_declared outputs events) → Distinct (map (λ output. output.name) outputs)
+plain_apart [] events apart = tt
+plain_apart (output ∷ outputs) events apart = (λ has. apart.0 (among_plain outputs has), plain_apart outputs events apart.1)
+  where
+    among_plain : (others : List Output) → Has (map (λ other. other.name) others) output.name → Has (names_declared others events) output.name
+    among_plain [] has = absurd has
+    among_plain (other ∷ others) (inl is) = inl is
+    among_plain (other ∷ others) (inr has) = inr (among_plain others has)
+
+all_plain_apart : (units : List Unit) → AllByRecursion (λ unit. Distinct (output_names unit)) units → AllByRecursion (λ unit. Distinct (map (λ output. output.name) unit.outputs)) units
+all_plain_apart [] apart = tt
+all_plain_apart (unit ∷ units) apart = (plain_apart unit.outputs unit.events_out apart.0, all_plain_apart units apart.1)
 
 module _ (system : System) where
   abbrev P : Site → Type 0
@@ -177,7 +227,7 @@ module _ (system : System) where
       hold_front P scope earlier (flat_map f front) (flat_map f behind) (subst (Hold P scope earlier) (flat_map-append f front behind) hold)
 
   -- The outputs of a unit.
-  unit_outputs : (unit : Unit) → AllByRecursion P (sites (UnitScope (unit_of unit.name (unit_parts unit))) [] (flat_map (headed_unit_part (unit_of unit.name (unit_parts unit))) (unit_parts unit) ++ (alone form.End ∷ []))) → Distinct (map (λ output. output.name) unit.outputs)
+  unit_outputs : (unit : Unit) → AllByRecursion P (sites (UnitScope (unit_of unit.name (unit_parts unit))) [] (flat_map (headed_unit_part (unit_of unit.name (unit_parts unit))) (unit_parts unit) ++ (alone form.End ∷ []))) → Distinct (output_names unit)
   unit_outputs unit all =
       let said : Unit = unit_of unit.name (unit_parts unit) in
       let scope : Scope = UnitScope said in
@@ -190,16 +240,17 @@ module _ (system : System) where
       let whole = hold_front P scope [] (flat_map (headed_unit_part said) (unit_parts unit)) (alone form.End ∷ []) (hold_all P scope [] (flat_map (headed_unit_part said) (unit_parts unit) ++ (alone form.End ∷ [])) all) in
       let without_step = drop_last (headed_unit_part said) scope [] (((before ++ outputs) ++ events) ++ greatest) step whole in
       let without_max = drop_last (headed_unit_part said) scope [] ((before ++ outputs) ++ events) greatest without_step in
-      let without_events = drop_last (headed_unit_part said) scope [] (before ++ outputs) events without_max in
-      let here = hold_behind P scope [] (flat_map (headed_unit_part said) before) (flat_map (headed_unit_part said) outputs) (subst (Hold P scope []) (flat_map-append (headed_unit_part said) before outputs) without_events) in
-      (apart P (λ output. alone (form.Output output)) (λ output. output.name) name_declared (λ output. refl) (name_unsaid system) scope here.0 unit.outputs (subst (Hold P scope here.0) (output_heads said unit.outputs) here.1)).0
+      let parted = subst (λ all_parts. Hold P scope [] (flat_map (headed_unit_part said) all_parts)) (append_assoc before outputs events) without_max in
+      let here = hold_behind P scope [] (flat_map (headed_unit_part said) before) (flat_map (headed_unit_part said) (outputs ++ events)) (subst (Hold P scope []) (flat_map-append (headed_unit_part said) before (outputs ++ events)) parted) in
+      subst Distinct (declaring_names unit.outputs unit.events_out)
+      (apart P declaring_head declaring_name name_declared declaring_asks (name_unsaid system) scope here.0 (all_declaring unit.outputs unit.events_out) (subst (Hold P scope here.0) (output_heads said unit.outputs unit.events_out) here.1)).0
 
-  units_outputs : (units : List Unit) (earlier : List LineForm) → Hold P TopScope earlier (flat_map headed_part (map (λ unit. parts.HasUnit unit.name (unit_parts unit)) units)) → AllByRecursion (λ unit. Distinct (map (λ output. output.name) unit.outputs)) units
+  units_outputs : (units : List Unit) (earlier : List LineForm) → Hold P TopScope earlier (flat_map headed_part (map (λ unit. parts.HasUnit unit.name (unit_parts unit)) units)) → AllByRecursion (λ unit. Distinct (output_names unit)) units
   units_outputs [] earlier hold = tt
   units_outputs (unit ∷ units) earlier hold = (unit_outputs unit hold.1, units_outputs units (earlier ++ (form.Unit unit.name ∷ [])) hold.2)
 
-  pub names_differ : IsWellFormed system → NamesDiffer system
-  names_differ kept =
+  pub ports_differ : IsWellFormed system → PortsDiffer system
+  ports_differ kept =
       let header : List LineForm = form.Header system.version ∷ [] in
       let units : List Part = map (λ unit. parts.HasUnit unit.name (unit_parts unit)) system.units in
       let instances : List Part = map parts.HasInstance system.instances in
@@ -223,3 +274,6 @@ module _ (system : System) where
         instances = (apart P instance_head (λ instance. instance.name) instance_declared (λ instance. refl) (instance_unsaid system) TopScope behind.0 system.instances (subst (Hold P TopScope behind.0) (instance_heads system.instances) behind.1)).0;
         outputs = units_outputs system.units header (hold_front P TopScope header (flat_map headed_part units) (flat_map headed_part instances) parted);
       }
+
+  pub names_differ : IsWellFormed system → NamesDiffer system
+  names_differ kept = let apart = ports_differ kept in record { instances = apart.instances; outputs = all_plain_apart system.units apart.outputs }

@@ -32,23 +32,23 @@ true_is_false : {A : Type 0} (b : Bool) → b ≡ true → b ≡ false → A
 true_is_false true is isnt = absurd (cc)
 true_is_false false is isnt = absurd (cc)
 
-in_has : (ports : List PortName) (port : PortName) → IsIn ports port → Has ports port
+pub in_has : (ports : List PortName) (port : PortName) → IsIn ports port → Has ports port
 in_has [] port stands = stands
 in_has (first ∷ ports) port (inl is) = inl is
 in_has (first ∷ ports) port (inr later) = inr (in_has ports port later)
 
-has_in : (ports : List PortName) (port : PortName) → Has ports port → IsIn ports port
+pub has_in : (ports : List PortName) (port : PortName) → Has ports port → IsIn ports port
 has_in [] port has = has
 has_in (first ∷ ports) port (inl is) = inl is
 has_in (first ∷ ports) port (inr later) = inr (has_in ports port later)
 
-same_port_is : (one other : PortName) → same_port one other ≡ true → one ≡ other
+pub same_port_is : (one other : PortName) → same_port one other ≡ true → one ≡ other
 same_port_is one other is =
     let both = and_parts (bytes_eq one.instance other.instance) (bytes_eq one.port other.port) is in
     ap (λ instance. record { instance = instance; port = one.port }) (same_bytes one.instance other.instance both.0)
     ∙ ap (λ port. record { instance = other.instance; port = port }) (same_bytes one.port other.port both.1)
 
-same_port_of : (one other : PortName) → one ≡ other → same_port one other ≡ true
+pub same_port_of : (one other : PortName) → one ≡ other → same_port one other ≡ true
 same_port_of one other is =
     ap (λ b. b && bytes_eq one.port other.port) (bytes_of one.instance other.instance (ap (λ (p : PortName). p.instance) is))
     ∙ bytes_of one.port other.port (ap (λ (p : PortName). p.port) is)
@@ -108,7 +108,7 @@ at_place [] k within = absurd (omega arith)
 at_place (x ∷ xs) zero within = (x, refl)
 at_place (x ∷ xs) (suc k) within = at_place xs k (omega (arith, within))
 
-all_has : {A : Type 0} (P : A → Type 0) (xs : List A) → ((x : A) → Has xs x → P x) → AllByRecursion P xs
+pub all_has : {A : Type 0} (P : A → Type 0) (xs : List A) → ((x : A) → Has xs x → P x) → AllByRecursion P xs
 all_has P [] each = tt
 all_has P (x ∷ xs) each = (each x (inl refl), all_has P xs (λ y has. each y (inr has)))
 

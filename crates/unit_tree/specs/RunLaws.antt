@@ -152,19 +152,20 @@ abbrev pub SystemsHavePlaceOrders : Type 0
 SystemsHavePlaceOrders =
     (system : System) → HasNoEvents system → IsWellFormed system → HasNoCycle system → (order : List ℕ) × IsPlaceOrder (composition_of system) order
 
--- A system that is well-formed and has no cycle has exactly one trace. It is told of systems without event ports.
+-- A system without event ports that is well-formed and has no cycle has exactly one trace.
 abbrev pub SystemsHaveOneTrace : Type 0
 SystemsHaveOneTrace = (system : System) → HasNoEvents system → IsWellFormed system → HasNoCycle system → HasOneTrace (composition_of system)
 
--- So has what is run of a system of version 1 in range.
-abbrev pub RunsOfVersion1HaveOneTrace : Type 0
-RunsOfVersion1HaveOneTrace =
-    (system : System) → IsRanged system → system.version ≡ 1 → IsWellFormed system → HasNoCycle system → HasOneTrace (run_of system)
+-- What is run of a system in range that is well-formed and has no cycle has an order of its places, and exactly one trace.
+abbrev pub RunsHavePlaceOrders : Type 0
+RunsHavePlaceOrders =
+    (system : System) → IsRanged system → IsWellFormed system → HasNoCycle system → (order : List ℕ) × IsPlaceOrder (run_of system) order
+
+abbrev pub RunsHaveOneTrace : Type 0
+RunsHaveOneTrace = (system : System) → IsRanged system → IsWellFormed system → HasNoCycle system → HasOneTrace (run_of system)
 
 -- ---- Owed, and not proved yet
 
--- The plain form of a system in range that is well-formed is well-formed, and has no cycle where the system has none. With
--- this a system of version 2 has exactly one trace too.
-pub record PlainFormsAreJudgedAlike : Type 0 where
-  pub well_formed : (system : System) → IsRanged system → IsWellFormed system → IsWellFormed (plain_form system)
-  pub no_cycle : (system : System) → IsRanged system → IsWellFormed system → HasNoCycle system → HasNoCycle (plain_form system)
+-- The plain form of a system in range that is well-formed is well-formed.
+abbrev pub PlainFormsAreWellFormed : Type 0
+PlainFormsAreWellFormed = (system : System) → IsRanged system → IsWellFormed system → IsWellFormed (plain_form system)

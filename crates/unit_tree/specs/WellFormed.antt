@@ -1,6 +1,6 @@
 -- Well-formed systems. Each rule has a test, which a canonical line passes where it breaks the rule. The rules are
 -- judged in the order of their numbers, each over the whole system and only where all earlier ones hold.
-use Rattle.std.specs.Prelude.{◌≡◌, ℕ, ◌*◌, ◌^◌, max, Bool, true, false, not, ◌&&◌, ◌||◌, ◌==◌, nat_le, nat_lt, if◌then◌else◌, ℤ, List, [], ◌∷◌, ◌++◌, map, length, Option, Some, None, is_none, Result, Ok, Err}
+use Rattle.std.specs.Prelude.{◌≡◌, ℕ, ◌*◌, max, Bool, true, false, not, ◌&&◌, ◌||◌, ◌==◌, nat_le, nat_lt, if◌then◌else◌, ℤ, List, [], ◌∷◌, ◌++◌, map, length, Option, Some, None, is_none, Result, Ok, Err}
 use Rattle.std.specs.Bool.{beq}
 use Rattle.std.specs.List.{AllByRecursion, list_any, count_by, enumerate_from, filter_map, flat_map, fold}
 use Rattle.std.specs.Option.{option_map, option_and_then, unwrap_or}

@@ -1,5 +1,5 @@
 //! Laws of the definitions of a run.
-ghost use Rattle.unit_tree.specs.RunLaws.{AssignmentsAreUnique, UndefinedOutputsFault, OutputsLookAtNeeds, OutputsAreWords, ProposalsAreGreatest, RepliesAreAtMost, AgreedStepsAreLeast, AgreedStepsAreAtMost, StepsKeepWords, SystemsHaveMembers, RunsKeepWords, FirstEndsAreJudgedInOrder, EndsAreJudgedInOrder, OrderedRunsHaveOneTrace, PlainFormsHaveNoEvents, SystemsHavePlaceOrders, SystemsHaveOneTrace, RunsOfVersion1HaveOneTrace};
+ghost use Rattle.unit_tree.specs.RunLaws.{AssignmentsAreUnique, UndefinedOutputsFault, OutputsLookAtNeeds, OutputsAreWords, ProposalsAreGreatest, RepliesAreAtMost, AgreedStepsAreLeast, AgreedStepsAreAtMost, StepsKeepWords, SystemsHaveMembers, RunsKeepWords, FirstEndsAreJudgedInOrder, EndsAreJudgedInOrder, OrderedRunsHaveOneTrace, PlainFormsHaveNoEvents, SystemsHavePlaceOrders, SystemsHaveOneTrace, RunsHavePlaceOrders, RunsHaveOneTrace};
 
 /// A law: where the outputs have an order, there is exactly one port assignment.
 pub fn assignments_are_unique()
@@ -51,11 +51,12 @@ pub fn ordered_runs_have_one_trace()
 {}
 
 /// A law: a system without event ports that is well-formed and without a cycle has an order of its places, and exactly
-/// one trace; so has what is run of a system of version 1 in range. The plain form of a system in range has no event
-/// ports.
+/// one trace. So has what is run of a system in range that is well-formed and without a cycle, in either version: its
+/// plain form, which has no event ports.
 pub fn systems_have_one_trace()
     ensures order { SystemsHavePlaceOrders }
     ensures trace { SystemsHaveOneTrace }
-    ensures version_1 { RunsOfVersion1HaveOneTrace }
+    ensures run_order { RunsHavePlaceOrders }
+    ensures run_trace { RunsHaveOneTrace }
     ensures plain { PlainFormsHaveNoEvents }
 {}

@@ -1,9 +1,16 @@
-use Rattle.std.proofs.Common.{sym, subst}
-use Rattle.unit_tree.specs.Compositions.{composition_of}
-use Rattle.unit_tree.specs.RunLaws.{SystemsHaveOneTrace, HasOneTrace}
-use Rattle.unit_tree.proofs.EventLaws.{version_1_without_events, plain_form_1, plain_form_without_events}
+use Rattle.std.proofs.Common.{◌≡◌, ◌⊎◌, ℕ, ◌==◌, inl, inr, cond, List, sym, subst}
+use Rattle.unit_tree.specs.Compositions.{HasNoEvents, composition_of, run_of}
+use Rattle.unit_tree.specs.Orders.{HasNoCycle}
+use Rattle.unit_tree.specs.Plain.{plain_form}
+use Rattle.unit_tree.specs.Ports.{IsPlaceOrder}
+use Rattle.unit_tree.specs.Printable.{IsRanged}
+use Rattle.unit_tree.specs.RunLaws.{RunsHavePlaceOrders, HasOneTrace}
+use Rattle.unit_tree.specs.WellFormed.{IsWellFormed}
+use Rattle.unit_tree.specs.declared.system.System.{System}
+use Rattle.unit_tree.proofs.EventLaws.{one_or_two, version_1_without_events, plain_form_1, plain_of_without_events, plain_form_without_events}
 use Rattle.unit_tree.proofs.NameLaws.{names_differ}
 use Rattle.unit_tree.proofs.PlaceOrders.{system_is_ordered}
+use Rattle.unit_tree.proofs.PlainOrders.{plain_of, plain_names_differ, plain_has_no_cycle}
 use Rattle.unit_tree.proofs.PositionLaws.{system_has_members}
 use Rattle.unit_tree.proofs.RunTraces.{one_trace}
 use Rattle.unit_tree.proofs.run_laws.systems_have_one_trace.Goals as goal
@@ -11,17 +18,33 @@ use Rattle.unit_tree.proofs.run_laws.systems_have_one_trace.Goals as goal
 pub returns-clause-order : goal.returns-clause-order
 returns-clause-order c = λ system plain kept no_cycle. system_is_ordered system plain (names_differ system kept) no_cycle
 
-without_events : SystemsHaveOneTrace
-without_events = λ system plain kept no_cycle.
+pub returns-clause-trace : goal.returns-clause-trace
+returns-clause-trace c = λ system plain kept no_cycle.
     let order = system_is_ordered system plain (names_differ system kept) no_cycle in
     one_trace (composition_of system) order.0 (system_has_members system) order.1
 
-pub returns-clause-trace : goal.returns-clause-trace
-returns-clause-trace c = without_events
+-- ---- What is run
 
-pub returns-clause-version_1 : goal.returns-clause-version_1
-returns-clause-version_1 c = λ system ranged is kept no_cycle.
-    subst (λ plain. HasOneTrace (composition_of plain)) (sym (plain_form_1 system is)) (without_events system (version_1_without_events system ranged is) kept no_cycle)
+abbrev HasOrder : System → Type 0
+HasOrder system = (order : List ℕ) × IsPlaceOrder (composition_of system) order
+
+runs_have_orders : RunsHavePlaceOrders
+runs_have_orders system ranged kept no_cycle = by_version (one_or_two system.version ranged.version.0 ranged.version.1)
+  where
+    by_version : (system.version ≡ 1) ⊎ (system.version ≡ 2) → (order : List ℕ) × IsPlaceOrder (run_of system) order
+    by_version (inl is) =
+        subst HasOrder (sym (plain_form_1 system is)) (system_is_ordered system (version_1_without_events system ranged is) (names_differ system kept) no_cycle)
+    by_version (inr is) =
+        subst (λ version. HasOrder (cond (version == 2) (plain_of system) system)) (sym is)
+        (system_is_ordered (plain_of system) (plain_of_without_events system) (plain_names_differ system ranged kept) (plain_has_no_cycle system ranged kept no_cycle))
+
+pub returns-clause-run_order : goal.returns-clause-run_order
+returns-clause-run_order c = runs_have_orders
+
+pub returns-clause-run_trace : goal.returns-clause-run_trace
+returns-clause-run_trace c = λ system ranged kept no_cycle.
+    let order = runs_have_orders system ranged kept no_cycle in
+    one_trace (run_of system) order.0 (system_has_members (plain_form system)) order.1
 
 pub returns-clause-plain : goal.returns-clause-plain
 returns-clause-plain c = plain_form_without_events
