@@ -1,5 +1,5 @@
 //! Laws of the definitions of a run.
-ghost use Rattle.unit_tree.specs.RunLaws.{AssignmentsAreUnique, UndefinedOutputsFault, OutputsLookAtNeeds, OutputsAreWords, ProposalsAreGreatest, RepliesAreAtMost, AgreedStepsAreLeast, AgreedStepsAreAtMost, StepsKeepWords, SystemsHaveMembers, RunsKeepWords, FirstEndsAreJudgedInOrder, EndsAreJudgedInOrder, OrderedRunsHaveOneTrace, PlainFormsHaveNoEvents, SystemsHavePlaceOrders, SystemsHaveOneTrace};
+ghost use Rattle.unit_tree.specs.RunLaws.{AssignmentsAreUnique, UndefinedOutputsFault, OutputsLookAtNeeds, OutputsAreWords, ProposalsAreGreatest, RepliesAreAtMost, AgreedStepsAreLeast, AgreedStepsAreAtMost, StepsKeepWords, SystemsHaveMembers, RunsKeepWords, StepsOfRunsAreRight, TracesAreKept, FirstEndsAreJudgedInOrder, EndsAreJudgedInOrder, OrderedRunsHaveOneTrace, PlainFormsHaveNoEvents, SystemsHavePlaceOrders, SystemsHaveOneTrace};
 
 /// A law: where the outputs have an order, there is exactly one port assignment.
 pub fn assignments_are_unique()
@@ -31,10 +31,14 @@ pub fn steps_keep_words()
     ensures { StepsKeepWords }
 {}
 
-/// A law: a run keeps one state for each member, with words of their types.
+/// A law: a run keeps one state for each member, with words of their types. Each step that it makes leads to the
+/// position after the agreed step, and stays within the stop and the two budgets; so every stand of its trace has its
+/// words, and is within them.
 pub fn runs_keep_words()
     ensures members { SystemsHaveMembers }
     ensures words { RunsKeepWords }
+    ensures steps { StepsOfRunsAreRight }
+    ensures traces { TracesAreKept }
 {}
 
 /// A law: a run ends by a port fault, or else at its stop, with its last row, or by a fault of a `max`; where it does
