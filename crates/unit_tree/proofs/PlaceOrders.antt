@@ -18,7 +18,7 @@ use Rattle.unit_tree.specs.declared.unit.EventOut.{EventOut}
 use Rattle.unit_tree.specs.declared.unit.Input.{Input}
 use Rattle.unit_tree.specs.declared.unit.Output.{Output}
 use Rattle.unit_tree.specs.declared.unit.Unit.{Unit}
-use Rattle.unit_tree.proofs.NameLaws.{Has, Distinct, NamesDiffer, has_either, has_map, has_front, has_behind, same_bytes, bytes_of, found}
+use Rattle.unit_tree.proofs.NameLaws.{Has, Distinct, NamesDiffer, Wired, same_port_of, has_either, has_map, has_front, has_behind, same_bytes, bytes_of, found}
 use Rattle.unit_tree.proofs.OrderLaws.{each_in}
 use Rattle.unit_tree.proofs.RunTraces.{one_each}
 
@@ -47,11 +47,6 @@ same_port_is one other is =
     let both = and_parts (bytes_eq one.instance other.instance) (bytes_eq one.port other.port) is in
     ap (λ instance. record { instance = instance; port = one.port }) (same_bytes one.instance other.instance both.0)
     ∙ ap (λ port. record { instance = other.instance; port = port }) (same_bytes one.port other.port both.1)
-
-same_port_of : (one other : PortName) → one ≡ other → same_port one other ≡ true
-same_port_of one other is =
-    ap (λ b. b && bytes_eq one.port other.port) (bytes_of one.instance other.instance (ap (λ (p : PortName). p.instance) is))
-    ∙ bytes_of one.port other.port (ap (λ (p : PortName). p.port) is)
 
 -- With whether the first is the port.
 found_by : (told : Bool) (port first : PortName) (ports : List PortName) (later : ℕ) → same_port port first ≡ told → (first ≡ port) ⊎ IsIn ports port → (IsIn ports port → slice_get ports later ≡ Some port) → slice_get (first ∷ ports) (cond (not told) (1 + later) 0) ≡ Some port
@@ -126,19 +121,21 @@ plain_port output = record { name = output.name; ty = output.ty; is_event = fals
 pub record Known (unit : Unit) : Type 0 where
   pub apart : Distinct (map (λ output. output.name) unit.outputs)
   pub no_events : unit.events_out ≡ []
+  pub no_events_in : unit.events_in ≡ []
 
 all_known : (units : List Unit) → AllByRecursion (λ unit. (unit.events_in ≡ []) × (unit.events_out ≡ [])) units → AllByRecursion (λ unit. Distinct (map (λ output. output.name) unit.outputs)) units → AllByRecursion Known units
 all_known [] plain apart = tt
-all_known (unit ∷ units) plain apart = (record { apart = apart.0; no_events = plain.0.1 }, all_known units plain.1 apart.1)
+all_known (unit ∷ units) plain apart = (record { apart = apart.0; no_events = plain.0.1; no_events_in = plain.0.0 }, all_known units plain.1 apart.1)
 
--- With whether the first unit has the name.
-named_by : (told : Bool) (first unit : Unit) (rest : Option Unit) → Known first → (rest ≡ Some unit → Known unit) → cond told (Some first) rest ≡ Some unit → Known unit
-named_by true first unit rest known later is = let same : first ≡ unit = cc in subst Known same known
-named_by false first unit rest known later is = later is
+module _ (P : Unit → Type 0) where
+  -- With whether the first unit has the name.
+  named_by : (told : Bool) (first unit : Unit) (rest : Option Unit) → P first → (rest ≡ Some unit → P unit) → cond told (Some first) rest ≡ Some unit → P unit
+  named_by true first unit rest holds later is = let same : first ≡ unit = cc in subst P same holds
+  named_by false first unit rest holds later is = later is
 
-named_known : (units : List Unit) (name : List ℕ) (unit : Unit) → AllByRecursion Known units → unit_named units name ≡ Some unit → Known unit
-named_known [] name unit known is = absurd (cc)
-named_known (first ∷ units) name unit known is = named_by (bytes_eq first.name name) first unit (unit_named units name) known.0 (λ later. named_known units name unit known.1 later) is
+  named_holds : (units : List Unit) (name : List ℕ) (unit : Unit) → AllByRecursion P units → unit_named units name ≡ Some unit → P unit
+  named_holds [] name unit all is = absurd (cc)
+  named_holds (first ∷ units) name unit all is = named_by (bytes_eq first.name name) first unit (unit_named units name) all.0 (λ later. named_holds units name unit all.1 later) is
 
 ports_plain : (unit : Unit) → Known unit → output_ports unit ≡ map plain_port unit.outputs
 ports_plain unit known =
@@ -185,7 +182,7 @@ module _ (system : System) (plain : HasNoEvents system) (differ : NamesDiffer sy
   unit_apart : (instance : Instance) (given : Option Unit) → unit_of_instance system instance ≡ given → Distinct (ports_in instance (outputs_in given))
   unit_apart instance None is = tt
   unit_apart instance (Some unit) is =
-      let unit_known = named_known system.units instance.unit unit known is in
+      let unit_known = named_holds Known system.units instance.unit unit known is in
       subst (λ ports. Distinct (ports_in instance ports)) (sym (ports_plain unit unit_known))
       (ports_apart instance (map plain_port unit.outputs) (subst (λ names. Distinct names) (sym (names_plain unit.outputs)) unit_known.apart))
 
@@ -253,36 +250,40 @@ module _ (system : System) (plain : HasNoEvents system) (differ : NamesDiffer sy
 
   there : (instance : Instance) (unit : Unit) (output : Output) → instance_named system instance.name ≡ Some instance → unit_of_instance system instance ≡ Some unit → Has unit.outputs output → output_at system (port_of instance output.name) ≡ Some (plain_port output)
   there instance unit output instance_is unit_is has =
-      let unit_known = named_known system.units instance.unit unit known unit_is in
+      let unit_known = named_holds Known system.units instance.unit unit known unit_is in
       ap (λ named. option_and_then (λ u. port_named (output_ports u) output.name) (option_and_then (unit_of_instance system) named)) instance_is
       ∙ ap (option_and_then (λ u. port_named (output_ports u) output.name)) unit_is
       ∙ ap (λ ports. port_named ports output.name) (ports_plain unit unit_known)
       ∙ found (λ (port : Port). port.name) (map plain_port unit.outputs) (plain_port output) (subst (λ names. Distinct names) (sym (names_plain unit.outputs)) unit_known.apart) (has_map plain_port unit.outputs output has)
 
-  outputs_side : (instance : Instance) (member : Member) (outputs : List Output) → member.sources ≡ map (source_of system instance) member.component.unit.inputs → AllByRecursion (λ output. output_at system (port_of instance output.name) ≡ Some (plain_port output)) outputs → AllZip Needs (ports_in instance (map plain_port outputs)) (map (places_needed member) outputs)
-  outputs_side instance member [] sources are = tt
-  outputs_side instance member (output ∷ outputs) sources are = (
-    subst (λ all. Needs (port_of instance output.name) (filter_map (place_needed output) (zip member.component.unit.inputs all))) (sym sources) (inputs_needed instance output are.0 member.component.unit.inputs),
-    outputs_side instance member outputs sources are.1,
-  )
+  -- What holds of each output and the places that it needs.
+  module _ (R : PortName → List ℕ → Type 0) (holds : (instance : Instance) (unit : Unit) (output : Output) → instance_named system instance.name ≡ Some instance → unit_of_instance system instance ≡ Some unit → Has unit.outputs output → R (port_of instance output.name) (filter_map (place_needed output) (zip unit.inputs (map (source_of system instance) unit.inputs)))) where
+    abbrev member_of : Instance → Unit → Member
+    member_of instance unit = record { component = component_with instance.settings unit; factor = factor_of system unit; sources = map (source_of system instance) unit.inputs }
 
-  instance_side : (instance : Instance) (given : Option Unit) (ports : List PortName) (members : List Member) → instance_named system instance.name ≡ Some instance → unit_of_instance system instance ≡ given → AllZip Needs ports (flat_map needs_in members) → AllZip Needs (ports_in instance (outputs_in given) ++ ports) (flat_map needs_in (cons_option (member_with system instance given) members))
-  instance_side instance None ports members instance_is unit_is rest = rest
-  instance_side instance (Some unit) ports members instance_is unit_is rest =
-      let unit_known = named_known system.units instance.unit unit known unit_is in
-      let member : Member = record { component = component_with instance.settings unit; factor = factor_of system unit; sources = map (source_of system instance) unit.inputs } in
-      zip_append Needs (ports_in instance (output_ports unit)) ports (map (places_needed member) unit.outputs) (flat_map needs_in members)
-      (subst (λ all. AllZip Needs (ports_in instance all) (map (places_needed member) unit.outputs)) (sym (ports_plain unit unit_known))
-      (outputs_side instance member unit.outputs refl (all_has _ unit.outputs (λ output has. there instance unit output instance_is unit_is has))))
-      rest
+    outputs_side : (instance : Instance) (unit : Unit) (outputs : List Output) → AllByRecursion (λ output. R (port_of instance output.name) (places_needed (member_of instance unit) output)) outputs → AllZip R (ports_in instance (map plain_port outputs)) (map (places_needed (member_of instance unit)) outputs)
+    outputs_side instance unit [] all = tt
+    outputs_side instance unit (output ∷ outputs) all = (all.0, outputs_side instance unit outputs all.1)
 
-  all_sides : (instances : List Instance) → AllByRecursion (λ instance. instance_named system instance.name ≡ Some instance) instances → AllZip Needs (flat_map ports_of instances) (flat_map needs_in (filter_map (λ instance. member_with system instance (unit_of_instance system instance)) instances))
-  all_sides [] are = tt
-  all_sides (instance ∷ instances) are =
-      instance_side instance (unit_of_instance system instance) (flat_map ports_of instances) (filter_map (λ instance. member_with system instance (unit_of_instance system instance)) instances) are.0 refl (all_sides instances are.1)
+    instance_side : (instance : Instance) (given : Option Unit) (ports : List PortName) (members : List Member) → instance_named system instance.name ≡ Some instance → unit_of_instance system instance ≡ given → AllZip R ports (flat_map needs_in members) → AllZip R (ports_in instance (outputs_in given) ++ ports) (flat_map needs_in (cons_option (member_with system instance given) members))
+    instance_side instance None ports members instance_is unit_is rest = rest
+    instance_side instance (Some unit) ports members instance_is unit_is rest =
+        let unit_known = named_holds Known system.units instance.unit unit known unit_is in
+        zip_append R (ports_in instance (output_ports unit)) ports (map (places_needed (member_of instance unit)) unit.outputs) (flat_map needs_in members)
+        (subst (λ all. AllZip R (ports_in instance all) (map (places_needed (member_of instance unit)) unit.outputs)) (sym (ports_plain unit unit_known))
+        (outputs_side instance unit unit.outputs (all_has _ unit.outputs (λ output has. holds instance unit output instance_is unit_is has))))
+        rest
+
+    all_sides : (instances : List Instance) → AllByRecursion (λ instance. instance_named system instance.name ≡ Some instance) instances → AllZip R (flat_map ports_of instances) (flat_map needs_in (filter_map (λ instance. member_with system instance (unit_of_instance system instance)) instances))
+    all_sides [] are = tt
+    all_sides (instance ∷ instances) are =
+        instance_side instance (unit_of_instance system instance) (flat_map ports_of instances) (filter_map (λ instance. member_with system instance (unit_of_instance system instance)) instances) are.0 refl (all_sides instances are.1)
+
+    sides_of : AllZip R (outputs_of system) (needs_of_places (composition_of system))
+    sides_of = all_sides system.instances (all_has _ system.instances (λ instance has. found (λ (i : Instance). i.name) system.instances instance differ.instances has))
 
   sides : AllZip Needs (outputs_of system) (needs_of_places (composition_of system))
-  sides = all_sides system.instances (all_has _ system.instances (λ instance has. found (λ (i : Instance). i.name) system.instances instance differ.instances has))
+  sides = sides_of Needs (λ instance unit output instance_is unit_is has. inputs_needed instance output (there instance unit output instance_is unit_is has) unit.inputs)
 
   count_is : length (needs_of_places (composition_of system)) ≡ length (outputs_of system)
   count_is = one_each Needs (outputs_of system) (needs_of_places (composition_of system)) sides
