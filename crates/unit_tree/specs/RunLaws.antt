@@ -169,10 +169,11 @@ OrderedRunsHaveOneTrace = (run : Composition) (order : List ℕ) → AreMembers 
 abbrev pub PlainFormsHaveNoEvents : Type 0
 PlainFormsHaveNoEvents = (system : System) → system.version ≡ 2 → HasNoEvents (plain_form system)
 
--- Where a system that is well-formed has an order of its outputs, its composition has one of its places.
+-- A system that is well-formed has no cycle exactly where its composition has an order of its places. It is told of
+-- systems without event ports.
 abbrev pub SystemsHavePlaceOrders : Type 0
 SystemsHavePlaceOrders =
-    (system : System) → HasNoEvents system → IsWellFormed system → HasNoCycle system → (order : List ℕ) × IsPlaceOrder (composition_of system) order
+    (system : System) → HasNoEvents system → IsWellFormed system → HasNoCycle system ↔ ((order : List ℕ) × IsPlaceOrder (composition_of system) order)
 
 -- A system that is well-formed and has no cycle has exactly one trace. It is told of systems without event ports.
 abbrev pub SystemsHaveOneTrace : Type 0

@@ -1,5 +1,5 @@
-use Rattle.unit_tree.proofs.NameLaws.{names_differ}
-use Rattle.unit_tree.proofs.PlaceOrders.{system_is_ordered}
+use Rattle.unit_tree.proofs.NameLaws.{names_differ, is_wired}
+use Rattle.unit_tree.proofs.PlaceOrders.{system_is_ordered, has_no_cycle}
 use Rattle.unit_tree.proofs.PositionLaws.{system_has_members}
 use Rattle.unit_tree.proofs.RunTraces.{one_trace}
 use Rattle.std.proofs.Common.{◌≡◌, ◌==◌, cond, List, [], ◌∷◌, map, refl, sym, subst}
@@ -10,7 +10,10 @@ use Rattle.unit_tree.specs.declared.unit.Unit.{Unit}
 use Rattle.unit_tree.proofs.run_laws.systems_have_one_trace.Goals as goal
 
 pub returns-clause-order : goal.returns-clause-order
-returns-clause-order c = λ system plain kept no_cycle. system_is_ordered system plain (names_differ system kept) no_cycle
+returns-clause-order c = λ system plain kept. (
+  system_is_ordered system plain (names_differ system kept),
+  has_no_cycle system plain (names_differ system kept) (is_wired system kept),
+)
 
 pub returns-clause-trace : goal.returns-clause-trace
 returns-clause-trace c = λ system plain kept no_cycle.
