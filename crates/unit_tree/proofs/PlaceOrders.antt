@@ -1,9 +1,9 @@
--- An order of a system's outputs is one of its places.
+-- An order of a system's outputs is one of its places, and the other way round.
 use Rattle.std.proofs.Common.{◌≡◌, ℕ, zero, suc, ◌+◌, ◌<◌, Bool, true, false, cond, List, [], ◌∷◌, ◌++◌, map, length, Option, Some, None, inl, inr, refl, ap, sym, subst, ◌∙◌, ◌⊎◌, arith, append-nil}
 use Rattle.std.proofs.lemmas.Bool.{and_parts}
 use Rattle.std.proofs.lemmas.List.{map-append}
 use Rattle.std.proofs.lemmas.Option.{slice_get_within}
-use Rattle.std.specs.Prelude.{not, is_none, ◌&&◌, ◌||◌, slice_get, zip, unwrap_or}
+use Rattle.std.specs.Prelude.{not, is_none, ◌||◌, slice_get, zip, unwrap_or}
 use Rattle.std.specs.List.{AllByRecursion, AllZip, flat_map, filter_map, cons_option, list_any, find, position_or_len}
 use Rattle.std.specs.Option.{option_and_then}
 use Rattle.std.specs.Str.{bytes_eq}
@@ -219,17 +219,17 @@ module _ (system : System) (plain : HasNoEvents system) (differ : NamesDiffer sy
       elim (or_true (bytes_eq name first) (list_any (bytes_eq name) names) is) [ inl same ↦ inl (sym (same_bytes name first same)) | inr later ↦ inr (among names name later) ]
 
   module _ (instance : Instance) (output : Output) (is_there : output_at system (port_of instance output.name) ≡ Some (plain_port output)) where
-    abbrev port : PortName
-    port = port_of instance output.name
+    abbrev this_port : PortName
+    this_port = port_of instance output.name
 
     abbrev sources_at : List ℕ → List PortName
     sources_at input = sources_of system (record { instance = instance.name; port = input })
 
-    needed_is : needed_by system port ≡ flat_map sources_at output.needs
+    needed_is : needed_by system this_port ≡ flat_map sources_at output.needs
     needed_is = ap (λ found. flat_map sources_at (needs_of found)) is_there
 
     -- With whether the input is in the needs, and what is connected to it.
-    input_by : (told : Bool) (input : Input) (sources : List PortName) (rest : List ℕ) → is_among output.needs input.name ≡ told → sources_of system (port_of instance input.name) ≡ sources → Needs port rest → Needs port (cons_option (cond told (place_in (source_from system input sources)) None) rest)
+    input_by : (told : Bool) (input : Input) (sources : List PortName) (rest : List ℕ) → is_among output.needs input.name ≡ told → sources_of system (port_of instance input.name) ≡ sources → Needs this_port rest → Needs this_port (cons_option (cond told (place_in (source_from system input sources)) None) rest)
     input_by true input [] rest told is needs = needs
     input_by true input (source ∷ others) rest told is needs = (
       record {
@@ -241,7 +241,7 @@ module _ (system : System) (plain : HasNoEvents system) (differ : NamesDiffer sy
     )
     input_by false input sources rest told is needs = needs
 
-    inputs_needed : (inputs : List Input) → Needs port (filter_map (place_needed output) (zip inputs (map (source_of system instance) inputs)))
+    inputs_needed : (inputs : List Input) → Needs this_port (filter_map (place_needed output) (zip inputs (map (source_of system instance) inputs)))
     inputs_needed [] = tt
     inputs_needed (input ∷ inputs) = input_by (is_among output.needs input.name) input (sources_of system (port_of instance input.name)) _ refl refl (inputs_needed inputs)
 
@@ -496,8 +496,7 @@ module _ (system : System) (plain : HasNoEvents system) (differ : NamesDiffer sy
           ap (λ name. sources_of system (record { instance = instance.name; port = name })) input.2 ∙ one_source at_need system.wires source wired.once need.2 in
           let needed : is_among output.needs input.0.name ≡ true = ap (is_among output.needs) input.2 ∙ has_among output.needs need.0 need.1 in
           let place_is_needed : place_needed output (input.0, source_of system instance input.0) ≡ Some (place_of system source) =
-          ap (λ b. cond b (place_in (source_of system instance input.0)) None) needed ∙ ap (λ all. place_in (source_from system input.0 all)) one in
-          (
+          ap (λ b. cond b (place_in (source_of system instance input.0)) None) needed ∙ ap (λ all. place_in (source_from system input.0 all)) one in (
             output_in source (from_each (λ port. is_none (output_at system port) ≡ false) at_need system.wires source wired.from need.2),
             place_among instance output unit.inputs input.0 (place_of system source) input.1 place_is_needed,
           );
@@ -560,9 +559,9 @@ module _ (system : System) (plain : HasNoEvents system) (differ : NamesDiffer sy
           has_in (outputs_of system) (port_at place) (has_at (outputs_of system) place (port_at place) here),
           (λ stands. is_ordered.1 (subst (IsAmong before) (place_back place within) (place_of_one before (port_at place) are stands))),
           all_has (IsIn (ports_at before)) (needed_by system (port_at place)) (λ source has.
-          let known_of = beside.related.each source (has_in (needed_by system (port_at place)) source has) in
-          subst (IsIn (ports_at before)) (port_back source known_of.0)
-          (among_ports before (place_of system source) (each_place (IsAmong before) beside.other (place_of system source) (subst (AllByRecursion (IsAmong before)) needs is_ordered.2) known_of.1))),
+              let known_of = beside.related.each source (has_in (needed_by system (port_at place)) source has) in
+              subst (IsIn (ports_at before)) (port_back source known_of.0)
+              (among_ports before (place_of system source) (each_place (IsAmong before) beside.other (place_of system source) (subst (AllByRecursion (IsAmong before)) needs is_ordered.2) known_of.1))),
           subst (λ all. IsOrderlyAfter system all (ports_at later)) (map-append port_at before (place ∷ []))
               (orderly (before ++ (place ∷ [])) later (all_places IsPlace before place are within) is_ordered.3),
         )
@@ -572,8 +571,8 @@ module _ (system : System) (plain : HasNoEvents system) (differ : NamesDiffer sy
       ports_at order,
       orderly [] order tt is_order.ordered,
       all_has (IsIn (ports_at order)) (outputs_of system) (λ port has.
-      let stands = has_in (outputs_of system) port has in
-      let within : place_of system port < length (needs_of_places (composition_of system)) =
-      subst (λ count. place_of system port < count) (sym count_is) (slice_get_within (outputs_of system) (place_of system port) port (found_at (outputs_of system) port stands)) in
-      subst (IsIn (ports_at order)) (port_back port stands) (among_ports order (place_of system port) (is_order.all (place_of system port) within))),
+          let stands = has_in (outputs_of system) port has in
+          let within : place_of system port < length (needs_of_places (composition_of system)) =
+          subst (λ count. place_of system port < count) (sym count_is) (slice_get_within (outputs_of system) (place_of system port) port (found_at (outputs_of system) port stands)) in
+          subst (IsIn (ports_at order)) (port_back port stands) (among_ports order (place_of system port) (is_order.all (place_of system port) within))),
     )

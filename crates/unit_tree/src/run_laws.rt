@@ -54,8 +54,8 @@ pub fn ordered_runs_have_one_trace()
     ensures { OrderedRunsHaveOneTrace }
 {}
 
-/// A law: a system without event ports that is well-formed and without a cycle has an order of its places, and exactly
-/// one trace. A plain form has no event ports.
+/// A law: a system without event ports that is well-formed has no cycle exactly where it has an order of its places, and
+/// then it has exactly one trace. A plain form has no event ports.
 pub fn systems_have_one_trace()
     ensures order { SystemsHavePlaceOrders }
     ensures trace { SystemsHaveOneTrace }
