@@ -4,7 +4,7 @@ use Rattle.std.proofs.lemmas.Bool.Decides.{nat_tests}
 use Rattle.std.specs.List.{AllByRecursion}
 use Rattle.unit_tree.specs.Compositions.{Composition, AreMembers}
 use Rattle.unit_tree.specs.Ports.{first_some}
-use Rattle.unit_tree.specs.RunLaws.{IsWithin, IsRightStep, KeepsTrace}
+use Rattle.unit_tree.specs.RunLaws.{IsInBounds, IsRightStep, HasRightStands}
 use Rattle.unit_tree.specs.Successor.{Position, first_position, after, goes, ends_at, ends_or, row_end}
 use Rattle.unit_tree.specs.Trace.{Stand, Goes, Follows, IsTrace, HasWords}
 use Rattle.unit_tree.specs.declared.ending.Ending.{Ending}
@@ -21,12 +21,12 @@ none_by (Some ending) position next is = absurd (cc)
 next_row : (number budget : ℕ) → number < budget → (suc number == budget) ≡ false → suc number < budget
 next_row number budget within not_last = grind (arith, nat_tests)
 
-goes_within : (run : Composition) (one next : Stand) → AreMembers run → Goes run one next → HasWords run one.at → IsWithin run one.at → IsWithin run next.at
+goes_within : (run : Composition) (one next : Stand) → AreMembers run → Goes run one next → HasWords run one.at → IsInBounds run one.at → IsInBounds run next.at
 goes_within run one next are on words within =
     let none : first_some (ends_at run one.at one.ports) ≡ None = none_by (first_some (ends_at run one.at one.ports)) (after run one.at one.ports) next.at on.0 in
     let nearer = next_is_nearer run one are words (record { stop = within.stop; zeros = within.zeros }) none in
     let not_last : (suc one.at.number == run.row_budget) ≡ false = when_none _ _ (none_at (ends_at run one.at one.ports) 2 (row_end run one.at) none refl) in
-    subst (IsWithin run) (goes_to run one next on)
+    subst (IsInBounds run) (goes_to run one next on)
     (record { stop = nearer.stop; zeros = nearer.zeros; rows = next_row one.at.number run.row_budget within.rows not_last })
 
 pub step_is_right : (run : Composition) (one next : Stand) → AreMembers run → Goes run one next → IsRightStep run one next
@@ -42,19 +42,19 @@ words_along : (run : Composition) (stand : Stand) (others : List Stand) (ending 
 words_along run stand [] ending are words follow = (words, tt)
 words_along run stand (next ∷ others) ending are words follow = (words, words_along run next others ending are (goes_keeps run stand next are words follow.0) follow.1)
 
-bounds_along : (run : Composition) (stand : Stand) (others : List Stand) (ending : Ending) → AreMembers run → HasWords run stand.at → IsWithin run stand.at → Follows run stand others ending → AllByRecursion (λ (each : Stand). IsWithin run each.at) (stand ∷ others)
+bounds_along : (run : Composition) (stand : Stand) (others : List Stand) (ending : Ending) → AreMembers run → HasWords run stand.at → IsInBounds run stand.at → Follows run stand others ending → AllByRecursion (λ (each : Stand). IsInBounds run each.at) (stand ∷ others)
 bounds_along run stand [] ending are words within follow = (within, tt)
 bounds_along run stand (next ∷ others) ending are words within follow =
     (within, bounds_along run next others ending are (goes_keeps run stand next are words follow.0) (goes_within run stand next are follow.0 words within) follow.1)
 
-first_within : (run : Composition) → 1 ≤ run.row_budget → IsWithin run (first_position run)
+first_within : (run : Composition) → 1 ≤ run.row_budget → IsInBounds run (first_position run)
 first_within run rows = record { stop = omega arith; zeros = omega arith; rows = omega (arith, rows) }
 
-pub trace_is_kept : (run : Composition) (stands : List Stand) (ending : Ending) → AreMembers run → IsTrace run stands ending → KeepsTrace run stands
-trace_is_kept run [] ending are is = absurd is
-trace_is_kept run (first ∷ others) ending are is =
+pub stands_are_right : (run : Composition) (stands : List Stand) (ending : Ending) → AreMembers run → IsTrace run stands ending → HasRightStands run stands
+stands_are_right run [] ending are is = absurd is
+stands_are_right run (first ∷ others) ending are is =
     let words : HasWords run first.at = subst (HasWords run) (sym is.0) (positions_keep run are).first in
     record {
       words = words_along run first others ending are words is.2;
-      bounds = λ rows. bounds_along run first others ending are words (subst (IsWithin run) (sym is.0) (first_within run rows)) is.2;
+      bounds = λ rows. bounds_along run first others ending are words (subst (IsInBounds run) (sym is.0) (first_within run rows)) is.2;
     }

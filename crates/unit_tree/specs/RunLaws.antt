@@ -104,7 +104,7 @@ abbrev pub RunsKeepWords : Type 0
 RunsKeepWords = (run : Composition) → AreMembers run → PositionsKeepWords run
 
 -- A position is within the stop, the zero budget and the row budget of the run.
-pub record IsWithin (run : Composition) (at : Position) : Type 0 where
+pub record IsInBounds (run : Composition) (at : Position) : Type 0 where
   pub stop : at.point.t ≤ run.stop
   pub zeros : at.point.n ≤ run.zero_budget
   pub rows : at.number < run.row_budget
@@ -113,18 +113,18 @@ pub record IsWithin (run : Composition) (at : Position) : Type 0 where
 pub record IsRightStep (run : Composition) (one next : Stand) : Type 0 where
   pub agreed : next.at ≡ after run one.at one.ports
   pub words : HasWords run one.at → HasWords run next.at
-  pub bounds : HasWords run one.at → IsWithin run one.at → IsWithin run next.at
+  pub bounds : HasWords run one.at → IsInBounds run one.at → IsInBounds run next.at
 
 abbrev pub StepsOfRunsAreRight : Type 0
 StepsOfRunsAreRight = (run : Composition) (one next : Stand) → AreMembers run → Goes run one next → IsRightStep run one next
 
 -- Each stand of a trace has its words, and where there may be a row it is within the bounds.
-pub record KeepsTrace (run : Composition) (stands : List Stand) : Type 0 where
+pub record HasRightStands (run : Composition) (stands : List Stand) : Type 0 where
   pub words : AllByRecursion (λ stand. HasWords run stand.at) stands
-  pub bounds : 1 ≤ run.row_budget → AllByRecursion (λ stand. IsWithin run stand.at) stands
+  pub bounds : 1 ≤ run.row_budget → AllByRecursion (λ stand. IsInBounds run stand.at) stands
 
-abbrev pub TracesAreKept : Type 0
-TracesAreKept = (run : Composition) (stands : List Stand) (ending : Ending) → AreMembers run → IsTrace run stands ending → KeepsTrace run stands
+abbrev pub StandsOfTracesAreRight : Type 0
+StandsOfTracesAreRight = (run : Composition) (stands : List Stand) (ending : Ending) → AreMembers run → IsTrace run stands ending → HasRightStands run stands
 
 -- The agreed step is at most the proposal.
 abbrev pub AgreedStepsAreAtMost : Type 0
