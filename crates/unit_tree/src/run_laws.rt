@@ -33,7 +33,7 @@ pub fn steps_keep_words()
 
 /// A law: a run keeps one state for each member, with words of their types. Each step that it makes leads to the
 /// position after the agreed step, and stays within the stop and the two budgets; so every stand of its trace has its
-/// words, and is within them.
+/// words and, where there may be a row, is within them.
 pub fn runs_keep_words()
     ensures members { SystemsHaveMembers }
     ensures words { RunsKeepWords }
