@@ -23,6 +23,7 @@ pub mod PositionLaws
 pub mod RankLaws
 pub mod RefusalLaws
 pub mod RouteLaws
+pub mod RunSteps
 pub mod RunTraces
 pub mod SeenLaws
 pub mod SiteLaws

@@ -1,24 +1,27 @@
 -- Names that are declared once: what the first rule of a well-formed system says of instances and of outputs.
 use Rattle.std.proofs.Common.{◌≡◌, ℕ, ◌+◌, Bool, true, false, List, [], ◌∷◌, ◌++◌, append_assoc, map, Option, Some, None, inl, inr, refl, ap, sym, subst, ◌∙◌, ◌⊎◌}
-use Rattle.std.specs.Prelude.{◌||◌, cond, ⊤}
+use Rattle.std.specs.Prelude.{not, is_none, ◌&&◌, ◌||◌, cond, ⊤}
 use Rattle.std.specs.List.{AllByRecursion, list_any, flat_map, filter_map, find, enumerate_from, cons_option}
 use Rattle.std.specs.Str.{bytes_eq}
 use Rattle.std.proofs.lemmas.Grind.{flat_map-append}
 use Rattle.std.proofs.lemmas.List.Elements.{filter_map-append}
 use Rattle.std.proofs.lemmas.Slice.Eq.{bytes_eq-Decides}
 use Rattle.unit_tree.specs.Canonical.{optional, unit_parts, canonical_parts}
-use Rattle.unit_tree.specs.Names.{Port, output_names}
+use Rattle.unit_tree.specs.Names.{Port, output_names, input_names, output_uses, keeps_to, are_among, output_at, input_at, same_port}
 use Rattle.unit_tree.specs.Parts as parts
 use Rattle.unit_tree.specs.Parts.{Part, UnitPart, unit_of}
 use Rattle.unit_tree.specs.Sites.{Scope, TopScope, UnitScope, InstanceScope, Site, Headed, alone, sites, headed_unit_part, headed_part, sites_of}
-use Rattle.unit_tree.specs.WellFormed.{IsWellFormed, redeclares, is_said, says_again, instance_declared, name_declared, unit_declared, number_where}
+use Rattle.unit_tree.specs.WellFormed.{IsWellFormed, redeclares, misnames, connects_again, input_connected, is_said, says_again, instance_declared, name_declared, unit_declared, number_where}
 use Rattle.unit_tree.specs.declared.line_form.LineForm.{LineForm}
 use Rattle.unit_tree.specs.declared.line_form.LineForm.TheVariants as form
 use Rattle.unit_tree.specs.declared.system.Instance.{Instance}
+use Rattle.unit_tree.specs.declared.system.PortName.{PortName}
 use Rattle.unit_tree.specs.declared.system.System.{System}
+use Rattle.unit_tree.specs.declared.system.Wire.{Wire}
 use Rattle.unit_tree.specs.declared.unit.EventOut.{EventOut}
 use Rattle.unit_tree.specs.declared.unit.Output.{Output}
 use Rattle.unit_tree.specs.declared.unit.Unit.{Unit}
+use Rattle.unit_tree.proofs.PartLaws.{unit_is}
 
 -- ---- Lists whose elements differ
 
@@ -63,11 +66,11 @@ or_false : (one other : Bool) → (one || other) ≡ false → (one ≡ false) �
 or_false false other is = (refl, is)
 or_false true other is = absurd (cc)
 
--- A name that equals none of some is not among them.
-not_among : (name : List ℕ) (names : List (List ℕ)) → list_any (bytes_eq name) names ≡ false → Has names name → ⊥
-not_among name [] none has = has
-not_among name (first ∷ names) none (inl is) = true_is_false (bytes_eq name first) (bytes_of name first (sym is)) (or_false (bytes_eq name first) (list_any (bytes_eq name) names) none).0
-not_among name (first ∷ names) none (inr has) = not_among name names (or_false (bytes_eq name first) (list_any (bytes_eq name) names) none).1 has
+-- What equals none of some is not among them.
+not_among : {B : Type 0} (same : B → B → Bool) (tells : (one other : B) → one ≡ other → same one other ≡ true) (name : B) (names : List B) → list_any (same name) names ≡ false → Has names name → ⊥
+not_among same tells name [] none has = has
+not_among same tells name (first ∷ names) none (inl is) = true_is_false (same name first) (tells name first (sym is)) (or_false (same name first) (list_any (same name) names) none).0
+not_among same tells name (first ∷ names) none (inr has) = not_among same tells name names (or_false (same name first) (list_any (same name) names) none).1 has
 
 -- The first of a name is the only one.
 found_by : {A : Type 0} (name : A → List ℕ) (x first : A) (others : List A) (named : Bool) → bytes_eq (name first) (name x) ≡ named → (Has (map name others) (name first) → ⊥) → (first ≡ x) ⊎ Has others x → (Has others x → find (λ y. bytes_eq (name y) (name x)) others ≡ Some x) → cond named (Some first) (find (λ y. bytes_eq (name y) (name x)) others) ≡ Some x
@@ -119,18 +122,18 @@ module _ (P : Site → Type 0) where
   hold_behind scope earlier [] behind hold = (earlier, hold)
   hold_behind scope earlier (first ∷ front) behind hold = hold_behind scope (earlier ++ (first.head ∷ [])) front behind hold.2
 
-  module _ {A : Type 0} (head : A → Headed) (name : A → List ℕ) (asked : LineForm → Option (List ℕ)) (asks : (x : A) → asked (head x).head ≡ Some (name x)) (unsaid : (site : Site) → P site → is_said bytes_eq (filter_map asked site.earlier) (asked site.line) ≡ false) where
+  module _ {A B : Type 0} (same : B → B → Bool) (tells : (one other : B) → one ≡ other → same one other ≡ true) (head : A → Headed) (name : A → B) (asked : LineForm → Option B) (asks : (x : A) → asked (head x).head ≡ Some (name x)) (unsaid : (site : Site) → P site → is_said same (filter_map asked site.earlier) (asked site.line) ≡ false) where
     -- Things that are declared one after the other have different names, and none of an earlier line's.
-    apart : (scope : Scope) (earlier : List LineForm) (xs : List A) → Hold scope earlier (map head xs) → Distinct (map name xs) × ((one : List ℕ) → Has (map name xs) one → Has (filter_map asked earlier) one → ⊥)
+    apart : (scope : Scope) (earlier : List LineForm) (xs : List A) → Hold scope earlier (map head xs) → Distinct (map name xs) × ((one : B) → Has (map name xs) one → Has (filter_map asked earlier) one → ⊥)
     apart scope earlier [] hold = (tt, λ one has before. has)
     apart scope earlier (x ∷ xs) hold =
         let rest = apart scope (earlier ++ ((head x).head ∷ [])) xs hold.2 in
         let longer : filter_map asked (earlier ++ ((head x).head ∷ [])) ≡ filter_map asked earlier ++ (name x ∷ []) =
         filter_map-append asked earlier ((head x).head ∷ []) ∙ ap (λ told. filter_map asked earlier ++ cons_option told []) (asks x) in
-        let others : (one : List ℕ) → Has (map name xs) one → Has (filter_map asked earlier ++ (name x ∷ [])) one → ⊥ =
+        let others : (one : B) → Has (map name xs) one → Has (filter_map asked earlier ++ (name x ∷ [])) one → ⊥ =
         λ one has before. rest.1 one has (subst (λ names. Has names one) (sym longer) before) in
         let here : Has (filter_map asked earlier) (name x) → ⊥ =
-        not_among (name x) (filter_map asked earlier) (sym (ap (is_said bytes_eq (filter_map asked earlier)) (asks x)) ∙ unsaid _ hold.0) in (
+        not_among same tells (name x) (filter_map asked earlier) (sym (ap (is_said same (filter_map asked earlier)) (asks x)) ∙ unsaid _ hold.0) in (
           (λ has. others (name x) has (has_behind (filter_map asked earlier) (name x ∷ []) (name x) (inl refl)), rest.0),
           λ one has before. elim has [
             | inl is ↦ here (subst (Has (filter_map asked earlier)) (sym is) before)
@@ -218,41 +221,56 @@ all_plain_apart : (units : List Unit) → AllByRecursion (λ unit. Distinct (out
 all_plain_apart [] apart = tt
 all_plain_apart (unit ∷ units) apart = (plain_apart unit.outputs unit.events_out apart.0, all_plain_apart units apart.1)
 
-module _ (system : System) where
-  abbrev P : Site → Type 0
-  P site = Keeps system site
+-- ---- The lines of outputs, instances and connections
 
+abbrev said : Unit → Unit
+said unit = unit_of unit.name (unit_parts unit)
+
+abbrev wire_head : Wire → Headed
+wire_head wire = alone (form.Connect wire)
+
+wire_heads : (wires : List Wire) → flat_map headed_part (map parts.Connects wires) ≡ map wire_head wires
+wire_heads [] = refl
+wire_heads (wire ∷ wires) = ap (λ rest. wire_head wire ∷ rest) (wire_heads wires)
+
+abbrev said_units : List Unit → List Part
+said_units units = map (λ unit. parts.HasUnit unit.name (unit_parts unit)) units
+
+module _ (P : Site → Type 0) where
   drop_last : {A : Type 0} (f : A → List Headed) (scope : Scope) (earlier : List LineForm) (front behind : List A) → Hold P scope earlier (flat_map f (front ++ behind)) → Hold P scope earlier (flat_map f front)
   drop_last f scope earlier front behind hold =
       hold_front P scope earlier (flat_map f front) (flat_map f behind) (subst (Hold P scope earlier) (flat_map-append f front behind) hold)
 
-  -- The outputs of a unit.
-  unit_outputs : (unit : Unit) → AllByRecursion P (sites (UnitScope (unit_of unit.name (unit_parts unit))) [] (flat_map (headed_unit_part (unit_of unit.name (unit_parts unit))) (unit_parts unit) ++ (alone form.End ∷ []))) → Distinct (output_names unit)
-  unit_outputs unit all =
-      let said : Unit = unit_of unit.name (unit_parts unit) in
-      let scope : Scope = UnitScope said in
+  -- The outputs of a unit, event outputs among them.
+  outputs_hold : (unit : Unit) → AllByRecursion P (sites (UnitScope (said unit)) [] (flat_map (headed_unit_part (said unit)) (unit_parts unit) ++ (alone form.End ∷ []))) → (before : List LineForm) × Hold P (UnitScope (said unit)) before (map declaring_head (all_declaring unit.outputs unit.events_out))
+  outputs_hold unit all =
+      let scope : Scope = UnitScope (said unit) in
+      let headed : UnitPart → List Headed = headed_unit_part (said unit) in
       let before : List UnitPart =
       optional parts.Resolution unit.resolution ++ map parts.HasParam unit.params ++ map parts.HasState unit.states ++ map parts.HasLocal unit.locals ++ map parts.HasInput unit.inputs ++ map parts.HasEventIn unit.events_in in
       let outputs : List UnitPart = map parts.HasOutput unit.outputs in
       let events : List UnitPart = map parts.HasEventOut unit.events_out in
       let greatest : List UnitPart = optional parts.Max unit.max in
       let step : List UnitPart = optional parts.Step unit.step in
-      let whole = hold_front P scope [] (flat_map (headed_unit_part said) (unit_parts unit)) (alone form.End ∷ []) (hold_all P scope [] (flat_map (headed_unit_part said) (unit_parts unit) ++ (alone form.End ∷ [])) all) in
-      let without_step = drop_last (headed_unit_part said) scope [] (((before ++ outputs) ++ events) ++ greatest) step whole in
-      let without_max = drop_last (headed_unit_part said) scope [] ((before ++ outputs) ++ events) greatest without_step in
-      let parted = subst (λ all_parts. Hold P scope [] (flat_map (headed_unit_part said) all_parts)) (append_assoc before outputs events) without_max in
-      let here = hold_behind P scope [] (flat_map (headed_unit_part said) before) (flat_map (headed_unit_part said) (outputs ++ events)) (subst (Hold P scope []) (flat_map-append (headed_unit_part said) before (outputs ++ events)) parted) in
-      subst Distinct (declaring_names unit.outputs unit.events_out)
-      (apart P declaring_head declaring_name name_declared declaring_asks (name_unsaid system) scope here.0 (all_declaring unit.outputs unit.events_out) (subst (Hold P scope here.0) (output_heads said unit.outputs unit.events_out) here.1)).0
+      let whole = hold_front P scope [] (flat_map headed (unit_parts unit)) (alone form.End ∷ []) (hold_all P scope [] (flat_map headed (unit_parts unit) ++ (alone form.End ∷ [])) all) in
+      let without_step = drop_last headed scope [] (((before ++ outputs) ++ events) ++ greatest) step whole in
+      let without_max = drop_last headed scope [] ((before ++ outputs) ++ events) greatest without_step in
+      let parted = subst (λ all_parts. Hold P scope [] (flat_map headed all_parts)) (append_assoc before outputs events) without_max in
+      let here = hold_behind P scope [] (flat_map headed before) (flat_map headed (outputs ++ events)) (subst (Hold P scope []) (flat_map-append headed before (outputs ++ events)) parted) in
+      (here.0, subst (Hold P scope here.0) (output_heads (said unit) unit.outputs unit.events_out) here.1)
 
-  units_outputs : (units : List Unit) (earlier : List LineForm) → Hold P TopScope earlier (flat_map headed_part (map (λ unit. parts.HasUnit unit.name (unit_parts unit)) units)) → AllByRecursion (λ unit. Distinct (output_names unit)) units
-  units_outputs [] earlier hold = tt
-  units_outputs (unit ∷ units) earlier hold = (unit_outputs unit hold.1, units_outputs units (earlier ++ (form.Unit unit.name ∷ [])) hold.2)
+  -- What the lines of a system keep, those of units, instances and connections keep.
+  record Kept (system : System) : Type 0 where
+    units : Hold P TopScope (form.Header system.version ∷ []) (flat_map headed_part (said_units system.units))
+    before_instances : List LineForm
+    instances : Hold P TopScope before_instances (map instance_head system.instances)
+    before_wires : List LineForm
+    wires : Hold P TopScope before_wires (map wire_head system.wires)
 
-  pub ports_differ : IsWellFormed system → PortsDiffer system
-  ports_differ kept =
+  kept_parts : (system : System) → AllByRecursion P (sites_of system) → Kept system
+  kept_parts system all =
       let header : List LineForm = form.Header system.version ∷ [] in
-      let units : List Part = map (λ unit. parts.HasUnit unit.name (unit_parts unit)) system.units in
+      let units : List Part = said_units system.units in
       let instances : List Part = map parts.HasInstance system.instances in
       let wires : List Part = map parts.Connects system.wires in
       let stop : List Part = optional parts.Stop system.stop in
@@ -260,7 +278,6 @@ module _ (system : System) where
       let zero_steps : List Part = optional parts.Zero system.zero in
       let rows : List Part = optional parts.Rows system.rows in
       let samples : List Part = map parts.Samples system.samples in
-      let all = all_keep (redeclares system) 1 (sites_of system) kept.0 in
       let hold = (hold_all P TopScope [] (alone (form.Header system.version) ∷ flat_map headed_part (canonical_parts system)) all).2 in
       let a = drop_last headed_part TopScope header ((((((units ++ instances) ++ wires) ++ stop) ++ longest) ++ zero_steps) ++ rows) samples hold in
       let b = drop_last headed_part TopScope header (((((units ++ instances) ++ wires) ++ stop) ++ longest) ++ zero_steps) rows a in
@@ -268,12 +285,92 @@ module _ (system : System) where
       let d = drop_last headed_part TopScope header (((units ++ instances) ++ wires) ++ stop) longest c in
       let e = drop_last headed_part TopScope header ((units ++ instances) ++ wires) stop d in
       let f = drop_last headed_part TopScope header (units ++ instances) wires e in
+      let wired = hold_behind P TopScope header (flat_map headed_part (units ++ instances)) (flat_map headed_part wires) (subst (Hold P TopScope header) (flat_map-append headed_part (units ++ instances) wires) e) in
       let parted = subst (Hold P TopScope header) (flat_map-append headed_part units instances) f in
       let behind = hold_behind P TopScope header (flat_map headed_part units) (flat_map headed_part instances) parted in
       record {
-        instances = (apart P instance_head (λ instance. instance.name) instance_declared (λ instance. refl) (instance_unsaid system) TopScope behind.0 system.instances (subst (Hold P TopScope behind.0) (instance_heads system.instances) behind.1)).0;
-        outputs = units_outputs system.units header (hold_front P TopScope header (flat_map headed_part units) (flat_map headed_part instances) parted);
+        units = hold_front P TopScope header (flat_map headed_part units) (flat_map headed_part instances) parted;
+        before_instances = behind.0;
+        instances = subst (Hold P TopScope behind.0) (instance_heads system.instances) behind.1;
+        before_wires = wired.0;
+        wires = subst (Hold P TopScope wired.0) (wire_heads system.wires) wired.1;
+      }
+
+-- ---- Names
+
+module _ (system : System) where
+  units_outputs : (units : List Unit) (earlier : List LineForm) → Hold (Keeps system) TopScope earlier (flat_map headed_part (said_units units)) → AllByRecursion (λ unit. Distinct (output_names unit)) units
+  units_outputs [] earlier hold = tt
+  units_outputs (unit ∷ units) earlier hold =
+      let here = outputs_hold (Keeps system) unit hold.1 in (
+        subst Distinct (declaring_names unit.outputs unit.events_out)
+            (apart (Keeps system) bytes_eq bytes_of declaring_head declaring_name name_declared declaring_asks (name_unsaid system) (UnitScope (said unit)) here.0 (all_declaring unit.outputs unit.events_out) here.1).0,
+        units_outputs units (earlier ++ (form.Unit unit.name ∷ [])) hold.2,
+      )
+
+  pub ports_differ : IsWellFormed system → PortsDiffer system
+  ports_differ kept =
+      let held = kept_parts (Keeps system) system (all_keep (redeclares system) 1 (sites_of system) kept.0) in
+      record {
+        instances = (apart (Keeps system) bytes_eq bytes_of instance_head (λ instance. instance.name) instance_declared (λ instance. refl) (instance_unsaid system) TopScope held.before_instances system.instances held.instances).0;
+        outputs = units_outputs system.units (form.Header system.version ∷ []) held.units;
       }
 
   pub names_differ : IsWellFormed system → NamesDiffer system
   names_differ kept = let apart = ports_differ kept in record { instances = apart.instances; outputs = all_plain_apart system.units apart.outputs }
+
+-- ---- Needs and connections
+
+-- Each need of an output is an input of its unit, a connection comes from an output, and no two lead to one input.
+pub record Wired (system : System) : Type 0 where
+  pub needs : AllByRecursion (λ unit. AllByRecursion (λ output. are_among (input_names unit) output.needs ≡ true) unit.outputs) system.units
+  pub from : AllByRecursion (λ wire. is_none (output_at system wire.from) ≡ false) system.wires
+  pub once : Distinct (map (λ wire. wire.to) system.wires)
+
+pub same_port_of : (one other : PortName) → one ≡ other → same_port one other ≡ true
+same_port_of one other is =
+    ap (λ b. b && bytes_eq one.port other.port) (bytes_of one.instance other.instance (ap (λ (p : PortName). p.instance) is))
+    ∙ bytes_of one.port other.port (ap (λ (p : PortName). p.port) is)
+
+module _ (system : System) where
+  abbrev Names : Site → Type 0
+  Names site = misnames system site.scope site.line ≡ false
+
+  not_false : (b : Bool) → not b ≡ false → b ≡ true
+  not_false true is = refl
+  not_false false is = absurd (cc)
+
+  outputs_need : (unit : Unit) (before : List LineForm) (outputs : List Output) (events : List EventOut) → Hold Names (UnitScope unit) before (map declaring_head (all_declaring outputs events)) → AllByRecursion (λ output. are_among (input_names unit) output.needs ≡ true) outputs
+  outputs_need unit before [] events hold = tt
+  outputs_need unit before (output ∷ outputs) events hold = (
+    not_false _ (or_false (not (keeps_to (output_uses unit) output.value)) (not (are_among (input_names unit) output.needs)) hold.0).1,
+    outputs_need unit (before ++ (form.Output output ∷ [])) outputs events hold.2,
+  )
+
+  units_need : (units : List Unit) (earlier : List LineForm) → Hold Names TopScope earlier (flat_map headed_part (said_units units)) → AllByRecursion (λ unit. AllByRecursion (λ output. are_among (input_names unit) output.needs ≡ true) unit.outputs) units
+  units_need [] earlier hold = tt
+  units_need (unit ∷ units) earlier hold =
+      let here = outputs_hold Names unit hold.1 in (
+        subst (λ (u : Unit). AllByRecursion (λ output. are_among (input_names u) output.needs ≡ true) unit.outputs) (unit_is unit) (outputs_need (said unit) here.0 unit.outputs unit.events_out here.1),
+        units_need units (earlier ++ (form.Unit unit.name ∷ [])) hold.2,
+      )
+
+  wires_from : (wires : List Wire) (earlier : List LineForm) → Hold Names TopScope earlier (map wire_head wires) → AllByRecursion (λ wire. is_none (output_at system wire.from) ≡ false) wires
+  wires_from [] earlier hold = tt
+  wires_from (wire ∷ wires) earlier hold = (
+    (or_false (is_none (output_at system wire.from)) (is_none (input_at system wire.to)) hold.0).0,
+    wires_from wires (earlier ++ (form.Connect wire ∷ [])) hold.2,
+  )
+
+  abbrev Once : Site → Type 0
+  Once site = connects_again system site ≡ false
+
+  pub is_wired : IsWellFormed system → Wired system
+  is_wired kept =
+      let named = kept_parts Names system (all_keep (λ site. misnames system site.scope site.line) 1 (sites_of system) kept.1.0) in
+      let once = kept_parts Once system (all_keep (connects_again system) 1 (sites_of system) kept.1.1.1.1.1.0) in
+      record {
+        needs = units_need system.units (form.Header system.version ∷ []) named.units;
+        from = wires_from system.wires named.before_wires named.wires;
+        once = (apart Once same_port same_port_of wire_head (λ wire. wire.to) input_connected (λ wire. refl) (λ site is. is) TopScope once.before_wires system.wires once.wires).0;
+      }

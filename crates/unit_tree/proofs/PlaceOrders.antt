@@ -1,24 +1,26 @@
--- An order of a system's outputs is one of its places.
+-- An order of a system's outputs is one of its places, and the other way round.
 use Rattle.std.proofs.Common.{◌≡◌, ℕ, zero, suc, ◌+◌, ◌<◌, Bool, true, false, cond, List, [], ◌∷◌, ◌++◌, map, length, Option, Some, None, inl, inr, refl, ap, sym, subst, ◌∙◌, ◌⊎◌, arith, append-nil}
 use Rattle.std.proofs.lemmas.Bool.{and_parts}
 use Rattle.std.proofs.lemmas.List.{map-append}
 use Rattle.std.proofs.lemmas.Option.{slice_get_within}
-use Rattle.std.specs.Prelude.{not, ◌&&◌, ◌||◌, slice_get, zip, unwrap_or}
-use Rattle.std.specs.List.{AllByRecursion, AllZip, flat_map, filter_map, cons_option, list_any, position_or_len}
+use Rattle.std.specs.Prelude.{not, is_none, ◌||◌, slice_get, zip, unwrap_or}
+use Rattle.std.specs.List.{AllByRecursion, AllZip, flat_map, filter_map, cons_option, list_any, find, position_or_len}
 use Rattle.std.specs.Option.{option_and_then}
 use Rattle.std.specs.Str.{bytes_eq}
 use Rattle.unit_tree.specs.Compositions.{Member, HasNoEvents, component_with, factor_of, place_of, source_from, source_of, member_with, composition_of}
-use Rattle.unit_tree.specs.Names.{Port, output_ports, is_among, instance_named, unit_named, unit_of_instance, port_named, output_at, same_port}
-use Rattle.unit_tree.specs.Orders.{IsIn, IsOrderlyAfter, HasNoCycle, port_of, outputs_in, outputs_of, sources_of, needs_of, needed_by}
+use Rattle.unit_tree.specs.Names.{Port, output_ports, input_names, port_names, is_among, are_among, instance_named, unit_named, unit_of_instance, port_named, output_at, same_port}
+use Rattle.unit_tree.specs.Orders.{IsIn, IsOrderlyAfter, HasNoCycle, port_of, outputs_in, outputs_of, source_if, sources_of, needs_of, needed_by}
 use Rattle.unit_tree.specs.Ports.{IsAmong, IsOrderedAfter, IsPlaceOrder, place_in, place_needed, places_needed, needs_of_places, needs_at}
 use Rattle.unit_tree.specs.declared.system.Instance.{Instance}
 use Rattle.unit_tree.specs.declared.system.PortName.{PortName}
 use Rattle.unit_tree.specs.declared.system.System.{System}
+use Rattle.unit_tree.specs.declared.system.Wire.{Wire}
+use Rattle.unit_tree.specs.declared.unit.EventIn.{EventIn}
 use Rattle.unit_tree.specs.declared.unit.EventOut.{EventOut}
 use Rattle.unit_tree.specs.declared.unit.Input.{Input}
 use Rattle.unit_tree.specs.declared.unit.Output.{Output}
 use Rattle.unit_tree.specs.declared.unit.Unit.{Unit}
-use Rattle.unit_tree.proofs.NameLaws.{Has, Distinct, NamesDiffer, has_either, has_map, has_front, has_behind, same_bytes, bytes_of, found}
+use Rattle.unit_tree.proofs.NameLaws.{Has, Distinct, NamesDiffer, Wired, same_port_of, has_either, has_map, has_front, has_behind, same_bytes, bytes_of, found}
 use Rattle.unit_tree.proofs.OrderLaws.{each_in}
 use Rattle.unit_tree.proofs.RunTraces.{one_each}
 
@@ -47,11 +49,6 @@ same_port_is one other is =
     let both = and_parts (bytes_eq one.instance other.instance) (bytes_eq one.port other.port) is in
     ap (λ instance. record { instance = instance; port = one.port }) (same_bytes one.instance other.instance both.0)
     ∙ ap (λ port. record { instance = other.instance; port = port }) (same_bytes one.port other.port both.1)
-
-pub same_port_of : (one other : PortName) → one ≡ other → same_port one other ≡ true
-same_port_of one other is =
-    ap (λ b. b && bytes_eq one.port other.port) (bytes_of one.instance other.instance (ap (λ (p : PortName). p.instance) is))
-    ∙ bytes_of one.port other.port (ap (λ (p : PortName). p.port) is)
 
 -- With whether the first is the port.
 found_by : (told : Bool) (port first : PortName) (ports : List PortName) (later : ℕ) → same_port port first ≡ told → (first ≡ port) ⊎ IsIn ports port → (IsIn ports port → slice_get ports later ≡ Some port) → slice_get (first ∷ ports) (cond (not told) (1 + later) 0) ≡ Some port
@@ -126,19 +123,21 @@ plain_port output = record { name = output.name; ty = output.ty; is_event = fals
 pub record Known (unit : Unit) : Type 0 where
   pub apart : Distinct (map (λ output. output.name) unit.outputs)
   pub no_events : unit.events_out ≡ []
+  pub no_events_in : unit.events_in ≡ []
 
 all_known : (units : List Unit) → AllByRecursion (λ unit. (unit.events_in ≡ []) × (unit.events_out ≡ [])) units → AllByRecursion (λ unit. Distinct (map (λ output. output.name) unit.outputs)) units → AllByRecursion Known units
 all_known [] plain apart = tt
-all_known (unit ∷ units) plain apart = (record { apart = apart.0; no_events = plain.0.1 }, all_known units plain.1 apart.1)
+all_known (unit ∷ units) plain apart = (record { apart = apart.0; no_events = plain.0.1; no_events_in = plain.0.0 }, all_known units plain.1 apart.1)
 
--- With whether the first unit has the name.
-named_by : (told : Bool) (first unit : Unit) (rest : Option Unit) → Known first → (rest ≡ Some unit → Known unit) → cond told (Some first) rest ≡ Some unit → Known unit
-named_by true first unit rest known later is = let same : first ≡ unit = cc in subst Known same known
-named_by false first unit rest known later is = later is
+module _ (P : Unit → Type 0) where
+  -- With whether the first unit has the name.
+  named_by : (told : Bool) (first unit : Unit) (rest : Option Unit) → P first → (rest ≡ Some unit → P unit) → cond told (Some first) rest ≡ Some unit → P unit
+  named_by true first unit rest holds later is = let same : first ≡ unit = cc in subst P same holds
+  named_by false first unit rest holds later is = later is
 
-named_known : (units : List Unit) (name : List ℕ) (unit : Unit) → AllByRecursion Known units → unit_named units name ≡ Some unit → Known unit
-named_known [] name unit known is = absurd (cc)
-named_known (first ∷ units) name unit known is = named_by (bytes_eq first.name name) first unit (unit_named units name) known.0 (λ later. named_known units name unit known.1 later) is
+  named_holds : (units : List Unit) (name : List ℕ) (unit : Unit) → AllByRecursion P units → unit_named units name ≡ Some unit → P unit
+  named_holds [] name unit all is = absurd (cc)
+  named_holds (first ∷ units) name unit all is = named_by (bytes_eq first.name name) first unit (unit_named units name) all.0 (λ later. named_holds units name unit all.1 later) is
 
 ports_plain : (unit : Unit) → Known unit → output_ports unit ≡ map plain_port unit.outputs
 ports_plain unit known =
@@ -185,7 +184,7 @@ module _ (system : System) (plain : HasNoEvents system) (differ : NamesDiffer sy
   unit_apart : (instance : Instance) (given : Option Unit) → unit_of_instance system instance ≡ given → Distinct (ports_in instance (outputs_in given))
   unit_apart instance None is = tt
   unit_apart instance (Some unit) is =
-      let unit_known = named_known system.units instance.unit unit known is in
+      let unit_known = named_holds Known system.units instance.unit unit known is in
       subst (λ ports. Distinct (ports_in instance ports)) (sym (ports_plain unit unit_known))
       (ports_apart instance (map plain_port unit.outputs) (subst (λ names. Distinct names) (sym (names_plain unit.outputs)) unit_known.apart))
 
@@ -220,17 +219,17 @@ module _ (system : System) (plain : HasNoEvents system) (differ : NamesDiffer sy
       elim (or_true (bytes_eq name first) (list_any (bytes_eq name) names) is) [ inl same ↦ inl (sym (same_bytes name first same)) | inr later ↦ inr (among names name later) ]
 
   module _ (instance : Instance) (output : Output) (is_there : output_at system (port_of instance output.name) ≡ Some (plain_port output)) where
-    abbrev port : PortName
-    port = port_of instance output.name
+    abbrev this_port : PortName
+    this_port = port_of instance output.name
 
     abbrev sources_at : List ℕ → List PortName
     sources_at input = sources_of system (record { instance = instance.name; port = input })
 
-    needed_is : needed_by system port ≡ flat_map sources_at output.needs
+    needed_is : needed_by system this_port ≡ flat_map sources_at output.needs
     needed_is = ap (λ found. flat_map sources_at (needs_of found)) is_there
 
     -- With whether the input is in the needs, and what is connected to it.
-    input_by : (told : Bool) (input : Input) (sources : List PortName) (rest : List ℕ) → is_among output.needs input.name ≡ told → sources_of system (port_of instance input.name) ≡ sources → Needs port rest → Needs port (cons_option (cond told (place_in (source_from system input sources)) None) rest)
+    input_by : (told : Bool) (input : Input) (sources : List PortName) (rest : List ℕ) → is_among output.needs input.name ≡ told → sources_of system (port_of instance input.name) ≡ sources → Needs this_port rest → Needs this_port (cons_option (cond told (place_in (source_from system input sources)) None) rest)
     input_by true input [] rest told is needs = needs
     input_by true input (source ∷ others) rest told is needs = (
       record {
@@ -242,7 +241,7 @@ module _ (system : System) (plain : HasNoEvents system) (differ : NamesDiffer sy
     )
     input_by false input sources rest told is needs = needs
 
-    inputs_needed : (inputs : List Input) → Needs port (filter_map (place_needed output) (zip inputs (map (source_of system instance) inputs)))
+    inputs_needed : (inputs : List Input) → Needs this_port (filter_map (place_needed output) (zip inputs (map (source_of system instance) inputs)))
     inputs_needed [] = tt
     inputs_needed (input ∷ inputs) = input_by (is_among output.needs input.name) input (sources_of system (port_of instance input.name)) _ refl refl (inputs_needed inputs)
 
@@ -253,36 +252,40 @@ module _ (system : System) (plain : HasNoEvents system) (differ : NamesDiffer sy
 
   there : (instance : Instance) (unit : Unit) (output : Output) → instance_named system instance.name ≡ Some instance → unit_of_instance system instance ≡ Some unit → Has unit.outputs output → output_at system (port_of instance output.name) ≡ Some (plain_port output)
   there instance unit output instance_is unit_is has =
-      let unit_known = named_known system.units instance.unit unit known unit_is in
+      let unit_known = named_holds Known system.units instance.unit unit known unit_is in
       ap (λ named. option_and_then (λ u. port_named (output_ports u) output.name) (option_and_then (unit_of_instance system) named)) instance_is
       ∙ ap (option_and_then (λ u. port_named (output_ports u) output.name)) unit_is
       ∙ ap (λ ports. port_named ports output.name) (ports_plain unit unit_known)
       ∙ found (λ (port : Port). port.name) (map plain_port unit.outputs) (plain_port output) (subst (λ names. Distinct names) (sym (names_plain unit.outputs)) unit_known.apart) (has_map plain_port unit.outputs output has)
 
-  outputs_side : (instance : Instance) (member : Member) (outputs : List Output) → member.sources ≡ map (source_of system instance) member.component.unit.inputs → AllByRecursion (λ output. output_at system (port_of instance output.name) ≡ Some (plain_port output)) outputs → AllZip Needs (ports_in instance (map plain_port outputs)) (map (places_needed member) outputs)
-  outputs_side instance member [] sources are = tt
-  outputs_side instance member (output ∷ outputs) sources are = (
-    subst (λ all. Needs (port_of instance output.name) (filter_map (place_needed output) (zip member.component.unit.inputs all))) (sym sources) (inputs_needed instance output are.0 member.component.unit.inputs),
-    outputs_side instance member outputs sources are.1,
-  )
+  -- What holds of each output and the places that it needs.
+  module _ (R : PortName → List ℕ → Type 0) (holds : (instance : Instance) (unit : Unit) (output : Output) → instance_named system instance.name ≡ Some instance → unit_of_instance system instance ≡ Some unit → Has unit.outputs output → R (port_of instance output.name) (filter_map (place_needed output) (zip unit.inputs (map (source_of system instance) unit.inputs)))) where
+    abbrev member_of : Instance → Unit → Member
+    member_of instance unit = record { component = component_with instance.settings unit; factor = factor_of system unit; sources = map (source_of system instance) unit.inputs }
 
-  instance_side : (instance : Instance) (given : Option Unit) (ports : List PortName) (members : List Member) → instance_named system instance.name ≡ Some instance → unit_of_instance system instance ≡ given → AllZip Needs ports (flat_map needs_in members) → AllZip Needs (ports_in instance (outputs_in given) ++ ports) (flat_map needs_in (cons_option (member_with system instance given) members))
-  instance_side instance None ports members instance_is unit_is rest = rest
-  instance_side instance (Some unit) ports members instance_is unit_is rest =
-      let unit_known = named_known system.units instance.unit unit known unit_is in
-      let member : Member = record { component = component_with instance.settings unit; factor = factor_of system unit; sources = map (source_of system instance) unit.inputs } in
-      zip_append Needs (ports_in instance (output_ports unit)) ports (map (places_needed member) unit.outputs) (flat_map needs_in members)
-      (subst (λ all. AllZip Needs (ports_in instance all) (map (places_needed member) unit.outputs)) (sym (ports_plain unit unit_known))
-      (outputs_side instance member unit.outputs refl (all_has _ unit.outputs (λ output has. there instance unit output instance_is unit_is has))))
-      rest
+    outputs_side : (instance : Instance) (unit : Unit) (outputs : List Output) → AllByRecursion (λ output. R (port_of instance output.name) (places_needed (member_of instance unit) output)) outputs → AllZip R (ports_in instance (map plain_port outputs)) (map (places_needed (member_of instance unit)) outputs)
+    outputs_side instance unit [] all = tt
+    outputs_side instance unit (output ∷ outputs) all = (all.0, outputs_side instance unit outputs all.1)
 
-  all_sides : (instances : List Instance) → AllByRecursion (λ instance. instance_named system instance.name ≡ Some instance) instances → AllZip Needs (flat_map ports_of instances) (flat_map needs_in (filter_map (λ instance. member_with system instance (unit_of_instance system instance)) instances))
-  all_sides [] are = tt
-  all_sides (instance ∷ instances) are =
-      instance_side instance (unit_of_instance system instance) (flat_map ports_of instances) (filter_map (λ instance. member_with system instance (unit_of_instance system instance)) instances) are.0 refl (all_sides instances are.1)
+    instance_side : (instance : Instance) (given : Option Unit) (ports : List PortName) (members : List Member) → instance_named system instance.name ≡ Some instance → unit_of_instance system instance ≡ given → AllZip R ports (flat_map needs_in members) → AllZip R (ports_in instance (outputs_in given) ++ ports) (flat_map needs_in (cons_option (member_with system instance given) members))
+    instance_side instance None ports members instance_is unit_is rest = rest
+    instance_side instance (Some unit) ports members instance_is unit_is rest =
+        let unit_known = named_holds Known system.units instance.unit unit known unit_is in
+        zip_append R (ports_in instance (output_ports unit)) ports (map (places_needed (member_of instance unit)) unit.outputs) (flat_map needs_in members)
+        (subst (λ all. AllZip R (ports_in instance all) (map (places_needed (member_of instance unit)) unit.outputs)) (sym (ports_plain unit unit_known))
+        (outputs_side instance unit unit.outputs (all_has _ unit.outputs (λ output has. holds instance unit output instance_is unit_is has))))
+        rest
+
+    all_sides : (instances : List Instance) → AllByRecursion (λ instance. instance_named system instance.name ≡ Some instance) instances → AllZip R (flat_map ports_of instances) (flat_map needs_in (filter_map (λ instance. member_with system instance (unit_of_instance system instance)) instances))
+    all_sides [] are = tt
+    all_sides (instance ∷ instances) are =
+        instance_side instance (unit_of_instance system instance) (flat_map ports_of instances) (filter_map (λ instance. member_with system instance (unit_of_instance system instance)) instances) are.0 refl (all_sides instances are.1)
+
+    sides_of : AllZip R (outputs_of system) (needs_of_places (composition_of system))
+    sides_of = all_sides system.instances (all_has _ system.instances (λ instance has. found (λ (i : Instance). i.name) system.instances instance differ.instances has))
 
   sides : AllZip Needs (outputs_of system) (needs_of_places (composition_of system))
-  sides = all_sides system.instances (all_has _ system.instances (λ instance has. found (λ (i : Instance). i.name) system.instances instance differ.instances has))
+  sides = sides_of Needs (λ instance unit output instance_is unit_is has. inputs_needed instance output (there instance unit output instance_is unit_is has) unit.inputs)
 
   count_is : length (needs_of_places (composition_of system)) ≡ length (outputs_of system)
   count_is = one_each Needs (outputs_of system) (needs_of_places (composition_of system)) sides
@@ -351,3 +354,225 @@ module _ (system : System) (plain : HasNoEvents system) (differ : NamesDiffer sy
           (among_places no_cycle.0 port.0 (each_in (IsIn no_cycle.0) (outputs_of system) port.0 no_cycle.2 stands));
     },
   )
+
+  -- ---- The way back: where each output and its place come from
+
+  or_right : (one other : Bool) → other ≡ true → (one || other) ≡ true
+  or_right true other is = refl
+  or_right false other is = is
+
+  has_among : (names : List (List ℕ)) (name : List ℕ) → Has names name → is_among names name ≡ true
+  has_among [] name has = absurd has
+  has_among (first ∷ names) name (inl is) = ap (λ b. b || is_among names name) (bytes_of name first (sym is))
+  has_among (first ∷ names) name (inr has) = or_right (bytes_eq name first) (is_among names name) (has_among names name has)
+
+  each_among : (names used : List (List ℕ)) (name : List ℕ) → are_among names used ≡ true → Has used name → is_among names name ≡ true
+  each_among names [] name all has = absurd has
+  each_among names (first ∷ used) name all (inl is) = subst (λ n. is_among names n ≡ true) is (and_parts (is_among names first) (are_among names used) all).0
+  each_among names (first ∷ used) name all (inr has) = each_among names used name (and_parts (is_among names first) (are_among names used) all).1 has
+
+  -- The plain input of a name, where there are no others.
+  input_named : (inputs : List Input) (events : List EventIn) (name : List ℕ) → events ≡ [] → Has (port_names (map (λ input. record { name = input.name; ty = input.ty; is_event = false; needs = [] }) inputs ++ map (λ event. record { name = event.name; ty = event.ty; is_event = true; needs = [] }) events)) name → (input : Input) × Has inputs input × (input.name ≡ name)
+  input_named inputs (event ∷ events) name none has = absurd (cc)
+  input_named [] [] name none has = absurd has
+  input_named (input ∷ inputs) [] name none (inl is) = (input, inl refl, is)
+  input_named (input ∷ inputs) [] name none (inr has) = let later = input_named inputs [] name none has in (later.0, inr later.1, later.2)
+
+  from_flat : (f : List ℕ → List PortName) (names : List (List ℕ)) (source : PortName) → IsIn (flat_map f names) source → (name : List ℕ) × Has names name × IsIn (f name) source
+  from_flat f [] source stands = absurd stands
+  from_flat f (first ∷ names) source stands =
+      elim (has_either (f first) (flat_map f names) source (in_has (f first ++ flat_map f names) source stands)) [
+        | inl here ↦ (first, inl refl, has_in (f first) source here)
+        | inr has ↦ let later = from_flat f names source (has_in (flat_map f names) source has) in (later.0, inr later.1, later.2)
+      ]
+
+  has_flat : {A : Type 0} (f : A → List PortName) (xs : List A) (x : A) (source : PortName) → Has xs x → Has (f x) source → Has (flat_map f xs) source
+  has_flat f [] x source has here = absurd has
+  has_flat f (first ∷ xs) x source (inl is) here = has_front (f first) (flat_map f xs) source (subst (λ y. Has (f y) source) (sym is) here)
+  has_flat f (first ∷ xs) x source (inr has) here = has_behind (f first) (flat_map f xs) source (has_flat f xs x source has here)
+
+  -- ---- A connection comes from an output of the system
+
+  named_at : (told : Bool) (first instance : Instance) (instances : List Instance) (name : List ℕ) → bytes_eq first.name name ≡ told → (find (λ (i : Instance). bytes_eq i.name name) instances ≡ Some instance → Has instances instance × (instance.name ≡ name)) → cond told (Some first) (find (λ (i : Instance). bytes_eq i.name name) instances) ≡ Some instance → Has (first ∷ instances) instance × (instance.name ≡ name)
+  named_at true first instance instances name is later found_is =
+      let same : first ≡ instance = cc in (inl same, subst (λ (i : Instance). i.name ≡ name) same (same_bytes first.name name is))
+  named_at false first instance instances name is later found_is = let rest = later found_is in (inr rest.0, rest.1)
+
+  instance_at : (instances : List Instance) (name : List ℕ) (instance : Instance) → find (λ (i : Instance). bytes_eq i.name name) instances ≡ Some instance → Has instances instance × (instance.name ≡ name)
+  instance_at [] name instance is = absurd (cc)
+  instance_at (first ∷ instances) name instance is = named_at (bytes_eq first.name name) first instance instances name refl (instance_at instances name instance) is
+
+  port_by : (told : Bool) (instance : Instance) (first : Port) (ports : List Port) (port : PortName) → instance.name ≡ port.instance → bytes_eq first.name port.port ≡ told → (is_none (port_named ports port.port) ≡ false → Has (ports_in instance ports) port) → is_none (cond told (Some first) (port_named ports port.port)) ≡ false → Has (ports_in instance (first ∷ ports)) port
+  port_by true instance first ports port instance_is is later some =
+      let same : port_of instance first.name ≡ port =
+      ap (λ name. record { instance = name; port = first.name }) instance_is
+      ∙ ap (λ name. record { instance = port.instance; port = name }) (same_bytes first.name port.port is) in
+      inl same
+  port_by false instance first ports port instance_is is later some = inr (later some)
+
+  port_there : (instance : Instance) (ports : List Port) (port : PortName) → instance.name ≡ port.instance → is_none (port_named ports port.port) ≡ false → Has (ports_in instance ports) port
+  port_there instance [] port instance_is some = absurd (cc)
+  port_there instance (first ∷ ports) port instance_is some = port_by (bytes_eq first.name port.port) instance first ports port instance_is refl (port_there instance ports port instance_is) some
+
+  unit_there : (instance : Instance) (given : Option Unit) (port : PortName) → instance.name ≡ port.instance → is_none (option_and_then (λ unit. port_named (output_ports unit) port.port) given) ≡ false → Has (ports_in instance (outputs_in given)) port
+  unit_there instance None port instance_is some = absurd (cc)
+  unit_there instance (Some unit) port instance_is some = port_there instance (output_ports unit) port instance_is some
+
+  instance_there : (given : Option Instance) (port : PortName) → instance_named system port.instance ≡ given → is_none (option_and_then (λ unit. port_named (output_ports unit) port.port) (option_and_then (unit_of_instance system) given)) ≡ false → Has (outputs_of system) port
+  instance_there None port is some = absurd (cc)
+  instance_there (Some instance) port is some =
+      let at = instance_at system.instances port.instance instance is in
+      has_flat ports_of system.instances instance port at.0 (unit_there instance (unit_of_instance system instance) port at.1 some)
+
+  output_in : (port : PortName) → is_none (output_at system port) ≡ false → IsIn (outputs_of system) port
+  output_in port some = has_in (outputs_of system) port (instance_there (instance_named system port.instance) port refl some)
+
+  -- ---- What is connected to an input
+
+  abbrev sources_among : PortName → List Wire → List PortName
+  sources_among port wires = filter_map (source_if port) wires
+
+  from_by : (P : PortName → Type 0) (told : Bool) (wire : Wire) (others : List PortName) (source : PortName) → P wire.from → (IsIn others source → P source) → IsIn (cons_option (cond told (Some wire.from) None) others) source → P source
+  from_by P true wire others source holds later (inl is) = subst P is holds
+  from_by P true wire others source holds later (inr stands) = later stands
+  from_by P false wire others source holds later stands = later stands
+
+  from_each : (P : PortName → Type 0) (port : PortName) (wires : List Wire) (source : PortName) → AllByRecursion (λ (wire : Wire). P wire.from) wires → IsIn (sources_among port wires) source → P source
+  from_each P port [] source all stands = absurd stands
+  from_each P port (wire ∷ wires) source all stands = from_by P (same_port wire.to port) wire (sources_among port wires) source all.0 (from_each P port wires source all.1) stands
+
+  none_by : (told : Bool) (port : PortName) (wire : Wire) (others : List PortName) → same_port wire.to port ≡ told → (wire.to ≡ port → ⊥) → others ≡ [] → cons_option (cond told (Some wire.from) None) others ≡ []
+  none_by true port wire others is other none = absurd (other (same_port_is wire.to port is))
+  none_by false port wire others is other none = none
+
+  none_to : (port : PortName) (wires : List Wire) → (Has (map (λ (wire : Wire). wire.to) wires) port → ⊥) → sources_among port wires ≡ []
+  none_to port [] none = refl
+  none_to port (wire ∷ wires) none = none_by (same_port wire.to port) port wire (sources_among port wires) refl (λ is. none (inl is)) (none_to port wires (λ has. none (inr has)))
+
+  one_by : (told : Bool) (port : PortName) (wire : Wire) (others : List PortName) (source : PortName) → (told ≡ true → others ≡ []) → (IsIn others source → others ≡ source ∷ []) → IsIn (cons_option (cond told (Some wire.from) None) others) source → cons_option (cond told (Some wire.from) None) others ≡ source ∷ []
+  one_by true port wire others source none later (inl is) = ap (λ rest. wire.from ∷ rest) (none refl) ∙ ap (λ first. first ∷ []) is
+  one_by true port wire others source none later (inr stands) = absurd (subst (λ all. IsIn all source) (none refl) stands)
+  one_by false port wire others source none later stands = later stands
+
+  -- At most one is.
+  one_source : (port : PortName) (wires : List Wire) (source : PortName) → Distinct (map (λ (wire : Wire). wire.to) wires) → IsIn (sources_among port wires) source → sources_among port wires ≡ source ∷ []
+  one_source port [] source once stands = absurd stands
+  one_source port (wire ∷ wires) source once stands =
+      one_by (same_port wire.to port) port wire (sources_among port wires) source
+      (λ is. none_to port wires (subst (λ to. Has (map (λ (w : Wire). w.to) wires) to → ⊥) (same_port_is wire.to port is) once.0))
+      (one_source port wires source once.1) stands
+
+  among_behind : (given : Option ℕ) (rest : List ℕ) (place : ℕ) → IsAmong rest place → IsAmong (cons_option given rest) place
+  among_behind None rest place has = has
+  among_behind (Some first) rest place has = inr has
+
+  -- The place of an input that is needed and connected.
+  place_among : (instance : Instance) (output : Output) (inputs : List Input) (input : Input) (place : ℕ) → Has inputs input → place_needed output (input, source_of system instance input) ≡ Some place → IsAmong (filter_map (place_needed output) (zip inputs (map (source_of system instance) inputs))) place
+  place_among instance output [] input place has is = absurd has
+  place_among instance output (first ∷ inputs) input place (inl same) is =
+      let here : place_needed output (first, source_of system instance first) ≡ Some place =
+      subst (λ (i : Input). place_needed output (i, source_of system instance i) ≡ Some place) (sym same) is in
+      subst (λ given. IsAmong (cons_option given (filter_map (place_needed output) (zip inputs (map (source_of system instance) inputs)))) place) (sym here) (inl refl)
+  place_among instance output (first ∷ inputs) input place (inr has) is =
+      among_behind (place_needed output (first, source_of system instance first)) _ place (place_among instance output inputs input place has is)
+
+  -- ---- All that an output needs is among the places that it needs
+
+  pub record Told (port : PortName) (places : List ℕ) : Type 0 where
+    pub each : (source : PortName) → IsIn (needed_by system port) source → IsIn (outputs_of system) source × IsAmong places (place_of system source)
+
+  module _ (wired : Wired system) where
+    told : (instance : Instance) (unit : Unit) (output : Output) → instance_named system instance.name ≡ Some instance → unit_of_instance system instance ≡ Some unit → Has unit.outputs output → Told (port_of instance output.name) (filter_map (place_needed output) (zip unit.inputs (map (source_of system instance) unit.inputs)))
+    told instance unit output instance_is unit_is has = record {
+      each = λ source stands.
+          let is_there = there instance unit output instance_is unit_is has in
+          let unit_known = named_holds Known system.units instance.unit unit known unit_is in
+          let unit_needs = named_holds (λ u. AllByRecursion (λ output. are_among (input_names u) output.needs ≡ true) u.outputs) system.units instance.unit unit wired.needs unit_is in
+          let need = from_flat (λ input. sources_of system (record { instance = instance.name; port = input })) output.needs source (subst (λ all. IsIn all source) (needed_is instance output is_there) stands) in
+          let at_need : PortName = record { instance = instance.name; port = need.0 } in
+          let declared = each_among (input_names unit) output.needs need.0 (each_has _ unit.outputs output unit_needs has) need.1 in
+          let input = input_named unit.inputs unit.events_in need.0 unit_known.no_events_in (among (input_names unit) need.0 declared) in
+          let one : sources_of system (port_of instance input.0.name) ≡ source ∷ [] =
+          ap (λ name. sources_of system (record { instance = instance.name; port = name })) input.2 ∙ one_source at_need system.wires source wired.once need.2 in
+          let needed : is_among output.needs input.0.name ≡ true = ap (is_among output.needs) input.2 ∙ has_among output.needs need.0 need.1 in
+          let place_is_needed : place_needed output (input.0, source_of system instance input.0) ≡ Some (place_of system source) =
+          ap (λ b. cond b (place_in (source_of system instance input.0)) None) needed ∙ ap (λ all. place_in (source_from system input.0 all)) one in (
+            output_in source (from_each (λ port. is_none (output_at system port) ≡ false) at_need system.wires source wired.from need.2),
+            place_among instance output unit.inputs input.0 (place_of system source) input.1 place_is_needed,
+          );
+    }
+      where
+        each_has : (P : Output → Type 0) (outputs : List Output) (output : Output) → AllByRecursion P outputs → Has outputs output → P output
+        each_has P [] output all has = absurd has
+        each_has P (first ∷ outputs) output all (inl is) = subst P is all.0
+        each_has P (first ∷ outputs) output all (inr has) = each_has P outputs output all.1 has
+
+    told_sides : AllZip Told (outputs_of system) (needs_of_places (composition_of system))
+    told_sides = sides_of Told told
+
+    -- ---- The order of outputs
+
+    abbrev port_at : ℕ → PortName
+    port_at place = unwrap_or (slice_get (outputs_of system) place) (record { instance = []; port = [] })
+
+    abbrev ports_at : List ℕ → List PortName
+    ports_at places = map port_at places
+
+    at_is : (place : ℕ) → place < length (outputs_of system) → slice_get (outputs_of system) place ≡ Some (port_at place)
+    at_is place within = let port = at_place (outputs_of system) place within in port.1 ∙ ap Some (sym (ap (λ given. unwrap_or given (record { instance = []; port = [] })) port.1))
+
+    place_back : (place : ℕ) → place < length (outputs_of system) → place_of system (port_at place) ≡ place
+    place_back place within = place_is (outputs_of system) place (port_at place) outputs_apart (at_is place within)
+
+    port_back : (port : PortName) → IsIn (outputs_of system) port → port_at (place_of system port) ≡ port
+    port_back port stands = ap (λ given. unwrap_or given (record { instance = []; port = [] })) (found_at (outputs_of system) port stands)
+
+    among_ports : (places : List ℕ) (place : ℕ) → IsAmong places place → IsIn (ports_at places) (port_at place)
+    among_ports [] place has = absurd has
+    among_ports (first ∷ places) place (inl is) = inl (ap port_at is)
+    among_ports (first ∷ places) place (inr has) = inr (among_ports places place has)
+
+    abbrev IsPlace : ℕ → Type 0
+    IsPlace place = place < length (outputs_of system)
+
+    place_of_one : (places : List ℕ) (port : PortName) → AllByRecursion IsPlace places → IsIn (ports_at places) port → IsAmong places (place_of system port)
+    place_of_one [] port all stands = absurd stands
+    place_of_one (first ∷ places) port all (inl is) = inl (sym (place_back first all.0) ∙ ap (place_of system) is)
+    place_of_one (first ∷ places) port all (inr stands) = inr (place_of_one places port all.1 stands)
+
+    each_place : (P : ℕ → Type 0) (places : List ℕ) (place : ℕ) → AllByRecursion P places → IsAmong places place → P place
+    each_place P [] place all has = absurd has
+    each_place P (first ∷ places) place all (inl is) = subst P is all.0
+    each_place P (first ∷ places) place all (inr has) = each_place P places place all.1 has
+
+    all_places : (P : ℕ → Type 0) (places : List ℕ) (place : ℕ) → AllByRecursion P places → P place → AllByRecursion P (places ++ (place ∷ []))
+    all_places P [] place all holds = (holds, tt)
+    all_places P (first ∷ places) place all holds = (all.0, all_places P places place all.1 holds)
+
+    orderly : (before order : List ℕ) → AllByRecursion IsPlace before → IsOrderedAfter (composition_of system) before order → IsOrderlyAfter system (ports_at before) (ports_at order)
+    orderly before [] are is_ordered = tt
+    orderly before (place ∷ later) are is_ordered =
+        let within : place < length (outputs_of system) = subst (λ count. place < count) count_is is_ordered.0 in
+        let here = at_is place within in
+        let beside = zip_at Told (outputs_of system) (needs_of_places (composition_of system)) place (port_at place) told_sides here in
+        let needs : needs_at (composition_of system) place ≡ beside.other = ap (λ given. unwrap_or given []) beside.is in (
+          has_in (outputs_of system) (port_at place) (has_at (outputs_of system) place (port_at place) here),
+          (λ stands. is_ordered.1 (subst (IsAmong before) (place_back place within) (place_of_one before (port_at place) are stands))),
+          all_has (IsIn (ports_at before)) (needed_by system (port_at place)) (λ source has.
+              let known_of = beside.related.each source (has_in (needed_by system (port_at place)) source has) in
+              subst (IsIn (ports_at before)) (port_back source known_of.0)
+              (among_ports before (place_of system source) (each_place (IsAmong before) beside.other (place_of system source) (subst (AllByRecursion (IsAmong before)) needs is_ordered.2) known_of.1))),
+          subst (λ all. IsOrderlyAfter system all (ports_at later)) (map-append port_at before (place ∷ []))
+              (orderly (before ++ (place ∷ [])) later (all_places IsPlace before place are within) is_ordered.3),
+        )
+
+    pub has_no_cycle : (order : List ℕ) × IsPlaceOrder (composition_of system) order → HasNoCycle system
+    has_no_cycle (order, is_order) = (
+      ports_at order,
+      orderly [] order tt is_order.ordered,
+      all_has (IsIn (ports_at order)) (outputs_of system) (λ port has.
+          let stands = has_in (outputs_of system) port has in
+          let within : place_of system port < length (needs_of_places (composition_of system)) =
+          subst (λ count. place_of system port < count) (sym count_is) (slice_get_within (outputs_of system) (place_of system port) port (found_at (outputs_of system) port stands)) in
+          subst (IsIn (ports_at order)) (port_back port stands) (among_ports order (place_of system port) (is_order.all (place_of system port) within))),
+    )

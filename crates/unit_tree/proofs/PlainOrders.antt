@@ -18,9 +18,9 @@ use Rattle.unit_tree.specs.declared.system.Wire.{Wire}
 use Rattle.unit_tree.specs.declared.unit.EventOut.{EventOut}
 use Rattle.unit_tree.specs.declared.unit.Output.{Output}
 use Rattle.unit_tree.specs.declared.unit.Unit.{Unit}
-use Rattle.unit_tree.proofs.NameLaws.{Has, Distinct, NamesDiffer, PortsDiffer, ports_differ, has_either, has_map, has_front, has_behind, found}
+use Rattle.unit_tree.proofs.NameLaws.{Has, Distinct, NamesDiffer, PortsDiffer, ports_differ, same_port_of, has_either, has_map, has_front, has_behind, found}
 use Rattle.unit_tree.proofs.OrderLaws.{each_in}
-use Rattle.unit_tree.proofs.PlaceOrders.{in_has, has_in, same_port_is, same_port_of, all_has}
+use Rattle.unit_tree.proofs.PlaceOrders.{in_has, has_in, same_port_is, all_has}
 use Rattle.unit_tree.proofs.PlainNames.{each_has, has_flat, Mapped, map_has, Flat, flat_has, IsPlain, same_presence, PlainNames, plain_wire, plain_port_names, of_output, of_event}
 
 -- ---- Outputs of a system with their declarations

@@ -33,7 +33,7 @@ left_at run point = (run.stop - point.t) * (run.zero_budget + 1) + (run.zero_bud
 abbrev left : Composition → Position → ℕ
 left run at = left_at run at.point
 
-when_none : {A : Type 0} (test : Bool) (given : A) → when test given ≡ None → test ≡ false
+pub when_none : {A : Type 0} (test : Bool) (given : A) → when test given ≡ None → test ≡ false
 when_none false given is = refl
 when_none true given is = absurd (cc)
 
@@ -62,7 +62,7 @@ nearer_by true run point h within zeros fits is open_budget = nearer_zero run po
 nearer_by false run point zero within zeros fits is open_budget = absurd (cc)
 nearer_by false run point (suc h) within zeros fits is open_budget = nearer_on run point h within fits
 
-next_is_nearer : (run : Composition) (stand : Stand) → AreMembers run → HasWords run stand.at → Within run stand.at → first_some (ends_at run stand.at stand.ports) ≡ None → Nearer run stand.at.point (after run stand.at stand.ports).point
+pub next_is_nearer : (run : Composition) (stand : Stand) → AreMembers run → HasWords run stand.at → Within run stand.at → first_some (ends_at run stand.at stand.ports) ≡ None → Nearer run stand.at.point (after run stand.at stand.ports).point
 next_is_nearer run stand are words within none =
     let h = agreed run stand.at stand.ports in
     let open_budget : ((h == 0) && (stand.at.point.n == run.zero_budget)) ≡ false = when_none _ _ (none_at (ends_at run stand.at stand.ports) 6 (zero_end run stand.at stand.ports) none refl) in

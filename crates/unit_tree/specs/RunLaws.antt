@@ -1,5 +1,5 @@
 -- Laws of runs.
-use Rattle.std.specs.Prelude.{⊤, ◌≡◌, ◌↔◌, ℕ, ◌≤◌, ◌-◌, true, false, ℤ, List, [], ◌∷◌, length, is_some, Some, None, Ok}
+use Rattle.std.specs.Prelude.{⊤, ◌≡◌, ◌↔◌, ℕ, ◌<◌, ◌≤◌, ◌-◌, true, false, ℤ, List, [], ◌∷◌, length, is_some, Some, None, Ok}
 use Rattle.std.specs.List.{AllByRecursion, list_all}
 use Rattle.fixed_words.specs.Types.{is_word_of}
 use Rattle.super_time.specs.LocalTime.{local_step}
@@ -12,7 +12,7 @@ use Rattle.unit_tree.specs.Plain.{plain_form}
 use Rattle.unit_tree.specs.Ports.{Ports, IsAmong, IsAssignment, IsPlaceOrder, port_fault}
 use Rattle.unit_tree.specs.Printable.{IsRanged}
 use Rattle.unit_tree.specs.Successor.{Position, goes, ends, first_position, after, agreed, proposed, is_redone, stop_end, row_end, max_end, trial_end, redo_end, redo_end_by, zero_end, successor}
-use Rattle.unit_tree.specs.Trace.{Stand, IsGoing, IsTrace, AreWordsOf, HasWords}
+use Rattle.unit_tree.specs.Trace.{Stand, Goes, IsGoing, IsTrace, AreWordsOf, HasWords}
 use Rattle.unit_tree.specs.WellFormed.{IsWellFormed, uses_other_input}
 use Rattle.unit_tree.specs.declared.ending.Ending.{Ending}
 use Rattle.unit_tree.specs.declared.system.System.{System}
@@ -104,6 +104,29 @@ pub record PositionsKeepWords (run : Composition) : Type 0 where
 abbrev pub RunsKeepWords : Type 0
 RunsKeepWords = (run : Composition) → AreMembers run → PositionsKeepWords run
 
+-- A position is within the stop, the zero budget and the row budget of the run.
+pub record IsInBounds (run : Composition) (at : Position) : Type 0 where
+  pub stop : at.point.t ≤ run.stop
+  pub zeros : at.point.n ≤ run.zero_budget
+  pub rows : at.number < run.row_budget
+
+-- A step that a run makes leads to the position after the agreed step, and keeps words, and these bounds with them.
+pub record IsRightStep (run : Composition) (one next : Stand) : Type 0 where
+  pub agreed : next.at ≡ after run one.at one.ports
+  pub words : HasWords run one.at → HasWords run next.at
+  pub bounds : HasWords run one.at → IsInBounds run one.at → IsInBounds run next.at
+
+abbrev pub StepsOfRunsAreRight : Type 0
+StepsOfRunsAreRight = (run : Composition) (one next : Stand) → AreMembers run → Goes run one next → IsRightStep run one next
+
+-- Each stand of a trace has its words, and where there may be a row it is within the bounds.
+pub record HasRightStands (run : Composition) (stands : List Stand) : Type 0 where
+  pub words : AllByRecursion (λ stand. HasWords run stand.at) stands
+  pub bounds : 1 ≤ run.row_budget → AllByRecursion (λ stand. IsInBounds run stand.at) stands
+
+abbrev pub StandsOfTracesAreRight : Type 0
+StandsOfTracesAreRight = (run : Composition) (stands : List Stand) (ending : Ending) → AreMembers run → IsTrace run stands ending → HasRightStands run stands
+
 -- The agreed step is at most the proposal.
 abbrev pub AgreedStepsAreAtMost : Type 0
 AgreedStepsAreAtMost = (run : Composition) (at : Position) (ports : Ports) → AreMembers run → HasWords run at → agreed run at ports ≤ proposed run at ports
@@ -147,10 +170,11 @@ OrderedRunsHaveOneTrace = (run : Composition) (order : List ℕ) → AreMembers 
 abbrev pub PlainFormsHaveNoEvents : Type 0
 PlainFormsHaveNoEvents = (system : System) → IsRanged system → HasNoEvents (plain_form system)
 
--- Where a system that is well-formed has an order of its outputs, its composition has one of its places.
+-- A system that is well-formed has no cycle exactly where its composition has an order of its places. It is told of
+-- systems without event ports.
 abbrev pub SystemsHavePlaceOrders : Type 0
 SystemsHavePlaceOrders =
-    (system : System) → HasNoEvents system → IsWellFormed system → HasNoCycle system → (order : List ℕ) × IsPlaceOrder (composition_of system) order
+    (system : System) → HasNoEvents system → IsWellFormed system → HasNoCycle system ↔ ((order : List ℕ) × IsPlaceOrder (composition_of system) order)
 
 -- A system without event ports that is well-formed and has no cycle has exactly one trace.
 abbrev pub SystemsHaveOneTrace : Type 0

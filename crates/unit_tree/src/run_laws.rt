@@ -1,5 +1,5 @@
 //! Laws of the definitions of a run.
-ghost use Rattle.unit_tree.specs.RunLaws.{AssignmentsAreUnique, UndefinedOutputsFault, OutputsLookAtNeeds, OutputsAreWords, ProposalsAreGreatest, RepliesAreAtMost, AgreedStepsAreLeast, AgreedStepsAreAtMost, StepsKeepWords, SystemsHaveMembers, RunsKeepWords, FirstEndsAreJudgedInOrder, EndsAreJudgedInOrder, OrderedRunsHaveOneTrace, PlainFormsHaveNoEvents, SystemsHavePlaceOrders, SystemsHaveOneTrace, RunsHavePlaceOrders, RunsHaveOneTrace};
+ghost use Rattle.unit_tree.specs.RunLaws.{AssignmentsAreUnique, UndefinedOutputsFault, OutputsLookAtNeeds, OutputsAreWords, ProposalsAreGreatest, RepliesAreAtMost, AgreedStepsAreLeast, AgreedStepsAreAtMost, StepsKeepWords, SystemsHaveMembers, RunsKeepWords, StepsOfRunsAreRight, StandsOfTracesAreRight, FirstEndsAreJudgedInOrder, EndsAreJudgedInOrder, OrderedRunsHaveOneTrace, PlainFormsHaveNoEvents, SystemsHavePlaceOrders, SystemsHaveOneTrace, RunsHavePlaceOrders, RunsHaveOneTrace};
 
 /// A law: where the outputs have an order, there is exactly one port assignment.
 pub fn assignments_are_unique()
@@ -31,10 +31,14 @@ pub fn steps_keep_words()
     ensures { StepsKeepWords }
 {}
 
-/// A law: a run keeps one state for each member, with words of their types.
+/// A law: a run keeps one state for each member, with words of their types. Each step that it makes leads to the
+/// position after the agreed step, and stays within the stop and the two budgets; so every stand of its trace has its
+/// words and, where there may be a row, is within them.
 pub fn runs_keep_words()
     ensures members { SystemsHaveMembers }
     ensures words { RunsKeepWords }
+    ensures steps { StepsOfRunsAreRight }
+    ensures traces { StandsOfTracesAreRight }
 {}
 
 /// A law: a run ends by a port fault, or else at its stop, with its last row, or by a fault of a `max`; where it does
@@ -50,9 +54,9 @@ pub fn ordered_runs_have_one_trace()
     ensures { OrderedRunsHaveOneTrace }
 {}
 
-/// A law: a system without event ports that is well-formed and without a cycle has an order of its places, and exactly
-/// one trace. So has what is run of a system in range that is well-formed and without a cycle, in either version: its
-/// plain form, which has no event ports.
+/// A law: a system without event ports that is well-formed has no cycle exactly where it has an order of its places, and
+/// then it has exactly one trace. What is run of a system in range that is well-formed and without a cycle, in either
+/// version, has both too: its plain form, which has no event ports.
 pub fn systems_have_one_trace()
     ensures order { SystemsHavePlaceOrders }
     ensures trace { SystemsHaveOneTrace }

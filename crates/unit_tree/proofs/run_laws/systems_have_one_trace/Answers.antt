@@ -1,22 +1,22 @@
 use Rattle.std.proofs.Common.{◌≡◌, ◌⊎◌, ℕ, ◌==◌, inl, inr, cond, List, sym, subst}
-use Rattle.unit_tree.specs.Compositions.{HasNoEvents, composition_of, run_of}
-use Rattle.unit_tree.specs.Orders.{HasNoCycle}
+use Rattle.unit_tree.specs.Compositions.{composition_of, run_of}
 use Rattle.unit_tree.specs.Plain.{plain_form}
 use Rattle.unit_tree.specs.Ports.{IsPlaceOrder}
-use Rattle.unit_tree.specs.Printable.{IsRanged}
-use Rattle.unit_tree.specs.RunLaws.{RunsHavePlaceOrders, HasOneTrace}
-use Rattle.unit_tree.specs.WellFormed.{IsWellFormed}
+use Rattle.unit_tree.specs.RunLaws.{RunsHavePlaceOrders}
 use Rattle.unit_tree.specs.declared.system.System.{System}
 use Rattle.unit_tree.proofs.EventLaws.{one_or_two, version_1_without_events, plain_form_1, plain_of_without_events, plain_form_without_events}
-use Rattle.unit_tree.proofs.NameLaws.{names_differ}
-use Rattle.unit_tree.proofs.PlaceOrders.{system_is_ordered}
+use Rattle.unit_tree.proofs.NameLaws.{names_differ, is_wired}
+use Rattle.unit_tree.proofs.PlaceOrders.{system_is_ordered, has_no_cycle}
 use Rattle.unit_tree.proofs.PlainOrders.{plain_of, plain_names_differ, plain_has_no_cycle}
 use Rattle.unit_tree.proofs.PositionLaws.{system_has_members}
 use Rattle.unit_tree.proofs.RunTraces.{one_trace}
 use Rattle.unit_tree.proofs.run_laws.systems_have_one_trace.Goals as goal
 
 pub returns-clause-order : goal.returns-clause-order
-returns-clause-order c = λ system plain kept no_cycle. system_is_ordered system plain (names_differ system kept) no_cycle
+returns-clause-order c = λ system plain kept. (
+  system_is_ordered system plain (names_differ system kept),
+  has_no_cycle system plain (names_differ system kept) (is_wired system kept),
+)
 
 pub returns-clause-trace : goal.returns-clause-trace
 returns-clause-trace c = λ system plain kept no_cycle.

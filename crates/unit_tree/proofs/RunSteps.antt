@@ -1,0 +1,60 @@
+-- Each step that a run makes, and each stand of its trace, is right.
+use Rattle.std.proofs.Common.{◌≡◌, ℕ, suc, ◌<◌, ◌≤◌, ◌==◌, false, List, [], ◌∷◌, Option, Some, None, refl, sym, subst, arith}
+use Rattle.std.proofs.lemmas.Bool.Decides.{nat_tests}
+use Rattle.std.specs.List.{AllByRecursion}
+use Rattle.unit_tree.specs.Compositions.{Composition, AreMembers}
+use Rattle.unit_tree.specs.Ports.{first_some}
+use Rattle.unit_tree.specs.RunLaws.{IsInBounds, IsRightStep, HasRightStands}
+use Rattle.unit_tree.specs.Successor.{Position, first_position, after, goes, ends_at, ends_or, row_end}
+use Rattle.unit_tree.specs.Trace.{Stand, Goes, Follows, IsTrace, HasWords}
+use Rattle.unit_tree.specs.declared.ending.Ending.{Ending}
+use Rattle.unit_tree.proofs.AssignmentLaws.{none_at}
+use Rattle.unit_tree.proofs.PositionLaws.{positions_keep}
+use Rattle.unit_tree.proofs.RunTraces.{when_none, next_is_nearer, goes_to, goes_keeps}
+
+-- ---- A step
+
+none_by : (end : Option Ending) (position next : Position) → ends_or end position ≡ goes next → end ≡ None
+none_by None position next is = refl
+none_by (Some ending) position next is = absurd (cc)
+
+next_row : (number budget : ℕ) → number < budget → (suc number == budget) ≡ false → suc number < budget
+next_row number budget within not_last = grind (arith, nat_tests)
+
+goes_within : (run : Composition) (one next : Stand) → AreMembers run → Goes run one next → HasWords run one.at → IsInBounds run one.at → IsInBounds run next.at
+goes_within run one next are on words within =
+    let none : first_some (ends_at run one.at one.ports) ≡ None = none_by (first_some (ends_at run one.at one.ports)) (after run one.at one.ports) next.at on.0 in
+    let nearer = next_is_nearer run one are words (record { stop = within.stop; zeros = within.zeros }) none in
+    let not_last : (suc one.at.number == run.row_budget) ≡ false = when_none _ _ (none_at (ends_at run one.at one.ports) 2 (row_end run one.at) none refl) in
+    subst (IsInBounds run) (goes_to run one next on)
+    (record { stop = nearer.stop; zeros = nearer.zeros; rows = next_row one.at.number run.row_budget within.rows not_last })
+
+pub step_is_right : (run : Composition) (one next : Stand) → AreMembers run → Goes run one next → IsRightStep run one next
+step_is_right run one next are on = record {
+  agreed = sym (goes_to run one next on);
+  words = λ words. goes_keeps run one next are words on;
+  bounds = goes_within run one next are on;
+}
+
+-- ---- A trace
+
+words_along : (run : Composition) (stand : Stand) (others : List Stand) (ending : Ending) → AreMembers run → HasWords run stand.at → Follows run stand others ending → AllByRecursion (λ (each : Stand). HasWords run each.at) (stand ∷ others)
+words_along run stand [] ending are words follow = (words, tt)
+words_along run stand (next ∷ others) ending are words follow = (words, words_along run next others ending are (goes_keeps run stand next are words follow.0) follow.1)
+
+bounds_along : (run : Composition) (stand : Stand) (others : List Stand) (ending : Ending) → AreMembers run → HasWords run stand.at → IsInBounds run stand.at → Follows run stand others ending → AllByRecursion (λ (each : Stand). IsInBounds run each.at) (stand ∷ others)
+bounds_along run stand [] ending are words within follow = (within, tt)
+bounds_along run stand (next ∷ others) ending are words within follow =
+    (within, bounds_along run next others ending are (goes_keeps run stand next are words follow.0) (goes_within run stand next are follow.0 words within) follow.1)
+
+first_within : (run : Composition) → 1 ≤ run.row_budget → IsInBounds run (first_position run)
+first_within run rows = record { stop = omega arith; zeros = omega arith; rows = omega (arith, rows) }
+
+pub stands_are_right : (run : Composition) (stands : List Stand) (ending : Ending) → AreMembers run → IsTrace run stands ending → HasRightStands run stands
+stands_are_right run [] ending are is = absurd is
+stands_are_right run (first ∷ others) ending are is =
+    let words : HasWords run first.at = subst (HasWords run) (sym is.0) (positions_keep run are).first in
+    record {
+      words = words_along run first others ending are words is.2;
+      bounds = λ rows. bounds_along run first others ending are words (subst (IsInBounds run) (sym is.0) (first_within run rows)) is.2;
+    }
