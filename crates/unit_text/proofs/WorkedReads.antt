@@ -1,5 +1,5 @@
 -- Worked texts say their systems.
-use Rattle.std.proofs.Common.{◌≡◌, ◌≤◌, ℕ, List, [], ◌∷◌, ◌++◌, map, length, refl, sym, subst, Bool, false, true, arith, None}
+use Rattle.std.proofs.Common.{◌≡◌, ◌≤◌, ℕ, List, [], ◌∷◌, map, length, refl, sym, subst, Bool, false, true, arith, None}
 use Rattle.std.specs.Prelude.{codes, pos, neg_ℤ, IsTrue, nat_le, not, ◌||◌}
 use Rattle.std.specs.Fmt.{digits}
 use Rattle.std.specs.List.{AllByRecursion, AllZip, list_all, list_any, filter}

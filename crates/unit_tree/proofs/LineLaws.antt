@@ -1,5 +1,5 @@
 -- Each output of a well-formed system has its canonical line.
-use Rattle.std.proofs.Common.{◌≡◌, ℕ, suc, ◌+◌, Bool, true, false, cond, List, [], ◌∷◌, ◌++◌, append_assoc, map, Option, Some, None, ◌⊎◌, inl, inr, refl, ap, sym, subst, ◌∙◌}
+use Rattle.std.proofs.Common.{◌≡◌, ℕ, ◌+◌, Bool, true, false, cond, List, [], ◌∷◌, ◌++◌, append_assoc, map, Option, Some, None, ◌⊎◌, inl, inr, refl, ap, sym, subst, ◌∙◌}
 use Rattle.std.specs.Prelude.{◌&&◌, ◌||◌}
 use Rattle.std.specs.List.{AllByRecursion, flat_map, filter_map, cons_option, list_any, find, enumerate_from}
 use Rattle.std.specs.Option.{option_map, option_and_then}
@@ -12,14 +12,12 @@ use Rattle.unit_tree.specs.Orders.{IsIn, port_of, outputs_in, outputs_of, declar
 use Rattle.unit_tree.specs.Parts as parts
 use Rattle.unit_tree.specs.Parts.{Part, UnitPart, unit_part_forms, unit_of}
 use Rattle.unit_tree.specs.Sites.{Scope, TopScope, UnitScope, Site, Headed, alone, sites, headed_unit_part, headed_part, sites_of}
-use Rattle.unit_tree.specs.WellFormed.{Rule, IsWellFormed, number_where, lines_breaking, rule, redeclares, instance_declared, unit_declared, name_declared, says_again, is_said}
+use Rattle.unit_tree.specs.WellFormed.{IsWellFormed, number_where, redeclares, instance_declared, unit_declared, name_declared, says_again}
 use Rattle.unit_tree.specs.declared.line_form.LineForm.{LineForm}
 use Rattle.unit_tree.specs.declared.line_form.LineForm.TheVariants as form
 use Rattle.unit_tree.specs.declared.system.Instance.{Instance}
 use Rattle.unit_tree.specs.declared.system.PortName.{PortName}
 use Rattle.unit_tree.specs.declared.system.System.{System}
-use Rattle.unit_tree.specs.declared.unit.EventOut.{EventOut}
-use Rattle.unit_tree.specs.declared.unit.Output.{Output}
 use Rattle.unit_tree.specs.declared.unit.Unit.{Unit}
 use Rattle.unit_tree.proofs.BlockLaws.{heads, site_at, headed_of, in_unit, unit_part, parts_behind, each_front, each_append, one_more, each_headed, canonical_are}
 use Rattle.unit_tree.proofs.PartLaws.{grouped_ten, unit_is}

@@ -1,12 +1,12 @@
 -- The lines of a text, put into canonical order, are the canonical lines of what it says.
-use Rattle.std.proofs.Common.{◌≡◌, ℕ, zero, suc, ◌+◌, ◌≤◌, Bool, true, false, cond, List, [], ◌∷◌, ◌++◌, append_assoc, map, length, take, drop, Option, Some, None, refl, ap, sym, subst, ◌∙◌, arith}
+use Rattle.std.proofs.Common.{◌≡◌, ℕ, ◌≤◌, Bool, true, false, cond, List, [], ◌∷◌, ◌++◌, append_assoc, map, length, drop, Option, Some, None, refl, ap, sym, subst, ◌∙◌, arith}
 use Rattle.std.specs.Prelude.{IsTrue, ⊤, ◌==◌, not, ◌&&◌, ◌||◌}
-use Rattle.std.specs.List.{flat_map, filter, list_all, list_any, fold}
+use Rattle.std.specs.List.{flat_map, filter, list_all, list_any}
 use Rattle.std.proofs.lemmas.Bool.{and_parts}
-use Rattle.std.proofs.lemmas.List.{append-nil, length-append, take_at}
+use Rattle.std.proofs.lemmas.List.{append-nil}
 use Rattle.std.proofs.Math.Seq.{drop-append_seam, take-append_seam}
 use Rattle.fixed_words.specs.declared.types.Literal.TheVariants as literal
-use Rattle.unit_tree.specs.Blocks.{Before, no_lines, and_line, and_lines, behind, opens_unit, rivals, has_rival, has_room, holds_form, may_stand, are_placed}
+use Rattle.unit_tree.specs.Blocks.{Before, no_lines, and_line, and_lines, opens_unit, has_rival, has_room, holds_form, may_stand, are_placed}
 use Rattle.unit_tree.specs.Canonical.{optional, unit_parts, canonical_parts, canonical_forms}
 use Rattle.unit_tree.specs.LineForms.{are_alike}
 use Rattle.unit_tree.specs.Parts as parts
@@ -16,7 +16,6 @@ use Rattle.unit_tree.specs.SourceLines.{unit_part_rank, part_rank, of_rank, by_r
 use Rattle.unit_tree.specs.declared.expr.Expr as expr
 use Rattle.unit_tree.specs.declared.line_form.LineForm.{LineForm}
 use Rattle.unit_tree.specs.declared.line_form.LineForm.TheVariants as form
-use Rattle.unit_tree.specs.declared.system.System.{System}
 use Rattle.unit_tree.specs.declared.unit.Unit.{Unit}
 use Rattle.unit_tree.proofs.BlockLaws.{all_step_lines}
 use Rattle.unit_tree.proofs.PartLaws.{grouped, grouped_ten}

@@ -11,7 +11,7 @@ use Rattle.unit_tree.specs.LineForms.{is_of_version_2}
 use Rattle.unit_tree.specs.Names.{kinds_in, node_depth, depth_of}
 use Rattle.unit_tree.specs.Parts.{unit_of, system_of}
 use Rattle.unit_tree.specs.Plain.{plain_expression, plain_line, plain_unit, plain_form, presence_of, word_expression_of, zero_of, with_choices}
-use Rattle.unit_tree.specs.WorkedEvents.{e, is_odd, tenfold, odd_else, pulse_unit, tally_unit, pulse_and_tally, plain_pulse, plain_tally, plain_pulse_and_tally, if_present, if_occurs, mixed_unit, plain_mixed_unit, plain_mixed, with_e, is_mistaken, gaps, is_deep_event}
+use Rattle.unit_tree.specs.WorkedEvents.{e, tenfold, odd_else, pulse_unit, tally_unit, pulse_and_tally, plain_pulse, plain_tally, plain_pulse_and_tally, if_present, if_occurs, mixed_unit, plain_mixed_unit, plain_mixed, with_e, is_mistaken, gaps, is_deep_event}
 use Rattle.unit_tree.specs.WorkedSystems.{n, one, sum, set, run_of, output_y}
 use Rattle.unit_tree.specs.declared.expr.Expr as expr
 use Rattle.unit_tree.specs.declared.expr.Expr.{Expr, the_lemmas as expr_lemmas}
