@@ -6,7 +6,7 @@ use fixed_words::Ty;
 
 /// An instruction of the stack machine. It takes its operands from the stack of words, the last one
 /// from the top.
-#[derive(Clone, Copy, Debug)]
+#[derive(Clone, Copy, Debug, PartialEq, Eq)]
 pub enum Instruction {
     /// Pushes the word.
     Push(i64),

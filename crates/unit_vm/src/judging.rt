@@ -72,9 +72,8 @@ fn judge_part(
     if !are_allowed(sizes, role, code) {
         return Ok(None);
     }
-    let table = match loop_table(alloc, code)? {
-        Some(table) => table,
-        None => return Ok(None),
+    let Some(table) = loop_table(alloc, code)? else {
+        return Ok(None);
     };
     if !jumps_stay(code, &table) {
         return Ok(None);

@@ -7,7 +7,7 @@ use crate::instruction::Instruction;
 use fixed_words::List;
 
 /// How many slots of each kind a frame has, in this order. Two more hold the local time and the step.
-#[derive(Clone, Copy, Debug)]
+#[derive(Clone, Copy, Debug, PartialEq, Eq)]
 pub struct Sizes {
     pub states: u32,
     pub inputs: u32,
@@ -23,7 +23,7 @@ pub enum Role {
 }
 
 /// A run's entry into the code: an output by its number, the greatest step, or the step.
-#[derive(Clone, Copy, Debug)]
+#[derive(Clone, Copy, Debug, PartialEq, Eq)]
 pub enum Entry {
     Output(u32),
     Limit,
@@ -41,7 +41,7 @@ pub struct Program {
 }
 
 /// What a frame must have room for, and how long a run may be.
-#[derive(Clone, Copy, Debug)]
+#[derive(Clone, Copy, Debug, PartialEq, Eq)]
 pub struct CodeFacts {
     /// The greatest height of the stack of words.
     pub stack: u32,

@@ -187,7 +187,8 @@ fn limit_in(alloc: Global, words: &[i64]) -> Result<Option<List<Instruction>>, N
     Ok(Some(code))
 }
 
-/// The program that words are read as, valid or not.
+/// The program that words are read as: any words are read as some program, and which words are refused
+/// comes from what this program is written as, and from whether it is valid.
 pub(crate) fn program_in(alloc: Global, words: &[i64]) -> Result<Program, NoMemory>
     ensures { IfOk result (λ program. program ≡ program_in words.now) }
 {

@@ -14,4 +14,8 @@ returns c = record {
   cost = refl;
   around = refl;
   words = refl;
+  local_begins_as_0 = refl;
+  limit_below_0 = refl;
+  output_out_of_type = refl;
+  result_kept = λ facts done. refl;
 }
