@@ -99,6 +99,55 @@ fn steps_leave_what_they_should(rt: HostRuntime) -> Result<(), Fail> {
     Ok(())
 }
 
+/// The words of code with a state, an input and a local: one output is the local, one the input as a `UInt8`, and so is
+/// the limit the input; the step puts 9 into the state by the local.
+fn unit_words(alloc: Global) -> Result<List<i64>, NoMemory> {
+    List::from_slice(
+        alloc,
+        &[
+            2, 1, 1, 1, 1, 9, 13, 17, 21, 1, 2, 31, 6, 1, 1, 31, 1, 1, 1, 32, 0, 0, 9, 2, 70, 1, 2,
+            2, 6, 33, 0,
+        ],
+    )
+}
+
+/// What the entry gives for an input, and then what the result is behind a step: the local holds 5 before each run.
+fn gives(alloc: Global, entry: Entry, input: i64) -> Result<Result<(i64, i64), Fault>, Fail> {
+    let code = Code::new(alloc, unit_words(alloc)?)?.ok_or("no valid code")?;
+    if code.program().part(entry).is_none() {
+        return Err("no such entry".into());
+    }
+    let mut frame = Frame::new(alloc, code.facts())?;
+    let slots = frame.slots();
+    if slots.len() == 5 {
+        slots[1] = input;
+        slots[2] = 5;
+    }
+    if let Err(fault) = run(&code, entry, &mut frame) {
+        return Ok(Err(fault));
+    }
+    let result = frame.result();
+    if run(&code, Entry::Step, &mut frame).is_err() {
+        return Err("the step faults".into());
+    }
+    Ok(Ok((result, frame.result())))
+}
+
+#[test]
+fn each_entry_gives_its_result(rt: HostRuntime) -> Result<(), Fail> {
+    let table = [
+        (Entry::Output(0), 44, Ok((0, 0))),
+        (Entry::Output(1), 44, Ok((44, 44))),
+        (Entry::Output(1), 256, Err(Fault::Range)),
+        (Entry::Limit, 44, Ok((44, 44))),
+        (Entry::Limit, -1, Err(Fault::Max)),
+    ];
+    for (entry, input, wanted) in table {
+        assert_eq!(rt; gives(rt.alloc(), entry, input)?, wanted);
+    }
+    Ok(())
+}
+
 #[test]
 fn thirty_nested_clamps_need_61_words(rt: HostRuntime) -> Result<(), Fail> {
     let mut step = List::new(rt.alloc());

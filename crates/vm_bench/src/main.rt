@@ -38,7 +38,10 @@ fn main(rt: HostRuntime) -> io::Result<()> {
     let mut told = None;
     for (position, word) in env::args(&rt)?.enumerate() {
         if position == 1 {
-            told = word.parse().ok();
+            match word.parse() {
+                Ok(rounds) => told = Some(rounds),
+                Err(_) => return println!(rt; "{word} is not a number of steps"),
+            }
         }
     }
     let rounds: u64 = told.unwrap_or(10);
