@@ -167,14 +167,14 @@ pub(crate) fn output(text: &mut Vec<u8>, line: &Output) -> Result<(), NoMemory>
 
 /// `event output y : T needs u, v = e`
 #[tactic(auto, using(crate::proofs::Growth::tokens_append))]
-pub(crate) fn event_output(text: &mut Vec<u8>, line: &EventOut) -> Result<(), NoMemory>
-    ensures { OnOk result (text.new.items ≡ with_lines text.old.items (form.EventOutput line.now ∷ [])) }
+pub(crate) fn event_output(text: &mut Vec<u8>, event: &EventOut) -> Result<(), NoMemory>
+    ensures { OnOk result (text.new.items ≡ with_lines text.old.items (form.EventOutput event.now ∷ [])) }
 {
     keyword(text, Keyword::Event)?;
-    declared(text, Keyword::Output, &line.name, line.ty)?;
-    needed(text, line.needs.as_slice())?;
+    declared(text, Keyword::Output, &event.name, event.ty)?;
+    needed(text, event.needs.as_slice())?;
     symbol(text, Symbol::Is)?;
-    expression(text, &line.value)?;
+    expression(text, &event.value)?;
     end_line(text)
 }
 
