@@ -10,6 +10,8 @@ mod levels;
 mod lines;
 mod printing;
 mod steps;
+#[cfg(test)]
+mod tests;
 mod tokens;
 mod words;
 
