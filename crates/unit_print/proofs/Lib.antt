@@ -1,0 +1,3 @@
+pub mod Growth
+pub mod Blocks
+pub mod Nodes

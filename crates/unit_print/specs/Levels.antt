@@ -1,0 +1,25 @@
+-- Levels of the grammar, and which operations are calls.
+use Rattle.std.specs.Prelude.{Bool, true, false}
+use Rattle.unit_tree.specs.Phrases as phrases
+use Rattle.unit_tree.specs.declared.expr.BinOp.{BinOp}
+use Rattle.unit_tree.specs.declared.expr.BinOp.TheVariants as by
+use Rattle.unit_print.specs.declared.levels.Level.{Level}
+use Rattle.unit_print.specs.declared.levels.Level.TheVariants as level
+
+-- The level of the grammar that a level of the printer is.
+abbrev pub grammar_level : Level → phrases.Level
+grammar_level level.Whole = phrases.Whole
+grammar_level level.Or = phrases.Or
+grammar_level level.And = phrases.And
+grammar_level level.Not = phrases.Not
+grammar_level level.Comparison = phrases.Comparison
+grammar_level level.Sum = phrases.Sum
+grammar_level level.Product = phrases.Product
+grammar_level level.Negation = phrases.Negation
+grammar_level level.Primary = phrases.Primary
+
+-- Whether an operation on two operands is written as a call.
+abbrev pub is_call : BinOp → Bool
+is_call by.Min = true
+is_call by.Max = true
+is_call _ = false
