@@ -3,8 +3,8 @@ use Rattle.std.proofs.Common.{◌≡◌, ℕ, ◌<◌, ◌⊎◌, List, Option, 
 use Rattle.std.specs.Prelude.{IfSome}
 use Rattle.std.specs.Io.KnownBytes.{Appends, IsAtEnd}
 use Rattle.std.proofs.KnownBytes.{Appends-nil}
-use Rattle.unit_text.specs.Reading.{text_limit}
-use Rattle.unit_text.proofs.AnswerLemmas.{says_one, not_both, refused_once}
+use Rattle.first_form.specs.Reading.{text_limit}
+use Rattle.first_form.proofs.AnswerLemmas.{says_one, not_both, refused_once}
 use Rattle.cosim_io.specs.Faults.{Rose}
 use Rattle.cosim_io.specs.Pieces.{AppendsPrefix}
 use Rattle.cosim_io.proofs.PieceLemmas.{AppendsPrefix-nil, AppendsPrefix-whole}

@@ -17,15 +17,15 @@ use Rattle.unit_tree.specs.declared.expr.Expr.{Expr, the_lemmas as expr_lemmas}
 use Rattle.unit_tree.specs.declared.system.System.{System}
 use Rattle.unit_tree.specs.declared.unit.State.{State}
 use Rattle.unit_tree.proofs.FoldLemmas.{fold-Binary, fold-Assign}
-use Rattle.unit_text.specs.FirstForm.{expression_of, line_of, state_of, unit_of, system_of, optional_literal, forms_of, longest_line, IsInRange}
-use Rattle.unit_text.specs.Reading.{HaveForms, IsAccepted}
-use Rattle.unit_text.specs.declared.form.Assignment.{Assignment}
-use Rattle.unit_text.specs.declared.form.Declared.{Declared}
-use Rattle.unit_text.specs.declared.form.FirstFormLine.{FirstFormLine}
-use Rattle.unit_text.specs.declared.form.FirstFormLine.TheVariants as form
-use Rattle.unit_text.specs.declared.form.Operand.{Operand}
-use Rattle.unit_text.specs.declared.form.Operand.TheVariants as operand
-use Rattle.unit_text.specs.declared.form.Source.{Source}
+use Rattle.first_form.specs.FirstForm.{expression_of, line_of, state_of, unit_of, system_of, optional_literal, forms_of, longest_line, IsInRange}
+use Rattle.first_form.specs.Reading.{HaveForms, IsAccepted}
+use Rattle.first_form.specs.declared.form.Assignment.{Assignment}
+use Rattle.first_form.specs.declared.form.Declared.{Declared}
+use Rattle.first_form.specs.declared.form.FirstFormLine.{FirstFormLine}
+use Rattle.first_form.specs.declared.form.FirstFormLine.TheVariants as form
+use Rattle.first_form.specs.declared.form.Operand.{Operand}
+use Rattle.first_form.specs.declared.form.Operand.TheVariants as operand
+use Rattle.first_form.specs.declared.form.Source.{Source}
 use Rattle.cosim_app.specs.OneComponent.{IsPlain, AreDeclared}
 use Rattle.cosim_app.specs.Runnable.{whole, digits_or, IsRunnable}
 

@@ -3,10 +3,10 @@ use Rattle.std.proofs.Common.{◌≡◌, ℕ, ◌+◌, ◌<◌, List, length, le
 use Rattle.std.specs.Prelude.{IfSome}
 use Rattle.std.specs.Io.KnownBytes.{IsAtEnd}
 use Rattle.std.proofs.KnownBytes.{Appends-nil}
-use Rattle.unit_text.specs.Reading.{IsAccepted, IsRefused, IsAnswered, text_limit}
-use Rattle.unit_text.proofs.AnswerLemmas.{answered}
+use Rattle.first_form.specs.Reading.{IsAccepted, IsRefused, IsAnswered, text_limit}
+use Rattle.first_form.proofs.AnswerLemmas.{answered}
 use Rattle.unit_tokens.proofs.LineLemmas.{length_le_size_of}
-use Rattle.unit_text.proofs.ReadingLemmas.{refused_long}
+use Rattle.first_form.proofs.ReadingLemmas.{refused_long}
 use Rattle.unit_tree.specs.Lines.{size_of}
 use Rattle.unit_tree.specs.declared.ending.Ending.{Ending}
 use Rattle.unit_tree.specs.declared.ending.Ending.TheVariants.{Completed, RowBudget, ZeroBudget, UnitFault, StepRefused}

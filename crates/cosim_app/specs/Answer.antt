@@ -1,7 +1,7 @@
 -- Answer: what the program puts out and notes, and how it ends, for the words of a command line and the bytes
 -- of its input.
 use Rattle.std.specs.Prelude.{◌≡◌, ℕ, List, [], ◌∷◌, codes, ◌⊎◌}
-use Rattle.unit_text.specs.Reading.{IsAccepted, IsRefused}
+use Rattle.first_form.specs.Reading.{IsAccepted, IsRefused}
 use Rattle.unit_tree.specs.Compositions.{composition_of}
 use Rattle.unit_tree.specs.Trace.{Stand, IsTrace, last_point}
 use Rattle.unit_tree.specs.declared.ending.Ending.{Ending}

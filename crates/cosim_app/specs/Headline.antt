@@ -2,7 +2,7 @@
 -- the notes.
 use Rattle.std.specs.Prelude.{◌≡◌, ℕ, ◌<◌, List, Option, IfSome, ◌⊎◌}
 use Rattle.std.specs.Io.KnownBytes.{Appends, IsAtEnd}
-use Rattle.unit_text.specs.Reading.{IsAccepted, IsRefused, text_limit}
+use Rattle.first_form.specs.Reading.{IsAccepted, IsRefused, text_limit}
 use Rattle.unit_tree.specs.Lines.{size_of}
 use Rattle.unit_tree.specs.Compositions.{composition_of}
 use Rattle.unit_tree.specs.Trace.{Stand, IsTrace}

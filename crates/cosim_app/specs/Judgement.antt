@@ -1,7 +1,7 @@
 -- What a run has put and come to, before its note is told.
 use Rattle.std.specs.Prelude.{◌≡◌, ℕ, ◌<◌, List, Option, IfSome, ⊤, ◌⊎◌}
 use Rattle.std.specs.Io.KnownBytes.{Appends, IsAtEnd}
-use Rattle.unit_text.specs.Reading.{text_limit}
+use Rattle.first_form.specs.Reading.{text_limit}
 use Rattle.unit_tree.specs.Lines.{size_of}
 use Rattle.cosim_io.specs.Faults.{Rose}
 use Rattle.cosim_io.specs.Pieces.{AppendsPrefix}

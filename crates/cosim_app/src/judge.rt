@@ -1,6 +1,6 @@
 //! A run, from the text to its verdict.
 ghost use Rattle.std.specs.Prelude.{◌≡◌, List, ℕ};
-ghost use Rattle.unit_text.specs.Reading.{IsAccepted};
+ghost use Rattle.first_form.specs.Reading.{IsAccepted};
 ghost use Rattle.cosim_app.specs.Answer.{status_of};
 ghost use Rattle.cosim_app.specs.Judgement.{JudgesText, JudgesInput, Refuses};
 ghost use Rattle.cosim_app.specs.Runnable.{IsRunnable};
@@ -12,7 +12,7 @@ use crate::status::Status;
 use crate::verdict::Verdict;
 use cosim_io::{ReadEnd, Sink, Source, read_all};
 use std::alloc::Global;
-use unit_text::{LONGEST_TEXT, SIZE_RULE, TextFault, read_first_form};
+use first_form::{LONGEST_TEXT, SIZE_RULE, TextFault, read_first_form};
 use unit_tree::{Ending, System};
 
 /// The status of how a run ended.

@@ -1,5 +1,2 @@
-pub mod FirstForm
-pub mod Forms
-pub mod Nesting
-pub mod Reading
+pub mod Laws
 pub mod WorkedTexts

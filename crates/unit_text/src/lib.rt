@@ -1,32 +1,9 @@
-//! Reading of model texts: from bytes to the tree of a system, or the line and the rule by which the
-//! text is refused.
+//! Reading of model texts of the whole language: what its definitions in `unit_tree` promise to a reader.
 //!
-//! The layer above uses [`read_first_form`] and its [`TextFault`], the bound of a text's length
-//! ([`LONGEST_TEXT`], [`SIZE_RULE`]), and two laws of the definitions: [`answers_agree`] (a text has one
-//! answer at most) and [`every_text_is_answered`].
-//!
-//! Definitions: `specs/FirstForm.antt` (the lines of a text, and the system that it says),
-//! `specs/Reading.antt` (which texts are accepted, and where the others are refused). How the reader
-//! goes about it stands in `specs/Forms.antt` (the form of
-//! tokens) and `specs/Nesting.antt` (one line after the other).
-//!
-//! [`texts_are_worked`] is a law on the whole language, which no reader reads yet: texts of
-//! `specs/WorkedTexts.antt` are read and refused as its definitions in `unit_tree` say.
+//! `specs/Laws.antt` states the laws. [`texts_are_worked`] is one of worked texts, `specs/WorkedTexts.antt`: each is
+//! read or refused as the definitions say.
 #![tactic(auto)]
 
-mod draft;
-mod fault;
-mod form;
-mod line_form;
-mod reading;
-mod system;
-#[cfg(test)]
-mod tests;
 mod worked;
 
-pub use fault::TextFault;
-pub use form::{Assignment, Declared, FirstFormLine, Operand, Source, WholeNumber};
-pub use reading::{
-    LONGEST_TEXT, SIZE_RULE, answers_agree, every_text_is_answered, read_first_form,
-};
 pub use worked::texts_are_worked;

@@ -1,24 +1,20 @@
--- Laws of the language. Those of the first part are proved; those of the second say what a reader, a checker and a
--- printer of the language owe, and are not proved yet.
-use Rattle.std.specs.Prelude.{◌≡◌, ◌≤◌, ◌⊎◌, ◌↔◌, ℕ, List, [], ◌∷◌, ◌++◌, map, length, Some, None, IsTrue}
+-- Laws of the language. Those of the first part are proved; that of the second is owed by what orders the outputs, and
+-- is not proved yet. What a reader of texts owes stands with the reader.
+use Rattle.std.specs.Prelude.{◌≡◌, ◌⊎◌, ◌↔◌, ℕ, List, ◌∷◌, ◌++◌, map, length, Some, None, IsTrue}
 use Rattle.std.specs.List.{flat_map}
 use Rattle.std.specs.List.Sorted.{IsPermutation}
-use Rattle.unit_tree.specs.Blocks.{no_lines, open_blocks, are_placed}
-use Rattle.unit_tree.specs.Canonical.{canonical_parts, canonical_forms, canonical_phrase, canonical_text, line_text}
-use Rattle.unit_tree.specs.LineForms.{HasForm}
-use Rattle.unit_tree.specs.Lines.{source_lines}
+use Rattle.unit_tree.specs.Blocks.{no_lines, are_placed}
+use Rattle.unit_tree.specs.Canonical.{canonical_parts, canonical_forms, canonical_phrase}
 use Rattle.unit_tree.specs.Orders.{IsIn, DependsOn, HasNoOrder, HasNoCycle, IsFirstWithoutOrder, outputs_of, line_of_output}
 use Rattle.unit_tree.specs.Parts.{Part, text_forms, system_of}
 use Rattle.unit_tree.specs.Phrases.{Whole, stands, tree_of}
 use Rattle.unit_tree.specs.Plain.{plain_form, plain_forms}
-use Rattle.unit_tree.specs.Printable.{IsPrintable, is_unsigned}
+use Rattle.unit_tree.specs.Printable.{is_unsigned}
 use Rattle.unit_tree.specs.Sites.{Site, StandsBehind, sites_of}
 use Rattle.unit_tree.specs.SourceLines.{in_canonical_order}
-use Rattle.unit_tree.specs.Texts.{HaveForms, Reads, IsRefused}
+use Rattle.unit_tree.specs.Texts.{IsRefused}
 use Rattle.unit_tree.specs.WellFormed.{Refusal, IsWellFormed, IsRefusal, refusal_of, rules}
 use Rattle.unit_tree.specs.declared.expr.Expr.{Expr}
-use Rattle.unit_tree.specs.declared.line_form.LineForm.{LineForm}
-use Rattle.unit_tree.specs.declared.line_form.LineForm.TheVariants as form
 use Rattle.unit_tree.specs.declared.system.PortName.{PortName}
 use Rattle.unit_tree.specs.declared.system.System.{System}
 
@@ -78,50 +74,6 @@ IsRefusedOnce =
     (text : List ℕ) (line by other rule : ℕ) → IsRefused text line by → IsRefused text other rule → (line ≡ other) × (by ≡ rule)
 
 -- ---- Owed
-
--- A line has one form at most.
-abbrev pub HasOneForm : Type 0
-HasOneForm = (line : List ℕ) (one other : LineForm) → HasForm one line → HasForm other line → one ≡ other
-
--- A text is written with one version and one list of parts at most, and so says one system at most.
-abbrev pub HasOneReading : List ℕ → Type 0
-HasOneReading text =
-    (version by : ℕ) (one other : List Part) → HaveForms (source_lines text) (text_forms version one) (source_lines text) → HaveForms (source_lines text) (text_forms by other) (source_lines text) → (version ≡ by) × (one ≡ other)
-
-abbrev pub SaysOneSystem : List ℕ → Type 0
-SaysOneSystem text = (one other : System) → Reads text one → Reads text other → one ≡ other
-
--- The text says a system, or it is refused.
-abbrev pub IsAnswered : List ℕ → Type 0
-IsAnswered text = ((system : System) × Reads text system) ⊎ ((line : ℕ) × (rule : ℕ) × IsRefused text line rule)
-
--- Each text says one system, or is refused at one line by one rule, and not both.
-pub record IsAnsweredOnce (text : List ℕ) : Type 0 where
-  pub answered : IsAnswered text
-  pub one_reading : HasOneReading text
-  pub one_system : SaysOneSystem text
-  pub not_both : (system : System) (line rule : ℕ) → Reads text system → IsRefused text line rule → ⊥
-
-abbrev pub EveryTextIsAnsweredOnce : Type 0
-EveryTextIsAnsweredOnce = (text : List ℕ) → IsAnsweredOnce text
-
--- Lines nest exactly where they are those of parts: the header and lines that may stand behind it, with no block
--- open at the end, are the lines of some parts.
-abbrev pub NestingIsByParts : Type 0
-NestingIsByParts =
-    (version : ℕ) (forms : List LineForm) → IsTrue (are_placed no_lines (form.Header version ∷ forms)) → (open_blocks (form.Header version ∷ forms) ≡ []) ↔ ((parts : List Part) × (form.Header version ∷ forms ≡ text_forms version parts))
-
--- What a text says has a canonical text, and is in range.
-abbrev pub WhatIsReadIsPrintable : Type 0
-WhatIsReadIsPrintable = (text : List ℕ) (system : System) → Reads text system → IsPrintable system
-
--- Reading the canonical text of a system gives this system.
-abbrev pub CanonicalTextIsReadBack : Type 0
-CanonicalTextIsReadBack = (system : System) → IsPrintable system → Reads (canonical_text system) system
-
--- A canonical line is never longer than a line that it came from.
-abbrev pub CanonicalLinesAreShortest : Type 0
-CanonicalLinesAreShortest = (some : LineForm) (line : List ℕ) → HasForm some line → length (line_text some) ≤ length line
 
 -- A system has an order of all its outputs, or one output that is the first without an order.
 pub record CyclesAreJudgedOnce : Type 0 where

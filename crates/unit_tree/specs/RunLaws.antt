@@ -3,6 +3,7 @@ use Rattle.std.specs.Prelude.{⊤, ◌≡◌, ◌↔◌, ℕ, ◌<◌, ◌≤◌
 use Rattle.std.specs.List.{AllByRecursion, list_all}
 use Rattle.fixed_words.specs.Types.{is_word_of}
 use Rattle.super_time.specs.LocalTime.{local_step}
+use Rattle.super_time.specs.declared.point.Point.{Point}
 use Rattle.unit_tree.specs.Components.{Component, Moved, get_of, step_of}
 use Rattle.unit_tree.specs.Compositions.{Composition, AreMembers, HasNoEvents, composition_of, run_of}
 use Rattle.unit_tree.specs.Names.{is_among}
@@ -12,7 +13,7 @@ use Rattle.unit_tree.specs.Plain.{plain_form}
 use Rattle.unit_tree.specs.Ports.{Ports, IsAmong, IsAssignment, IsPlaceOrder, port_fault}
 use Rattle.unit_tree.specs.Printable.{IsRanged}
 use Rattle.unit_tree.specs.Successor.{Position, goes, ends, first_position, after, agreed, proposed, is_redone, stop_end, row_end, max_end, trial_end, redo_end, redo_end_by, zero_end, successor}
-use Rattle.unit_tree.specs.Trace.{Stand, Goes, IsGoing, IsTrace, AreWordsOf, HasWords}
+use Rattle.unit_tree.specs.Trace.{Stand, Goes, IsGoing, IsTrace, Row, IsTraceOf, AreWordsOf, HasWords}
 use Rattle.unit_tree.specs.WellFormed.{IsWellFormed, uses_other_input}
 use Rattle.unit_tree.specs.declared.ending.Ending.{Ending}
 use Rattle.unit_tree.specs.declared.system.System.{System}
@@ -187,6 +188,17 @@ RunsHavePlaceOrders =
 
 abbrev pub RunsHaveOneTrace : Type 0
 RunsHaveOneTrace = (system : System) → IsRanged system → IsWellFormed system → HasNoCycle system → HasOneTrace (run_of system)
+
+-- Such a system has exactly one list of rows, one last point and one end.
+pub record HasOneTraceOf (system : System) : Type 0 where
+  pub rows : List Row
+  pub last : Point
+  pub ending : Ending
+  pub is_trace : IsTraceOf system rows last ending
+  pub is_only : (others : List Row) (point : Point) (end : Ending) → IsTraceOf system others point end → (others ≡ rows) × (point ≡ last) × (end ≡ ending)
+
+abbrev pub SystemsHaveTheirTrace : Type 0
+SystemsHaveTheirTrace = (system : System) → IsRanged system → IsWellFormed system → HasNoCycle system → HasOneTraceOf system
 
 -- ---- Owed, and not proved yet
 

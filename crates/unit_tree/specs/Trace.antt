@@ -5,10 +5,11 @@ use Rattle.fixed_words.specs.Types.{is_word_of}
 use Rattle.fixed_words.specs.declared.types.Fault.{Fault}
 use Rattle.super_time.specs.declared.point.Point.{Point}
 use Rattle.unit_tree.specs.Components.{Moved}
-use Rattle.unit_tree.specs.Compositions.{Composition}
+use Rattle.unit_tree.specs.Compositions.{Composition, run_of}
 use Rattle.unit_tree.specs.Ports.{Ports, IsAssignment, first_some, port_fault}
 use Rattle.unit_tree.specs.Successor.{Position, goes, ends, first_position, agreed, is_redone, trial, steps_by, stop_end, row_end, max_end, trial_end, successor}
 use Rattle.unit_tree.specs.declared.ending.Ending.{Ending}
+use Rattle.unit_tree.specs.declared.system.System.{System}
 use Rattle.unit_tree.specs.declared.unit.State.{State}
 
 -- A position with its ports.
@@ -72,6 +73,15 @@ abbrev pub last_point : List Stand → Point
 last_point [] = record { t = 0; n = 0 }
 last_point (stand ∷ []) = stand.at.point
 last_point (stand ∷ later ∷ others) = last_point (later ∷ others)
+
+-- ---- The trace of a system
+
+-- The rows are those of the one trace of what is run of the system, `last` is the point at which it ends, and it ends so.
+pub record IsTraceOf (system : System) (rows : List Row) (last : Point) (ending : Ending) : Type 0 where
+  pub stands : List Stand
+  pub trace : IsTrace (run_of system) stands ending
+  pub rows_are : rows ≡ rows_of (run_of system) stands
+  pub last_is : last ≡ last_point stands
 
 -- ---- Cells: steps that members do
 

@@ -1,5 +1,5 @@
 use Rattle.std.proofs.Common.{refl, subst}
-use Rattle.unit_text.specs.Reading.{RefusalIs}
+use Rattle.first_form.specs.Reading.{RefusalIs}
 use Rattle.cosim_app.proofs.FormLaws.{runnable}
 use Rattle.cosim_app.proofs.JudgeLaws.{puts_nothing, refuses}
 use Rattle.cosim_app.proofs.judge.judge_text.Goals as goal

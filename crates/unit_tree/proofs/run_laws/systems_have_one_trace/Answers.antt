@@ -1,8 +1,9 @@
-use Rattle.std.proofs.Common.{◌≡◌, ◌⊎◌, ℕ, ◌==◌, inl, inr, cond, List, sym, subst}
+use Rattle.std.proofs.Common.{◌≡◌, ◌⊎◌, ℕ, ◌==◌, inl, inr, cond, List, refl, ap, sym, subst, ◌∙◌}
 use Rattle.unit_tree.specs.Compositions.{composition_of, run_of}
 use Rattle.unit_tree.specs.Plain.{plain_form}
 use Rattle.unit_tree.specs.Ports.{IsPlaceOrder}
-use Rattle.unit_tree.specs.RunLaws.{RunsHavePlaceOrders}
+use Rattle.unit_tree.specs.RunLaws.{HasOneTrace, RunsHavePlaceOrders, RunsHaveOneTrace, SystemsHaveTheirTrace}
+use Rattle.unit_tree.specs.Trace.{rows_of, last_point}
 use Rattle.unit_tree.specs.declared.system.System.{System}
 use Rattle.unit_tree.proofs.EventLaws.{one_or_two, version_1_without_events, plain_form_1, plain_of_without_events, plain_form_without_events}
 use Rattle.unit_tree.proofs.NameLaws.{names_differ, is_wired}
@@ -41,10 +42,30 @@ runs_have_orders system ranged kept no_cycle = by_version (one_or_two system.ver
 pub returns-clause-run_order : goal.returns-clause-run_order
 returns-clause-run_order c = runs_have_orders
 
-pub returns-clause-run_trace : goal.returns-clause-run_trace
-returns-clause-run_trace c = λ system ranged kept no_cycle.
+runs_have_one_trace : RunsHaveOneTrace
+runs_have_one_trace system ranged kept no_cycle =
     let order = runs_have_orders system ranged kept no_cycle in
     one_trace (run_of system) order.0 (system_has_members (plain_form system)) order.1
+
+pub returns-clause-run_trace : goal.returns-clause-run_trace
+returns-clause-run_trace c = runs_have_one_trace
+
+one_trace_of : SystemsHaveTheirTrace
+one_trace_of system ranged kept no_cycle = record {
+  rows = rows_of (run_of system) one.stands;
+  last = last_point one.stands;
+  ending = one.ending;
+  is_trace = record { stands = one.stands; trace = one.is_trace; rows_are = refl; last_is = refl };
+  is_only = λ others point end other.
+      let same = one.is_only other.stands end other.trace in
+      (other.rows_are ∙ ap (rows_of (run_of system)) same.0, other.last_is ∙ ap last_point same.0, same.1);
+}
+  where
+    one : HasOneTrace (run_of system)
+    one = runs_have_one_trace system ranged kept no_cycle
+
+pub returns-clause-rows : goal.returns-clause-rows
+returns-clause-rows c = one_trace_of
 
 pub returns-clause-plain : goal.returns-clause-plain
 returns-clause-plain c = plain_form_without_events

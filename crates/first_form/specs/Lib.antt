@@ -1,0 +1,4 @@
+pub mod FirstForm
+pub mod Forms
+pub mod Nesting
+pub mod Reading
