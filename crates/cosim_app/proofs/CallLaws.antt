@@ -15,8 +15,7 @@ use Rattle.cosim_app.specs.Notes.{usage_note, read_fault_note, write_fault_note,
 use Rattle.cosim_app.specs.declared.status.Status.{Status}
 use Rattle.cosim_app.specs.declared.status.Status.TheVariants as status
 use Rattle.unit_tree.specs.Lines.{size_of}
-use Rattle.unit_tree.specs.Compositions.{composition_of}
-use Rattle.unit_tree.specs.Trace.{IsTrace}
+use Rattle.unit_tree.specs.Trace.{IsTraceOf}
 use Rattle.unit_tree.specs.declared.system.System.{System}
 use Rattle.cosim_app.proofs.FormLaws.{runnable}
 use Rattle.cosim_app.proofs.JudgeLaws.{ends_unrefused}
@@ -28,9 +27,9 @@ use Rattle.cosim_app.proofs.TraceExists.{traces_same}
 runs_same : (text : List ℕ) (one other : Answer) (a : AnswersRun text one) (b : AnswersRun text other) → one ≡ other
 runs_same text one other a b =
     let same_system : a.system ≡ b.system = says_one text a.system b.system a.accepted b.accepted in
-    let trace : IsTrace (composition_of b.system) a.stands a.ending = subst (λ (s : System). IsTrace (composition_of s) a.stands a.ending) same_system a.trace in
-    let same = traces_same b.system (runnable text b.system b.accepted) a.stands b.stands a.ending b.ending trace b.trace in
-    a.is ∙ ap (λ s. run_answer s a.stands a.ending) same_system ∙ ap (λ p. run_answer b.system p a.ending) same.0 ∙ ap (run_answer b.system b.stands) same.1 ∙ sym b.is
+    let trace : IsTraceOf b.system a.rows a.last a.ending = subst (λ (s : System). IsTraceOf s a.rows a.last a.ending) same_system a.trace in
+    let same = traces_same b.system (runnable text b.system b.accepted) a.rows b.rows a.last b.last a.ending b.ending trace b.trace in
+    a.is ∙ ap (λ s. run_answer s a.rows a.last a.ending) same_system ∙ ap (λ rows. run_answer b.system rows a.last a.ending) same.0 ∙ ap (λ last. run_answer b.system b.rows last a.ending) same.1 ∙ ap (run_answer b.system b.rows b.last) same.2 ∙ sym b.is
 
 pub run_answers_same : (text : List ℕ) (one other : Answer) → RunAnswers text one → RunAnswers text other → one ≡ other
 run_answers_same text one other (inl a) (inl b) =
@@ -347,7 +346,7 @@ breaks_a_rule (Some text) held held' given note gives is = breaks text gives.ans
 ends_so : (text : List ℕ) (answer : Answer) (end : Status) → (end ≡ status.Refused → ⊥) → RunAnswers text answer → answer.status ≡ end → EndsWith end text
 ends_so text answer end other (inl a) is = absurd (other (sym is ∙ ap (λ (x : Answer). x.status) a.is))
 ends_so text answer end other (inr a) is =
-    record { system = a.system; accepted = a.accepted; stands = a.stands; ending = a.ending; trace = a.trace; status = sym (ap (λ (x : Answer). x.status) a.is) ∙ is }
+    record { system = a.system; accepted = a.accepted; rows = a.rows; last = a.last; ending = a.ending; trace = a.trace; status = sym (ap (λ (x : Answer). x.status) a.is) ∙ is }
 
 ends_with : (left held held' : Option (List ℕ)) (given end : Status) (note : List ℕ) → (end ≡ status.Refused → ⊥) → IfSome left (λ text. PutsAnswer text held held' given note) → given ≡ end → IfSome left (EndsWith end)
 ends_with None held held' given end note other gives is = tt

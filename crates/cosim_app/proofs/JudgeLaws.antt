@@ -24,43 +24,43 @@ use Rattle.cosim_app.specs.declared.status.Status.TheVariants as status
 use Rattle.cosim_app.specs.declared.verdict.Verdict.{Verdict}
 use Rattle.cosim_app.specs.declared.verdict.Verdict.TheVariants as verdict
 use Rattle.cosim_app.proofs.FormLaws.{runnable}
-use Rattle.cosim_app.proofs.TraceExists.{trace_exists}
+use Rattle.cosim_app.proofs.TraceExists.{trace_of_runnable}
 
 -- a run that ended has put the answer
 pub puts_answer : (text : List ℕ) (system : System) (held held' : Option (List ℕ)) (result : Result RunEnd RunFault) (end : RunEnd) (given : Status) (note : List ℕ) → IsAccepted text system → PutsTrace system held held' result → result ≡ Ok end → given ≡ status_of end.ending → note ≡ ending_note system end.ending end.last → PutsAnswer text held held' given note
 puts_answer text system held held' result end given note accepted puts is given_is note_is =
-    let trace = trace_exists system (runnable text system accepted) in
+    let trace = trace_of_runnable system (runnable text system accepted) in
     let ended = subst (PutsTrace system held held') is puts in
-    let done = ended.whole trace.0 trace.1.0 trace.1.1 in
+    let done = ended.whole trace.rows trace.last trace.ending trace.is_trace in
     record {
-      answer = run_answer system trace.0 trace.1.0;
-      is = inr (record { system = system; accepted = accepted; stands = trace.0; ending = trace.1.0; trace = trace.1.1; is = refl });
+      answer = run_answer system trace.rows trace.last trace.ending;
+      is = inr (record { system = system; accepted = accepted; rows = trace.rows; last = trace.last; ending = trace.ending; trace = trace.is_trace; is = refl });
       out = done.0;
-      notes = note_is ∙ ap (λ ending. ending_note system ending end.last) done.1 ∙ ap (ending_note system trace.1.0) done.2;
+      notes = note_is ∙ ap (λ ending. ending_note system ending end.last) done.1 ∙ ap (ending_note system trace.ending) done.2;
       same_status = given_is ∙ ap status_of done.1;
     }
 
 -- a run that was given up has put a front of the answer
 pub puts_front : (text : List ℕ) (system : System) (held held' : Option (List ℕ)) (result : Result RunEnd RunFault) (fault : RunFault) → IsAccepted text system → PutsTrace system held held' result → result ≡ Err fault → PutsFront text held held'
 puts_front text system held held' result fault accepted puts is =
-    let trace = trace_exists system (runnable text system accepted) in
+    let trace = trace_of_runnable system (runnable text system accepted) in
     let given_up = subst (PutsTrace system held held') is puts in
     record {
-      answer = run_answer system trace.0 trace.1.0;
-      is = inr (record { system = system; accepted = accepted; stands = trace.0; ending = trace.1.0; trace = trace.1.1; is = refl });
-      front = given_up.front trace.0 trace.1.0 trace.1.1;
+      answer = run_answer system trace.rows trace.last trace.ending;
+      is = inr (record { system = system; accepted = accepted; rows = trace.rows; last = trace.last; ending = trace.ending; trace = trace.is_trace; is = refl });
+      front = given_up.front trace.rows trace.last trace.ending trace.is_trace;
     }
 
 -- and so has one that ended, as far as its output goes
 pub puts_front_of : (text : List ℕ) (system : System) (held held' : Option (List ℕ)) (result : Result RunEnd RunFault) (end : RunEnd) → IsAccepted text system → PutsTrace system held held' result → result ≡ Ok end → PutsFront text held held'
 puts_front_of text system held held' result end accepted puts is =
-    let trace = trace_exists system (runnable text system accepted) in
+    let trace = trace_of_runnable system (runnable text system accepted) in
     let ended = subst (PutsTrace system held held') is puts in
-    let done = ended.whole trace.0 trace.1.0 trace.1.1 in
+    let done = ended.whole trace.rows trace.last trace.ending trace.is_trace in
     record {
-      answer = run_answer system trace.0 trace.1.0;
-      is = inr (record { system = system; accepted = accepted; stands = trace.0; ending = trace.1.0; trace = trace.1.1; is = refl });
-      front = AppendsPrefix-whole held held' (run_answer system trace.0 trace.1.0).out done.0;
+      answer = run_answer system trace.rows trace.last trace.ending;
+      is = inr (record { system = system; accepted = accepted; rows = trace.rows; last = trace.last; ending = trace.ending; trace = trace.is_trace; is = refl });
+      front = AppendsPrefix-whole held held' (run_answer system trace.rows trace.last trace.ending).out done.0;
     }
 
 -- the statuses of a trace's ends
@@ -80,8 +80,8 @@ ends_unrefused (UnitFault instance place fault) given is refused = cc
 
 answer_of : (text : List ℕ) → IsAnswered text → (answer : Answer) × RunAnswers text answer
 answer_of text (inl (system, accepted)) =
-    let trace = trace_exists system (runnable text system accepted) in
-    (run_answer system trace.0 trace.1.0, inr (record { system = system; accepted = accepted; stands = trace.0; ending = trace.1.0; trace = trace.1.1; is = refl }))
+    let trace = trace_of_runnable system (runnable text system accepted) in
+    (run_answer system trace.rows trace.last trace.ending, inr (record { system = system; accepted = accepted; rows = trace.rows; last = trace.last; ending = trace.ending; trace = trace.is_trace; is = refl }))
 answer_of text (inr refusal) =
     (refused_answer refusal.0 refusal.1, inl (record { line = refusal.0; rule = refusal.1; refused = refusal.2; is = refl }))
 

@@ -13,12 +13,13 @@ use Rattle.std.specs.Io.KnownBytes.{Appends}
 use Rattle.std.proofs.KnownBytes.{Appends-trans}
 use Rattle.unit_tree.specs.Components.{start_word}
 use Rattle.unit_tree.specs.Compositions as composition
-use Rattle.unit_tree.specs.Compositions.{Member, Composition, literal_set, default_zeros, default_rows, factor_of, source_of, member_with, members_of, composition_of}
+use Rattle.unit_tree.specs.Compositions.{Member, Composition, literal_set, default_zeros, default_rows, factor_of, source_of, member_with, members_of, composition_of, run_of}
 use Rattle.unit_tree.specs.Names.{unit_named}
-use Rattle.unit_tree.specs.Trace.{Stand, rows_of, IsTrace}
+use Rattle.unit_tree.specs.Trace.{Stand, Row, rows_of, IsTrace}
 use Rattle.unit_tree.specs.declared.system.System.{System}
 use Rattle.unit_tree.specs.declared.unit.Output.{Output}
 use Rattle.unit_tree.specs.declared.unit.Unit.{Unit}
+use Rattle.unit_tree.proofs.EventLaws.{plain_form_1}
 use Rattle.cosim_io.specs.Pieces.{AppendsPrefix}
 use Rattle.cosim_io.proofs.PieceLemmas.{AppendsPrefix-after, AppendsPrefix-longer}
 use Rattle.cosim_app.specs.OneComponent.{one, one_column, text_of_rows, PutsRows}
@@ -100,7 +101,7 @@ rows_are system r =
     ∙ ap (λ version. default_rows version (length system.instances)) r.version
     ∙ ap (λ instances. default_rows 1 (length instances)) r.instances
 
-pub composition_is : (system : System) (r : IsRunnable system) → composition_of system ≡ one r.unit (stop_of system) (longest_of system)
+composition_is : (system : System) (r : IsRunnable system) → composition_of system ≡ one r.unit (stop_of system) (longest_of system)
 composition_is system r =
     ap (λ members. composed members (composition.stop_of system) (composition.ticks_or (composition.stop_of system) (resolution_of system) system.longest) (unwrap_or system.zero (default_zeros system.version)) (unwrap_or system.rows (default_rows system.version (length system.instances)))) (members_are system r)
     ∙ ap (λ stop. composed (only r.unit) stop (composition.ticks_or (composition.stop_of system) (resolution_of system) system.longest) (unwrap_or system.zero (default_zeros system.version)) (unwrap_or system.rows (default_rows system.version (length system.instances)))) (stop_is system r)
@@ -108,6 +109,9 @@ composition_is system r =
     ∙ ap (λ zeros. composed (only r.unit) (stop_of system) (longest_of system) (unwrap_or zeros (default_zeros system.version)) (unwrap_or system.rows (default_rows system.version (length system.instances)))) r.zeros
     ∙ ap (λ version. composed (only r.unit) (stop_of system) (longest_of system) (default_zeros version) (unwrap_or system.rows (default_rows system.version (length system.instances)))) r.version
     ∙ ap (λ rows. composed (only r.unit) (stop_of system) (longest_of system) 100 rows) (rows_are system r)
+
+pub run_is : (system : System) (r : IsRunnable system) → run_of system ≡ one r.unit (stop_of system) (longest_of system)
+run_is system r = ap composition_of (plain_form_1 system r.version) ∙ composition_is system r
 
 pub columns_are : (system : System) (r : IsRunnable system) → columns_of system ≡ one_column r.instance.name r.output
 columns_are system r =
@@ -117,24 +121,24 @@ columns_are system r =
     ∙ ap (λ ty. record { instance = r.instance.name; output = r.output.name; ty = ty } ∷ []) r.plain.output_type
 
 -- the text of the trace: the header of the one column and the rows
-pub trace_text_is : (system : System) (r : IsRunnable system) (stands : List Stand) → trace_text system stands ≡ header_text (one_column r.instance.name r.output) ++ text_of_rows (one r.unit (stop_of system) (longest_of system)) (row_text (one_column r.instance.name r.output)) stands
-trace_text_is system r stands =
-    ap (λ columns. header_text columns ++ flat_map (row_text columns) (rows_of (composition_of system) stands)) (columns_are system r)
-    ∙ ap (λ run. header_text (one_column r.instance.name r.output) ++ flat_map (row_text (one_column r.instance.name r.output)) (rows_of run stands)) (composition_is system r)
+pub trace_text_is : (system : System) (r : IsRunnable system) (rows : List Row) (stands : List Stand) → rows ≡ rows_of (run_of system) stands → trace_text system rows ≡ header_text (one_column r.instance.name r.output) ++ text_of_rows (one r.unit (stop_of system) (longest_of system)) (row_text (one_column r.instance.name r.output)) stands
+trace_text_is system r rows stands are =
+    ap (λ columns. header_text columns ++ flat_map (row_text columns) rows) (columns_are system r)
+    ∙ ap (λ all. header_text (one_column r.instance.name r.output) ++ flat_map (row_text (one_column r.instance.name r.output)) all) (are ∙ ap (λ run. rows_of run stands) (run_is system r))
 
 -- what a run puts behind its header
 pub puts_trace : (system : System) (r : IsRunnable system) (held0 held held' : Option (List ℕ)) (result : Result RunEnd RunFault) → Appends held0 held (header_text (one_column r.instance.name r.output)) → PutsRows (one r.unit (stop_of system) (longest_of system)) (row_text (one_column r.instance.name r.output)) held held' result → PutsTrace system held0 held' result
-puts_trace system r held0 held held' (Ok end) header rows = record {
-  whole = λ stands ending trace.
-      let done = rows.whole stands ending (subst (λ (run : Composition). IsTrace run stands ending) (composition_is system r) trace) in
-      (subst (Appends held0 held') (sym (trace_text_is system r stands)) (Appends-trans held0 held held' _ _ header done.0), done.1, done.2);
+puts_trace system r held0 held held' (Ok end) header put = record {
+  whole = λ rows last ending trace.
+      let done = put.whole trace.stands ending (subst (λ (run : Composition). IsTrace run trace.stands ending) (run_is system r) trace.trace) in
+      (subst (Appends held0 held') (sym (trace_text_is system r rows trace.stands trace.rows_are)) (Appends-trans held0 held held' _ _ header done.0), done.1, done.2 ∙ sym trace.last_is);
   front = tt;
 }
-puts_trace system r held0 held held' (Err fault) header rows = record {
+puts_trace system r held0 held held' (Err fault) header put = record {
   whole = tt;
-  front = λ stands ending trace.
-      let front = rows.front stands ending (subst (λ (run : Composition). IsTrace run stands ending) (composition_is system r) trace) in
-      subst (AppendsPrefix held0 held') (sym (trace_text_is system r stands)) (AppendsPrefix-after held0 held held' _ _ header front);
+  front = λ rows last ending trace.
+      let front = put.front trace.stands ending (subst (λ (run : Composition). IsTrace run trace.stands ending) (run_is system r) trace.trace) in
+      subst (AppendsPrefix held0 held') (sym (trace_text_is system r rows trace.stands trace.rows_are)) (AppendsPrefix-after held0 held held' _ _ header front);
 }
 
 -- a run that is given up in its header
@@ -142,7 +146,7 @@ pub puts_header_front : (system : System) (r : IsRunnable system) (held0 held : 
 puts_header_front system r held0 held (Ok end) is header = absurd (cc)
 puts_header_front system r held0 held (Err fault) is header = record {
   whole = tt;
-  front = λ stands ending trace. subst (AppendsPrefix held0 held) (sym (trace_text_is system r stands)) (AppendsPrefix-longer held0 held _ _ header);
+  front = λ rows last ending trace. subst (AppendsPrefix held0 held) (sym (trace_text_is system r rows trace.stands trace.rows_are)) (AppendsPrefix-longer held0 held _ _ header);
 }
 
 -- the same, of equal parts

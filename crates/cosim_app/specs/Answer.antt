@@ -2,8 +2,8 @@
 -- of its input.
 use Rattle.std.specs.Prelude.{◌≡◌, ℕ, List, [], ◌∷◌, codes, ◌⊎◌}
 use Rattle.first_form.specs.Reading.{IsAccepted, IsRefused}
-use Rattle.unit_tree.specs.Compositions.{composition_of}
-use Rattle.unit_tree.specs.Trace.{Stand, IsTrace, last_point}
+use Rattle.super_time.specs.declared.point.Point.{Point}
+use Rattle.unit_tree.specs.Trace.{Row, IsTraceOf}
 use Rattle.unit_tree.specs.declared.ending.Ending.{Ending}
 use Rattle.unit_tree.specs.declared.ending.Ending.TheVariants.{Completed, RowBudget, ZeroBudget, UnitFault, StepRefused}
 use Rattle.unit_tree.specs.declared.system.System.{System}
@@ -34,10 +34,10 @@ status_of ZeroBudget = status.ZeroBudget
 status_of (UnitFault instance place fault) = status.UnitFault
 status_of (StepRefused instance asked accepted) = status.StepRefused
 
--- The trace's text, and how it ended.
-abbrev pub run_answer : System → List Stand → Ending → Answer
-run_answer system stands ending =
-    record { out = trace_text system stands; notes = ending_note system ending (last_point stands); status = status_of ending }
+-- The text of the rows of a trace, and how and where it ended.
+abbrev pub run_answer : System → List Row → Point → Ending → Answer
+run_answer system rows last ending =
+    record { out = trace_text system rows; notes = ending_note system ending last; status = status_of ending }
 
 -- A text that is refused is answered by its line and rule.
 pub record AnswersRefusal (text : List ℕ) (answer : Answer) : Type 0 where
@@ -50,10 +50,11 @@ pub record AnswersRefusal (text : List ℕ) (answer : Answer) : Type 0 where
 pub record AnswersRun (text : List ℕ) (answer : Answer) : Type 0 where
   pub system : System
   pub accepted : IsAccepted text system
-  pub stands : List Stand
+  pub rows : List Row
+  pub last : Point
   pub ending : Ending
-  pub trace : IsTrace (composition_of system) stands ending
-  pub is : answer ≡ run_answer system stands ending
+  pub trace : IsTraceOf system rows last ending
+  pub is : answer ≡ run_answer system rows last ending
 
 -- The answer of `run` for a text.
 abbrev pub RunAnswers : List ℕ → Answer → Type 0

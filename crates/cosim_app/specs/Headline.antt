@@ -4,8 +4,8 @@ use Rattle.std.specs.Prelude.{◌≡◌, ℕ, ◌<◌, List, Option, IfSome, ◌
 use Rattle.std.specs.Io.KnownBytes.{Appends, IsAtEnd}
 use Rattle.first_form.specs.Reading.{IsAccepted, IsRefused, text_limit}
 use Rattle.unit_tree.specs.Lines.{size_of}
-use Rattle.unit_tree.specs.Compositions.{composition_of}
-use Rattle.unit_tree.specs.Trace.{Stand, IsTrace}
+use Rattle.super_time.specs.declared.point.Point.{Point}
+use Rattle.unit_tree.specs.Trace.{Row, IsTraceOf}
 use Rattle.unit_tree.specs.declared.ending.Ending.{Ending}
 use Rattle.unit_tree.specs.declared.system.System.{System}
 use Rattle.cosim_io.specs.Faults.{Rose}
@@ -59,9 +59,10 @@ pub record PrefixClause (words : List (List ℕ)) (before now : Streams) (given 
 pub record EndsWith (given : Status) (text : List ℕ) : Type 0 where
   pub system : System
   pub accepted : IsAccepted text system
-  pub stands : List Stand
+  pub rows : List Row
+  pub last : Point
   pub ending : Ending
-  pub trace : IsTrace (composition_of system) stands ending
+  pub trace : IsTraceOf system rows last ending
   pub status : status_of ending ≡ given
 
 -- Some line of the text breaks a rule.

@@ -4,8 +4,8 @@ use Rattle.std.specs.Io.KnownBytes.{Appends}
 use Rattle.std.specs.Option.{option_map}
 use Rattle.fixed_words.specs.declared.types.Literal.{Literal}
 use Rattle.fixed_words.specs.declared.types.Literal.TheVariants as literal
-use Rattle.unit_tree.specs.Compositions.{composition_of}
-use Rattle.unit_tree.specs.Trace.{Stand, IsTrace, last_point}
+use Rattle.super_time.specs.declared.point.Point.{Point}
+use Rattle.unit_tree.specs.Trace.{Row, IsTraceOf}
 use Rattle.unit_tree.specs.declared.ending.Ending.{Ending}
 use Rattle.unit_tree.specs.declared.line.Line.{Line}
 use Rattle.unit_tree.specs.declared.system.Instance.{Instance}
@@ -63,5 +63,5 @@ pub record IsRunnable (system : System) : Type 0 where
 -- A run has put the text of the system's trace, whatever that is, and told how it ends; where it failed,
 -- it has put a front of that text.
 pub record PutsTrace (system : System) (old new : Option (List ℕ)) (result : Result RunEnd RunFault) : Type 0 where
-  pub whole : IfOk result (λ end. (stands : List Stand) (ending : Ending) → IsTrace (composition_of system) stands ending → Appends old new (trace_text system stands) × (end.ending ≡ ending) × (end.last ≡ last_point stands))
-  pub front : OnErr result ((stands : List Stand) (ending : Ending) → IsTrace (composition_of system) stands ending → AppendsPrefix old new (trace_text system stands))
+  pub whole : IfOk result (λ end. (rows : List Row) (last : Point) (ending : Ending) → IsTraceOf system rows last ending → Appends old new (trace_text system rows) × (end.ending ≡ ending) × (end.last ≡ last))
+  pub front : OnErr result ((rows : List Row) (last : Point) (ending : Ending) → IsTraceOf system rows last ending → AppendsPrefix old new (trace_text system rows))

@@ -4,9 +4,8 @@ use Rattle.std.specs.List.{zip, flat_map}
 use Rattle.std.specs.Fmt.{decimal}
 use Rattle.fixed_words.specs.Texts.{text_of}
 use Rattle.fixed_words.specs.declared.types.Ty.{Ty}
-use Rattle.unit_tree.specs.Compositions.{composition_of}
 use Rattle.unit_tree.specs.Names.{unit_named}
-use Rattle.unit_tree.specs.Trace.{Stand, Row, rows_of}
+use Rattle.unit_tree.specs.Trace.{Row}
 use Rattle.unit_tree.specs.declared.system.System.{System}
 use Rattle.unit_tree.specs.declared.unit.Unit.{Unit}
 
@@ -46,7 +45,6 @@ abbrev pub row_text : List Column → Row → List ℕ
 row_text columns row =
     decimal row.point.t ++ comma ++ decimal row.point.n ++ flat_map field_text (zip columns row.words) ++ line_end
 
--- The header and one line for each row.
-abbrev pub trace_text : System → List Stand → List ℕ
-trace_text system stands =
-    header_text (columns_of system) ++ flat_map (row_text (columns_of system)) (rows_of (composition_of system) stands)
+-- The header and one line for each of the rows.
+abbrev pub trace_text : System → List Row → List ℕ
+trace_text system rows = header_text (columns_of system) ++ flat_map (row_text (columns_of system)) rows

@@ -4,12 +4,13 @@ use Rattle.std.proofs.lemmas.Bool.Decides.{nat_tests}
 use Rattle.std.specs.Prelude.{◌&&◌}
 use Rattle.std.specs.List.{AllZip}
 use Rattle.super_time.specs.declared.point.Point.{Point}
-use Rattle.unit_tree.specs.Compositions.{Composition, AreMembers}
+use Rattle.unit_tree.specs.Compositions.{Composition, AreMembers, run_of}
 use Rattle.unit_tree.specs.Ports.{IsPlaceOrder, IsAssignment, first_some}
-use Rattle.unit_tree.specs.RunLaws.{HasOneTrace}
+use Rattle.unit_tree.specs.RunLaws.{HasOneTrace, HasOneTraceOf}
 use Rattle.unit_tree.specs.Successor.{Position, when, first_position, limits, agreed, ends_at, ends_or, after, goes, zero_end}
-use Rattle.unit_tree.specs.Trace.{Stand, IsStand, Goes, Follows, IsTrace, HasWords}
+use Rattle.unit_tree.specs.Trace.{Stand, IsStand, Goes, Follows, IsTrace, HasWords, rows_of, last_point}
 use Rattle.unit_tree.specs.declared.ending.Ending.{Ending}
+use Rattle.unit_tree.specs.declared.system.System.{System}
 use Rattle.unit_tree.proofs.AssignmentLaws.{none_at, one_assignment}
 use Rattle.unit_tree.proofs.PositionLaws.{positions_keep, agreed_is_at_most}
 use Rattle.unit_tree.proofs.StepLaws.{proposal_is_greatest}
@@ -148,3 +149,15 @@ module _ (run : Composition) (order : List ℕ) (are : AreMembers run) (is_order
         is_trace = (refl, assigned.is_assignment, rest.2);
         is_only = λ other end is. same_trace other (start ∷ rest.0) end rest.1 words is (refl, assigned.is_assignment, rest.2);
       }
+
+-- where what is run has one trace, the system has one list of rows, one last point and one end
+pub one_trace_of : (system : System) → HasOneTrace (run_of system) → HasOneTraceOf system
+one_trace_of system one = record {
+  rows = rows_of (run_of system) one.stands;
+  last = last_point one.stands;
+  ending = one.ending;
+  is_trace = record { stands = one.stands; trace = one.is_trace; rows_are = refl; last_is = refl };
+  is_only = λ others point end other.
+      let same = one.is_only other.stands end other.trace in
+      (other.rows_are ∙ ap (rows_of (run_of system)) same.0, other.last_is ∙ ap last_point same.0, same.1);
+}

@@ -1,16 +1,15 @@
-use Rattle.std.proofs.Common.{◌≡◌, ◌⊎◌, ℕ, ◌==◌, inl, inr, cond, List, refl, ap, sym, subst, ◌∙◌}
+use Rattle.std.proofs.Common.{◌≡◌, ◌⊎◌, ℕ, ◌==◌, inl, inr, cond, List, sym, subst}
 use Rattle.unit_tree.specs.Compositions.{composition_of, run_of}
 use Rattle.unit_tree.specs.Plain.{plain_form}
 use Rattle.unit_tree.specs.Ports.{IsPlaceOrder}
-use Rattle.unit_tree.specs.RunLaws.{HasOneTrace, RunsHavePlaceOrders, RunsHaveOneTrace, SystemsHaveTheirTrace}
-use Rattle.unit_tree.specs.Trace.{rows_of, last_point}
+use Rattle.unit_tree.specs.RunLaws.{RunsHavePlaceOrders, RunsHaveOneTrace}
 use Rattle.unit_tree.specs.declared.system.System.{System}
 use Rattle.unit_tree.proofs.EventLaws.{one_or_two, version_1_without_events, plain_form_1, plain_of_without_events, plain_form_without_events}
 use Rattle.unit_tree.proofs.NameLaws.{names_differ, is_wired}
 use Rattle.unit_tree.proofs.PlaceOrders.{system_is_ordered, has_no_cycle}
 use Rattle.unit_tree.proofs.PlainOrders.{plain_of, plain_names_differ, plain_has_no_cycle}
 use Rattle.unit_tree.proofs.PositionLaws.{system_has_members}
-use Rattle.unit_tree.proofs.RunTraces.{one_trace}
+use Rattle.unit_tree.proofs.RunTraces.{one_trace, one_trace_of}
 use Rattle.unit_tree.proofs.run_laws.systems_have_one_trace.Goals as goal
 
 pub returns-clause-order : goal.returns-clause-order
@@ -50,22 +49,8 @@ runs_have_one_trace system ranged kept no_cycle =
 pub returns-clause-run_trace : goal.returns-clause-run_trace
 returns-clause-run_trace c = runs_have_one_trace
 
-one_trace_of : SystemsHaveTheirTrace
-one_trace_of system ranged kept no_cycle = record {
-  rows = rows_of (run_of system) one.stands;
-  last = last_point one.stands;
-  ending = one.ending;
-  is_trace = record { stands = one.stands; trace = one.is_trace; rows_are = refl; last_is = refl };
-  is_only = λ others point end other.
-      let same = one.is_only other.stands end other.trace in
-      (other.rows_are ∙ ap (rows_of (run_of system)) same.0, other.last_is ∙ ap last_point same.0, same.1);
-}
-  where
-    one : HasOneTrace (run_of system)
-    one = runs_have_one_trace system ranged kept no_cycle
-
 pub returns-clause-rows : goal.returns-clause-rows
-returns-clause-rows c = one_trace_of
+returns-clause-rows c = λ system ranged kept no_cycle. one_trace_of system (runs_have_one_trace system ranged kept no_cycle)
 
 pub returns-clause-plain : goal.returns-clause-plain
 returns-clause-plain c = plain_form_without_events
