@@ -617,6 +617,15 @@ pub lines_are_nested : (version : ℕ) (forms : List LineForm) → IsTrue (are_p
 lines_are_nested version forms placed =
     placed_add forms (headed_by version) (and_parts (may_stand no_lines (form.Header version)) (are_placed (and_line no_lines (form.Header version)) forms) placed).1
 
+-- where no block is open, they are the lines of the parts
+pub whole_forms : (nested : Nested) → open_blocks (nested_forms nested) ≡ [] → nested_forms nested ≡ text_forms nested.version nested.parts
+whole_forms nested none =
+    ap (λ rest. text_forms nested.version nested.parts ++ rest) (no_block nested.block (sym (blocks_are nested) ∙ none))
+    ∙ append-nil (text_forms nested.version nested.parts)
+
+pub parts_close : (version : ℕ) (all : List Part) → open_blocks (text_forms version all) ≡ []
+parts_close version all = ap open_blocks (sym (append-nil (text_forms version all))) ∙ blocks_are (holding version all)
+
 pub nesting_is_by_parts : NestingIsByParts
 nesting_is_by_parts version forms placed = (closed, open_to)
   where
@@ -628,11 +637,10 @@ nesting_is_by_parts version forms placed = (closed, open_to)
 
     closed : open_blocks (form.Header version ∷ forms) ≡ [] → (all : List Part) × (form.Header version ∷ forms ≡ text_forms version all)
     closed none =
-        let at_end = sym (blocks_are nested) ∙ ap open_blocks lines ∙ none in
-        let whole = sym lines ∙ ap (λ rest. text_forms nested.version nested.parts ++ rest) (no_block nested.block at_end) ∙ append-nil (text_forms nested.version nested.parts) in
+        let whole = sym lines ∙ whole_forms nested (ap open_blocks lines ∙ none) in
         let same : version ≡ nested.version = cc in
         (nested.parts, whole ∙ ap (λ by. text_forms by nested.parts) (sym same))
 
     open_to : (all : List Part) × (form.Header version ∷ forms ≡ text_forms version all) → open_blocks (form.Header version ∷ forms) ≡ []
-    open_to (all, is) = ap open_blocks (is ∙ sym (append-nil (text_forms version all))) ∙ blocks_are (holding version all)
+    open_to (all, is) = ap open_blocks is ∙ parts_close version all
 
