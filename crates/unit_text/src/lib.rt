@@ -4,6 +4,7 @@
 //! read or refused as the definitions say.
 #![tactic(auto)]
 
+mod draft;
 mod worked;
 
 pub use worked::texts_are_worked;

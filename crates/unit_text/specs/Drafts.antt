@@ -1,0 +1,220 @@
+-- A system as far as the lines of its text have come, with one line more.
+use Rattle.std.specs.Prelude.{ℕ, Bool, List, [], ◌∷◌, ◌++◌, length, Option, Some, None, if◌then◌else◌, is_some, nat_lt, option_and_then}
+use Rattle.std.specs.Option.{option_map}
+use Rattle.fixed_words.specs.declared.types.Literal.{Literal}
+use Rattle.unit_tree.specs.Parts.{bare_system, bare_unit}
+use Rattle.unit_tree.specs.declared.expr.Expr.{Expr}
+use Rattle.unit_tree.specs.declared.line.Line.{Line}
+use Rattle.unit_tree.specs.declared.line.Line as line
+use Rattle.unit_tree.specs.declared.line_form.LineForm.{LineForm}
+use Rattle.unit_tree.specs.declared.line_form.LineForm.TheVariants as form
+use Rattle.unit_tree.specs.declared.system.Instance.{Instance}
+use Rattle.unit_tree.specs.declared.system.PortName.{PortName}
+use Rattle.unit_tree.specs.declared.system.Setting.{Setting}
+use Rattle.unit_tree.specs.declared.system.System.{System}
+use Rattle.unit_tree.specs.declared.system.Wire.{Wire}
+use Rattle.unit_tree.specs.declared.unit.EventIn.{EventIn}
+use Rattle.unit_tree.specs.declared.unit.EventOut.{EventOut}
+use Rattle.unit_tree.specs.declared.unit.Input.{Input}
+use Rattle.unit_tree.specs.declared.unit.Local.{Local}
+use Rattle.unit_tree.specs.declared.unit.Output.{Output}
+use Rattle.unit_tree.specs.declared.unit.Param.{Param}
+use Rattle.unit_tree.specs.declared.unit.State.{State}
+use Rattle.unit_tree.specs.declared.unit.Unit.{Unit}
+use Rattle.unit_text.specs.declared.draft.Around.{Around}
+use Rattle.unit_text.specs.declared.draft.Draft.{Draft}
+use Rattle.unit_text.specs.declared.draft.Head.{Head}
+use Rattle.unit_text.specs.declared.draft.Head.TheVariants.{Then, Else, Times}
+use Rattle.unit_text.specs.declared.draft.OpenBlock.{OpenBlock}
+use Rattle.unit_text.specs.declared.draft.OpenBlock.TheVariants as block
+use Rattle.unit_text.specs.declared.draft.StepSoFar.{StepSoFar}
+
+abbrev pub bare_draft : ℕ → Draft
+bare_draft version = record { system = bare_system version; block = block.Top }
+
+abbrev pub at_top : System → Draft
+at_top system = record { system = system; block = block.Top }
+
+abbrev pub in_unit : System → Unit → Draft
+in_unit system unit = record { system = system; block = block.Unit unit }
+
+abbrev pub in_step : System → Unit → StepSoFar → Draft
+in_step system unit step = record { system = system; block = block.Step unit step }
+
+abbrev pub in_instance : System → Instance → Draft
+in_instance system instance = record { system = system; block = block.Instance instance }
+
+-- What may be said once: it is said where nothing was.
+abbrev pub once : {A B : Type 0} → Option A → B → Option B
+once (Some said) now = None
+once None now = Some now
+
+-- ---- Outside blocks
+
+abbrev pub with_wire : System → Wire → System
+with_wire system wire = record system { wires = system.wires ++ (wire ∷ []) }
+
+abbrev pub with_stop : System → Literal → Option System
+with_stop system seconds = once system.stop (record system { stop = Some seconds })
+
+abbrev pub with_longest : System → Literal → Option System
+with_longest system seconds = once system.longest (record system { longest = Some seconds })
+
+abbrev pub with_zero : System → ℕ → Option System
+with_zero system count = once system.zero (record system { zero = Some count })
+
+abbrev pub with_rows : System → ℕ → Option System
+with_rows system count = once system.rows (record system { rows = Some count })
+
+abbrev pub with_sample : System → PortName → System
+with_sample system port = record system { samples = system.samples ++ (port ∷ []) }
+
+abbrev pub bare_instance : List ℕ → List ℕ → Instance
+bare_instance name unit = record { name = name; unit = unit; settings = [] }
+
+abbrev pub top_form : System → LineForm → Option Draft
+top_form system (form.Unit name) = Some (in_unit system (bare_unit name))
+top_form system (form.Instance name unit) = Some (in_instance system (bare_instance name unit))
+top_form system (form.Connect wire) = Some (at_top (with_wire system wire))
+top_form system (form.Stop seconds) = option_map at_top (with_stop system seconds)
+top_form system (form.Longest seconds) = option_map at_top (with_longest system seconds)
+top_form system (form.Zero count) = option_map at_top (with_zero system count)
+top_form system (form.Rows count) = option_map at_top (with_rows system count)
+top_form system (form.Sample port) = Some (at_top (with_sample system port))
+top_form system _ = None
+
+-- ---- In a unit
+
+abbrev pub with_resolution : Unit → ℕ → Option Unit
+with_resolution unit decimals = once unit.resolution (record unit { resolution = Some decimals })
+
+abbrev pub with_param : Unit → Param → Unit
+with_param unit param = record unit { params = unit.params ++ (param ∷ []) }
+
+abbrev pub with_state : Unit → State → Unit
+with_state unit state = record unit { states = unit.states ++ (state ∷ []) }
+
+abbrev pub with_local : Unit → Local → Unit
+with_local unit local = record unit { locals = unit.locals ++ (local ∷ []) }
+
+abbrev pub with_input : Unit → Input → Unit
+with_input unit input = record unit { inputs = unit.inputs ++ (input ∷ []) }
+
+abbrev pub with_event_in : Unit → EventIn → Unit
+with_event_in unit event = record unit { events_in = unit.events_in ++ (event ∷ []) }
+
+abbrev pub with_output : Unit → Output → Unit
+with_output unit output = record unit { outputs = unit.outputs ++ (output ∷ []) }
+
+abbrev pub with_event_out : Unit → EventOut → Unit
+with_event_out unit event = record unit { events_out = unit.events_out ++ (event ∷ []) }
+
+abbrev pub with_max : Unit → Expr → Option Unit
+with_max unit value = once unit.max (record unit { max = Some value })
+
+-- The lines of a unit that open no block.
+abbrev pub declared_form : Unit → LineForm → Option Unit
+declared_form unit (form.Resolution decimals) = with_resolution unit decimals
+declared_form unit (form.Param param) = Some (with_param unit param)
+declared_form unit (form.State state) = Some (with_state unit state)
+declared_form unit (form.Local local) = Some (with_local unit local)
+declared_form unit (form.Input input) = Some (with_input unit input)
+declared_form unit (form.EventInput event) = Some (with_event_in unit event)
+declared_form unit (form.Output output) = Some (with_output unit output)
+declared_form unit (form.EventOutput event) = Some (with_event_out unit event)
+declared_form unit (form.Max value) = with_max unit value
+declared_form unit _ = None
+
+abbrev pub no_step_lines : StepSoFar
+no_step_lines = record { lines = []; around = [] }
+
+abbrev pub with_step : System → Unit → Option Draft
+with_step system unit = once unit.step (in_step system unit no_step_lines)
+
+abbrev pub with_unit : System → Unit → Draft
+with_unit system unit = at_top (record system { units = system.units ++ (unit ∷ []) })
+
+abbrev pub unit_form : System → Unit → LineForm → Option Draft
+unit_form system unit form.Step = with_step system unit
+unit_form system unit form.End = Some (with_unit system unit)
+unit_form system unit some = option_map (in_unit system) (declared_form unit some)
+
+-- ---- In an instance
+
+abbrev pub with_setting : Instance → Setting → Instance
+with_setting instance setting = record instance { settings = instance.settings ++ (setting ∷ []) }
+
+abbrev pub with_instance : System → Instance → Draft
+with_instance system instance = at_top (record system { instances = system.instances ++ (instance ∷ []) })
+
+abbrev pub instance_form : System → Instance → LineForm → Option Draft
+instance_form system instance (form.Setting setting) = Some (in_instance system (with_setting instance setting))
+instance_form system instance form.End = Some (with_instance system instance)
+instance_form system instance _ = None
+
+-- ---- In steps
+
+-- The last of a list, behind the others.
+abbrev pub split_from : {A : Type 0} → A → List A → List A × A
+split_from first [] = ([], first)
+split_from first (next ∷ others) = (first ∷ (split_from next others).0, (split_from next others).1)
+
+abbrev pub split_last : {A : Type 0} → List A → Option (List A × A)
+split_last [] = None
+split_last (first ∷ others) = Some (split_from first others)
+
+abbrev pub and_line : StepSoFar → Line → StepSoFar
+and_line step more = record step { lines = step.lines ++ (more ∷ []) }
+
+-- A block of `if` or `repeat` that begins, where at most fifteen are open.
+abbrev pub in_block : StepSoFar → Head → Option StepSoFar
+in_block step head =
+    if nat_lt (length step.around) 16 then Some (record { lines = []; around = step.around ++ (record { before = step.lines; head = head } ∷ []) }) else None
+
+abbrev pub turned_by : List Line → List Around → List Line → Head → Option StepSoFar
+turned_by lines around before (Then cond) = Some (record { lines = []; around = around ++ (record { before = before; head = Else cond lines } ∷ []) })
+turned_by lines around before _ = None
+
+abbrev pub turned : StepSoFar → Option StepSoFar
+turned step = option_and_then (λ split. turned_by step.lines split.0 split.1.before split.1.head) (split_last step.around)
+
+abbrev pub headed : Head → List Line → Line
+headed (Then cond) lines = line.If cond lines None
+headed (Else cond then_lines) lines = line.If cond then_lines (Some lines)
+headed (Times count) lines = line.Repeat count lines
+
+abbrev pub ended_by : System → Unit → List Line → Option (List Around × Around) → Draft
+ended_by system unit lines None = in_unit system (record unit { step = Some lines })
+ended_by system unit lines (Some split) =
+    in_step system unit (record { lines = split.1.before ++ (headed split.1.head lines ∷ []); around = split.0 })
+
+abbrev pub ended : System → Unit → StepSoFar → Option Draft
+ended system unit step = Some (ended_by system unit step.lines (split_last step.around))
+
+abbrev pub step_form : System → Unit → StepSoFar → LineForm → Option Draft
+step_form system unit step (form.Assign target value) = Some (in_step system unit (and_line step (line.Assign target value)))
+step_form system unit step (form.Accept value) = Some (in_step system unit (and_line step (line.Accept value)))
+step_form system unit step (form.If cond) = option_map (in_step system unit) (in_block step (Then cond))
+step_form system unit step (form.Repeat count) = option_map (in_step system unit) (in_block step (Times count))
+step_form system unit step form.Else = option_map (in_step system unit) (turned step)
+step_form system unit step form.End = ended system unit step
+step_form system unit step _ = None
+
+-- ---- One line more
+
+abbrev pub form_in : System → OpenBlock → LineForm → Option Draft
+form_in system block.Top some = top_form system some
+form_in system (block.Unit unit) some = unit_form system unit some
+form_in system (block.Step unit step) some = step_form system unit step some
+form_in system (block.Instance instance) some = instance_form system instance some
+
+abbrev pub with_form : Draft → LineForm → Option Draft
+with_form draft some = form_in draft.system draft.block some
+
+-- The system, where no block is open.
+abbrev pub whole_by : System → OpenBlock → Option System
+whole_by system block.Top = Some system
+whole_by system _ = None
+
+abbrev pub whole_system : Draft → Option System
+whole_system draft = whole_by draft.system draft.block
