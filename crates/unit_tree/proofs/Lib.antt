@@ -11,6 +11,7 @@ pub mod KindLemmas
 pub mod LineLaws
 pub mod MeaningLemmas
 pub mod NameLaws
+pub mod OpenBlocks
 pub mod OrderLaws
 pub mod PartLaws
 pub mod PhraseLaws
@@ -25,6 +26,7 @@ pub mod RefusalLaws
 pub mod RouteLaws
 pub mod RunSteps
 pub mod RunTraces
+pub mod ScopeLaws
 pub mod SeenLaws
 pub mod SiteLaws
 pub mod SourceLaws
