@@ -49,8 +49,8 @@ runs_have_one_trace system ranged kept no_cycle =
 pub returns-clause-run_trace : goal.returns-clause-run_trace
 returns-clause-run_trace c = runs_have_one_trace
 
-pub returns-clause-rows : goal.returns-clause-rows
-returns-clause-rows c = λ system ranged kept no_cycle. one_trace_of system (runs_have_one_trace system ranged kept no_cycle)
+pub returns-clause-outcome : goal.returns-clause-outcome
+returns-clause-outcome c = λ system ranged kept no_cycle. one_trace_of system (runs_have_one_trace system ranged kept no_cycle)
 
 pub returns-clause-plain : goal.returns-clause-plain
 returns-clause-plain c = plain_form_without_events
