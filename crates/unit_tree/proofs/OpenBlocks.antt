@@ -1,9 +1,8 @@
 -- Which blocks are open behind the lines of a part, and that a step line stands in its step.
 use Rattle.std.specs.Prelude.{⊤}
-use Rattle.std.proofs.Common.{◌≡◌, ℕ, Bool, true, false, List, [], ◌∷◌, ◌++◌, append_assoc, map, Option, Some, None, refl, ap, sym, subst, ◌∙◌}
+use Rattle.std.proofs.Common.{◌≡◌, ℕ, true, false, List, [], ◌∷◌, ◌++◌, append_assoc, map, Some, None, refl, ap, sym, subst, ◌∙◌}
 use Rattle.std.specs.List.{flat_map, fold}
 use Rattle.std.proofs.lemmas.List.Sums.{fold-append}
-use Rattle.fixed_words.specs.declared.types.Literal.{Literal}
 use Rattle.unit_tree.specs.Blocks.{Block, InUnit, InStep, InIf, InElse, InRepeat, InInstance, behind, Before, and_line, and_lines, in_step}
 use Rattle.unit_tree.specs.Parts as parts
 use Rattle.unit_tree.specs.Parts.{Part, UnitPart, block_forms, joined, line_forms, unit_part_forms, part_forms}
@@ -140,8 +139,7 @@ in_step-IfElse condition then_lines else_lines =
     record {
       closed = λ blocks. ap (fold behind blocks) are ∙ block_closed then_lines rest (InIf ∷ blocks) blocks (block_closed else_lines (form.End ∷ []) (InElse ∷ blocks) blocks refl);
       are_in = λ unit blocks is.
-          subst (AreIn (StepScope unit) blocks) (sym are)
-          (
+          subst (AreIn (StepScope unit) blocks) (sym are) (
             in_step_scope unit blocks (form.If condition) is refl,
             block_in unit then_lines rest (InIf ∷ blocks) refl (refl, block_in unit else_lines (form.End ∷ []) (InElse ∷ blocks) refl (refl, _)),
           );
