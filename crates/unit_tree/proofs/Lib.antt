@@ -16,10 +16,12 @@ pub mod OrderLaws
 pub mod PartLaws
 pub mod PhraseLaws
 pub mod PlaceOrders
+pub mod PlainCycles
 pub mod PlainLemmas
 pub mod PlainLines
 pub mod PlainNames
 pub mod PlainOrders
+pub mod PortLaws
 pub mod PositionLaws
 pub mod RankLaws
 pub mod RefusalLaws

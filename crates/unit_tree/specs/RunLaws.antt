@@ -188,10 +188,11 @@ SystemsHavePlaceOrders =
 abbrev pub SystemsHaveOneTrace : Type 0
 SystemsHaveOneTrace = (system : System) → HasNoEvents system → IsWellFormed system → HasNoCycle system → HasOneTrace (composition_of system)
 
--- What is run of a system in range that is well-formed and has no cycle has an order of its places, and exactly one trace.
+-- A system in range that is well-formed has no cycle exactly where what is run of it has an order of its places; and then this
+-- has exactly one trace.
 abbrev pub RunsHavePlaceOrders : Type 0
 RunsHavePlaceOrders =
-    (system : System) → IsRanged system → IsWellFormed system → HasNoCycle system → (order : List ℕ) × IsPlaceOrder (run_of system) order
+    (system : System) → IsRanged system → IsWellFormed system → HasNoCycle system ↔ ((order : List ℕ) × IsPlaceOrder (run_of system) order)
 
 abbrev pub RunsHaveOneTrace : Type 0
 RunsHaveOneTrace = (system : System) → IsRanged system → IsWellFormed system → HasNoCycle system → HasOneTrace (run_of system)

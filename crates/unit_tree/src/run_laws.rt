@@ -55,8 +55,8 @@ pub fn ordered_runs_have_one_trace()
 {}
 
 /// A law: a system without event ports that is well-formed has no cycle exactly where it has an order of its places, and
-/// then it has exactly one trace. What is run of a system in range that is well-formed and without a cycle, in either
-/// version, has both too: its plain form, which has no event ports. So such a system has one outcome: one list of rows, one
+/// then it has exactly one trace. The same holds of a system in range that is well-formed, in either version, and what is
+/// run of it: its plain form, which has no event ports. So where it has no cycle it has one outcome: one list of rows, one
 /// last point, one end, and one count of cells.
 pub fn systems_have_one_trace()
     ensures order { SystemsHavePlaceOrders }
