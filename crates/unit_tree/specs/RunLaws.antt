@@ -110,7 +110,7 @@ pub record IsInBounds (run : Composition) (at : Position) : Type 0 where
   pub stop : at.point.t ≤ run.stop
   pub zeros : at.point.n ≤ run.zero_budget
 
--- It is within the row budget.
+-- A position is within the row budget of the run.
 abbrev pub IsInRows : Composition → Position → Type 0
 IsInRows run at = at.number < run.row_budget
 

@@ -291,7 +291,7 @@ pub record EventsAreWorked : Type 0 where
   pub absent_in_max : Refused2 (run_of (parts.Max expr.Absent ∷ [])) 10 3
   pub absent_assigned : Refused2 (run_of (counts ++ (parts.Step (set (codes "n") expr.Absent ∷ []) ∷ []))) 10 6
   pub present_in_version_1 : Refused (run_of (input_e ∷ output_y types.Bool (codes "e" ∷ []) (expr.Present (codes "e")) ∷ [])) 10 4
-  -- 12: `present` uses its input
+  -- 12: `present` uses its input, and an event output has needs of its own
   pub hidden_presence : Refused2 (run_of (input_e ∷ output_y types.Bool [] (expr.Present (codes "e")) ∷ [])) 12 4
   pub needed_presence : Accepted2 (run_of (input_e ∷ output_y types.Bool (codes "e" ∷ []) (expr.Present (codes "e")) ∷ []))
   pub hidden_in_event : Refused2 (run_of (input_u ∷ output_p [] (expr.Var (codes "u")) ∷ [])) 12 4
