@@ -7,7 +7,7 @@ use Rattle.std.proofs.lemmas.Grind.{flat_map-append}
 use Rattle.std.proofs.lemmas.List.Elements.{filter_map-append}
 use Rattle.std.proofs.lemmas.Slice.Eq.{bytes_eq-Decides}
 use Rattle.unit_tree.specs.Canonical.{optional, unit_parts, canonical_parts}
-use Rattle.unit_tree.specs.Names.{Port, output_names, input_names, output_uses, keeps_to, are_among, output_at, input_at, same_port}
+use Rattle.unit_tree.specs.Names.{Port, output_ports, output_names, input_names, output_uses, keeps_to, are_among, output_at, input_at, same_port}
 use Rattle.unit_tree.specs.Parts as parts
 use Rattle.unit_tree.specs.Parts.{Part, UnitPart, unit_of}
 use Rattle.unit_tree.specs.Sites.{Scope, TopScope, UnitScope, InstanceScope, Site, Headed, alone, sites, headed_unit_part, headed_part, sites_of}
@@ -199,9 +199,12 @@ output_heads unit [] [] = refl
 output_heads unit [] (event ∷ events) = ap (λ rest. alone (form.EventOutput event) ∷ rest) (output_heads unit [] events)
 output_heads unit (output ∷ outputs) events = ap (λ rest. alone (form.Output output) ∷ rest) (output_heads unit outputs events)
 
+abbrev ports_declared : List Output → List EventOut → List Port
+ports_declared outputs events =
+    map (λ output. record { name = output.name; ty = output.ty; is_event = false; needs = output.needs }) outputs ++ map (λ event. record { name = event.name; ty = event.ty; is_event = true; needs = event.needs }) events
+
 abbrev names_declared : List Output → List EventOut → List (List ℕ)
-names_declared outputs events =
-    map (λ (port : Port). port.name) (map (λ output. record { name = output.name; ty = output.ty; is_event = false; needs = output.needs }) outputs ++ map (λ event. record { name = event.name; ty = event.ty; is_event = true; needs = event.needs }) events)
+names_declared outputs events = map (λ (port : Port). port.name) (ports_declared outputs events)
 
 declaring_names : (outputs : List Output) (events : List EventOut) → map declaring_name (all_declaring outputs events) ≡ names_declared outputs events
 declaring_names [] [] = refl
@@ -354,6 +357,29 @@ module _ (system : System) where
         subst (λ (u : Unit). AllByRecursion (λ output. are_among (input_names u) output.needs ≡ true) unit.outputs) (unit_is unit) (outputs_need (said unit) here.0 unit.outputs unit.events_out here.1),
         units_need units (earlier ++ (form.Unit unit.name ∷ [])) hold.2,
       )
+
+  -- The same of all ports, those of events among them.
+  ports_need : (unit : Unit) (before : List LineForm) (outputs : List Output) (events : List EventOut) → Hold Names (UnitScope unit) before (map declaring_head (all_declaring outputs events)) → AllByRecursion (λ (port : Port). are_among (input_names unit) port.needs ≡ true) (ports_declared outputs events)
+  ports_need unit before [] [] hold = tt
+  ports_need unit before [] (event ∷ events) hold = (
+    not_false _ (or_false (not (keeps_to (output_uses unit) event.value)) (not (are_among (input_names unit) event.needs)) hold.0).1,
+    ports_need unit (before ++ (form.EventOutput event ∷ [])) [] events hold.2,
+  )
+  ports_need unit before (output ∷ outputs) events hold = (
+    not_false _ (or_false (not (keeps_to (output_uses unit) output.value)) (not (are_among (input_names unit) output.needs)) hold.0).1,
+    ports_need unit (before ++ (form.Output output ∷ [])) outputs events hold.2,
+  )
+
+  units_ports_need : (units : List Unit) (earlier : List LineForm) → Hold Names TopScope earlier (flat_map headed_part (said_units units)) → AllByRecursion (λ unit. AllByRecursion (λ (port : Port). are_among (input_names unit) port.needs ≡ true) (output_ports unit)) units
+  units_ports_need [] earlier hold = tt
+  units_ports_need (unit ∷ units) earlier hold =
+      let here = outputs_hold Names unit hold.1 in (
+        subst (λ (u : Unit). AllByRecursion (λ (port : Port). are_among (input_names u) port.needs ≡ true) (output_ports unit)) (unit_is unit) (ports_need (said unit) here.0 unit.outputs unit.events_out here.1),
+        units_ports_need units (earlier ++ (form.Unit unit.name ∷ [])) hold.2,
+      )
+
+  pub ports_need_inputs : IsWellFormed system → AllByRecursion (λ unit. AllByRecursion (λ (port : Port). are_among (input_names unit) port.needs ≡ true) (output_ports unit)) system.units
+  ports_need_inputs kept = units_ports_need system.units (form.Header system.version ∷ []) (kept_parts Names system (all_keep (λ site. misnames system site.scope site.line) 1 (sites_of system) kept.1.0)).units
 
   wires_from : (wires : List Wire) (earlier : List LineForm) → Hold Names TopScope earlier (map wire_head wires) → AllByRecursion (λ wire. is_none (output_at system wire.from) ≡ false) wires
   wires_from [] earlier hold = tt

@@ -3,8 +3,8 @@ use Rattle.std.proofs.Common.{◌≡◌, ℕ, zero, suc, ◌+◌, ◌<◌, Bool,
 use Rattle.std.proofs.lemmas.Bool.{and_parts}
 use Rattle.std.proofs.lemmas.List.{map-append}
 use Rattle.std.proofs.lemmas.Option.{slice_get_within}
-use Rattle.std.specs.Prelude.{not, is_none, ◌||◌, slice_get, zip, unwrap_or}
-use Rattle.std.specs.List.{AllByRecursion, AllZip, flat_map, filter_map, cons_option, list_any, find, position_or_len}
+use Rattle.std.specs.Prelude.{not, is_none, slice_get, zip, unwrap_or}
+use Rattle.std.specs.List.{AllByRecursion, AllZip, flat_map, filter_map, cons_option, position_or_len}
 use Rattle.std.specs.Option.{option_and_then}
 use Rattle.std.specs.Str.{bytes_eq}
 use Rattle.unit_tree.specs.Compositions.{Member, HasNoEvents, component_with, factor_of, place_of, source_from, source_of, member_with, composition_of}
@@ -20,15 +20,12 @@ use Rattle.unit_tree.specs.declared.unit.EventOut.{EventOut}
 use Rattle.unit_tree.specs.declared.unit.Input.{Input}
 use Rattle.unit_tree.specs.declared.unit.Output.{Output}
 use Rattle.unit_tree.specs.declared.unit.Unit.{Unit}
-use Rattle.unit_tree.proofs.NameLaws.{Has, Distinct, NamesDiffer, Wired, same_port_of, has_either, has_map, has_front, has_behind, same_bytes, bytes_of, found}
+use Rattle.unit_tree.proofs.NameLaws.{Has, Distinct, NamesDiffer, Wired, same_port_of, has_either, has_map, has_front, has_behind, same_bytes, found}
 use Rattle.unit_tree.proofs.OrderLaws.{each_in}
+use Rattle.unit_tree.proofs.PortLaws.{among, has_among, each_among, ports_in, output_has}
 use Rattle.unit_tree.proofs.RunTraces.{one_each}
 
 -- ---- Ports in lists
-
-or_true : (one other : Bool) → (one || other) ≡ true → (one ≡ true) ⊎ (other ≡ true)
-or_true true other is = inl refl
-or_true false other is = inr is
 
 true_is_false : {A : Type 0} (b : Bool) → b ≡ true → b ≡ false → A
 true_is_false true is isnt = absurd (cc)
@@ -109,7 +106,7 @@ pub all_has : {A : Type 0} (P : A → Type 0) (xs : List A) → ((x : A) → Has
 all_has P [] each = tt
 all_has P (x ∷ xs) each = (each x (inl refl), all_has P xs (λ y has. each y (inr has)))
 
-distinct_append : {A : Type 0} (xs ys : List A) → Distinct xs → Distinct ys → ((x : A) → Has xs x → Has ys x → ⊥) → Distinct (xs ++ ys)
+pub distinct_append : {A : Type 0} (xs ys : List A) → Distinct xs → Distinct ys → ((x : A) → Has xs x → Has ys x → ⊥) → Distinct (xs ++ ys)
 distinct_append [] ys one other apart = other
 distinct_append (x ∷ xs) ys one other apart =
     (λ has. elim (has_either xs ys x has) [ inl h ↦ one.0 h | inr h ↦ apart x (inl refl) h ], distinct_append xs ys one.1 other (λ y h. apart y (inr h)))
@@ -150,9 +147,6 @@ names_plain (output ∷ outputs) = ap (λ rest. output.name ∷ rest) (names_pla
 module _ (system : System) (plain : HasNoEvents system) (differ : NamesDiffer system) where
   abbrev known : AllByRecursion Known system.units
   known = all_known system.units plain differ.outputs
-
-  abbrev ports_in : Instance → List Port → List PortName
-  ports_in instance ports = map (λ (port : Port). port_of instance port.name) ports
 
   -- ---- All outputs differ
 
@@ -212,11 +206,6 @@ module _ (system : System) (plain : HasNoEvents system) (differ : NamesDiffer sy
   in_flat f [] name port has stands = absurd has
   in_flat f (first ∷ names) name port (inl is) stands = has_in (f first ++ flat_map f names) port (has_front (f first) (flat_map f names) port (in_has (f first) port (subst (λ n. IsIn (f n) port) (sym is) stands)))
   in_flat f (first ∷ names) name port (inr has) stands = has_in (f first ++ flat_map f names) port (has_behind (f first) (flat_map f names) port (in_has (flat_map f names) port (in_flat f names name port has stands)))
-
-  among : (names : List (List ℕ)) (name : List ℕ) → is_among names name ≡ true → Has names name
-  among [] name is = absurd (cc)
-  among (first ∷ names) name is =
-      elim (or_true (bytes_eq name first) (list_any (bytes_eq name) names) is) [ inl same ↦ inl (sym (same_bytes name first same)) | inr later ↦ inr (among names name later) ]
 
   module _ (instance : Instance) (output : Output) (is_there : output_at system (port_of instance output.name) ≡ Some (plain_port output)) where
     abbrev this_port : PortName
@@ -357,20 +346,6 @@ module _ (system : System) (plain : HasNoEvents system) (differ : NamesDiffer sy
 
   -- ---- The way back: where each output and its place come from
 
-  or_right : (one other : Bool) → other ≡ true → (one || other) ≡ true
-  or_right true other is = refl
-  or_right false other is = is
-
-  has_among : (names : List (List ℕ)) (name : List ℕ) → Has names name → is_among names name ≡ true
-  has_among [] name has = absurd has
-  has_among (first ∷ names) name (inl is) = ap (λ b. b || is_among names name) (bytes_of name first (sym is))
-  has_among (first ∷ names) name (inr has) = or_right (bytes_eq name first) (is_among names name) (has_among names name has)
-
-  each_among : (names used : List (List ℕ)) (name : List ℕ) → are_among names used ≡ true → Has used name → is_among names name ≡ true
-  each_among names [] name all has = absurd has
-  each_among names (first ∷ used) name all (inl is) = subst (λ n. is_among names n ≡ true) is (and_parts (is_among names first) (are_among names used) all).0
-  each_among names (first ∷ used) name all (inr has) = each_among names used name (and_parts (is_among names first) (are_among names used) all).1 has
-
   -- The plain input of a name, where there are no others.
   input_named : (inputs : List Input) (events : List EventIn) (name : List ℕ) → events ≡ [] → Has (port_names (map (λ input. record { name = input.name; ty = input.ty; is_event = false; needs = [] }) inputs ++ map (λ event. record { name = event.name; ty = event.ty; is_event = true; needs = [] }) events)) name → (input : Input) × Has inputs input × (input.name ≡ name)
   input_named inputs (event ∷ events) name none has = absurd (cc)
@@ -385,47 +360,6 @@ module _ (system : System) (plain : HasNoEvents system) (differ : NamesDiffer sy
         | inl here ↦ (first, inl refl, has_in (f first) source here)
         | inr has ↦ let later = from_flat f names source (has_in (flat_map f names) source has) in (later.0, inr later.1, later.2)
       ]
-
-  has_flat : {A : Type 0} (f : A → List PortName) (xs : List A) (x : A) (source : PortName) → Has xs x → Has (f x) source → Has (flat_map f xs) source
-  has_flat f [] x source has here = absurd has
-  has_flat f (first ∷ xs) x source (inl is) here = has_front (f first) (flat_map f xs) source (subst (λ y. Has (f y) source) (sym is) here)
-  has_flat f (first ∷ xs) x source (inr has) here = has_behind (f first) (flat_map f xs) source (has_flat f xs x source has here)
-
-  -- ---- A connection comes from an output of the system
-
-  named_at : (told : Bool) (first instance : Instance) (instances : List Instance) (name : List ℕ) → bytes_eq first.name name ≡ told → (find (λ (i : Instance). bytes_eq i.name name) instances ≡ Some instance → Has instances instance × (instance.name ≡ name)) → cond told (Some first) (find (λ (i : Instance). bytes_eq i.name name) instances) ≡ Some instance → Has (first ∷ instances) instance × (instance.name ≡ name)
-  named_at true first instance instances name is later found_is =
-      let same : first ≡ instance = cc in (inl same, subst (λ (i : Instance). i.name ≡ name) same (same_bytes first.name name is))
-  named_at false first instance instances name is later found_is = let rest = later found_is in (inr rest.0, rest.1)
-
-  instance_at : (instances : List Instance) (name : List ℕ) (instance : Instance) → find (λ (i : Instance). bytes_eq i.name name) instances ≡ Some instance → Has instances instance × (instance.name ≡ name)
-  instance_at [] name instance is = absurd (cc)
-  instance_at (first ∷ instances) name instance is = named_at (bytes_eq first.name name) first instance instances name refl (instance_at instances name instance) is
-
-  port_by : (told : Bool) (instance : Instance) (first : Port) (ports : List Port) (port : PortName) → instance.name ≡ port.instance → bytes_eq first.name port.port ≡ told → (is_none (port_named ports port.port) ≡ false → Has (ports_in instance ports) port) → is_none (cond told (Some first) (port_named ports port.port)) ≡ false → Has (ports_in instance (first ∷ ports)) port
-  port_by true instance first ports port instance_is is later some =
-      let same : port_of instance first.name ≡ port =
-      ap (λ name. record { instance = name; port = first.name }) instance_is
-      ∙ ap (λ name. record { instance = port.instance; port = name }) (same_bytes first.name port.port is) in
-      inl same
-  port_by false instance first ports port instance_is is later some = inr (later some)
-
-  port_there : (instance : Instance) (ports : List Port) (port : PortName) → instance.name ≡ port.instance → is_none (port_named ports port.port) ≡ false → Has (ports_in instance ports) port
-  port_there instance [] port instance_is some = absurd (cc)
-  port_there instance (first ∷ ports) port instance_is some = port_by (bytes_eq first.name port.port) instance first ports port instance_is refl (port_there instance ports port instance_is) some
-
-  unit_there : (instance : Instance) (given : Option Unit) (port : PortName) → instance.name ≡ port.instance → is_none (option_and_then (λ unit. port_named (output_ports unit) port.port) given) ≡ false → Has (ports_in instance (outputs_in given)) port
-  unit_there instance None port instance_is some = absurd (cc)
-  unit_there instance (Some unit) port instance_is some = port_there instance (output_ports unit) port instance_is some
-
-  instance_there : (given : Option Instance) (port : PortName) → instance_named system port.instance ≡ given → is_none (option_and_then (λ unit. port_named (output_ports unit) port.port) (option_and_then (unit_of_instance system) given)) ≡ false → Has (outputs_of system) port
-  instance_there None port is some = absurd (cc)
-  instance_there (Some instance) port is some =
-      let at = instance_at system.instances port.instance instance is in
-      has_flat ports_of system.instances instance port at.0 (unit_there instance (unit_of_instance system instance) port at.1 some)
-
-  output_in : (port : PortName) → is_none (output_at system port) ≡ false → IsIn (outputs_of system) port
-  output_in port some = has_in (outputs_of system) port (instance_there (instance_named system port.instance) port refl some)
 
   -- ---- What is connected to an input
 
@@ -497,7 +431,7 @@ module _ (system : System) (plain : HasNoEvents system) (differ : NamesDiffer sy
           let needed : is_among output.needs input.0.name ≡ true = ap (is_among output.needs) input.2 ∙ has_among output.needs need.0 need.1 in
           let place_is_needed : place_needed output (input.0, source_of system instance input.0) ≡ Some (place_of system source) =
           ap (λ b. cond b (place_in (source_of system instance input.0)) None) needed ∙ ap (λ all. place_in (source_from system input.0 all)) one in (
-            output_in source (from_each (λ port. is_none (output_at system port) ≡ false) at_need system.wires source wired.from need.2),
+            has_in (outputs_of system) source (output_has system source (from_each (λ port. is_none (output_at system port) ≡ false) at_need system.wires source wired.from need.2)),
             place_among instance output unit.inputs input.0 (place_of system source) input.1 place_is_needed,
           );
     }

@@ -26,21 +26,21 @@ use Rattle.unit_tree.proofs.PlainNames.{each_has, has_flat, Mapped, map_has, Fla
 -- ---- Outputs of a system with their declarations
 
 -- An output of a system, with its instance, its unit, and what declares it.
-record Declared (system : System) (port : PortName) : Type 0 where
-  instance : Instance
-  unit : Unit
-  output : Port
-  instance_has : Has system.instances instance
-  unit_is : unit_of_instance system instance ≡ Some unit
-  unit_has : Has system.units unit
-  has : Has (output_ports unit) output
-  is : port_of instance output.name ≡ port
+pub record Declared (system : System) (port : PortName) : Type 0 where
+  pub instance : Instance
+  pub unit : Unit
+  pub output : Port
+  pub instance_has : Has system.instances instance
+  pub unit_is : unit_of_instance system instance ≡ Some unit
+  pub unit_has : Has system.units unit
+  pub has : Has (output_ports unit) output
+  pub is : port_of instance output.name ≡ port
 
 named_by : (first unit : Unit) (units : List Unit) (rest : Option Unit) (told : Bool) → (rest ≡ Some unit → Has units unit) → cond told (Some first) rest ≡ Some unit → Has (first ∷ units) unit
 named_by first unit units rest true later is = inl (cc)
 named_by first unit units rest false later is = inr (later is)
 
-named_has : (units : List Unit) (name : List ℕ) (unit : Unit) → unit_named units name ≡ Some unit → Has units unit
+pub named_has : (units : List Unit) (name : List ℕ) (unit : Unit) → unit_named units name ≡ Some unit → Has units unit
 named_has [] name unit is = absurd (cc)
 named_has (first ∷ units) name unit is = named_by first unit units (unit_named units name) (bytes_eq first.name name) (named_has units name unit) is
 
@@ -66,18 +66,18 @@ module _ (system : System) where
         is = from.is;
       }
 
-  declared : (port : PortName) → IsIn (outputs_of system) port → Declared system port
+  pub declared : (port : PortName) → IsIn (outputs_of system) port → Declared system port
   declared port stands =
       let from = flat_has ports_of system.instances port (in_has (outputs_of system) port stands) in
       declared_by from.one (unit_of_instance system from.one) port from.has refl from.inside
 
-  stands_there : (instance : Instance) (unit : Unit) (output : Port) → Has system.instances instance → unit_of_instance system instance ≡ Some unit → Has (output_ports unit) output → IsIn (outputs_of system) (port_of instance output.name)
+  pub stands_there : (instance : Instance) (unit : Unit) (output : Port) → Has system.instances instance → unit_of_instance system instance ≡ Some unit → Has (output_ports unit) output → IsIn (outputs_of system) (port_of instance output.name)
   stands_there instance unit output instance_has unit_is has =
       has_in (outputs_of system) (port_of instance output.name)
       (has_flat ports_of system.instances instance (port_of instance output.name) instance_has
       (subst (λ given. Has (ports_with instance (outputs_in given)) (port_of instance output.name)) (sym unit_is) (has_map (λ (o : Port). port_of instance o.name) (output_ports unit) output has)))
 
-  output_is : PortsDiffer system → (instance : Instance) (unit : Unit) (output : Port) → Has system.instances instance → unit_of_instance system instance ≡ Some unit → Has (output_ports unit) output → output_at system (port_of instance output.name) ≡ Some output
+  pub output_is : PortsDiffer system → (instance : Instance) (unit : Unit) (output : Port) → Has system.instances instance → unit_of_instance system instance ≡ Some unit → Has (output_ports unit) output → output_at system (port_of instance output.name) ≡ Some output
   output_is differ instance unit output instance_has unit_is has =
       ap (λ named. option_and_then (λ u. port_named (output_ports u) output.name) (option_and_then (unit_of_instance system) named)) (found (λ (i : Instance). i.name) system.instances instance differ.instances instance_has)
       ∙ ap (option_and_then (λ u. port_named (output_ports u) output.name)) unit_is
@@ -86,16 +86,16 @@ module _ (system : System) where
 -- ---- Units
 
 -- The plain outputs of a port.
-abbrev plain_one : Unit → Port → Port
+abbrev pub plain_one : Unit → Port → Port
 plain_one unit port = record { name = port.name; ty = port.ty; is_event = false; needs = plain_needs unit port.needs }
 
-abbrev presence_one : Unit → Port → Port
+abbrev pub presence_one : Unit → Port → Port
 presence_one unit port = record { name = presence_name port.name; ty = types.Bool; is_event = false; needs = plain_needs unit port.needs }
 
-abbrev ones : Unit → List Output
+abbrev pub ones : Unit → List Output
 ones unit = map (plain_output unit) unit.outputs
 
-abbrev twos : Unit → List Output
+abbrev pub twos : Unit → List Output
 twos unit = flat_map (plain_outputs unit) unit.events_out
 
 plain_ports : (unit : Unit) → output_ports (plain_unit unit) ≡ map of_output (ones unit ++ twos unit)
@@ -105,11 +105,11 @@ has_plain_ports : (unit : Unit) (output : Output) → Has (ones unit ++ twos uni
 has_plain_ports unit output has = subst (λ ports. Has ports (of_output output)) (sym (plain_ports unit)) (has_map of_output (ones unit ++ twos unit) output has)
 
 -- What a port of a unit becomes.
-record Becomes (unit : Unit) (port : Port) : Type 0 where
-  whole : Has (output_ports (plain_unit unit)) (plain_one unit port)
-  presence : port.is_event ≡ true → Has (output_ports (plain_unit unit)) (presence_one unit port)
+pub record Becomes (unit : Unit) (port : Port) : Type 0 where
+  pub whole : Has (output_ports (plain_unit unit)) (plain_one unit port)
+  pub presence : port.is_event ≡ true → Has (output_ports (plain_unit unit)) (presence_one unit port)
 
-becomes : (unit : Unit) (port : Port) → Has (output_ports unit) port → Becomes unit port
+pub becomes : (unit : Unit) (port : Port) → Has (output_ports unit) port → Becomes unit port
 becomes unit port has = elim (has_either (map of_output unit.outputs) (map of_event unit.events_out) port has) [
   | inl here ↦ of_one (map_has of_output unit.outputs port here)
   | inr here ↦ of_two (map_has of_event unit.events_out port here)
@@ -244,18 +244,18 @@ plain_named [] name = refl
 plain_named (first ∷ units) name = plain_named_by (bytes_eq first.name name) first (unit_named (map plain_unit units) name) (unit_named units name) (plain_named units name)
 
 -- A connection to a port, among some.
-record Wired (wires : List Wire) (port source : PortName) : Type 0 where
-  wire : Wire
-  has : Has wires wire
-  to : wire.to ≡ port
-  from : wire.from ≡ source
+pub record Joined (wires : List Wire) (port source : PortName) : Type 0 where
+  pub wire : Wire
+  pub has : Has wires wire
+  pub to : wire.to ≡ port
+  pub from : wire.from ≡ source
 
-wired_by : (told : Bool) (first : Wire) (wires : List Wire) (port source : PortName) (rest : List PortName) → same_port first.to port ≡ told → (Has rest source → Wired wires port source) → Has (cons_option (cond told (Some first.from) None) rest) source → Wired (first ∷ wires) port source
+wired_by : (told : Bool) (first : Wire) (wires : List Wire) (port source : PortName) (rest : List PortName) → same_port first.to port ≡ told → (Has rest source → Joined wires port source) → Has (cons_option (cond told (Some first.from) None) rest) source → Joined (first ∷ wires) port source
 wired_by true first wires port source rest told later (inl is) = record { wire = first; has = inl refl; to = same_port_is first.to port told; from = is }
 wired_by true first wires port source rest told later (inr has) = let wired = later has in record { wire = wired.wire; has = inr wired.has; to = wired.to; from = wired.from }
 wired_by false first wires port source rest told later has = let wired = later has in record { wire = wired.wire; has = inr wired.has; to = wired.to; from = wired.from }
 
-wired : (wires : List Wire) (port source : PortName) → Has (filter_map (source_if port) wires) source → Wired wires port source
+pub wired : (wires : List Wire) (port source : PortName) → Has (filter_map (source_if port) wires) source → Joined wires port source
 wired [] port source has = absurd has
 wired (first ∷ wires) port source has = wired_by (same_port first.to port) first wires port source (filter_map (source_if port) wires) refl (wired wires port source) has
 
@@ -263,18 +263,18 @@ has_source_by : (told : Bool) (first source : PortName) (rest : List PortName) �
 has_source_by true first source rest has = inr has
 has_source_by false first source rest has = has
 
-has_source : (wires : List Wire) (port : PortName) (wire : Wire) → Has wires wire → wire.to ≡ port → Has (filter_map (source_if port) wires) wire.from
+pub has_source : (wires : List Wire) (port : PortName) (wire : Wire) → Has wires wire → wire.to ≡ port → Has (filter_map (source_if port) wires) wire.from
 has_source [] port wire has to = absurd has
 has_source (first ∷ wires) port wire (inl is) to =
     let same : same_port first.to port ≡ true = same_port_of first.to port (ap (λ (w : Wire). w.to) is ∙ to) in
     subst (λ told. Has (cons_option (cond told (Some first.from) None) (filter_map (source_if port) wires)) wire.from) (sym same) (inl (ap (λ (w : Wire). w.from) is))
 has_source (first ∷ wires) port wire (inr has) to = has_source_by (same_port first.to port) first.from wire.from (filter_map (source_if port) wires) (has_source wires port wire has to)
 
-abbrev presence_wire : Wire → Wire
+abbrev pub presence_wire : Wire → Wire
 presence_wire wire = record { from = presence_port wire.from; to = presence_port wire.to }
 
 -- A connection of the plain form is one of the system, or that of the two ports which tell of an event.
-wire_by : (told : Bool) (wire plain : Wire) → Has (cond told (presence_wire wire ∷ wire ∷ []) (wire ∷ [])) plain → (wire ≡ plain) ⊎ ((told ≡ true) × (presence_wire wire ≡ plain))
+pub wire_by : (told : Bool) (wire plain : Wire) → Has (cond told (presence_wire wire ∷ wire ∷ []) (wire ∷ [])) plain → (wire ≡ plain) ⊎ ((told ≡ true) × (presence_wire wire ≡ plain))
 wire_by true wire plain (inl is) = inr (refl, is)
 wire_by true wire plain (inr (inl is)) = inl is
 wire_by true wire plain (inr (inr none)) = absurd none
@@ -304,7 +304,7 @@ all_weaker : (P Q : PortName → Type 0) (ports : List PortName) → ((port : Po
 all_weaker P Q [] weaker all = tt
 all_weaker P Q (port ∷ ports) weaker all = (weaker port all.0, all_weaker P Q ports weaker all.1)
 
-in_longer : (ports behind : List PortName) (port : PortName) → IsIn ports port → IsIn (ports ++ behind) port
+pub in_longer : (ports behind : List PortName) (port : PortName) → IsIn ports port → IsIn (ports ++ behind) port
 in_longer ports behind port stands = has_in (ports ++ behind) port (has_front ports behind port (in_has ports port stands))
 
 all_longer : (P : PortName → Type 0) (ports : List PortName) (port : PortName) → AllByRecursion P ports → P port → AllByRecursion P (ports ++ (port ∷ []))
@@ -349,15 +349,15 @@ module _ (system : System) (ranged : IsRanged system) (kept : IsWellFormed syste
   pub plain_names_differ : NamesDiffer plain
   plain_names_differ = record { instances = differ.instances; outputs = units_apart system.units each_unit }
 
-  plain_differ : PortsDiffer plain
+  pub plain_differ : PortsDiffer plain
   plain_differ = record { instances = differ.instances; outputs = ports_apart system.units each_unit }
 
   -- ---- What a port becomes
 
-  abbrev split_by : Bool → PortName → List PortName
+  abbrev pub split_by : Bool → PortName → List PortName
   split_by told port = cond told (presence_port port ∷ port ∷ []) (port ∷ [])
 
-  abbrev split : PortName → List PortName
+  abbrev pub split : PortName → List PortName
   split port = split_by (is_event_output system port) port
 
   abbrev splits : List PortName → List PortName
@@ -374,21 +374,21 @@ module _ (system : System) (ranged : IsRanged system) (kept : IsWellFormed syste
   in_splits : (ports : List PortName) (port made : PortName) → IsIn ports port → Has (split port) made → IsIn (splits ports) made
   in_splits ports port made stands has = has_in (splits ports) made (has_flat split ports port made (in_has ports port stands) has)
 
-  is_event_is : (d : Port) (instance : Instance) (unit : Unit) → Has system.instances instance → unit_of_instance system instance ≡ Some unit → Has (output_ports unit) d → is_event_output system (port_of instance d.name) ≡ d.is_event
+  pub is_event_is : (d : Port) (instance : Instance) (unit : Unit) → Has system.instances instance → unit_of_instance system instance ≡ Some unit → Has (output_ports unit) d → is_event_output system (port_of instance d.name) ≡ d.is_event
   is_event_is d instance unit instance_has unit_is has = ap (λ given. unwrap_or (option_map (λ (o : Port). o.is_event) given) false) (output_is system differ instance unit d instance_has unit_is has)
 
-  plain_unit_is : (instance : Instance) (unit : Unit) → unit_of_instance system instance ≡ Some unit → unit_of_instance plain instance ≡ Some (plain_unit unit)
+  pub plain_unit_is : (instance : Instance) (unit : Unit) → unit_of_instance system instance ≡ Some unit → unit_of_instance plain instance ≡ Some (plain_unit unit)
   plain_unit_is instance unit is = plain_named system.units instance.unit ∙ ap (option_map plain_unit) is
 
   -- What an orderly list asks of an output of the plain form that comes next.
   abbrev Next : List PortName → PortName → Type 0
   Next before made = IsIn (outputs_of plain) made × (IsIn (splits before) made → ⊥) × AllByRecursion (IsIn (splits before)) (needed_by plain made)
 
-  plain_name : (port : PortName) → IsIn (outputs_of system) port → IsPlain port.port
+  pub plain_name : (port : PortName) → IsIn (outputs_of system) port → IsPlain port.port
   plain_name port stands = let d = declared system port stands in subst (λ (p : PortName). IsPlain p.port) d.is (plain_port_names system ranged d.unit d.unit_has d.output d.has).name
 
   -- What two ports become is the same only where they are.
-  same_origin : (one other made : PortName) → IsPlain one.port → IsPlain other.port → (one ≡ made) ⊎ (presence_port one ≡ made) → (other ≡ made) ⊎ (presence_port other ≡ made) → one ≡ other
+  pub same_origin : (one other made : PortName) → IsPlain one.port → IsPlain other.port → (one ≡ made) ⊎ (presence_port one ≡ made) → (other ≡ made) ⊎ (presence_port other ≡ made) → one ≡ other
   same_origin one other made plain_one_name plain_other_name (inl is) (inl is') = is ∙ sym is'
   same_origin one other made plain_one_name plain_other_name (inl is) (inr is') = absurd (plain_one_name other.port (ap (λ (p : PortName). p.port) (is ∙ sym is')))
   same_origin one other made plain_one_name plain_other_name (inr is) (inl is') = absurd (plain_other_name one.port (ap (λ (p : PortName). p.port) (is' ∙ sym is)))
@@ -473,6 +473,15 @@ module _ (system : System) (ranged : IsRanged system) (kept : IsWellFormed syste
           (λ stands. apart (not_before before port made outputs names.name made_has stands)),
           subst (λ p. AllByRecursion (IsIn (splits before)) (needed_by plain p)) from.is (all_has (IsIn (splits before)) (needed_by plain (port_of instance from.declaring.name)) (needed_in before from.declaring all from.stands from.needs)),
         )
+
+  -- What an output becomes, the plain form has.
+  pub made_stands : (port : PortName) → IsIn (outputs_of system) port → (made : PortName) → Has (split port) made → IsIn (outputs_of plain) made
+  made_stands port stands =
+      let d = declared system port stands in
+      subst (λ p. (made : PortName) → Has (split p) made → IsIn (outputs_of plain) made) d.is (λ made made_has.
+      let event = is_event_is d.output d.instance d.unit d.instance_has d.unit_is d.has in
+      let from = made_by d.instance d.unit d.output d.instance_has d.unit_is d.has (is_event_output system (port_of d.instance d.output.name)) made (sym event) made_has in
+      subst (IsIn (outputs_of plain)) from.is (stands_there plain d.instance (plain_unit d.unit) from.declaring d.instance_has (plain_unit_is d.instance d.unit d.unit_is) from.stands))
 
   next : (before : List PortName) (port : PortName) → AllByRecursion (IsIn (outputs_of system)) before → IsIn (outputs_of system) port → (IsIn before port → ⊥) → AllByRecursion (IsIn before) (needed_by system port) → (made : PortName) → Has (split port) made → Next before made
   next before port outputs stands =

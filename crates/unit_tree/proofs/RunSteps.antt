@@ -4,7 +4,7 @@ use Rattle.std.proofs.lemmas.Bool.Decides.{nat_tests}
 use Rattle.std.specs.List.{AllByRecursion}
 use Rattle.unit_tree.specs.Compositions.{Composition, AreMembers}
 use Rattle.unit_tree.specs.Ports.{first_some}
-use Rattle.unit_tree.specs.RunLaws.{IsInBounds, IsRightStep, HasRightStands}
+use Rattle.unit_tree.specs.RunLaws.{IsInBounds, IsInRows, IsRightStep, HasRightStands}
 use Rattle.unit_tree.specs.Successor.{Position, first_position, after, goes, ends_at, ends_or, row_end}
 use Rattle.unit_tree.specs.Trace.{Stand, Goes, Follows, IsTrace, HasWords}
 use Rattle.unit_tree.specs.declared.ending.Ending.{Ending}
@@ -25,15 +25,20 @@ goes_within : (run : Composition) (one next : Stand) → AreMembers run → Goes
 goes_within run one next are on words within =
     let none : first_some (ends_at run one.at one.ports) ≡ None = none_by (first_some (ends_at run one.at one.ports)) (after run one.at one.ports) next.at on.0 in
     let nearer = next_is_nearer run one are words (record { stop = within.stop; zeros = within.zeros }) none in
+    subst (IsInBounds run) (goes_to run one next on) (record { stop = nearer.stop; zeros = nearer.zeros })
+
+goes_in_rows : (run : Composition) (one next : Stand) → Goes run one next → IsInRows run one.at → IsInRows run next.at
+goes_in_rows run one next on within =
+    let none : first_some (ends_at run one.at one.ports) ≡ None = none_by (first_some (ends_at run one.at one.ports)) (after run one.at one.ports) next.at on.0 in
     let not_last : (suc one.at.number == run.row_budget) ≡ false = when_none _ _ (none_at (ends_at run one.at one.ports) 2 (row_end run one.at) none refl) in
-    subst (IsInBounds run) (goes_to run one next on)
-    (record { stop = nearer.stop; zeros = nearer.zeros; rows = next_row one.at.number run.row_budget within.rows not_last })
+    subst (IsInRows run) (goes_to run one next on) (next_row one.at.number run.row_budget within not_last)
 
 pub step_is_right : (run : Composition) (one next : Stand) → AreMembers run → Goes run one next → IsRightStep run one next
 step_is_right run one next are on = record {
   agreed = sym (goes_to run one next on);
   words = λ words. goes_keeps run one next are words on;
   bounds = goes_within run one next are on;
+  rows = goes_in_rows run one next on;
 }
 
 -- ---- A trace
@@ -47,8 +52,15 @@ bounds_along run stand [] ending are words within follow = (within, tt)
 bounds_along run stand (next ∷ others) ending are words within follow =
     (within, bounds_along run next others ending are (goes_keeps run stand next are words follow.0) (goes_within run stand next are follow.0 words within) follow.1)
 
-first_within : (run : Composition) → 1 ≤ run.row_budget → IsInBounds run (first_position run)
-first_within run rows = record { stop = omega arith; zeros = omega arith; rows = omega (arith, rows) }
+rows_along : (run : Composition) (stand : Stand) (others : List Stand) (ending : Ending) → IsInRows run stand.at → Follows run stand others ending → AllByRecursion (λ (each : Stand). IsInRows run each.at) (stand ∷ others)
+rows_along run stand [] ending within follow = (within, tt)
+rows_along run stand (next ∷ others) ending within follow = (within, rows_along run next others ending (goes_in_rows run stand next follow.0 within) follow.1)
+
+first_within : (run : Composition) → IsInBounds run (first_position run)
+first_within run = record { stop = omega arith; zeros = omega arith }
+
+first_in_rows : (run : Composition) → 1 ≤ run.row_budget → IsInRows run (first_position run)
+first_in_rows run rows = omega (arith, rows)
 
 pub stands_are_right : (run : Composition) (stands : List Stand) (ending : Ending) → AreMembers run → IsTrace run stands ending → HasRightStands run stands
 stands_are_right run [] ending are is = absurd is
@@ -56,5 +68,6 @@ stands_are_right run (first ∷ others) ending are is =
     let words : HasWords run first.at = subst (HasWords run) (sym is.0) (positions_keep run are).first in
     record {
       words = words_along run first others ending are words is.2;
-      bounds = λ rows. bounds_along run first others ending are words (subst (IsInBounds run) (sym is.0) (first_within run rows)) is.2;
+      bounds = bounds_along run first others ending are words (subst (IsInBounds run) (sym is.0) (first_within run)) is.2;
+      rows = λ some. rows_along run first others ending (subst (IsInRows run) (sym is.0) (first_in_rows run some)) is.2;
     }

@@ -8,7 +8,7 @@ use Rattle.unit_tree.specs.Compositions.{Composition, AreMembers, run_of}
 use Rattle.unit_tree.specs.Ports.{IsPlaceOrder, IsAssignment, first_some}
 use Rattle.unit_tree.specs.RunLaws.{HasOneTrace, HasOneTraceOf}
 use Rattle.unit_tree.specs.Successor.{Position, when, first_position, limits, agreed, ends_at, ends_or, after, goes, zero_end}
-use Rattle.unit_tree.specs.Trace.{Stand, IsStand, Goes, Follows, IsTrace, HasWords, rows_of, last_point}
+use Rattle.unit_tree.specs.Trace.{Stand, IsStand, Goes, Follows, IsTrace, HasWords, rows_of, last_point, cells_of}
 use Rattle.unit_tree.specs.declared.ending.Ending.{Ending}
 use Rattle.unit_tree.specs.declared.system.System.{System}
 use Rattle.unit_tree.proofs.AssignmentLaws.{none_at, one_assignment}
@@ -150,7 +150,7 @@ module _ (run : Composition) (order : List ℕ) (are : AreMembers run) (is_order
         is_only = λ other end is. same_trace other (start ∷ rest.0) end rest.1 words is (refl, assigned.is_assignment, rest.2);
       }
 
--- where what is run has one trace, the system has one list of rows, one last point and one end
+-- where what is run has one trace, the system has one list of rows, one last point, one end and one count of cells
 pub one_trace_of : (system : System) → HasOneTrace (run_of system) → HasOneTraceOf system
 one_trace_of system one = record {
   rows = rows_of (run_of system) one.stands;
@@ -160,4 +160,7 @@ one_trace_of system one = record {
   is_only = λ others point end other.
       let same = one.is_only other.stands end other.trace in
       (other.rows_are ∙ ap (rows_of (run_of system)) same.0, other.last_is ∙ ap last_point same.0, same.1);
+  cells = cells_of (run_of system) one.stands;
+  has_cells = record { stands = one.stands; ending = one.ending; trace = one.is_trace; is = refl };
+  is_only_count = λ count other. other.is ∙ ap (cells_of (run_of system)) (one.is_only other.stands other.ending other.trace).0;
 }

@@ -12,7 +12,7 @@ use Rattle.unit_tree.specs.declared.line_form.LineForm.TheVariants as form
 use Rattle.unit_tree.specs.declared.system.System.{System}
 use Rattle.unit_tree.specs.declared.unit.Unit.{Unit}
 
-abbrev line_at : Site → LineForm
+abbrev pub line_at : Site → LineForm
 line_at site = site.line
 
 -- A line with the lines of its block.
@@ -28,7 +28,7 @@ each_alone : (lines : List LineForm) → flat_map all_of (map alone lines) ≡ l
 each_alone [] = refl
 each_alone (line ∷ lines) = ap (λ rest. line ∷ rest) (each_alone lines)
 
-alone_in : (scope : Scope) (lines : List LineForm) → map line_at (sites scope [] (map alone lines)) ≡ lines
+pub alone_in : (scope : Scope) (lines : List LineForm) → map line_at (sites scope [] (map alone lines)) ≡ lines
 alone_in scope lines = lines_in scope [] (map alone lines) ∙ each_alone lines
 
 unit_part_is : (unit : Unit) (part : UnitPart) → flat_map all_of (headed_unit_part unit part) ≡ unit_part_forms part

@@ -7,7 +7,7 @@ use Rattle.unit_tree.specs.Components.{get_of}
 use Rattle.unit_tree.specs.Compositions.{Composition}
 use Rattle.unit_tree.specs.declared.unit.Input.{Input}
 
--- The input, and the output, of some number at an instance.
+-- The input of some number at an instance.
 abbrev pub input_numbered : Composition → ℕ → ℕ → Option Input
 input_numbered run instance number =
     option_and_then (λ member. slice_get member.component.unit.inputs number) (slice_get run.members instance)

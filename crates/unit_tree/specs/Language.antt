@@ -3,14 +3,14 @@
 use Rattle.std.specs.Prelude.{◌≡◌, ◌⊎◌, ◌↔◌, ℕ, List, ◌∷◌, ◌++◌, map, length, Some, None, IsTrue}
 use Rattle.std.specs.List.{flat_map}
 use Rattle.std.specs.List.Sorted.{IsPermutation}
-use Rattle.unit_tree.specs.Blocks.{no_lines, are_placed}
+use Rattle.unit_tree.specs.Blocks.{no_lines, open_blocks, are_placed}
 use Rattle.unit_tree.specs.Canonical.{canonical_parts, canonical_forms, canonical_phrase}
 use Rattle.unit_tree.specs.Orders.{IsIn, DependsOn, HasNoOrder, HasNoCycle, IsFirstWithoutOrder, outputs_of, line_of_output}
 use Rattle.unit_tree.specs.Parts.{Part, text_forms, system_of}
 use Rattle.unit_tree.specs.Phrases.{Whole, stands, tree_of}
 use Rattle.unit_tree.specs.Plain.{plain_form, plain_forms}
 use Rattle.unit_tree.specs.Printable.{is_unsigned}
-use Rattle.unit_tree.specs.Sites.{Site, StandsBehind, sites_of}
+use Rattle.unit_tree.specs.Sites.{Site, StandsBehind, is_scope_in, sites_of}
 use Rattle.unit_tree.specs.SourceLines.{in_canonical_order}
 use Rattle.unit_tree.specs.Texts.{IsRefused}
 use Rattle.unit_tree.specs.WellFormed.{Refusal, IsWellFormed, IsRefusal, refusal_of, rules}
@@ -28,10 +28,11 @@ pub record IsJudgedOnce : Type 0 where
   pub only : (system : System) (refusal : Refusal) → IsRefusal rules system refusal → refusal_of system ≡ Some refusal
 
 -- The sites that rules speak of are the canonical lines, one for one. Each stands in the block that the lines before it
--- have opened, behind those of this block.
+-- have opened, behind those of this block, and has the scope that the lines before it leave open.
 pub record SitesAreCanonicalLines : Type 0 where
   pub lines : (system : System) → map (λ site. site.line) (sites_of system) ≡ canonical_forms system
   pub blocks : (system : System) (before later : List Site) (site : Site) → sites_of system ≡ before ++ (site ∷ later) → StandsBehind system before site
+  pub scopes : (system : System) (before later : List Site) (site : Site) → sites_of system ≡ before ++ (site ∷ later) → IsTrue (is_scope_in (open_blocks (map (λ one. one.line) before)) site.scope site.line)
 
 -- For a system of version 2 the lines of the plain form that its lines become are, one behind the other, the canonical
 -- lines of the plain form; what is sampled stays as it was written.

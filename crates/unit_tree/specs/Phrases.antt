@@ -240,7 +240,7 @@ nesting (Clamp value low high) = suc (max (nesting value) (max (nesting low) (ne
 nesting (Choose cond then_part else_part) = suc (max (nesting cond) (max (nesting then_part) (nesting else_part)))
 nesting _ = 0
 
--- The numbers of an expression are words, which are not negative, and have at most nine decimals.
+-- The numbers of an expression are words from 0 up with at most nine decimals, and the N of each `fix N` is at most 9.
 abbrev pub numbers_fit : Phrase → Bool
 numbers_fit (Number digits decimals) = nat_lt digits (2 ^ 63) && nat_le decimals 9
 numbers_fit (Parens inner) = numbers_fit inner
@@ -250,8 +250,8 @@ numbers_fit (Clamp value low high) = numbers_fit value && (numbers_fit low && nu
 numbers_fit (Choose cond then_part else_part) = numbers_fit cond && (numbers_fit then_part && numbers_fit else_part)
 numbers_fit _ = true
 
--- The grammar has the expression: each part stands on its level, the parts are nested at most 64 levels deep,
--- and the numbers are words.
+-- The grammar has the expression: each part stands on its level, the parts are nested at most 64 levels deep, and the
+-- numbers, that of each `fix N` too, are in range.
 abbrev pub is_expression : Phrase → Bool
 is_expression phrase = stands Whole phrase && (nat_le (nesting phrase) 64 && numbers_fit phrase)
 

@@ -180,7 +180,8 @@ plain_form system = if system.version == 2 then record system {
 
 -- ---- Lines
 
--- The lines of the plain form that a line becomes, in a unit where it stands in one.
+-- The lines of the plain form that a line of a system of version 2 becomes, in a unit where it stands in one. In version 1
+-- the plain form is the system itself, with its own lines.
 abbrev pub plain_forms : System → Scope → LineForm → List LineForm
 plain_forms system (UnitScope unit) (form.Output output) = form.Output (plain_output unit output) ∷ []
 plain_forms system (UnitScope unit) (form.EventOutput event) = map form.Output (plain_outputs unit event)

@@ -48,11 +48,13 @@ names_said _ = []
 abbrev pub names_on : LineForm → List (List ℕ)
 names_on line = names_said line ++ names_on_expression (expression_on line)
 
--- A literal, and the numbers of an expression, have at most nine decimals.
+-- A literal has at most nine decimals.
 abbrev pub IsLiteralInRange : Literal → Type 0
 IsLiteralInRange (literal.Truth told) = ⊤
 IsLiteralInRange (literal.Number number decimals) = decimals ≤ 9
 
+-- A literal, a number of seconds, and the numbers of an expression have at most nine decimals; so has what each `fix N` in
+-- it gives.
 abbrev pub IsTailInRange : Tail → Type 0
 IsTailInRange Nothing = ⊤
 IsTailInRange (OfLiteral value) = IsLiteralInRange value
@@ -79,7 +81,7 @@ pub record IsRanged (system : System) : Type 0 where
 
 -- ---- Printable
 
--- One node, with whether each part has no negative number in its place.
+-- One node, with whether the numbers of each part are words from 0 up in its place.
 abbrev pub node_is_unsigned : Expr-F Bool → Bool
 node_is_unsigned (Expr-F.Number number decimals) = not (is_negative number) && is_word_of Int64 number
 node_is_unsigned (Expr-F.Unary op arg) = arg
@@ -92,16 +94,18 @@ node_is_unsigned _ = true
 abbrev pub is_unsigned : Expr → Bool
 is_unsigned = fold-Expr Bool node_is_unsigned
 
--- A literal's number is a word; the numbers of seconds are words from 0 up; those of an expression too, and its
--- canonical text is nested at most 64 levels deep.
+-- A literal is a truth value, or its number is a word.
 abbrev pub is_word_literal : Literal → Bool
 is_word_literal (literal.Truth told) = true
 is_word_literal (literal.Number number decimals) = is_word_of Int64 number
 
+-- A number of seconds is a word from 0 up.
 abbrev pub is_seconds : Literal → Bool
 is_seconds (literal.Truth told) = false
 is_seconds (literal.Number number decimals) = not (is_negative number) && is_word_of Int64 number
 
+-- A literal's number is a word; the numbers of seconds are words from 0 up; those of an expression too, and its
+-- canonical text is nested at most 64 levels deep.
 abbrev pub is_writable : Tail → Bool
 is_writable Nothing = true
 is_writable (OfLiteral value) = is_word_literal value

@@ -13,7 +13,7 @@ use Rattle.unit_tree.specs.Plain.{plain_form}
 use Rattle.unit_tree.specs.Ports.{Ports, IsAmong, IsAssignment, IsPlaceOrder, port_fault}
 use Rattle.unit_tree.specs.Printable.{IsRanged}
 use Rattle.unit_tree.specs.Successor.{Position, goes, ends, first_position, after, agreed, proposed, is_redone, stop_end, row_end, max_end, trial_end, redo_end, redo_end_by, zero_end, successor}
-use Rattle.unit_tree.specs.Trace.{Stand, Goes, IsGoing, IsTrace, Row, IsTraceOf, AreWordsOf, HasWords}
+use Rattle.unit_tree.specs.Trace.{Stand, Goes, IsGoing, IsTrace, Row, IsTraceOf, HasCells, AreWordsOf, HasWords}
 use Rattle.unit_tree.specs.WellFormed.{IsWellFormed, uses_other_input}
 use Rattle.unit_tree.specs.declared.ending.Ending.{Ending}
 use Rattle.unit_tree.specs.declared.system.System.{System}
@@ -105,25 +105,32 @@ pub record PositionsKeepWords (run : Composition) : Type 0 where
 abbrev pub RunsKeepWords : Type 0
 RunsKeepWords = (run : Composition) → AreMembers run → PositionsKeepWords run
 
--- A position is within the stop, the zero budget and the row budget of the run.
+-- A position is within the stop and the zero budget of the run.
 pub record IsInBounds (run : Composition) (at : Position) : Type 0 where
   pub stop : at.point.t ≤ run.stop
   pub zeros : at.point.n ≤ run.zero_budget
-  pub rows : at.number < run.row_budget
 
--- A step that a run makes leads to the position after the agreed step, and keeps words, and these bounds with them.
+-- A position is within the row budget of the run.
+abbrev pub IsInRows : Composition → Position → Type 0
+IsInRows run at = at.number < run.row_budget
+
+-- A step that a run makes leads to the position after the agreed step, and keeps words, with them the bounds on time, and the
+-- one on rows.
 pub record IsRightStep (run : Composition) (one next : Stand) : Type 0 where
   pub agreed : next.at ≡ after run one.at one.ports
   pub words : HasWords run one.at → HasWords run next.at
   pub bounds : HasWords run one.at → IsInBounds run one.at → IsInBounds run next.at
+  pub rows : IsInRows run one.at → IsInRows run next.at
 
 abbrev pub StepsOfRunsAreRight : Type 0
 StepsOfRunsAreRight = (run : Composition) (one next : Stand) → AreMembers run → Goes run one next → IsRightStep run one next
 
--- Each stand of a trace has its words, and where there may be a row it is within the bounds.
+-- Each stand of a trace has its words, and is within the stop and the zero budget; where there may be a row, it is within the
+-- row budget too.
 pub record HasRightStands (run : Composition) (stands : List Stand) : Type 0 where
   pub words : AllByRecursion (λ stand. HasWords run stand.at) stands
-  pub bounds : 1 ≤ run.row_budget → AllByRecursion (λ stand. IsInBounds run stand.at) stands
+  pub bounds : AllByRecursion (λ stand. IsInBounds run stand.at) stands
+  pub rows : 1 ≤ run.row_budget → AllByRecursion (λ stand. IsInRows run stand.at) stands
 
 abbrev pub StandsOfTracesAreRight : Type 0
 StandsOfTracesAreRight = (run : Composition) (stands : List Stand) (ending : Ending) → AreMembers run → IsTrace run stands ending → HasRightStands run stands
@@ -181,24 +188,29 @@ SystemsHavePlaceOrders =
 abbrev pub SystemsHaveOneTrace : Type 0
 SystemsHaveOneTrace = (system : System) → HasNoEvents system → IsWellFormed system → HasNoCycle system → HasOneTrace (composition_of system)
 
--- What is run of a system in range that is well-formed and has no cycle has an order of its places, and exactly one trace.
+-- A system in range that is well-formed has no cycle exactly where what is run of it has an order of its places; and then this
+-- has exactly one trace.
 abbrev pub RunsHavePlaceOrders : Type 0
 RunsHavePlaceOrders =
-    (system : System) → IsRanged system → IsWellFormed system → HasNoCycle system → (order : List ℕ) × IsPlaceOrder (run_of system) order
+    (system : System) → IsRanged system → IsWellFormed system → HasNoCycle system ↔ ((order : List ℕ) × IsPlaceOrder (run_of system) order)
 
 abbrev pub RunsHaveOneTrace : Type 0
 RunsHaveOneTrace = (system : System) → IsRanged system → IsWellFormed system → HasNoCycle system → HasOneTrace (run_of system)
 
--- Such a system has exactly one list of rows, one last point and one end.
+-- There is one list of rows, one last point and one end of the system, and one count of its cells, and no other.
 pub record HasOneTraceOf (system : System) : Type 0 where
   pub rows : List Row
   pub last : Point
   pub ending : Ending
   pub is_trace : IsTraceOf system rows last ending
   pub is_only : (others : List Row) (point : Point) (end : Ending) → IsTraceOf system others point end → (others ≡ rows) × (point ≡ last) × (end ≡ ending)
+  pub cells : ℕ
+  pub has_cells : HasCells system cells
+  pub is_only_count : (other : ℕ) → HasCells system other → other ≡ cells
 
-abbrev pub SystemsHaveTheirTrace : Type 0
-SystemsHaveTheirTrace = (system : System) → IsRanged system → IsWellFormed system → HasNoCycle system → HasOneTraceOf system
+-- A system in range that is well-formed and has no cycle has them.
+abbrev pub SystemsHaveOneOutcome : Type 0
+SystemsHaveOneOutcome = (system : System) → IsRanged system → IsWellFormed system → HasNoCycle system → HasOneTraceOf system
 
 -- ---- Owed, and not proved yet
 

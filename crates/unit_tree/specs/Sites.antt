@@ -1,7 +1,8 @@
 -- The canonical lines of a system, each with the block that it stands in and the lines before it there. The
 -- rules of a system speak of them.
-use Rattle.std.specs.Prelude.{◌≡◌, ◌⊎◌, ⊤, Bool, true, false, List, [], ◌∷◌, ◌++◌, map, length, Some, IsTrue}
+use Rattle.std.specs.Prelude.{◌≡◌, ◌⊎◌, ⊤, Bool, true, false, not, List, [], ◌∷◌, ◌++◌, map, length, Some, IsTrue}
 use Rattle.std.specs.List.{AllByRecursion, slice_get, flat_map, filter}
+use Rattle.unit_tree.specs.Blocks.{Block, InUnit, InStep, InIf, InElse, InRepeat, InInstance}
 use Rattle.unit_tree.specs.Canonical.{canonical_parts}
 use Rattle.unit_tree.specs.Parts.{Part, HasUnit, HasInstance, UnitPart, Step, line_forms, unit_part_forms, part_forms, unit_of}
 use Rattle.unit_tree.specs.declared.line_form.LineForm.{LineForm}
@@ -70,6 +71,23 @@ is_step_line (form.Repeat count) = true
 is_step_line (form.Accept value) = true
 is_step_line form.End = true
 is_step_line _ = false
+
+abbrev pub is_end : LineForm → Bool
+is_end form.End = true
+is_end _ = false
+
+-- A line has the scope where the blocks are open, the innermost first. The `end` of a step stands in the unit, in which its
+-- `step` does, and those of `if` and `repeat` in the step; the `end` of a unit and of an instance stands in what it closes.
+abbrev pub is_scope_in : List Block → Scope → LineForm → Bool
+is_scope_in [] TopScope line = true
+is_scope_in (InUnit ∷ blocks) (UnitScope unit) line = true
+is_scope_in (InStep ∷ blocks) (UnitScope unit) line = is_end line
+is_scope_in (InStep ∷ blocks) (StepScope unit) line = not (is_end line)
+is_scope_in (InIf ∷ blocks) (StepScope unit) line = true
+is_scope_in (InElse ∷ blocks) (StepScope unit) line = true
+is_scope_in (InRepeat ∷ blocks) (StepScope unit) line = true
+is_scope_in (InInstance ∷ blocks) (InstanceScope instance) line = true
+is_scope_in _ _ _ = false
 
 -- A scope holds lines of the form: all but `end` tell by their form in which kind of block they stand.
 abbrev pub holds : Scope → LineForm → Bool

@@ -40,7 +40,8 @@ by_rank ranks lists = flat_map (of_rank lists) ranks
 
 -- ---- Lines that go along
 
--- What goes along with the lines of parts, which have so many lines each: of each part by its rank, as it is ordered inside.
+-- A list that goes along with the lines of parts is cut into one piece for each part, as long as the part has lines. Each
+-- piece stands there with its part's rank, put into the order that it has inside the part.
 abbrev pub each_ranked : {A P : Type 0} → (P → ℕ) → (P → ℕ) → (P → List A → List A) → List P → List A → List (ℕ × List A)
 each_ranked rank size inside [] lines = []
 each_ranked rank size inside (part ∷ parts) lines =

@@ -76,7 +76,8 @@ last_point (stand ∷ later ∷ others) = last_point (later ∷ others)
 
 -- ---- The trace of a system
 
--- The rows are those of the one trace of what is run of the system, `last` is the point at which it ends, and it ends so.
+-- The rows are those of a trace of what is run of the system, `last` is the point at which it ends, and it ends so. A system
+-- in range that is well-formed and has no cycle has exactly one.
 pub record IsTraceOf (system : System) (rows : List Row) (last : Point) (ending : Ending) : Type 0 where
   pub stands : List Stand
   pub trace : IsTrace (run_of system) stands ending
@@ -108,6 +109,13 @@ cells_at run stand =
 -- The cells of a trace.
 abbrev pub cells_of : Composition → List Stand → ℕ
 cells_of run stands = sum_by (cells_at run) stands
+
+-- The count is that of the cells of a trace of what is run of the system.
+pub record HasCells (system : System) (count : ℕ) : Type 0 where
+  pub stands : List Stand
+  pub ending : Ending
+  pub trace : IsTrace (run_of system) stands ending
+  pub is : count ≡ cells_of (run_of system) stands
 
 -- ---- States
 

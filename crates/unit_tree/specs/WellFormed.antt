@@ -256,7 +256,7 @@ unit_resolution (Some unit) = unwrap_or unit.resolution 0
 abbrev pub resolution_of : System → ℕ
 resolution_of system = fold max 0 (map (λ instance. unit_resolution (unit_of_instance system instance)) system.instances)
 
--- At least so many ticks.
+-- Seconds that are a whole number of ticks, at least so many and at most 10^15.
 abbrev pub is_length : ℕ → Result ℕ SecondsFault → Bool
 is_length least (Ok ticks) = nat_le least ticks
 is_length least (Err fault) = false

@@ -43,7 +43,7 @@ stands_behind lines line = may_stand (and_lines no_lines lines) line
 
 pub record LinesAreWorked : Type 0 where
   -- a line ends with LF or with the text; one CR before the end is no part of it, and a second one is
-  pub no_lines : source_lines [] ≡ []
+  pub empty_text : source_lines [] ≡ []
   pub blank_lines : source_lines (10 ∷ 10 ∷ []) ≡ [] ∷ [] ∷ []
   pub return_alone : source_lines (13 ∷ []) ≡ [] ∷ []
   pub two_returns : source_lines (97 ∷ 13 ∷ 13 ∷ 10 ∷ 98 ∷ []) ≡ (97 ∷ 13 ∷ []) ∷ codes "b" ∷ []
@@ -71,12 +71,11 @@ pub record BlocksAreWorked : Type 0 where
   pub assignment_in_unit : stands_behind unit (form.Assign (codes "n") (expr.Truth true)) ≡ false
   pub event_in_unit : stands_behind unit event ≡ true
   pub event_in_step : stands_behind step event ≡ false
-  pub event_at_top : stands_behind header event ≡ false
   -- one `else` in an `if`, and none elsewhere
   pub else_in_if : stands_behind choice form.Else ≡ true
   pub second_else : stands_behind (choice ++ (form.Else ∷ [])) form.Else ≡ false
   pub else_in_step : stands_behind step form.Else ≡ false
-  pub else_of_outer : stands_behind (choice ++ (form.Else ∷ branch ∷ [])) form.Else ≡ true
+  pub else_of_inner : stands_behind (choice ++ (form.Else ∷ branch ∷ [])) form.Else ≡ true
   -- lines that stand once
   pub second_header : stands_behind header (form.Header 1) ≡ false
   pub second_stop : stands_behind (header ++ (stop ∷ [])) stop ≡ false

@@ -10,6 +10,7 @@ use Rattle.unit_tree.specs.Phrases as phrase
 use Rattle.unit_tree.specs.Plain.{plain_form, presence_of, word_expression_of, zero_of}
 use Rattle.unit_tree.specs.Printable.{IsRanged, IsPrintable}
 use Rattle.unit_tree.specs.Sites.{UnitScope, TopScope}
+use Rattle.unit_tree.specs.SourceLines.{in_canonical_order}
 use Rattle.unit_tree.specs.WellFormed.{refusal_of, exceeds, mistakes_kind, has_deep_expression}
 use Rattle.unit_tree.specs.WorkedPhrases.{Worked}
 use Rattle.unit_tree.specs.WorkedSystems.{Refused, n, one, sum, set, number, input_u, state_n, output_y, counts, unit_a, instance, port, wire, a_to_b, run_of, stop, lines_of_system}
@@ -18,6 +19,7 @@ use Rattle.unit_tree.specs.declared.expr.Expr.{Expr}
 use Rattle.unit_tree.specs.declared.expr.Expr as expr
 use Rattle.unit_tree.specs.declared.expr.UnOp.TheVariants as of
 use Rattle.unit_tree.specs.declared.line.Line as line
+use Rattle.unit_tree.specs.declared.line_form.LineForm.{LineForm}
 use Rattle.unit_tree.specs.declared.line_form.LineForm.TheVariants as form
 use Rattle.unit_tree.specs.declared.unit.EventIn.{EventIn}
 use Rattle.unit_tree.specs.declared.unit.EventOut.{EventOut}
@@ -223,15 +225,12 @@ pub record PlainFormsAreWorked : Type 0 where
   -- needs, in which an event input is two, and an input that is plain stays one
   pub needs : lines_of_system (plain_form (system_of 2 (unit_a (input_u ∷ input_e ∷ output_y types.Bool (codes "e" ∷ codes "u" ∷ []) (expr.Present (codes "e")) ∷ []) ∷ []))) ≡ codes "cosim 2" ∷ codes "unit A" ∷ codes "input u:Int64=0" ∷ codes "input e?:Bool=false" ∷ codes "input e:Int64=0" ∷ codes "output y:Bool needs e?,e,u=e?" ∷ codes "end" ∷ []
   -- what an event output becomes: of `absent`, of a choice whose branches are choices, and of any other
-  pub absent_is : presence_of expr.Absent ≡ expr.Truth false
-  pub other_is : presence_of (sum n one) ≡ expr.Truth true
-  pub inner_is : presence_of (expr.Choose e (at_times n) n) ≡ expr.Choose e (expr.Choose (expr.Binary by.Eq n one) (expr.Truth true) (expr.Truth false)) (expr.Truth true)
-  pub word_is : word_expression_of (types.Fixed 2) (expr.Choose e (at_times n) n) ≡ expr.Choose e (expr.Choose (expr.Binary by.Eq n one) n (expr.Number (pos 0) 2)) n
+  pub presence_of_absent : presence_of expr.Absent ≡ expr.Truth false
+  pub presence_of_choices : presence_of (expr.Choose e (at_times n) n) ≡ expr.Choose e (expr.Choose (expr.Binary by.Eq n one) (expr.Truth true) (expr.Truth false)) (expr.Truth true)
+  pub word_of_choices : word_expression_of (types.Fixed 2) (expr.Choose e (at_times n) n) ≡ expr.Choose e (expr.Choose (expr.Binary by.Eq n one) n (expr.Number (pos 0) 2)) n
   -- the zero of each kind
-  pub zero_of_int : zero_of types.UInt8 ≡ expr.Number (pos 0) 0
   pub zero_of_truth : zero_of types.Bool ≡ expr.Truth false
   pub zero_of_fixed_0 : zero_of (types.Fixed 0) ≡ expr.Unary (of.ToFix 0) (expr.Number (pos 0) 0)
-  pub zero_of_fixed : zero_of (types.Fixed 3) ≡ expr.Number (pos 0) 3
 
 -- ---- Rules
 
@@ -263,10 +262,16 @@ is_mistaken value = mistakes_kind (UnitScope with_e) (form.EventOutput (event_ou
 abbrev pub is_deep_event : Ty → Expr → Bool
 is_deep_event ty value = has_deep_expression (system_of 2 []) (UnitScope with_e) (form.EventOutput (event_out ty [] value))
 
+-- A connection of events of these two.
+abbrev pub of_events : LineForm
+of_events = form.Connect (record { from = port (codes "a") (codes "p"); to = port (codes "b") (codes "e") })
+
 pub record EventsAreWorked : Type 0 where
-  pub present_is : Worked (phrase.Unary of.Not (phrase.Present (codes "e"))) (codes "not present(e)") (codes "not present(e)")
-  pub absent_is : Worked (phrase.Choose (phrase.Present (codes "e")) phrase.Absent (phrase.Parens phrase.Absent)) (codes "if present(e)then absent else(absent)") (codes "if present(e)then absent else absent")
+  pub present_written : Worked (phrase.Unary of.Not (phrase.Present (codes "e"))) (codes "not present(e)") (codes "not present(e)")
+  pub absent_written : Worked (phrase.Choose (phrase.Present (codes "e")) phrase.Absent (phrase.Parens phrase.Absent)) (codes "if present(e)then absent else(absent)") (codes "if present(e)then absent else absent")
   pub accepted : Accepted2 (event_pair (p_to_e ∷ []))
+  -- an event port stands behind the plain ones, wherever the text has it
+  pub event_first : in_canonical_order {A = ℕ} (unit_a (output_p [] one ∷ input_e ∷ output_y types.Int64 [] one ∷ input_u ∷ []) ∷ []) (1 ∷ 2 ∷ 3 ∷ 4 ∷ 5 ∷ 6 ∷ 7 ∷ []) ≡ 1 ∷ 2 ∷ 6 ∷ 4 ∷ 5 ∷ 3 ∷ 7 ∷ []
   -- a system of version 1 has no event ports in range, and no text where it speaks of events
   pub ports_of_version_1 : IsRanged (system_of 1 (run_of (input_e ∷ []))) → ⊥
   pub absent_of_version_1 : IsPrintable (system_of 1 (run_of (output_y types.Int64 [] expr.Absent ∷ []))) → ⊥
@@ -274,9 +279,6 @@ pub record EventsAreWorked : Type 0 where
   pub equal_names : Refused2 (run_of (input_u ∷ parts.HasEventOut (record { name = codes "u"; ty = types.Int64; needs = []; value = expr.Absent }) ∷ [])) 8 4
   -- 9: `present` of what is no event input; a need, a sample and a connection may be of event ports
   pub presence_of_input : Refused2 (run_of (input_u ∷ output_p (codes "u" ∷ []) (expr.Present (codes "u")) ∷ [])) 9 4
-  pub presence_of_none : Refused2 (run_of (counts ++ (parts.Step (line.If (expr.Present (codes "e")) [] None ∷ []) ∷ []))) 9 6
-  pub event_output_read : Refused2 (run_of (output_p [] one ∷ parts.Max (expr.Var (codes "p")) ∷ [])) 9 4
-  pub no_such_event : Refused2 (event_pair (wire (port (codes "a") (codes "q")) (port (codes "b") (codes "e")) ∷ [])) 9 11
   pub sampled : Accepted2 (event_pair (parts.Samples (port (codes "a") (codes "p")) ∷ []))
   -- 10: kinds of the choices of an event output, and where `absent` may stand
   pub choices : is_mistaken (expr.Choose (expr.Present (codes "e")) expr.Absent n) ≡ false
@@ -286,22 +288,22 @@ pub record EventsAreWorked : Type 0 where
   pub absent_in_sum : is_mistaken (sum n expr.Absent) ≡ true
   pub absent_as_condition : is_mistaken (expr.Choose expr.Absent n n) ≡ true
   pub absent_in_output : Refused2 (run_of (output_y types.Int64 [] expr.Absent ∷ [])) 10 3
+  pub absent_in_max : Refused2 (run_of (parts.Max expr.Absent ∷ [])) 10 3
+  pub absent_assigned : Refused2 (run_of (counts ++ (parts.Step (set (codes "n") expr.Absent ∷ []) ∷ []))) 10 6
   pub present_in_version_1 : Refused (run_of (input_e ∷ output_y types.Bool (codes "e" ∷ []) (expr.Present (codes "e")) ∷ [])) 10 4
-  -- 12: `present` uses its input
+  -- 12: `present` uses its input, and an event output has needs of its own
   pub hidden_presence : Refused2 (run_of (input_e ∷ output_y types.Bool [] (expr.Present (codes "e")) ∷ [])) 12 4
   pub needed_presence : Accepted2 (run_of (input_e ∷ output_y types.Bool (codes "e" ∷ []) (expr.Present (codes "e")) ∷ []))
-  -- 13 and 14: connections of event ports
-  pub connected_twice : Refused2 (event_pair (p_to_e ∷ p_to_e ∷ [])) 13 12
+  pub hidden_in_event : Refused2 (run_of (input_u ∷ output_p [] (expr.Var (codes "u")) ∷ [])) 12 4
+  -- 14: connections of event ports
   pub to_a_plain_input : Refused2 (event_pair (wire (port (codes "a") (codes "p")) (port (codes "b") (codes "u")) ∷ [])) 14 11
   pub from_a_plain_output : Refused2 (unit_a (input_e ∷ output_y types.Int64 [] one ∷ []) ∷ instance (codes "a") ∷ instance (codes "b") ∷ wire (port (codes "a") (codes "y")) (port (codes "b") (codes "e")) ∷ stop ∷ []) 14 10
   -- 16: an event port, and a connection of events, are two; the samples are one each
   pub sixteen_events : exceeds (system_of 2 []) (UnitScope with_e) (repeat 15 (form.EventInput (event_in types.Bool) ∷ [])) (form.EventInput (event_in types.Bool)) ≡ false
-  pub seventeen_events : exceeds (system_of 2 []) (UnitScope with_e) (repeat 16 (form.EventInput (event_in types.Bool) ∷ [])) (form.EventInput (event_in types.Bool)) ≡ true
   pub inputs_before : exceeds (system_of 2 []) (UnitScope with_e) (repeat 31 (form.Input (record { name = codes "u"; ty = types.Bool; start = literal.Truth true }) ∷ [])) (form.EventInput (event_in types.Bool)) ≡ true
   pub outputs_before : exceeds (system_of 2 []) (UnitScope with_e) (repeat 31 (form.Output (record { name = codes "y"; ty = types.Bool; needs = []; value = one }) ∷ [])) (form.EventOutput (event_out types.Bool [] expr.Absent)) ≡ true
-  pub connections : exceeds (system_of 2 (event_pair [])) TopScope (repeat 1024 (form.Connect (record { from = port (codes "a") (codes "p"); to = port (codes "b") (codes "e") }) ∷ [])) (form.Connect (record { from = port (codes "a") (codes "u"); to = port (codes "b") (codes "u") })) ≡ true
+  pub connections : exceeds (system_of 2 (event_pair [])) TopScope (repeat 1024 (of_events ∷ [])) of_events ≡ true
   pub last_sample : exceeds (system_of 2 (event_pair [])) TopScope (repeat 2047 (form.Sample (port (codes "a") (codes "p")) ∷ [])) (form.Sample (port (codes "a") (codes "p"))) ≡ false
-  pub sample_too_many : exceeds (system_of 2 (event_pair [])) TopScope (repeat 2048 (form.Sample (port (codes "a") (codes "p")) ∷ [])) (form.Sample (port (codes "a") (codes "p"))) ≡ true
   -- 17: the zero that `absent` becomes is deeper by one where its type is `Fixed 0`
   pub absent_at_32 : is_deep_event types.Int64 (gaps 31) ≡ false
   pub fixed_0_at_32 : is_deep_event (types.Fixed 0) (gaps 31) ≡ true

@@ -64,13 +64,10 @@ pub record KindsAreWorked : Type 0 where
 -- An operation gives nothing where an operand is of a kind that it does not take, or of another kind than its
 -- partner, and so does what it stands in. A name that is not declared has no kind either.
 pub record WrongKindsAreWorked : Type 0 where
-  pub sum_of_int_and_fixed : kind_here (expr.Binary by.Add n x) ≡ None
   pub sum_of_other_decimals : kind_here (expr.Binary by.Add x half) ≡ None
-  pub sum_of_int_and_fixed_0 : kind_here (expr.Binary by.Add n (expr.Unary (of.ToFix 0) n)) ≡ None
   pub sum_of_truths : kind_here (expr.Binary by.Add p p) ≡ None
   pub negated_truth : kind_here (expr.Unary of.Neg p) ≡ None
   pub magnitude_of_truth : kind_here (expr.Unary of.Abs p) ≡ None
-  pub least_of_truths : kind_here (expr.Binary by.Min p p) ≡ None
   pub ratio_of_ints : kind_here (expr.Binary by.Slash n n) ≡ None
   pub quotient_of_fixed : kind_here (expr.Binary by.Div x x) ≡ None
   pub remainder_of_fixed : kind_here (expr.Binary by.Mod x x) ≡ None
@@ -89,15 +86,11 @@ pub record WrongKindsAreWorked : Type 0 where
 
 -- Which step lines have the right kinds.
 pub record LineKindsAreWorked : Type 0 where
-  pub assignment : is_kinded_here count_up ≡ true
   pub assignment_of_int_to_fixed : is_kinded_here (line.Assign (codes "x") one) ≡ false
   pub assignment_to_undeclared : is_kinded_here (line.Assign (codes "y") one) ≡ false
   pub acceptance : is_kinded_here (line.Accept expr.Step) ≡ true
   pub acceptance_of_fixed : is_kinded_here (line.Accept x) ≡ false
-  pub condition : is_kinded_here (line.If p (count_up ∷ []) None) ≡ true
-  pub condition_that_is_int : is_kinded_here (line.If n (count_up ∷ []) None) ≡ false
   pub wrong_in_then : is_kinded_here (line.If p (line.Accept x ∷ []) (Some (count_up ∷ []))) ≡ false
-  pub wrong_in_else : is_kinded_here (line.If p (count_up ∷ []) (Some (line.Accept x ∷ []))) ≡ false
   pub right_in_blocks : is_kinded_here (line.Repeat 2 (line.If p (count_up ∷ []) (Some (count_up ∷ [])) ∷ [])) ≡ true
   pub wrong_in_blocks : is_kinded_here (line.Repeat 2 (line.If p (count_up ∷ []) (Some (line.Accept x ∷ [])) ∷ [])) ≡ false
   pub second_line_wrong : lines_are_kinded (count_up ∷ line.Accept p ∷ []) declared_kinds ≡ false
@@ -106,13 +99,7 @@ pub record LineKindsAreWorked : Type 0 where
 
 -- The cost of each form of expression, line and call.
 pub record CostsAreWorked : Type 0 where
-  pub number : cost_of one ≡ 1
-  pub truth : cost_of (expr.Truth true) ≡ 1
-  pub name : cost_of n ≡ 1
-  pub time : cost_of expr.Time ≡ 1
-  pub step : cost_of expr.Step ≡ 1
-  pub unary : cost_of (expr.Unary of.Neg n) ≡ 2
-  pub binary : cost_of (expr.Binary by.Add n one) ≡ 3
+  pub leaf : cost_of (expr.Truth true) ≡ 1
   pub clamp : cost_of (expr.Clamp n one expr.Step) ≡ 4
   pub choice : cost_of (expr.Choose p n one) ≡ 5
   pub nested : cost_of (expr.Choose (expr.Binary by.Lt n one) (expr.Unary of.Abs n) (expr.Binary by.Mul n (expr.Binary by.Sub n one))) ≡ 12
@@ -126,4 +113,3 @@ pub record CostsAreWorked : Type 0 where
   pub blocks_in_blocks : line_cost (line.Repeat 2 (line.If p (count_up ∷ []) (Some (line.Repeat 3 (count_up ∷ []) ∷ [])) ∷ [])) ≡ 49
   pub expression_call : expression_call_cost (expr.Binary by.Add n one) ≡ 4
   pub step_call : step_call_cost (count_up ∷ line.Accept expr.Step ∷ []) ≡ 7
-  pub empty_step_call : step_call_cost [] ≡ 1

@@ -7,7 +7,6 @@ use Rattle.unit_tree.specs.LineForms.{AreCountsInRange}
 use Rattle.unit_tree.specs.Parts.{unit_of, bare_system}
 use Rattle.unit_tree.specs.Printable.{is_seconds, is_word_literal, line_depth}
 use Rattle.unit_tree.specs.Sites.{Scope, TopScope, UnitScope, StepScope}
-use Rattle.unit_tree.specs.Texts.{text_limit, line_limit}
 use Rattle.unit_tree.specs.Tokens.{IsWord}
 use Rattle.unit_tree.specs.WellFormed.{exceeds, has_deep_expression}
 use Rattle.unit_tree.specs.WorkedSystems.{counts, minuses, number, one, port}
@@ -27,7 +26,7 @@ step_of_a = StepScope (unit_of (codes "A") counts)
 abbrev pub connection : LineForm
 connection = form.Connect (record { from = port (codes "a") (codes "y"); to = port (codes "b") (codes "u") })
 
--- No system has the names of these lines, so none of their ports is one of events.
+-- A system that says nothing: it has none of the names on these lines, so none of their ports is one of events.
 abbrev pub no_system : System
 no_system = bare_system 1
 
@@ -52,12 +51,10 @@ pub record LimitsAreWorked : Type 0 where
   pub inputs : MayBe 32 in_a (form.Input (record { name = codes "u"; ty = types.Int64; start = number 0 }))
   pub outputs : MayBe 32 in_a (form.Output (record { name = codes "y"; ty = types.Int64; needs = []; value = one }))
   pub step_lines : MayBe 500 step_of_a form.End
-  -- depth, on every line that has an expression
-  pub depth_32_in_if : has_deep_expression no_system step_of_a (form.If (minuses 31)) ≡ false
+  -- the depth of an expression on a step line
   pub depth_33_in_if : has_deep_expression no_system step_of_a (form.If (minuses 32)) ≡ true
-  pub depth_33_in_accept : has_deep_expression no_system step_of_a (form.Accept (minuses 32)) ≡ true
   -- others do not count
-  pub only_alike : exceeds no_system TopScope (repeat 64 (connection ∷ []) ++ repeat 63 (form.Unit (codes "A") ∷ form.End ∷ [])) (form.Unit (codes "B")) ≡ false
+  pub only_alike : exceeds no_system TopScope (repeat 64 (connection ∷ []) ++ repeat 63 (form.Unit (codes "A") ∷ [])) (form.Unit (codes "B")) ≡ false
   -- numbers on a line
   pub resolutions : AreCountsInRange (form.Resolution 0) × AreCountsInRange (form.Resolution 9) × (AreCountsInRange (form.Resolution 10) → ⊥)
   pub repeats : AreCountsInRange (form.Repeat 1) × AreCountsInRange (form.Repeat 1000) × (AreCountsInRange (form.Repeat 0) → ⊥) × (AreCountsInRange (form.Repeat 1001) → ⊥)
@@ -75,8 +72,6 @@ pub record LimitsAreWorked : Type 0 where
   pub greatest_seconds : is_seconds (literal.Number (pos 9223372036854775807) 9) ≡ true
   pub negative_seconds : is_seconds (literal.Number (neg_ℤ (pos 1)) 0) ≡ false
   pub true_seconds : is_seconds (literal.Truth true) ≡ false
-  -- blocks, lines and texts
+  -- blocks in each other
   pub block_depth : line_depth (blocks 16) ≡ 16
   pub depth_of_else : line_depth (line.If (expr.Truth true) [] (Some (blocks 2 ∷ []))) ≡ 3
-  pub bytes_of_text : text_limit ≡ 1048576
-  pub bytes_of_line : line_limit ≡ 1000

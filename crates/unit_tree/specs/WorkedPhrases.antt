@@ -58,16 +58,17 @@ pub record PhrasesAreWorked : Type 0 where
   pub not_of_comparison : Worked (phrase.Unary of.Not (phrase.Parens (phrase.Binary by.Le a b))) (codes "not(a<=b)") (codes "not a<=b")
   -- comparisons do not chain
   pub no_chain : Unwritable (phrase.Binary by.Eq (phrase.Binary by.Eq a b) c) (codes "a==b==c")
+  pub comparisons : Worked (phrase.Choose (phrase.Binary by.Gt a b) (phrase.Binary by.Ge b c) (phrase.Binary by.Lt c a)) (codes "if a>b then b>=c else c<a") (codes "if a>b then b>=c else c<a")
   -- a prefix `-` before products; the one of a literal is no part of an expression
   pub minus_first : Worked (phrase.Binary by.Mul (phrase.Unary of.Neg a) b) (codes "-a*b") (codes "-a*b")
   pub minus_of_minus : Worked (phrase.Binary by.Sub a (phrase.Unary of.Neg (phrase.Unary of.Neg b))) (codes "a---b") (codes "a---b")
   pub minus_of_not : Unwritable (phrase.Unary of.Neg (phrase.Unary of.Not a)) (codes "-not a")
   -- `if` is the weakest
-  pub choice : Worked (phrase.Choose a b (phrase.Binary by.Add c (n 1))) (codes "if a then b else c+1") (codes "if a then b else c+1")
   pub choice_in_sum : Worked (phrase.Binary by.Add (n 1) (phrase.Parens (phrase.Choose a b c))) (codes "1+(if a then b else c)") (codes "1+(if a then b else c)")
   pub no_choice_in_sum : Unwritable (phrase.Binary by.Add (n 1) (phrase.Choose a b c)) (codes "1+if a then b else c")
   -- arguments are whole expressions
   pub calls : Worked (phrase.Clamp (phrase.Parens a) (phrase.Unary of.Abs (phrase.Unary of.Neg b)) (phrase.Binary by.Max c (phrase.Choose a b c))) (codes "clamp((a),abs(-b),max(c,if a then b else c))") (codes "clamp(a,abs(-b),max(c,if a then b else c))")
+  pub least : Worked (phrase.Binary by.Min (phrase.Binary by.Sub a b) (n 0)) (codes "min(a-b,0)") (codes "min(a-b,0)")
   pub scaled : Worked (phrase.Unary (of.ToFix 2) (phrase.Unary of.ToInt a)) (codes "fix 2(int(a))") (codes "fix 2(int(a))")
   pub scaled_too_far : Unwritable (phrase.Unary (of.ToFix 10) a) (codes "fix 10(a)")
   -- `t`, `h` and truth values
@@ -76,24 +77,20 @@ pub record PhrasesAreWorked : Type 0 where
   pub decimals : Worked (phrase.Binary by.Add (phrase.Number 5 2) (phrase.Number 150 2)) (codes "0.05+1.50") (codes "0.05+1.50")
   pub greatest : Worked (n 9223372036854775807) (codes "9223372036854775807") (codes "9223372036854775807")
   pub too_great : Unwritable (n 9223372036854775808) (codes "9223372036854775808")
+  pub zero_decimals : Worked (phrase.Number 0 9) (codes "0.000000000") (codes "0.000000000")
+  pub no_ten_decimals : Unwritable (phrase.Number 0 10) (codes "0.0000000000")
+  -- parentheses that the tree needs, and those that it does not
   pub not_not : Worked (phrase.Unary of.Not (phrase.Parens (phrase.Unary of.Not a))) (codes "not(not a)") (codes "not not a")
-  pub equal_truths : Worked (phrase.Binary by.Eq a (phrase.Parens (phrase.Binary by.Eq b c))) (codes "a==(b==c)") (codes "a==(b==c)")
   pub not_on_the_right : Worked (phrase.Binary by.Ne a (phrase.Parens (phrase.Unary of.Not b))) (codes "a!=(not b)") (codes "a!=(not b)")
   pub minus_on_the_right : Worked (phrase.Binary by.Mul a (phrase.Parens (phrase.Unary of.Neg b))) (codes "a*(-b)") (codes "a*-b")
   pub minus_of_product : Worked (phrase.Unary of.Neg (phrase.Parens (phrase.Binary by.Slash a b))) (codes "-(a/b)") (codes "-(a/b)")
   pub product_from_the_left : Worked (phrase.Binary by.Mul (phrase.Parens (phrase.Binary by.Slash a b)) c) (codes "(a/b)*c") (codes "a/b*c")
   pub if_between_words : Worked (phrase.Choose (phrase.Parens a) (phrase.Parens b) (phrase.Parens c)) (codes "if(a)then(b)else(c)") (codes "if a then b else c")
   pub or_on_the_right : Worked (phrase.Binary by.Or a (phrase.Parens (phrase.Binary by.Or b c))) (codes "a or(b or c)") (codes "a or(b or c)")
-  pub else_if : Worked (phrase.Choose a b (phrase.Parens (phrase.Choose b c a))) (codes "if a then b else(if b then c else a)") (codes "if a then b else if b then c else a")
-  pub comparisons : Worked (phrase.Choose (phrase.Binary by.Gt a b) (phrase.Binary by.Ge b c) (phrase.Binary by.Lt c a)) (codes "if a>b then b>=c else c<a") (codes "if a>b then b>=c else c<a")
-  pub least : Worked (phrase.Binary by.Min (phrase.Binary by.Sub a b) (n 0)) (codes "min(a-b,0)") (codes "min(a-b,0)")
-  pub zero_decimals : Worked (phrase.Number 0 9) (codes "0.000000000") (codes "0.000000000")
-  pub no_ten_decimals : Unwritable (phrase.Number 0 10) (codes "0.0000000000")
   -- parts are nested at most 64 levels deep
   pub level_64 : is_expression (wrapped 64 a) ≡ true
   pub level_65 : is_expression (wrapped 65 a) ≡ false
   pub level_64_of_name : is_expression (wrapped 64 (phrase.Present (codes "a"))) ≡ true
-  pub level_64_inside : is_expression (phrase.Binary by.Add a (phrase.Unary of.Neg (wrapped 63 a))) ≡ true
   pub nested_sum : nesting (phrase.Binary by.Add (phrase.Parens a) b) ≡ 1
   pub nested_call : nesting (phrase.Binary by.Min (phrase.Binary by.Max a b) c) ≡ 2
   pub nested_clamp : nesting (phrase.Clamp a (phrase.Clamp b c a) (phrase.Unary of.Abs c)) ≡ 2

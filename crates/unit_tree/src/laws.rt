@@ -18,13 +18,13 @@ pub fn each_system_is_judged_once()
 {}
 
 /// A law: the rules of a system speak of its canonical lines, one for one, each in its block and behind the lines before
-/// it there.
+/// it there, with the scope that the lines before it leave open.
 pub fn sites_are_canonical_lines()
     ensures { SitesAreCanonicalLines }
 {}
 
 /// A law: for a system of version 2 the lines that its lines become in the plain form are the canonical lines of the plain
-/// form.
+/// form, but for what is sampled, which stays as it was written.
 pub fn plain_lines_are_those()
     ensures { PlainLinesAreThose }
 {}

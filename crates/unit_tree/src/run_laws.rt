@@ -1,5 +1,5 @@
 //! Laws of the definitions of a run.
-ghost use Rattle.unit_tree.specs.RunLaws.{AssignmentsAreUnique, UndefinedOutputsFault, OutputsLookAtNeeds, OutputsAreWords, ProposalsAreGreatest, RepliesAreAtMost, AgreedStepsAreLeast, AgreedStepsAreAtMost, StepsKeepWords, SystemsHaveMembers, RunsKeepWords, StepsOfRunsAreRight, StandsOfTracesAreRight, FirstEndsAreJudgedInOrder, EndsAreJudgedInOrder, OrderedRunsHaveOneTrace, PlainFormsHaveNoEvents, SystemsHavePlaceOrders, SystemsHaveOneTrace, RunsHavePlaceOrders, RunsHaveOneTrace, SystemsHaveTheirTrace};
+ghost use Rattle.unit_tree.specs.RunLaws.{AssignmentsAreUnique, UndefinedOutputsFault, OutputsLookAtNeeds, OutputsAreWords, ProposalsAreGreatest, RepliesAreAtMost, AgreedStepsAreLeast, AgreedStepsAreAtMost, StepsKeepWords, SystemsHaveMembers, RunsKeepWords, StepsOfRunsAreRight, StandsOfTracesAreRight, FirstEndsAreJudgedInOrder, EndsAreJudgedInOrder, OrderedRunsHaveOneTrace, PlainFormsHaveNoEvents, SystemsHavePlaceOrders, SystemsHaveOneTrace, RunsHavePlaceOrders, RunsHaveOneTrace, SystemsHaveOneOutcome};
 
 /// A law: where the outputs have an order, there is exactly one port assignment.
 pub fn assignments_are_unique()
@@ -33,7 +33,7 @@ pub fn steps_keep_words()
 
 /// A law: a run keeps one state for each member, with words of their types. Each step that it makes leads to the
 /// position after the agreed step, and stays within the stop and the two budgets; so every stand of its trace has its
-/// words and, where there may be a row, is within them.
+/// words, is within the stop and the zero budget and, where there may be a row, within the row budget.
 pub fn runs_keep_words()
     ensures members { SystemsHaveMembers }
     ensures words { RunsKeepWords }
@@ -55,14 +55,14 @@ pub fn ordered_runs_have_one_trace()
 {}
 
 /// A law: a system without event ports that is well-formed has no cycle exactly where it has an order of its places, and
-/// then it has exactly one trace. What is run of a system in range that is well-formed and without a cycle, in either
-/// version, has both too: its plain form, which has no event ports. So there is one list of rows, one last point and one
-/// end of such a system.
+/// then it has exactly one trace. The same holds of a system in range that is well-formed, in either version, and what is
+/// run of it: its plain form, which has no event ports. So where it has no cycle it has one outcome: one list of rows, one
+/// last point, one end, and one count of cells.
 pub fn systems_have_one_trace()
     ensures order { SystemsHavePlaceOrders }
     ensures trace { SystemsHaveOneTrace }
     ensures run_order { RunsHavePlaceOrders }
     ensures run_trace { RunsHaveOneTrace }
-    ensures rows { SystemsHaveTheirTrace }
+    ensures outcome { SystemsHaveOneOutcome }
     ensures plain { PlainFormsHaveNoEvents }
 {}

@@ -55,8 +55,9 @@ pub struct System {
 /// An output as a column of the trace: its instance and its number there, its place among all outputs
 /// by instance and declaration, and its type. All count from 0.
 ///
-/// An event output is a column too. It is two outputs of the plain form: `place` is that of its word, and the
-/// output before it tells by 1 or 0 whether an event occurs.
+/// `output` and `place` count the outputs of what is run, in version 2 those of the plain form. An event output is a
+/// column too, though it is two outputs there: `output` and `place` are those of its word, and the output before it
+/// tells by 1 or 0 whether an event occurs.
 #[derive(Clone, Copy, Debug, PartialEq, Eq)]
 pub struct Column {
     pub instance: u32,

@@ -134,14 +134,11 @@ returns-clause-plain_forms c = record {
   mixed_plain = ap (λ unit. record (system_of 2 plain_mixed) { units = unit ∷ [] }) mixed_is;
   same = refl;
   needs = simp plain_laws (simp (expr_lemmas, line_lemmas) refl);
-  absent_is = simp plain_laws refl;
-  other_is = simp plain_laws refl;
-  inner_is = simp plain_laws refl;
-  word_is = simp plain_laws refl;
-  zero_of_int = refl;
+  presence_of_absent = simp plain_laws refl;
+  presence_of_choices = simp plain_laws refl;
+  word_of_choices = simp plain_laws refl;
   zero_of_truth = refl;
   zero_of_fixed_0 = refl;
-  zero_of_fixed = refl;
 }
 
 by_word : (value word : Expr) → word_expression_of types.Int64 value ≡ word → is_mistaken value ≡ not (has_kind (Some kinds.Int) word (kinds_in with_e))
@@ -188,16 +185,14 @@ speaks = simp expr_lemmas refl
 pub returns-clause-rules : goal.returns-clause-rules
 unfolding digits
 returns-clause-rules c = record {
-  present_is = record { text_is = refl; grammatical = refl; shortest_is = simp expr_lemmas refl };
-  absent_is = record { text_is = refl; grammatical = refl; shortest_is = simp expr_lemmas refl };
+  present_written = record { text_is = refl; grammatical = refl; shortest_is = simp expr_lemmas refl };
+  absent_written = record { text_is = refl; grammatical = refl; shortest_is = simp expr_lemmas refl };
   accepted = simp (plain_laws, plain_measures) (simp (kind_laws, expr_lemmas, line_lemmas) refl);
+  event_first = refl;
   ports_of_version_1 = λ ranged. cc (ranged.events refl);
   absent_of_version_1 = λ printable. cc (speaks, printable.of_version refl);
   equal_names = refl;
   presence_of_input = simp (kind_laws, expr_lemmas, line_lemmas) refl;
-  presence_of_none = simp (kind_laws, expr_lemmas, line_lemmas) refl;
-  event_output_read = simp (kind_laws, expr_lemmas, line_lemmas) refl;
-  no_such_event = simp (kind_laws, expr_lemmas, line_lemmas) refl;
   sampled = simp (plain_laws, plain_measures) (simp (kind_laws, expr_lemmas, line_lemmas) refl);
   choices = by_word (expr.Choose (expr.Present (codes "e")) expr.Absent n) (expr.Choose (expr.Present (codes "e")) nothing n) (simp plain_laws refl) ∙ simp kind_laws refl;
   absent_alone = simp (plain_laws, plain_measures) (simp (kind_laws, expr_lemmas, line_lemmas) refl);
@@ -206,19 +201,19 @@ returns-clause-rules c = record {
   absent_in_sum = by_word (sum n expr.Absent) (sum n expr.Absent) (simp plain_laws refl) ∙ simp kind_laws refl;
   absent_as_condition = by_word (expr.Choose expr.Absent n n) (expr.Choose expr.Absent n n) (simp plain_laws refl) ∙ simp kind_laws refl;
   absent_in_output = simp (kind_laws, expr_lemmas, line_lemmas) refl;
+  absent_in_max = simp (kind_laws, expr_lemmas, line_lemmas) refl;
+  absent_assigned = simp (kind_laws, expr_lemmas, line_lemmas) refl;
   present_in_version_1 = simp (kind_laws, expr_lemmas, line_lemmas) refl;
+  hidden_in_event = simp (plain_laws, plain_measures) (simp (kind_laws, expr_lemmas, line_lemmas) refl);
   hidden_presence = simp (kind_laws, expr_lemmas, line_lemmas) refl;
   needed_presence = simp (plain_laws, plain_measures) (simp (kind_laws, expr_lemmas, line_lemmas) refl);
-  connected_twice = simp (plain_laws, plain_measures) (simp (kind_laws, expr_lemmas, line_lemmas) refl);
   to_a_plain_input = simp (plain_laws, plain_measures) (simp (kind_laws, expr_lemmas, line_lemmas) refl);
   from_a_plain_output = simp (kind_laws, expr_lemmas, line_lemmas) refl;
   sixteen_events = refl;
-  seventeen_events = refl;
   inputs_before = refl;
   outputs_before = refl;
   connections = refl;
   last_sample = refl;
-  sample_too_many = refl;
   absent_at_32 = deep_by types.Int64 31 1 (simp expr_lemmas refl) (omega arith);
   fixed_0_at_32 = deep_by (types.Fixed 0) 31 2 (simp expr_lemmas refl) (omega arith);
   event_assigned = simp (kind_laws, expr_lemmas, line_lemmas) refl;

@@ -20,13 +20,10 @@ returns-clause-kinds c = record {
 
 pub returns-clause-wrong_kinds : goal.returns-clause-wrong_kinds
 returns-clause-wrong_kinds c = record {
-  sum_of_int_and_fixed = simp kind_laws refl;
   sum_of_other_decimals = simp kind_laws refl;
-  sum_of_int_and_fixed_0 = simp kind_laws refl;
   sum_of_truths = simp kind_laws refl;
   negated_truth = simp kind_laws refl;
   magnitude_of_truth = simp kind_laws refl;
-  least_of_truths = simp kind_laws refl;
   ratio_of_ints = simp kind_laws refl;
   quotient_of_fixed = simp kind_laws refl;
   remainder_of_fixed = simp kind_laws refl;
@@ -46,15 +43,11 @@ returns-clause-wrong_kinds c = record {
 
 pub returns-clause-line_kinds : goal.returns-clause-line_kinds
 returns-clause-line_kinds c = record {
-  assignment = simp (line_lemmas, kind_laws) refl;
   assignment_of_int_to_fixed = simp (line_lemmas, kind_laws) refl;
   assignment_to_undeclared = simp (line_lemmas, kind_laws) refl;
   acceptance = simp (line_lemmas, kind_laws) refl;
   acceptance_of_fixed = simp (line_lemmas, kind_laws) refl;
-  condition = simp (line_lemmas, kind_laws) refl;
-  condition_that_is_int = simp (line_lemmas, kind_laws) refl;
   wrong_in_then = simp (line_lemmas, kind_laws) refl;
-  wrong_in_else = simp (line_lemmas, kind_laws) refl;
   right_in_blocks = simp (line_lemmas, kind_laws) refl;
   wrong_in_blocks = simp (line_lemmas, kind_laws) refl;
   second_line_wrong = simp (line_lemmas, kind_laws) refl;
@@ -62,13 +55,7 @@ returns-clause-line_kinds c = record {
 
 pub returns-clause-costs : goal.returns-clause-costs
 returns-clause-costs c = record {
-  number = simp (expr_lemmas, line_lemmas) refl;
-  truth = simp (expr_lemmas, line_lemmas) refl;
-  name = simp (expr_lemmas, line_lemmas) refl;
-  time = simp (expr_lemmas, line_lemmas) refl;
-  step = simp (expr_lemmas, line_lemmas) refl;
-  unary = simp (expr_lemmas, line_lemmas) refl;
-  binary = simp (expr_lemmas, line_lemmas) refl;
+  leaf = simp (expr_lemmas, line_lemmas) refl;
   clamp = simp (expr_lemmas, line_lemmas) refl;
   choice = simp (expr_lemmas, line_lemmas) refl;
   nested = simp (expr_lemmas, line_lemmas) refl;
@@ -82,5 +69,4 @@ returns-clause-costs c = record {
   blocks_in_blocks = simp (expr_lemmas, line_lemmas) refl;
   expression_call = simp (expr_lemmas, line_lemmas) refl;
   step_call = simp (expr_lemmas, line_lemmas) refl;
-  empty_step_call = refl;
 }

@@ -16,9 +16,7 @@ returns c = record {
   inputs = record { last = refl; first_too_many = refl };
   outputs = record { last = refl; first_too_many = refl };
   step_lines = record { last = refl; first_too_many = refl };
-  depth_32_in_if = simp plain_measures (simp expr_lemmas refl);
   depth_33_in_if = simp plain_measures (simp expr_lemmas refl);
-  depth_33_in_accept = simp plain_measures (simp expr_lemmas refl);
   only_alike = refl;
   resolutions = (omega arith, omega arith, λ fits. omega arith);
   repeats = ((omega arith, omega arith), (omega arith, omega arith), (λ fits. omega (arith, fits.0)), λ fits. omega (arith, fits.1));
@@ -36,6 +34,4 @@ returns c = record {
   true_seconds = refl;
   block_depth = simp line_lemmas refl;
   depth_of_else = simp line_lemmas refl;
-  bytes_of_text = refl;
-  bytes_of_line = refl;
 }

@@ -3,7 +3,7 @@ use Rattle.unit_tree.proofs.laws.lines_are_worked.Goals as goal
 
 pub returns : goal.returns
 returns c = record {
-  no_lines = refl;
+  empty_text = refl;
   blank_lines = refl;
   return_alone = refl;
   two_returns = refl;

@@ -19,7 +19,6 @@ returns c = record {
   minus_first = record { text_is = refl; grammatical = refl; shortest_is = simp the_lemmas refl };
   minus_of_minus = record { text_is = refl; grammatical = refl; shortest_is = simp the_lemmas refl };
   minus_of_not = record { text_is = refl; ungrammatical = refl };
-  choice = record { text_is = refl; grammatical = refl; shortest_is = simp the_lemmas refl };
   choice_in_sum = record { text_is = refl; grammatical = refl; shortest_is = simp the_lemmas refl };
   no_choice_in_sum = record { text_is = refl; ungrammatical = refl };
   calls = record { text_is = refl; grammatical = refl; shortest_is = simp the_lemmas refl };
@@ -32,16 +31,13 @@ returns c = record {
   level_64 = refl;
   level_65 = refl;
   level_64_of_name = refl;
-  level_64_inside = refl;
   not_not = record { text_is = refl; grammatical = refl; shortest_is = simp the_lemmas refl };
-  equal_truths = record { text_is = refl; grammatical = refl; shortest_is = simp the_lemmas refl };
   not_on_the_right = record { text_is = refl; grammatical = refl; shortest_is = simp the_lemmas refl };
   minus_on_the_right = record { text_is = refl; grammatical = refl; shortest_is = simp the_lemmas refl };
   minus_of_product = record { text_is = refl; grammatical = refl; shortest_is = simp the_lemmas refl };
   product_from_the_left = record { text_is = refl; grammatical = refl; shortest_is = simp the_lemmas refl };
   if_between_words = record { text_is = refl; grammatical = refl; shortest_is = simp the_lemmas refl };
   or_on_the_right = record { text_is = refl; grammatical = refl; shortest_is = simp the_lemmas refl };
-  else_if = record { text_is = refl; grammatical = refl; shortest_is = simp the_lemmas refl };
   comparisons = record { text_is = refl; grammatical = refl; shortest_is = simp the_lemmas refl };
   least = record { text_is = refl; grammatical = refl; shortest_is = simp the_lemmas refl };
   zero_decimals = record { text_is = refl; grammatical = refl; shortest_is = simp the_lemmas refl };
