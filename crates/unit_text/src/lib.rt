@@ -4,6 +4,8 @@
 //! read or refused as the definitions say.
 #![tactic(auto)]
 
+mod laws;
 mod worked;
 
+pub use laws::canonical_lines_are_shortest;
 pub use worked::texts_are_worked;
