@@ -20,9 +20,7 @@ use Rattle.unit_tree.specs.declared.token.Token.TheVariants as token
 
 -- ---- Tails
 
-same_tokens : (some others : List Token) → others ≡ some → TakeNoMore some others
-same_tokens some others is = rw is (as_much some)
-
+-- No number from 0 up is negative.
 not_negative : (number : ℕ) → is_negative (pos number) ≡ false
 not_negative number = grind (arith, nat_tests)
 
@@ -34,26 +32,30 @@ unsigned_tokens digits decimals =
 
 -- A sign in front of 0 is left out, and stands in front of every other negative number.
 signed_number : (negative : Bool) (digits decimals : ℕ) → TakeNoMore (literal_tokens (literal.Number (with_sign negative digits) decimals)) (sign_tokens negative ++ (token.Number digits decimals ∷ []))
-signed_number false digits decimals = same_tokens (literal_tokens (literal.Number (pos digits) decimals)) (token.Number digits decimals ∷ []) (sym (unsigned_tokens digits decimals))
-signed_number true zero decimals = λ behind rest. omega (arith, width_bound behind false (token.Number 0 decimals ∷ rest))
-signed_number true (suc digits) decimals = as_much (sign_tokens true ++ (token.Number (suc digits) decimals ∷ []))
+signed_number false digits decimals = as_much (literal_tokens (literal.Number (pos digits) decimals)) (token.Number digits decimals ∷ []) (unsigned_tokens digits decimals)
+signed_number true zero decimals = record { within = λ behind rest. omega (arith, width_bound behind false (token.Number 0 decimals ∷ rest)) }
+signed_number true (suc digits) decimals = as_much (literal_tokens (literal.Number (with_sign true (suc digits)) decimals)) (sign_tokens true ++ (token.Number (suc digits) decimals ∷ [])) refl
 
+-- A number of a line, perhaps with a sign.
 number_takes_no_more : (number : ℤ) (decimals : ℕ) (tokens : List Token) → WritesNumber number decimals tokens → TakeNoMore (literal_tokens (literal.Number number decimals)) tokens
 number_takes_no_more number decimals tokens written =
     subst (λ n. TakeNoMore (literal_tokens (literal.Number n decimals)) tokens) written.value
     (subst (TakeNoMore (literal_tokens (literal.Number (with_sign written.negative written.digits) decimals))) (sym written.spelled) (signed_number written.negative written.digits decimals))
 
+-- A literal.
 literal_takes_no_more : (value : Literal) (tokens : List Token) → WritesLiteral value tokens → TakeNoMore (literal_tokens value) tokens
-literal_takes_no_more (literal.Truth told) tokens written = same_tokens (keyword (truth_word told) ∷ []) tokens written
+literal_takes_no_more (literal.Truth told) tokens written = as_much (keyword (truth_word told) ∷ []) tokens (sym written)
 literal_takes_no_more (literal.Number number decimals) tokens written = number_takes_no_more number decimals tokens written
 
+-- A number of seconds, which has no sign.
 seconds_take_no_more : (seconds : Literal) (tokens : List Token) → WritesSeconds seconds tokens → TakeNoMore (literal_tokens seconds) tokens
 seconds_take_no_more (literal.Truth told) tokens written = absurd written
 seconds_take_no_more (literal.Number number decimals) tokens written =
-    same_tokens (literal_tokens (literal.Number number decimals)) tokens (written.3 ∙ sym (unsigned_tokens written.0 decimals) ∙ ap (λ n. literal_tokens (literal.Number n decimals)) (sym written.2))
+    as_much (literal_tokens (literal.Number number decimals)) tokens (ap (λ n. literal_tokens (literal.Number n decimals)) written.2 ∙ unsigned_tokens written.0 decimals ∙ sym written.3)
 
+-- What a form ends with.
 tail_takes_no_more : (tail : Tail) (tokens : List Token) → WritesTail tail tokens → TakeNoMore (tail_tokens tail) tokens
-tail_takes_no_more Nothing tokens written = same_tokens [] tokens written
+tail_takes_no_more Nothing tokens written = as_much [] tokens (sym written)
 tail_takes_no_more (OfLiteral value) tokens written = literal_takes_no_more value tokens written
 tail_takes_no_more (OfSeconds seconds) tokens written = seconds_take_no_more seconds tokens written
 tail_takes_no_more (OfExpression value) tokens written = expression_takes_no_more value tokens written
@@ -64,11 +66,13 @@ tail_takes_no_more (OfExpression value) tokens written = expression_takes_no_mor
 form_takes_no_more : (some : LineForm) (tokens : List Token) → WritesForm some tokens → TakeNoMore (form_tokens some) tokens
 form_takes_no_more some tokens written =
     subst (TakeNoMore (form_tokens some)) (sym written.spelled)
-    (take_after (front_tokens some) (tail_tokens (tail_of some)) written.tail (tail_takes_no_more (tail_of some) written.tail written.tail_is))
+    (take_after (front_tokens some) (tail_takes_no_more (tail_of some) written.tail written.tail_is))
 
+-- The code of a line is a part of it.
 code_within : (line : List ℕ) → length (code_of line) ≤ length line
 code_within line = omega (arith, length-take (position_or_len (λ byte. byte == 35) line) line)
 
+-- The canonical line, its tokens, the written tokens, the code and the line, each no longer than the next.
 pub shortest : CanonicalLinesAreShortest
 shortest some line has =
     omega (
@@ -80,4 +84,4 @@ shortest some line has =
     )
   where
     width_of_tokens : TakeNoMore (form_tokens some) has.tokens → width false (form_tokens some) ≤ width false has.tokens
-    width_of_tokens less = rw (sym (append-nil (form_tokens some)), sym (append-nil has.tokens)) (less false [])
+    width_of_tokens less = rw (sym (append-nil (form_tokens some)), sym (append-nil has.tokens)) (less.within false [])
