@@ -1,0 +1,295 @@
+-- The texts of tokens, and of tokens that stand apart: they spell these tokens.
+use Rattle.std.proofs.Common.{◌≡◌, ℕ, zero, suc, ◌+◌, ◌-◌, ◌^◌, ◌<◌, ◌≤◌, Bool, true, false, not, cond, ◌&&◌, ◌||◌, ◌==◌, Option, Some, None, List, [], ◌∷◌, ◌++◌, length, take, drop, replicate, IsTrue, refl, ap, sym, subst, ◌∙◌, arith, append_assoc}
+use Rattle.std.specs.Fmt.{decimal}
+use Rattle.std.specs.List.{AllByRecursion, list_all, last_or}
+use Rattle.std.proofs.lemmas.Bool.{and_parts, and_from, or_parts}
+use Rattle.std.proofs.lemmas.Bool.Decides.{nat_tests}
+use Rattle.std.proofs.lemmas.List.{append-nil, length-append, length-replicate, length-take-le, length-drop, take-append-drop}
+use Rattle.fixed_words.specs.Digits.{is_digit, number_from, pointed, IsNumber}
+use Rattle.fixed_words.specs.Texts.{padded, fixed_text}
+use Rattle.fixed_words.proofs.Numbers.{IsDecimal, decimal_is, zeros_before, all_digits_parts}
+use Rattle.unit_tree.specs.Canonical.{token_text, ends_in_word, spaced, tokens_text, form_tokens, line_text}
+use Rattle.unit_tree.specs.LineForms.{tail_of}
+use Rattle.unit_tree.specs.Printable.{names_on, IsInRange, is_writable}
+use Rattle.unit_tree.specs.Tokens.{is_blank, is_letter, is_word_byte, keyword_text, symbol_text, begins_with, begins_with_fraction, IsName, IsWord, IsSpelling, IsLongest, Ends, BeginsWith, Spells}
+use Rattle.unit_tree.specs.declared.line_form.LineForm.{LineForm}
+use Rattle.unit_tree.specs.declared.token.Keyword.{Keyword}
+use Rattle.unit_tree.specs.declared.token.Symbol.{Symbol}
+use Rattle.unit_tree.specs.declared.token.Symbol.TheVariants as sign
+use Rattle.unit_tree.specs.declared.token.Token.{Token}
+use Rattle.unit_tree.specs.declared.token.Token.TheVariants as token
+use Rattle.unit_tokens.proofs.TableLemmas.{keyword_is_word}
+use Rattle.unit_text.proofs.Apart.{can_grow, is_growth, is_point, starts_with, reads_on, are_apart, form_is_apart}
+use Rattle.unit_text.proofs.FitTokens.{IsFit, AreFit, form_fits}
+use Rattle.unit_text.proofs.SpelledBytes.{word_bytes, keyword_bytes}
+
+-- ---- One token
+
+-- A magnitude with its decimals is a number.
+fixed_number : (digits decimals : ℕ) → digits ≤ 2 ^ 63 → decimals ≤ 9 → IsNumber digits decimals (fixed_text decimals digits)
+fixed_number digits decimals bounded few =
+    let zeros = decimals + 1 - length (decimal digits) in
+    let all = padded decimals (decimal digits) in
+    let place = length all - decimals in
+    let is : IsDecimal digits all = zeros_before zeros digits (decimal digits) (decimal_is digits (omega arith)) in
+    let long : decimals + 1 ≤ length all = omega (arith, length-append (replicate {A = ℕ} zeros 48) (decimal digits), length-replicate {A = ℕ} zeros 48) in
+    let joined = take-append-drop place all in
+    let parts = all_digits_parts (take place all) (drop place all) (subst (λ bytes. IsTrue (list_all is_digit bytes)) (sym joined) is.0) in
+    record {
+      whole = take place all;
+      fraction = drop place all;
+      spelled = refl;
+      is_whole = (parts.0, omega (arith, length-take-le place all (omega arith)));
+      is_fraction = (parts.1, omega (arith, length-drop place all), few);
+      value = ap (number_from 0) joined ∙ is.1;
+      bounded = bounded;
+    }
+
+token_is_spelled : (some : Token) → IsFit some → IsSpelling some (token_text some)
+token_is_spelled (token.Keyword spelled) fits = refl
+token_is_spelled (token.Name name) fits = (refl, fits)
+token_is_spelled (token.Number digits decimals) fits = fixed_number digits decimals fits.0 fits.1
+token_is_spelled (token.Symbol spelled) fits = refl
+
+-- ---- Symbols
+
+symbol_size : (some : Symbol) → (0 < length (symbol_text some)) × (length (symbol_text some) ≤ 2)
+symbol_size sign.Assign = (omega arith, omega arith)
+symbol_size sign.Arrow = (omega arith, omega arith)
+symbol_size sign.Equals = (omega arith, omega arith)
+symbol_size sign.Differs = (omega arith, omega arith)
+symbol_size sign.AtMost = (omega arith, omega arith)
+symbol_size sign.AtLeast = (omega arith, omega arith)
+symbol_size sign.Colon = (omega arith, omega arith)
+symbol_size sign.Is = (omega arith, omega arith)
+symbol_size sign.Less = (omega arith, omega arith)
+symbol_size sign.Greater = (omega arith, omega arith)
+symbol_size sign.Plus = (omega arith, omega arith)
+symbol_size sign.Minus = (omega arith, omega arith)
+symbol_size sign.Star = (omega arith, omega arith)
+symbol_size sign.Slash = (omega arith, omega arith)
+symbol_size sign.Open = (omega arith, omega arith)
+symbol_size sign.Close = (omega arith, omega arith)
+symbol_size sign.Comma = (omega arith, omega arith)
+symbol_size sign.Point = (omega arith, omega arith)
+
+-- The second bytes of symbols: `=` and `>`.
+abbrev grows : ℕ → Bool
+grows byte = (byte == 61) || (byte == 62)
+
+-- The first bytes of symbols of two bytes: `:` `-` `<` `>` `=` and `!`.
+abbrev starts_pair : ℕ → Bool
+starts_pair byte = (byte == 58) || ((byte == 45) || ((byte == 60) || ((byte == 62) || ((byte == 61) || (byte == 33)))))
+
+abbrev begins_pair : List ℕ → Bool
+begins_pair bytes = begins_with starts_pair bytes && begins_with grows (drop 1 bytes)
+
+pair_begins : (some : Symbol) (after : List ℕ) → 1 < length (symbol_text some) → begins_pair (symbol_text some ++ after) ≡ true
+pair_begins sign.Assign after two = refl
+pair_begins sign.Arrow after two = refl
+pair_begins sign.Equals after two = refl
+pair_begins sign.Differs after two = refl
+pair_begins sign.AtMost after two = refl
+pair_begins sign.AtLeast after two = refl
+pair_begins sign.Colon after two = absurd (omega arith)
+pair_begins sign.Is after two = absurd (omega arith)
+pair_begins sign.Less after two = absurd (omega arith)
+pair_begins sign.Greater after two = absurd (omega arith)
+pair_begins sign.Plus after two = absurd (omega arith)
+pair_begins sign.Minus after two = absurd (omega arith)
+pair_begins sign.Star after two = absurd (omega arith)
+pair_begins sign.Slash after two = absurd (omega arith)
+pair_begins sign.Open after two = absurd (omega arith)
+pair_begins sign.Close after two = absurd (omega arith)
+pair_begins sign.Comma after two = absurd (omega arith)
+pair_begins sign.Point after two = absurd (omega arith)
+
+at_most_one : (size : ℕ) → (1 < size → ⊥) → size ≤ 1
+at_most_one zero small = omega arith
+at_most_one (suc zero) small = omega arith
+at_most_one (suc (suc size)) small = absurd (small (omega arith))
+
+-- A symbol of one byte is the longest where the next byte makes no longer one.
+single_longest : (some : Symbol) (byte : ℕ) (rest : List ℕ) → symbol_text some ≡ byte ∷ [] → (starts_pair byte && begins_with grows rest) ≡ false → IsLongest some rest
+single_longest some byte rest spelled single other after same =
+    let bytes : symbol_text other ++ after ≡ byte ∷ rest = sym same ∙ ap (λ text. text ++ rest) spelled in
+    let short : length (symbol_text other) ≤ 1 = at_most_one (length (symbol_text other)) (λ two. (let pair : begins_pair (byte ∷ rest) ≡ true = ap begins_pair (sym bytes) ∙ pair_begins other after two in cc)) in
+    omega (arith, short, ap length spelled)
+
+double_longest : (some : Symbol) (rest : List ℕ) → length (symbol_text some) ≡ 2 → IsLongest some rest
+double_longest some rest two other after same = omega (arith, two, (symbol_size other).1)
+
+full_longest : (some : Symbol) (byte : ℕ) (rest : List ℕ) → symbol_text some ≡ byte ∷ [] → starts_pair byte ≡ false → IsLongest some rest
+full_longest some byte rest spelled full = single_longest some byte rest spelled (rw full refl)
+
+growing_longest : (some : Symbol) (byte : ℕ) (rest : List ℕ) → symbol_text some ≡ byte ∷ [] → starts_pair byte ≡ true → (begins_with grows rest && true) ≡ false → IsLongest some rest
+growing_longest some byte rest spelled first other = single_longest some byte rest spelled (grown first (begins_with grows rest) other)
+  where
+    grown : starts_pair byte ≡ true → (next : Bool) → (next && true) ≡ false → (starts_pair byte && next) ≡ false
+    grown first true other = absurd (cc)
+    grown first false other = rw first refl
+
+-- A symbol is the longest where the next byte is none that it grows by.
+symbol_longest : (some : Symbol) (rest : List ℕ) → (begins_with grows rest && can_grow some) ≡ false → IsLongest some rest
+symbol_longest sign.Assign rest other = double_longest sign.Assign rest refl
+symbol_longest sign.Arrow rest other = double_longest sign.Arrow rest refl
+symbol_longest sign.Equals rest other = double_longest sign.Equals rest refl
+symbol_longest sign.Differs rest other = double_longest sign.Differs rest refl
+symbol_longest sign.AtMost rest other = double_longest sign.AtMost rest refl
+symbol_longest sign.AtLeast rest other = double_longest sign.AtLeast rest refl
+symbol_longest sign.Colon rest other = growing_longest sign.Colon 58 rest refl refl other
+symbol_longest sign.Is rest other = growing_longest sign.Is 61 rest refl refl other
+symbol_longest sign.Less rest other = growing_longest sign.Less 60 rest refl refl other
+symbol_longest sign.Greater rest other = growing_longest sign.Greater 62 rest refl refl other
+symbol_longest sign.Minus rest other = growing_longest sign.Minus 45 rest refl refl other
+symbol_longest sign.Plus rest other = full_longest sign.Plus 43 rest refl refl
+symbol_longest sign.Star rest other = full_longest sign.Star 42 rest refl refl
+symbol_longest sign.Slash rest other = full_longest sign.Slash 47 rest refl refl
+symbol_longest sign.Open rest other = full_longest sign.Open 40 rest refl refl
+symbol_longest sign.Close rest other = full_longest sign.Close 41 rest refl refl
+symbol_longest sign.Comma rest other = full_longest sign.Comma 44 rest refl refl
+symbol_longest sign.Point rest other = full_longest sign.Point 46 rest refl refl
+
+-- ---- First bytes
+
+-- The bytes begin, with a byte that a test of bytes of other kinds than words' refuses.
+record BeginsAsWord (text : List ℕ) : Type 0 where
+  some : 0 < length text
+  fails : (test : ℕ → Bool) → ((byte : ℕ) → is_word_byte byte ≡ true → test byte ≡ false) → begins_with test text ≡ false
+
+first_of_word : (first : ℕ) (others : List ℕ) → is_word_byte first ≡ true → BeginsAsWord (first ∷ others)
+first_of_word first others of_word = record { some = omega arith; fails = λ test fails. fails first of_word }
+
+word_begins : (text : List ℕ) → begins_with is_letter text ≡ true → BeginsAsWord text
+word_begins [] letter = absurd (cc)
+word_begins (first ∷ others) letter = first_of_word first others (rw letter refl)
+
+name_begins : (name : List ℕ) → IsWord name → BeginsAsWord name
+name_begins [] word = absurd word
+name_begins (first ∷ others) word = word_begins (first ∷ others) word.0
+
+digit_of_word : (byte : ℕ) → is_digit byte ≡ true → is_word_byte byte ≡ true
+digit_of_word byte digit = grind (arith, nat_tests)
+
+digits_begin : (whole behind : List ℕ) → list_all is_digit whole ≡ true → 0 < length whole → BeginsAsWord (whole ++ behind)
+digits_begin [] behind digits some = absurd (omega arith)
+digits_begin (first ∷ others) behind digits some =
+    first_of_word first (others ++ behind) (digit_of_word first (and_parts (is_digit first) (list_all is_digit others) digits).0)
+
+number_begins : (digits decimals : ℕ) (text : List ℕ) → IsNumber digits decimals text → BeginsAsWord text
+number_begins digits decimals text is = subst BeginsAsWord (sym is.spelled) (digits_begin is.whole (pointed is.fraction) is.is_whole.0 is.is_whole.1)
+
+keyword_begins : (spelled : Keyword) → BeginsAsWord (keyword_text spelled)
+keyword_begins spelled =
+    word_begins (keyword_text spelled) (and_parts (begins_with is_letter (keyword_text spelled)) (list_all is_word_byte (keyword_text spelled)) (keyword_is_word spelled)).0
+
+-- No token's text is empty.
+pub token_some : (some : Token) → IsFit some → 0 < length (token_text some)
+token_some (token.Keyword spelled) fits = (keyword_begins spelled).some
+token_some (token.Name name) fits = (name_begins name fits.0).some
+token_some (token.Number digits decimals) fits = (number_begins digits decimals (fixed_text decimals digits) (fixed_number digits decimals fits.0 fits.1)).some
+token_some (token.Symbol spelled) fits = (symbol_size spelled).0
+
+-- A test of bytes sees in the text of a token what a test of tokens sees in the token: no word passes, and symbols
+-- pass alike.
+record SeesFirst (test : ℕ → Bool) (seen : Token → Bool) : Type 0 where
+  words : (byte : ℕ) → is_word_byte byte ≡ true → test byte ≡ false
+  keywords : (spelled : Keyword) → seen (token.Keyword spelled) ≡ false
+  names : (name : List ℕ) → seen (token.Name name) ≡ false
+  numbers : (digits decimals : ℕ) → seen (token.Number digits decimals) ≡ false
+  symbols : (spelled : Symbol) → begins_with test (symbol_text spelled) ≡ seen (token.Symbol spelled)
+
+token_first : (test : ℕ → Bool) (seen : Token → Bool) → SeesFirst test seen → (some : Token) → IsFit some → begins_with test (token_text some) ≡ seen some
+token_first test seen sees (token.Keyword spelled) fits = (keyword_begins spelled).fails test sees.words ∙ sym (sees.keywords spelled)
+token_first test seen sees (token.Name name) fits = (name_begins name fits.0).fails test sees.words ∙ sym (sees.names name)
+token_first test seen sees (token.Number digits decimals) fits =
+    (number_begins digits decimals (fixed_text decimals digits) (fixed_number digits decimals fits.0 fits.1)).fails test sees.words ∙ sym (sees.numbers digits decimals)
+token_first test seen sees (token.Symbol spelled) fits = sees.symbols spelled
+
+begins_front : (test : ℕ → Bool) (text others : List ℕ) → 0 < length text → begins_with test (text ++ others) ≡ begins_with test text
+begins_front test [] others some = absurd (omega arith)
+begins_front test (byte ∷ bytes) others some = refl
+
+spaced_begins : (test : ℕ → Bool) (text others : List ℕ) → 0 < length text → begins_with test (spaced text others) ≡ begins_with test text
+spaced_begins test text others some =
+    elim (ends_in_word text && begins_with is_word_byte others) as (λ meet. begins_with test (cond meet (text ++ (32 ∷ others)) (text ++ others)) ≡ begins_with test text) [ true ↦ begins_front test text (32 ∷ others) some | false ↦ begins_front test text others some ]
+
+tokens_first : (test : ℕ → Bool) (seen : Token → Bool) → SeesFirst test seen → (tokens : List Token) → AreFit tokens → begins_with test (tokens_text tokens) ≡ starts_with seen tokens
+tokens_first test seen sees [] fit = refl
+tokens_first test seen sees (first ∷ others) fit =
+    spaced_begins test (token_text first) (tokens_text others) (token_some first fit.0) ∙ token_first test seen sees first fit.0
+
+symbol_grows : (some : Symbol) → begins_with grows (symbol_text some) ≡ is_growth (token.Symbol some)
+symbol_grows sign.Assign = refl
+symbol_grows sign.Arrow = refl
+symbol_grows sign.Equals = refl
+symbol_grows sign.Differs = refl
+symbol_grows sign.AtMost = refl
+symbol_grows sign.AtLeast = refl
+symbol_grows sign.Colon = refl
+symbol_grows sign.Is = refl
+symbol_grows sign.Less = refl
+symbol_grows sign.Greater = refl
+symbol_grows sign.Plus = refl
+symbol_grows sign.Minus = refl
+symbol_grows sign.Star = refl
+symbol_grows sign.Slash = refl
+symbol_grows sign.Open = refl
+symbol_grows sign.Close = refl
+symbol_grows sign.Comma = refl
+symbol_grows sign.Point = refl
+
+symbol_points : (some : Symbol) → begins_with (λ byte. byte == 46) (symbol_text some) ≡ is_point (token.Symbol some)
+symbol_points sign.Assign = refl
+symbol_points sign.Arrow = refl
+symbol_points sign.Equals = refl
+symbol_points sign.Differs = refl
+symbol_points sign.AtMost = refl
+symbol_points sign.AtLeast = refl
+symbol_points sign.Colon = refl
+symbol_points sign.Is = refl
+symbol_points sign.Less = refl
+symbol_points sign.Greater = refl
+symbol_points sign.Plus = refl
+symbol_points sign.Minus = refl
+symbol_points sign.Star = refl
+symbol_points sign.Slash = refl
+symbol_points sign.Open = refl
+symbol_points sign.Close = refl
+symbol_points sign.Comma = refl
+symbol_points sign.Point = refl
+
+word_grows_none : (byte : ℕ) → is_word_byte byte ≡ true → grows byte ≡ false
+word_grows_none byte of_word = grind (arith, nat_tests)
+
+word_no_point : (byte : ℕ) → is_word_byte byte ≡ true → (byte == 46) ≡ false
+word_no_point byte of_word = grind (arith, nat_tests)
+
+growth_seen : SeesFirst grows is_growth
+growth_seen = record { words = word_grows_none; keywords = λ spelled. refl; names = λ name. refl; numbers = λ digits decimals. refl; symbols = symbol_grows }
+
+point_seen : SeesFirst (λ byte. byte == 46) is_point
+point_seen = record { words = word_no_point; keywords = λ spelled. refl; names = λ name. refl; numbers = λ digits decimals. refl; symbols = symbol_points }
+
+-- ---- Last bytes
+
+last_of : (first : ℕ) (others : List ℕ) → is_word_byte first ≡ true → list_all is_word_byte others ≡ true → (last : ℕ) × (last_or (Some first) others ≡ Some last) × (is_word_byte last ≡ true)
+last_of first [] is all = (first, refl, is)
+last_of first (next ∷ others) is all =
+    let parts = and_parts (is_word_byte next) (list_all is_word_byte others) all in
+    last_of next others parts.0 parts.1
+
+last_behind : (before : Option ℕ) (front : List ℕ) (first : ℕ) (others : List ℕ) → last_or before (front ++ (first ∷ others)) ≡ last_or (Some first) others
+last_behind before [] first others = refl
+last_behind before (byte ∷ front) first others = last_behind (Some byte) front first others
+
+-- A text that ends with bytes of a word ends in a word.
+word_ends : (front : List ℕ) (first : ℕ) (others : List ℕ) → list_all is_word_byte (first ∷ others) ≡ true → ends_in_word (front ++ (first ∷ others)) ≡ true
+word_ends front first others all =
+    let parts = and_parts (is_word_byte first) (list_all is_word_byte others) all in
+    let last = last_of first others parts.0 parts.1 in
+    rw (last_behind None front first others ∙ last.1) last.2
+
+all_of_word : (text : List ℕ) → 0 < length text → list_all is_word_byte text ≡ true → ends_in_word text ≡ true
+all_of_word [] some all = absurd (omega arith)
+all_of_word (first ∷ others) some all = word_ends [] first others all
