@@ -21,7 +21,7 @@ use Rattle.unit_tree.specs.declared.token.Token.TheVariants as token
 use Rattle.unit_tokens.proofs.TableLemmas.{keyword_is_word}
 use Rattle.unit_text.proofs.Apart.{can_grow, is_growth, is_point, starts_with, reads_on, are_apart, form_is_apart}
 use Rattle.unit_text.proofs.FitTokens.{IsFit, AreFit, form_fits}
-use Rattle.unit_text.proofs.SpelledBytes.{word_bytes, keyword_bytes}
+use Rattle.unit_text.proofs.SpelledBytes.{all_pass, word_bytes, keyword_bytes}
 
 -- ---- One token
 
@@ -293,3 +293,83 @@ word_ends front first others all =
 all_of_word : (text : List ℕ) → 0 < length text → list_all is_word_byte text ≡ true → ends_in_word text ≡ true
 all_of_word [] some all = absurd (omega arith)
 all_of_word (first ∷ others) some all = word_ends [] first others all
+
+digits_of_word : (digits : List ℕ) → list_all is_digit digits ≡ true → list_all is_word_byte digits ≡ true
+digits_of_word digits all = all_pass is_digit is_word_byte digit_of_word digits all
+
+parts_end : (whole fraction : List ℕ) → list_all is_digit whole ≡ true → 0 < length whole → list_all is_digit fraction ≡ true → ends_in_word (whole ++ pointed fraction) ≡ true
+parts_end whole [] digits some behind = ap ends_in_word (append-nil whole) ∙ all_of_word whole some (digits_of_word whole digits)
+parts_end whole (first ∷ others) digits some behind =
+    ap ends_in_word (sym (append_assoc whole (46 ∷ []) (first ∷ others))) ∙ word_ends (whole ++ (46 ∷ [])) first others (digits_of_word (first ∷ others) behind)
+
+number_ends : (digits decimals : ℕ) (text : List ℕ) → IsNumber digits decimals text → ends_in_word text ≡ true
+number_ends digits decimals text is = ap ends_in_word is.spelled ∙ parts_end is.whole is.fraction is.is_whole.0 is.is_whole.1 is.is_fraction.0
+
+-- ---- Where tokens end
+
+-- What is known of the bytes behind a token's text: none of a word where the text ends in one, and none that the token
+-- would be read on into.
+record StandsBefore (some : Token) (rest : List ℕ) : Type 0 where
+  apart : ends_in_word (token_text some) ≡ true → begins_with is_word_byte rest ≡ false
+  no_point : (digits decimals : ℕ) → some ≡ token.Number digits decimals → begins_with (λ byte. byte == 46) rest ≡ false
+  no_growth : (spelled : Symbol) → some ≡ token.Symbol spelled → (begins_with grows rest && can_grow spelled) ≡ false
+
+no_fraction : (rest : List ℕ) → begins_with (λ byte. byte == 46) rest ≡ false → begins_with_fraction rest ≡ false
+no_fraction [] none = refl
+no_fraction (byte ∷ bytes) none = rw none refl
+
+token_ends : (some : Token) (rest : List ℕ) → IsFit some → StandsBefore some rest → Ends some rest
+token_ends (token.Keyword spelled) rest fits before = before.apart (all_of_word (keyword_text spelled) (keyword_begins spelled).some (keyword_bytes spelled))
+token_ends (token.Name name) rest fits before = before.apart (all_of_word name (name_begins name fits.0).some (word_bytes name fits.0))
+token_ends (token.Number digits decimals) rest fits before =
+    (before.apart (number_ends digits decimals (fixed_text decimals digits) (fixed_number digits decimals fits.0 fits.1)), λ none. no_fraction rest (before.no_point digits decimals refl))
+token_ends (token.Symbol spelled) rest fits before = symbol_longest spelled rest (before.no_growth spelled refl)
+
+-- A blank ends every token.
+before_blank : (some : Token) (rest : List ℕ) → StandsBefore some (32 ∷ rest)
+before_blank some rest = record { apart = λ ends. refl; no_point = λ digits decimals is. refl; no_growth = λ spelled is. refl }
+
+not_false : (some : Bool) → not some ≡ true → some ≡ false
+not_false true is = absurd (cc)
+not_false false is = refl
+
+other_false : (one other : Bool) → (one && other) ≡ false → one ≡ true → other ≡ false
+other_false true other both is = both
+other_false false other both is = absurd (cc)
+
+-- The text of tokens that stand apart from the one before them ends it.
+before_tokens : (some : Token) (others : List Token) → AreFit others → not (reads_on some others) ≡ true → (ends_in_word (token_text some) && begins_with is_word_byte (tokens_text others)) ≡ false → StandsBefore some (tokens_text others)
+before_tokens some others fit apart no_meeting =
+    let alone : reads_on some others ≡ false = not_false (reads_on some others) apart in
+    record {
+      apart = other_false (ends_in_word (token_text some)) (begins_with is_word_byte (tokens_text others)) no_meeting;
+      no_point = λ digits decimals is. tokens_first (λ byte. byte == 46) is_point point_seen others fit ∙ ap (λ t. reads_on t others) (sym is) ∙ alone;
+      no_growth = λ spelled is. ap (λ first. first && can_grow spelled) (tokens_first grows is_growth growth_seen others fit) ∙ ap (λ t. reads_on t others) (sym is) ∙ alone;
+    }
+
+-- ---- Lines
+
+behind_blank : (tokens : List Token) (line : List ℕ) → Spells tokens line → Spells tokens (32 ∷ line)
+behind_blank [] line spelled = spelled
+behind_blank (first ∷ others) line (rest, begins, more) =
+    (rest, record { blanks = 32 ∷ begins.blanks; text = begins.text; cut = ap (λ bytes. 32 ∷ bytes) begins.cut; are_blank = begins.are_blank; spelling = begins.spelling; ends = begins.ends }, more)
+
+first_spelled : (first : Token) (others : List Token) (rest : List ℕ) → IsFit first → StandsBefore first rest → Spells others rest → Spells (first ∷ others) (token_text first ++ rest)
+first_spelled first others rest fits before more =
+    (rest, record { blanks = []; text = token_text first; cut = refl; are_blank = refl; spelling = token_is_spelled first fits; ends = token_ends first rest fits before }, more)
+
+meeting_or_not : (first : Token) (others : List Token) (meet : Bool) → (ends_in_word (token_text first) && begins_with is_word_byte (tokens_text others)) ≡ meet → IsFit first → AreFit others → not (reads_on first others) ≡ true → Spells others (tokens_text others) → Spells (first ∷ others) (cond meet (token_text first ++ (32 ∷ tokens_text others)) (token_text first ++ tokens_text others))
+meeting_or_not first others true is fits fit apart more =
+    first_spelled first others (32 ∷ tokens_text others) fits (before_blank first (tokens_text others)) (behind_blank others (tokens_text others) more)
+meeting_or_not first others false is fits fit apart more = first_spelled first others (tokens_text others) fits (before_tokens first others fit apart is) more
+
+-- Tokens that fit and stand apart are spelled by their text.
+pub tokens_are_spelled : (tokens : List Token) → AreFit tokens → are_apart tokens ≡ true → Spells tokens (tokens_text tokens)
+tokens_are_spelled [] fit apart = refl
+tokens_are_spelled (first ∷ others) fit apart =
+    let parts = and_parts (not (reads_on first others)) (are_apart others) apart in
+    meeting_or_not first others (ends_in_word (token_text first) && begins_with is_word_byte (tokens_text others)) refl fit.0 fit.1 parts.0 (tokens_are_spelled others fit.1 parts.1)
+
+-- A canonical line spells its tokens, where its names are names and its numbers are in range.
+pub line_is_spelled : (some : LineForm) → AllByRecursion IsName (names_on some) → IsInRange some → IsTrue (is_writable (tail_of some)) → Spells (form_tokens some) (line_text some)
+line_is_spelled some names ranged writable = tokens_are_spelled (form_tokens some) (form_fits some names ranged writable) (form_is_apart some)
