@@ -5,7 +5,7 @@ use Rattle.std.proofs.lemmas.Bool.{and_parts}
 use Rattle.std.proofs.lemmas.List.Sums.{sum_by-cons}
 use Rattle.unit_tree.specs.Canonical.{canonical_forms, canonical_text, form_tokens, line_text}
 use Rattle.unit_tree.specs.LineForms.{tail_of}
-use Rattle.unit_tree.specs.Lines.{lines_of, source_lines, size_of, without_return, code_of, is_blank_line}
+use Rattle.unit_tree.specs.Lines.{lines_of, source_lines, size_of, without_return, code_of, is_blank_line, has_forbidden_byte}
 use Rattle.unit_tree.specs.Printable.{IsPrintable, IsInRange, names_on, is_writable}
 use Rattle.unit_tree.specs.Tokens.{is_blank, IsName, Spells}
 use Rattle.unit_tree.specs.declared.line_form.LineForm.{LineForm}
@@ -14,7 +14,7 @@ use Rattle.unit_tree.specs.declared.system.System.{System}
 use Rattle.unit_tree.specs.declared.token.Token.{Token}
 use Rattle.unit_tokens.proofs.TokenLemmas.{spells_one}
 use Rattle.unit_text.proofs.Apart.{starts_with}
-use Rattle.unit_text.proofs.SpelledBytes.{is_spelled_byte, spelled_bytes, spelled_is_code, spelled_no_return, spelled_no_end}
+use Rattle.unit_text.proofs.SpelledBytes.{is_spelled_byte, spelled_bytes, none_forbidden, spelled_is_code, spelled_no_return, spelled_no_end}
 use Rattle.unit_text.proofs.TokenTexts.{line_is_spelled}
 
 -- ---- Each line
@@ -56,12 +56,14 @@ not_blank tokens line true is some spelled =
     let never : false ≡ true = ap (starts_with (λ first. true)) (sym none) ∙ some in
     absurd (cc)
 
--- What is known of a line that is spelled by its canonical text: it is all code, and spells its tokens.
+-- What is known of a line that is spelled by its canonical text: it is all code, has no forbidden byte and
+-- no CR, and is not blank.
 pub record IsSpelled (some : LineForm) : Type 0 where
   pub spelled : Spells (form_tokens some) (line_text some)
   pub bytes : list_all is_spelled_byte (line_text some) ≡ true
   pub code : code_of (line_text some) ≡ line_text some
   pub spelled_code : Spells (form_tokens some) (code_of (line_text some))
+  pub none_forbidden : has_forbidden_byte (line_text some) ≡ false
   pub no_return : without_return (line_text some) ≡ line_text some
   pub not_blank : is_blank_line (line_text some) ≡ false
 
@@ -75,6 +77,7 @@ is_spelled some spelled =
       bytes = bytes;
       code = code;
       spelled_code = of_code;
+      none_forbidden = none_forbidden (form_tokens some) (line_text some) of_code;
       no_return = spelled_no_return (line_text some) bytes;
       not_blank = not_blank (form_tokens some) (code_of (line_text some)) (is_blank_line (line_text some)) refl (has_tokens some) of_code;
     }

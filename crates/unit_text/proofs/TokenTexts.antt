@@ -18,7 +18,7 @@ use Rattle.unit_tree.specs.declared.token.Symbol.{Symbol}
 use Rattle.unit_tree.specs.declared.token.Symbol.TheVariants as sign
 use Rattle.unit_tree.specs.declared.token.Token.{Token}
 use Rattle.unit_tree.specs.declared.token.Token.TheVariants as token
-use Rattle.unit_tokens.proofs.TableLemmas.{keyword_is_word}
+use Rattle.unit_tokens.proofs.TableLemmas.{keyword_is_word, is_symbol_text, symbol_is_text}
 use Rattle.unit_text.proofs.Apart.{can_grow, is_growth, is_point, starts_with, reads_on, are_apart, form_is_apart}
 use Rattle.unit_text.proofs.FitTokens.{IsFit, AreFit, form_fits}
 use Rattle.unit_text.proofs.SpelledBytes.{all_pass, word_bytes, keyword_bytes}
@@ -53,25 +53,15 @@ token_is_spelled (token.Symbol spelled) fits = refl
 
 -- ---- Symbols
 
+text_size : (text : List ℕ) → is_symbol_text text ≡ true → (0 < length text) × (length text ≤ 2)
+text_size [] is = absurd (cc)
+text_size (first ∷ []) is = (omega arith, omega arith)
+text_size (first ∷ second ∷ []) is = (omega arith, omega arith)
+text_size (first ∷ second ∷ third ∷ others) is = absurd (cc)
+
+-- A symbol has one byte or two.
 symbol_size : (some : Symbol) → (0 < length (symbol_text some)) × (length (symbol_text some) ≤ 2)
-symbol_size sign.Assign = (omega arith, omega arith)
-symbol_size sign.Arrow = (omega arith, omega arith)
-symbol_size sign.Equals = (omega arith, omega arith)
-symbol_size sign.Differs = (omega arith, omega arith)
-symbol_size sign.AtMost = (omega arith, omega arith)
-symbol_size sign.AtLeast = (omega arith, omega arith)
-symbol_size sign.Colon = (omega arith, omega arith)
-symbol_size sign.Is = (omega arith, omega arith)
-symbol_size sign.Less = (omega arith, omega arith)
-symbol_size sign.Greater = (omega arith, omega arith)
-symbol_size sign.Plus = (omega arith, omega arith)
-symbol_size sign.Minus = (omega arith, omega arith)
-symbol_size sign.Star = (omega arith, omega arith)
-symbol_size sign.Slash = (omega arith, omega arith)
-symbol_size sign.Open = (omega arith, omega arith)
-symbol_size sign.Close = (omega arith, omega arith)
-symbol_size sign.Comma = (omega arith, omega arith)
-symbol_size sign.Point = (omega arith, omega arith)
+symbol_size some = text_size (symbol_text some) (symbol_is_text some)
 
 -- The second bytes of symbols: `=` and `>`.
 abbrev grows : ℕ → Bool
