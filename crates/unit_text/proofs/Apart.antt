@@ -2,18 +2,19 @@
 use Rattle.std.proofs.Common.{◌≡◌, ℕ, Bool, true, false, not, ◌&&◌, List, [], ◌∷◌, ◌++◌, refl, ap, sym, ◌∙◌, append_assoc}
 use Rattle.std.specs.Int.{is_negative}
 use Rattle.std.specs.Prelude.{unsigned_abs}
-use Rattle.std.proofs.lemmas.Bool.{and_right, and_from}
+use Rattle.std.proofs.lemmas.Bool.{and_right}
 use Rattle.std.proofs.lemmas.List.{append-nil}
 use Rattle.fixed_words.specs.declared.types.Literal.{Literal}
 use Rattle.fixed_words.specs.declared.types.Literal.TheVariants as literal
 use Rattle.fixed_words.specs.declared.types.Ty.{Ty}
 use Rattle.fixed_words.specs.declared.types.Ty.TheVariants as types
 use Rattle.unit_tree.specs.Canonical.{canonical_phrase, expression_tokens, literal_tokens, form_tokens}
-use Rattle.unit_tree.specs.LineForms.{type_tokens, port_tokens, declaration, names_tokens, needs_tokens, equals, sign_tokens}
+use Rattle.unit_tree.specs.LineForms.{type_tokens, declaration, names_tokens, needs_tokens, equals, sign_tokens}
 use Rattle.unit_tree.specs.Phrases as phrase
 use Rattle.unit_tree.specs.Phrases.{Phrase, keyword, symbol, whole, truth_word, in_parens, unary_tokens, operation, binary_tokens, phrase_tokens}
 use Rattle.unit_tree.specs.declared.expr.BinOp.{BinOp}
 use Rattle.unit_tree.specs.declared.expr.BinOp.TheVariants as by
+use Rattle.unit_tree.specs.declared.expr.Expr.{Expr}
 use Rattle.unit_tree.specs.declared.expr.UnOp.{UnOp}
 use Rattle.unit_tree.specs.declared.expr.UnOp.TheVariants as of
 use Rattle.unit_tree.specs.declared.line_form.LineForm.{LineForm}
@@ -44,6 +45,7 @@ is_growth (token.Symbol sign.Is) = true
 is_growth (token.Symbol sign.Greater) = true
 is_growth _ = false
 
+-- Whether a token is a point.
 abbrev pub is_point : Token → Bool
 is_point (token.Symbol sign.Point) = true
 is_point _ = false
@@ -79,12 +81,15 @@ record Separates (between : Token) : Type 0 where
   no_point : is_point between ≡ false
   apart : (behind : List Token) → starts_with is_growth behind ≡ false → are_apart behind ≡ true → are_apart (between ∷ behind) ≡ true
 
+-- Every keyword does.
 keyword_separates : (spelled : Keyword) → Separates (keyword spelled)
 keyword_separates spelled = record { no_point = refl; apart = λ behind other apart. apart }
 
+-- Every symbol but the point does.
 symbol_separates : (spelled : Symbol) → is_point (symbol spelled) ≡ false → Separates (symbol spelled)
 symbol_separates spelled no_point = record { no_point = no_point; apart = before_other spelled }
 
+-- Every operation does.
 operation_separates : (op : BinOp) → Separates (operation op)
 operation_separates by.Add = symbol_separates sign.Plus refl
 operation_separates by.Sub = symbol_separates sign.Minus refl
@@ -110,21 +115,27 @@ record IsOperand (tokens : List Token) : Type 0 where
   apart : (behind : List Token) → are_apart behind ≡ true → starts_with is_point behind ≡ false → are_apart (tokens ++ behind) ≡ true
   other : (behind : List Token) → starts_with is_growth (tokens ++ behind) ≡ false
 
+-- Tokens of an operand stand apart where nothing is behind them.
 operand_apart : (tokens : List Token) → IsOperand tokens → are_apart tokens ≡ true
 operand_apart tokens operand = ap are_apart (sym (append-nil tokens)) ∙ operand.apart [] refl refl
 
+-- No symbol grows by them there.
 operand_other : (tokens : List Token) → IsOperand tokens → starts_with is_growth tokens ≡ false
 operand_other tokens operand = ap (starts_with is_growth) (sym (append-nil tokens)) ∙ operand.other []
 
+-- A keyword is an operand.
 keyword_operand : (spelled : Keyword) → IsOperand (keyword spelled ∷ [])
 keyword_operand spelled = record { apart = λ behind apart no_point. apart; other = λ behind. refl }
 
+-- A name is one.
 name_operand : (name : List ℕ) → IsOperand (token.Name name ∷ [])
 name_operand name = record { apart = λ behind apart no_point. apart; other = λ behind. refl }
 
+-- A number is one.
 number_operand : (digits decimals : ℕ) → IsOperand (token.Number digits decimals ∷ [])
 number_operand digits decimals = record { apart = λ behind apart no_point. rw no_point apart; other = λ behind. refl }
 
+-- So is an operand behind a token that separates and that no symbol grows by.
 behind_first : (first : Token) (tokens : List Token) → Separates first → is_growth first ≡ false → IsOperand tokens → IsOperand (first ∷ tokens)
 behind_first first tokens separates no_growth operand =
     record {
@@ -132,6 +143,7 @@ behind_first first tokens separates no_growth operand =
       other = λ behind. no_growth;
     }
 
+-- So are two operands with a token between them that separates.
 both_operands : (left right : List Token) (between : Token) → Separates between → IsOperand left → IsOperand right → IsOperand (left ++ (between ∷ right))
 both_operands left right between separates first second =
     record {
@@ -139,6 +151,7 @@ both_operands left right between separates first second =
       other = λ behind. ap (starts_with is_growth) (append_assoc left (between ∷ right) behind) ∙ first.other (between ∷ right ++ behind);
     }
 
+-- So is an operand with `)` behind it.
 closed : (inner : List Token) → IsOperand inner → IsOperand (inner ++ (symbol sign.Close ∷ []))
 closed inner operand =
     record {
@@ -146,15 +159,19 @@ closed inner operand =
       other = λ behind. ap (starts_with is_growth) (append_assoc inner (symbol sign.Close ∷ []) behind) ∙ operand.other (symbol sign.Close ∷ behind);
     }
 
+-- So is an operand in parentheses.
 parens_operand : (inner : List Token) → IsOperand inner → IsOperand (in_parens inner)
 parens_operand inner operand = behind_first (symbol sign.Open) (inner ++ (symbol sign.Close ∷ [])) (symbol_separates sign.Open refl) refl (closed inner operand)
 
+-- So is a call.
 call_operand : (called : Keyword) (inner : List Token) → IsOperand inner → IsOperand (keyword called ∷ in_parens inner)
 call_operand called inner operand = behind_first (keyword called) (in_parens inner) (keyword_separates called) refl (parens_operand inner operand)
 
+-- So are two operands with a comma between them.
 comma_operands : (left right : List Token) → IsOperand left → IsOperand right → IsOperand (left ++ (symbol sign.Comma ∷ right))
 comma_operands left right = both_operands left right (symbol sign.Comma) (symbol_separates sign.Comma refl)
 
+-- So is an operation on an operand.
 unary_operand : (op : UnOp) (arg : List Token) → IsOperand arg → IsOperand (unary_tokens op arg)
 unary_operand of.Neg arg operand = behind_first (symbol sign.Minus) arg (symbol_separates sign.Minus refl) refl operand
 unary_operand of.Not arg operand = behind_first (keyword word.Not) arg (keyword_separates word.Not) refl operand
@@ -164,9 +181,11 @@ unary_operand (of.ToFix decimals) arg operand =
     let inner = parens_operand arg operand in
     record { apart = inner.apart; other = λ behind. refl }
 
+-- So is an operation between two operands.
 infix_operand : (op : BinOp) (left right : List Token) → IsOperand left → IsOperand right → IsOperand (left ++ (operation op ∷ right))
 infix_operand op left right = both_operands left right (operation op) (operation_separates op)
 
+-- So is every operation on two operands.
 binary_operand : (op : BinOp) (left right : List Token) → IsOperand left → IsOperand right → IsOperand (binary_tokens op left right)
 binary_operand by.Min left right first second = call_operand word.Min (left ++ (symbol sign.Comma ∷ right)) (comma_operands left right first second)
 binary_operand by.Max left right first second = call_operand word.Max (left ++ (symbol sign.Comma ∷ right)) (comma_operands left right first second)
@@ -205,17 +224,21 @@ phrase_operand (phrase.Choose condition then_part else_part) =
 phrase_operand phrase.Absent = keyword_operand word.Absent
 phrase_operand (phrase.Present name) = call_operand word.Present (token.Name name ∷ []) (name_operand name)
 
+-- A number with its sign is an operand.
 signed_operand : (negative : Bool) (digits decimals : ℕ) → IsOperand (sign_tokens negative ++ (token.Number digits decimals ∷ []))
 signed_operand true digits decimals = behind_first (symbol sign.Minus) (token.Number digits decimals ∷ []) (symbol_separates sign.Minus refl) refl (number_operand digits decimals)
 signed_operand false digits decimals = number_operand digits decimals
 
+-- A literal is one.
 literal_operand : (value : Literal) → IsOperand (literal_tokens value)
 literal_operand (literal.Truth told) = keyword_operand (truth_word told)
 literal_operand (literal.Number number decimals) = signed_operand (is_negative number) (unsigned_abs number) decimals
 
-expression_operand : (value : _) → IsOperand (expression_tokens value)
+-- A canonical expression is one.
+expression_operand : (value : Expr) → IsOperand (expression_tokens value)
 expression_operand value = phrase_operand (canonical_phrase value)
 
+-- A type is one.
 type_operand : (ty : Ty) → IsOperand (type_tokens ty)
 type_operand types.Int8 = name_operand _
 type_operand types.UInt8 = name_operand _
@@ -229,21 +252,24 @@ type_operand (types.Fixed decimals) = record { apart = λ behind apart no_point.
 
 -- ---- Lines
 
--- Each of these stands apart from everything behind it but a point.
+-- A declaration stands apart from everything behind it but a point.
 declaration_apart : (declared : Keyword) (name : List ℕ) (ty : Ty) (behind : List Token) → are_apart behind ≡ true → starts_with is_point behind ≡ false → are_apart (declaration declared name ty ++ behind) ≡ true
 declaration_apart declared name ty behind apart no_point =
     let operand = type_operand ty in
     before_other sign.Colon (type_tokens ty ++ behind) (operand.other behind) (operand.apart behind apart no_point)
 
+-- Names with commas stand apart from everything behind them that does.
 names_apart : (names : List (List ℕ)) (behind : List Token) → are_apart behind ≡ true → are_apart (names_tokens names ++ behind) ≡ true
 names_apart [] behind apart = apart
 names_apart (name ∷ []) behind apart = apart
 names_apart (name ∷ next ∷ names) behind apart = before_any sign.Comma (names_tokens (next ∷ names) ++ behind) refl (names_apart (next ∷ names) behind apart)
 
+-- So do the names of what is needed, with their keyword.
 needs_apart : (names : List (List ℕ)) (behind : List Token) → are_apart behind ≡ true → are_apart (needs_tokens names ++ behind) ≡ true
 needs_apart [] behind apart = apart
 needs_apart (name ∷ names) behind apart = names_apart (name ∷ names) behind apart
 
+-- What is needed begins with no point.
 needs_no_point : (names : List (List ℕ)) (behind : List Token) → starts_with is_point behind ≡ false → starts_with is_point (needs_tokens names ++ behind) ≡ false
 needs_no_point [] behind no_point = no_point
 needs_no_point (name ∷ names) behind no_point = refl
@@ -252,10 +278,12 @@ needs_no_point (name ∷ names) behind no_point = refl
 given_apart : (tokens : List Token) → IsOperand tokens → are_apart (equals ++ tokens) ≡ true
 given_apart tokens operand = before_other sign.Is tokens (operand_other tokens operand) (operand_apart tokens operand)
 
+-- A declaration with its value stands apart.
 declared_with : (declared : Keyword) (name : List ℕ) (ty : Ty) (value : List Token) → IsOperand value → are_apart (declaration declared name ty ++ equals ++ value) ≡ true
 declared_with declared name ty value operand =
     ap are_apart (append_assoc (declaration declared name ty) equals value) ∙ declaration_apart declared name ty (equals ++ value) (given_apart value operand) refl
 
+-- So does one with what it needs.
 declared_needing : (declared : Keyword) (name : List ℕ) (ty : Ty) (needs : List (List ℕ)) (value : List Token) → IsOperand value → are_apart (declaration declared name ty ++ needs_tokens needs ++ equals ++ value) ≡ true
 declared_needing declared name ty needs value operand =
     let front = declaration declared name ty in

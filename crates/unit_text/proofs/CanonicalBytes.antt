@@ -1,5 +1,5 @@
 -- The bytes of canonical lines and texts.
-use Rattle.std.proofs.Common.{◌≡◌, ℕ, ◌+◌, Bool, true, false, not, cond, ◌&&◌, ◌==◌, List, [], ◌∷◌, ◌++◌, map, length, IsTrue, refl, ap, sym, ◌∙◌, arith, append_assoc, length-append}
+use Rattle.std.proofs.Common.{◌≡◌, ℕ, ◌+◌, Bool, true, false, not, List, [], ◌∷◌, ◌++◌, map, length, IsTrue, refl, ap, sym, ◌∙◌, arith, append_assoc, length-append}
 use Rattle.std.specs.List.{AllByRecursion, list_all, filter, flat_map, onto_first, sum_by}
 use Rattle.std.proofs.lemmas.Bool.{and_parts}
 use Rattle.std.proofs.lemmas.List.Sums.{sum_by-cons}
@@ -67,6 +67,7 @@ pub record IsSpelled (some : LineForm) : Type 0 where
   pub no_return : without_return (line_text some) ≡ line_text some
   pub not_blank : is_blank_line (line_text some) ≡ false
 
+-- All of this holds where the text spells the tokens.
 pub is_spelled : (some : LineForm) → Spells (form_tokens some) (line_text some) → IsSpelled some
 is_spelled some spelled =
     let bytes = spelled_bytes (form_tokens some) (line_text some) spelled in
@@ -84,6 +85,7 @@ is_spelled some spelled =
 
 -- ---- All lines
 
+-- All lines are spelled where their names are names and their numbers are in range.
 all_are_spelled : (lines : List LineForm) → AllByRecursion (λ line. AllByRecursion IsName (names_on line)) lines → AllByRecursion IsInRange lines → IsTrue (list_all (λ line. is_writable (tail_of line)) lines) → AllByRecursion IsSpelled lines
 all_are_spelled [] names ranged writable = _
 all_are_spelled (first ∷ others) names ranged writable =
@@ -107,6 +109,7 @@ first_line (byte ∷ line) rest spelled =
     let parts = and_parts (is_spelled_byte byte) (list_all is_spelled_byte line) spelled in
     rw (spelled_no_end byte parts.0) (ap (onto_first byte) (first_line line rest parts.1))
 
+-- The lines of such a text are the texts of the lines.
 lines_are : (lines : List LineForm) → AllByRecursion IsSpelled lines → lines_of (ended lines) ≡ map line_text lines
 lines_are [] spelled = refl
 lines_are (first ∷ others) spelled =
@@ -114,20 +117,24 @@ lines_are (first ∷ others) spelled =
     ∙ first_line (line_text first) (ended others) spelled.0.bytes
     ∙ ap (λ lines. line_text first ∷ lines) (lines_are others spelled.1)
 
+-- None of them loses a CR.
 no_returns : (lines : List LineForm) → AllByRecursion IsSpelled lines → map without_return (map line_text lines) ≡ map line_text lines
 no_returns [] spelled = refl
 no_returns (first ∷ others) spelled = rw (spelled.0.no_return, no_returns others spelled.1) refl
 
+-- None of them is blank.
 none_left_out : (lines : List LineForm) → AllByRecursion IsSpelled lines → filter (λ line. not (is_blank_line line)) (map line_text lines) ≡ map line_text lines
 none_left_out [] spelled = refl
 none_left_out (first ∷ others) spelled = rw (spelled.0.not_blank) (ap (λ lines. line_text first ∷ lines) (none_left_out others spelled.1))
 
+-- Their size is the length of the text.
 size_is : (lines : List LineForm) → sum_by (λ line. length line + 1) (map line_text lines) ≡ length (ended lines)
 size_is [] = refl
 size_is (first ∷ others) =
     let step = size_is others in
     omega (arith, step, sum_by-cons (λ (line : List ℕ). length line + 1) (line_text first) (map line_text others), length-append (line_text first ++ (10 ∷ [])) (ended others), length-append (line_text first) (10 ∷ []))
 
+-- The code of each spells its tokens.
 spelled_codes : (lines : List LineForm) → AllByRecursion IsSpelled lines → AllByRecursion (λ some. Spells (form_tokens some) (code_of (line_text some))) lines
 spelled_codes [] spelled = _
 spelled_codes (first ∷ others) spelled = (spelled.0.spelled_code, spelled_codes others spelled.1)

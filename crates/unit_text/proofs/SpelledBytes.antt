@@ -1,17 +1,18 @@
 -- The bytes of lines that spell tokens.
-use Rattle.std.proofs.Common.{◌≡◌, ℕ, ◌+◌, Bool, true, false, not, ◌&&◌, ◌||◌, ◌==◌, List, [], ◌∷◌, ◌++◌, refl, ap, sym, ◌∙◌, arith, one-add, append_assoc}
+use Rattle.std.proofs.Common.{◌≡◌, ℕ, Bool, true, false, not, ◌&&◌, ◌==◌, List, [], ◌∷◌, ◌++◌, refl, ap, ◌∙◌, arith, one-add, append_assoc}
 use Rattle.std.specs.List.{list_all, before_first, position_or_len}
 use Rattle.std.proofs.lemmas.Bool.{and_parts, and_from}
 use Rattle.std.proofs.lemmas.Bool.Decides.{nat_tests}
 use Rattle.std.proofs.lemmas.List.Folds.{list_all-append}
 use Rattle.fixed_words.specs.Digits.{is_digit, pointed, IsNumber}
 use Rattle.unit_tree.specs.Lines.{is_code_byte, code_of, without_return, has_forbidden_byte}
-use Rattle.unit_tree.specs.Tokens.{is_blank, is_letter, is_word_byte, begins_with, keyword_text, symbol_text, IsWord, IsSpelling, BeginsWith, Spells}
+use Rattle.unit_tree.specs.Tokens.{is_blank, is_letter, is_word_byte, begins_with, keyword_text, symbol_text, IsWord, IsSpelling, Spells}
+use Rattle.unit_tree.specs.declared.token.Keyword.{Keyword}
 use Rattle.unit_tree.specs.declared.token.Symbol.{Symbol}
 use Rattle.unit_tree.specs.declared.token.Symbol.TheVariants as sign
 use Rattle.unit_tree.specs.declared.token.Token.{Token}
 use Rattle.unit_tree.specs.declared.token.Token.TheVariants as token
-use Rattle.unit_tokens.proofs.TableLemmas.{is_word_text, keyword_is_word}
+use Rattle.unit_tokens.proofs.TableLemmas.{keyword_is_word}
 
 -- What tokens and the blanks between them are made of: the bytes of code but `#`.
 abbrev pub is_spelled_byte : ℕ → Bool
@@ -32,15 +33,19 @@ all_joined test xs ys front behind = list_all-append test xs ys ∙ and_from (li
 
 -- ---- The bytes of tokens
 
+-- Blanks are such bytes.
 blank_spelled : (byte : ℕ) → is_blank byte ≡ true → is_spelled_byte byte ≡ true
 blank_spelled byte blank = grind (arith, nat_tests)
 
+-- So are the bytes of words.
 word_spelled : (byte : ℕ) → is_word_byte byte ≡ true → is_spelled_byte byte ≡ true
 word_spelled byte of_word = grind (arith, nat_tests)
 
+-- So are digits.
 digit_spelled : (byte : ℕ) → is_digit byte ≡ true → is_spelled_byte byte ≡ true
 digit_spelled byte digit = grind (arith, nat_tests)
 
+-- Symbols are made of such bytes.
 symbol_spelled : (symbol : Symbol) → list_all is_spelled_byte (symbol_text symbol) ≡ true
 symbol_spelled sign.Assign = refl
 symbol_spelled sign.Arrow = refl
@@ -61,10 +66,12 @@ symbol_spelled sign.Close = refl
 symbol_spelled sign.Comma = refl
 symbol_spelled sign.Point = refl
 
+-- So is a fraction with its point.
 pointed_spelled : (fraction : List ℕ) → list_all is_digit fraction ≡ true → list_all is_spelled_byte (pointed fraction) ≡ true
 pointed_spelled [] digits = refl
 pointed_spelled (digit ∷ others) digits = all_pass is_digit is_spelled_byte digit_spelled (digit ∷ others) digits
 
+-- So is a number.
 number_spelled : (digits decimals : ℕ) (text : List ℕ) → IsNumber digits decimals text → list_all is_spelled_byte text ≡ true
 number_spelled digits decimals text is =
     ap (list_all is_spelled_byte) is.spelled
@@ -75,9 +82,11 @@ pub word_bytes : (text : List ℕ) → IsWord text → list_all is_word_byte tex
 word_bytes [] word = absurd word
 word_bytes (first ∷ others) word = rw word.0 word.1
 
-pub keyword_bytes : (keyword : _) → list_all is_word_byte (keyword_text keyword) ≡ true
+-- A keyword is made of bytes of words.
+pub keyword_bytes : (keyword : Keyword) → list_all is_word_byte (keyword_text keyword) ≡ true
 keyword_bytes keyword = (and_parts (begins_with is_letter (keyword_text keyword)) (list_all is_word_byte (keyword_text keyword)) (keyword_is_word keyword)).1
 
+-- So is every token.
 token_spelled : (some : Token) (text : List ℕ) → IsSpelling some text → list_all is_spelled_byte text ≡ true
 token_spelled (token.Keyword keyword) text spelling =
     ap (list_all is_spelled_byte) spelling ∙ all_pass is_word_byte is_spelled_byte word_spelled (keyword_text keyword) (keyword_bytes keyword)
@@ -95,6 +104,7 @@ spelled_bytes (first ∷ others) line (rest, begins, more) =
 
 -- ---- Lines of such bytes
 
+-- Such a byte is one of code.
 spelled_code : (byte : ℕ) → is_spelled_byte byte ≡ true → is_code_byte byte ≡ true
 spelled_code byte spelled = (and_parts (is_code_byte byte) (not (byte == 35)) spelled).0
 
@@ -109,6 +119,7 @@ before_first_none test (x ∷ xs) none =
     let parts = and_parts (not (test x)) (list_all (λ y. not (test y)) xs) none in
     rw (parts.0, one-add (position_or_len test xs)) (ap (λ ys. x ∷ ys) (before_first_none test xs parts.1))
 
+-- Such a byte begins no comment.
 spelled_no_comment : (byte : ℕ) → is_spelled_byte byte ≡ true → not (byte == 35) ≡ true
 spelled_no_comment byte spelled = (and_parts (is_code_byte byte) (not (byte == 35)) spelled).1
 
@@ -117,6 +128,7 @@ pub spelled_is_code : (line : List ℕ) → list_all is_spelled_byte line ≡ tr
 spelled_is_code line spelled =
     before_first_none (λ byte. byte == 35) line (all_pass is_spelled_byte (λ byte. not (byte == 35)) spelled_no_comment line spelled)
 
+-- Such a byte is no CR.
 no_return : (byte : ℕ) → is_spelled_byte byte ≡ true → (byte == 13) ≡ false
 no_return byte spelled = grind (arith, nat_tests)
 
