@@ -4,6 +4,8 @@
 //! read or refused as the definitions say.
 #![tactic(auto)]
 
+mod expressions;
+mod levels;
 mod worked;
 
 pub use worked::texts_are_worked;
