@@ -54,7 +54,7 @@ infix_again by.And is = refl
 infix_again by.Or is = refl
 
 -- A token is the infix operation that it is read as.
-abbrev Reads : Token → BinOp → Type 0
+abbrev pub Reads : Token → BinOp → Type 0
 Reads first op = (operation op ≡ first) × (is_infix op ≡ true)
 
 infix_symbol_is : (symbol : _) → IfSome (infix_symbol symbol) (Reads (token.Symbol symbol))

@@ -364,7 +364,7 @@ fn read(
     climb(alloc, budget, asked, left, level, rest)
 }
 
-/// The expression that the tokens write.
+/// An expression with no token behind it.
 #[tactic(auto, unfolding(crate::specs::Expressions::read_expression))]
 fn whole_expression(alloc: Global, tokens: &[Token]) -> Result<Expr, Unread>
     ensures { Gives result (read_expression tokens.now) }
@@ -375,3 +375,15 @@ fn whole_expression(alloc: Global, tokens: &[Token]) -> Result<Expr, Unread>
         _ => Err(Unread::NoForm),
     }
 }
+
+/// The expression that the tokens write.
+pub fn expression(alloc: Global, tokens: &[Token]) -> Result<Expr, Unread>
+    ensures { ReadsAs result (ExpressionIs tokens.now) }
+{
+    whole_expression(alloc, tokens)
+}
+
+/// Tokens write one expression at most.
+pub fn tokens_write_one_expression()
+    ensures { WritesOneTree }
+{}

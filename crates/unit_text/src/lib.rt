@@ -8,4 +8,5 @@ mod expressions;
 mod levels;
 mod worked;
 
+pub use expressions::{expression, tokens_write_one_expression};
 pub use worked::texts_are_worked;
