@@ -1,7 +1,6 @@
 -- What is read of tokens is an expression that the grammar has, written with the first of them.
-use Rattle.std.proofs.Common.{◌≡◌, ℕ, suc, zero, ◌+◌, ◌<◌, ◌≤◌, ◌^◌, Bool, true, false, cond, ◌&&◌, ◌==◌, max, List, [], ◌∷◌, ◌++◌, Option, Some, None, refl, ap, sym, subst, ◌∙◌, arith, append_assoc, pos, nat_le, nat_lt}
+use Rattle.std.proofs.Common.{◌≡◌, ℕ, suc, zero, ◌<◌, ◌^◌, Bool, true, false, cond, ◌&&◌, ◌==◌, max, List, [], ◌∷◌, ◌++◌, Option, Some, None, refl, ap, sym, subst, ◌∙◌, arith, append_assoc, pos, nat_le, nat_lt}
 use Rattle.std.specs.Prelude.{IfSome, option_and_then}
-use Rattle.std.specs.Str.{bytes_eq}
 use Rattle.std.proofs.lemmas.Bool.{and_parts, and_from, eqb-true}
 use Rattle.std.proofs.lemmas.Slice.Eq.{bytes_eq-Decides}
 use Rattle.unit_tree.specs.Phrases as phrase
@@ -22,8 +21,8 @@ use Rattle.unit_tree.specs.declared.token.Token.{Token}
 use Rattle.unit_tree.specs.declared.token.Token.TheVariants as token
 use Rattle.unit_tokens.specs.Scanning.{symbol_of}
 use Rattle.unit_tokens.proofs.TableLemmas.{symbol_of-symbol_text}
-use Rattle.unit_text.specs.Expressions.{◌>>=◌, Reader, Front, same_symbol, after_symbol, after_then, after_else, name_at, decimals_at, grouped_at, call_at, fix_at, prefix_at, pair_at, clamp_at, choice_at, present_at, keyword_operand, symbol_operand, operand_at, infix_at, with_right, climb, within, read, deeper}
-use Rattle.unit_text.proofs.Infix.{is_infix, infix_tokens, infix_at_is, Takes, allows_is, allows_from, strongest}
+use Rattle.unit_text.specs.Expressions.{Reader, Front, same_symbol, after_symbol, after_then, after_else, name_at, decimals_at, grouped_at, call_at, fix_at, prefix_at, pair_at, clamp_at, choice_at, present_at, keyword_operand, symbol_operand, operand_at, infix_at, with_right, climb, within, read}
+use Rattle.unit_text.proofs.Infix.{is_infix, infix_tokens, infix_at_is, Takes, allows_from, strongest}
 use Rattle.unit_text.proofs.PhraseTokens.{group_tokens, pair_tokens, clamp_tokens, choice_tokens}
 
 -- ---- Single tokens

@@ -1,5 +1,5 @@
 -- An expression is read from the tokens that it is written with.
-use Rattle.std.proofs.Common.{◌≡◌, ℕ, suc, zero, ◌+◌, ◌<◌, ◌≤◌, Bool, true, false, cond, ◌&&◌, max, List, [], ◌∷◌, ◌++◌, length, Option, Some, None, refl, ap, sym, subst, ◌∙◌, arith, append_assoc, nat_le}
+use Rattle.std.proofs.Common.{◌≡◌, ℕ, suc, zero, ◌<◌, ◌≤◌, Bool, true, false, cond, ◌&&◌, max, List, [], ◌∷◌, ◌++◌, length, Option, Some, None, refl, ap, sym, subst, ◌∙◌, arith, append_assoc, nat_le}
 use Rattle.std.specs.Prelude.{IfSome, option_and_then, ⊤}
 use Rattle.std.proofs.lemmas.Bool.{and_parts}
 use Rattle.std.proofs.lemmas.Bool.Decides.{nat_tests}
@@ -17,10 +17,10 @@ use Rattle.unit_tree.specs.declared.token.Keyword.TheVariants as word
 use Rattle.unit_tree.specs.declared.token.Symbol.TheVariants as sign
 use Rattle.unit_tree.specs.declared.token.Token.{Token}
 use Rattle.unit_tree.specs.declared.token.Token.TheVariants as token
-use Rattle.unit_text.specs.Expressions.{◌>>=◌, Reader, Front, grouped_at, call_at, fix_at, prefix_at, pair_at, clamp_at, choice_at, present_at, operand_at, infix_of, infix_at, with_right, climb, read, deeper}
+use Rattle.unit_text.specs.Expressions.{Reader, Front, grouped_at, call_at, fix_at, prefix_at, pair_at, clamp_at, choice_at, present_at, operand_at, infix_of, infix_at, with_right, climb, read, deeper}
 use Rattle.unit_text.proofs.Infix.{is_infix, rises, infix_tokens, infix_again, infix_is, infix_at_is, Reads, Takes, allows_is, allows_from, read_step}
 use Rattle.unit_text.proofs.PhraseTokens.{group_tokens, pair_tokens, clamp_tokens, choice_tokens}
-use Rattle.unit_text.proofs.Fronts.{IsFront, IsSound, read_is, stands_allowed, stands_where, call_level, call_nesting, call_tokens, infix_nesting}
+use Rattle.unit_text.proofs.Fronts.{IsFront, IsSound, read_is, stands_allowed, stands_where, infix_nesting}
 
 -- ---- Where reading goes no further
 
@@ -240,8 +240,8 @@ again-infix op left right on_left on_right between budget asked rest so deep fit
     ∙ on_left budget asked (operation op ∷ behind) (stands_where (left_level level) asked left both.0 (allows_from asked (level_of left) (omega arith))) (omega arith) numbers.0 (follows_operation op (level_of left) behind between left_allowed)
     ∙ ap (with_right (read budget) (climb (read budget) asked behind) (tree_of left, level_of left, operation op ∷ behind)) (infix_at_again asked (level_of left) op behind between here.0 left_allowed)
     ∙ ap (option_and_then (λ (x : Front). climb (read budget) asked behind (expr.Binary op (tree_of left) x.0, level, x.2)))
-        (on_right budget (right_level level) rest both.1 (omega arith) numbers.1 (follows_stronger level (level_of right) rest (omega arith) follows)
-        ∙ climb_ends (read budget) (right_level level) rest (tree_of right, level_of right, rest) (ends (right_level level) (level_of right) level rest (never_right op between) follows))
+    (on_right budget (right_level level) rest both.1 (omega arith) numbers.1 (follows_stronger level (level_of right) rest (omega arith) follows)
+    ∙ climb_ends (read budget) (right_level level) rest (tree_of right, level_of right, rest) (ends (right_level level) (level_of right) level rest (never_right op between) follows))
     ∙ climb_turns (suc budget) (read budget) asked behind rest found (read_is budget) (omega (arith, length-append (phrase_tokens right) rest)) (omega arith)
 
 again-call : (op : BinOp) (left right : Phrase) → Again left → Again right → is_infix op ≡ false → Again (phrase.Binary op left right)

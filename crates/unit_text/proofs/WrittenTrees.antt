@@ -1,10 +1,10 @@
 -- What tokens write is what is read of them.
-use Rattle.std.proofs.Common.{◌≡◌, ℕ, suc, ◌<◌, Bool, true, ◌&&◌, List, [], ◌∷◌, ◌++◌, Option, Some, None, Result, Ok, Err, refl, ap, sym, ◌∙◌, arith, nat_le, inl, inr}
-use Rattle.std.specs.Prelude.{IfSome, ◌⊎◌, IsTrue}
+use Rattle.std.proofs.Common.{◌≡◌, List, [], ◌∷◌, Option, Some, None, Result, Ok, Err, refl, ap, sym, ◌∙◌, arith, nat_le, inl, inr}
+use Rattle.std.specs.Prelude.{IfSome, ◌⊎◌}
 use Rattle.std.proofs.lemmas.Bool.{and_parts, and_from}
 use Rattle.std.proofs.lemmas.Bool.Decides.{nat_tests}
 use Rattle.std.proofs.lemmas.List.{append-nil}
-use Rattle.unit_tree.specs.Phrases.{Phrase, Level, Whole, level_of, nesting, stands, numbers_fit, is_expression, tree_of, phrase_tokens, Writes}
+use Rattle.unit_tree.specs.Phrases.{Whole, nesting, stands, phrase_tokens, Writes}
 use Rattle.unit_tree.specs.declared.expr.Expr.{Expr}
 use Rattle.unit_tree.specs.declared.token.Token.{Token}
 use Rattle.unit_tokens.specs.Scanning.{Gives, ReadsAs}

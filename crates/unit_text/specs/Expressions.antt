@@ -2,7 +2,7 @@
 use Rattle.std.specs.Prelude.{◌≡◌, ℕ, suc, zero, ◌^◌, pos, Bool, true, false, ◌&&◌, ◌==◌, nat_le, nat_lt, List, [], ◌∷◌, Option, Some, None, Result, Ok, Err, ⊤, if◌then◌else◌, option_and_then}
 use Rattle.std.specs.Borrow.{Bor}
 use Rattle.std.specs.Str.{bytes_eq}
-use Rattle.unit_tree.specs.Phrases.{Level, Whole, Negation, Primary, unary_level, binary_level, left_level, right_level, allows, Writes}
+use Rattle.unit_tree.specs.Phrases.{Level, Whole, Primary, unary_level, binary_level, left_level, right_level, allows, Writes}
 use Rattle.unit_tree.specs.Tokens.{symbol_text}
 use Rattle.unit_tree.specs.declared.expr.BinOp.{BinOp}
 use Rattle.unit_tree.specs.declared.expr.BinOp.TheVariants as by

@@ -61,8 +61,7 @@ fn decimals_at(tokens: &[Token]) -> Result<(u8, &[Token]), Unread>
 {
     match tokens {
         [Token::Number { digits, decimals }, rest @ ..]
-            if *decimals == 0 && *digits <= u64::from(MOST_DECIMALS) =>
-        {
+            if *decimals == 0 && *digits <= u64::from(MOST_DECIMALS) => {
             Ok((*digits as u8, rest))
         }
         _ => Err(Unread::NoForm),
@@ -255,8 +254,7 @@ fn operand(
 {
     match tokens {
         [Token::Number { digits, decimals }, rest @ ..]
-            if *digits < WORD_END && *decimals <= MOST_DECIMALS =>
-        {
+            if *digits < WORD_END && *decimals <= MOST_DECIMALS => {
             let word = *digits as i64;
             let decimals = *decimals;
             Ok((Expr::Number { word, decimals }, Level::Primary, rest))

@@ -6,6 +6,8 @@
 
 mod expressions;
 mod levels;
+#[cfg(test)]
+mod tests;
 mod worked;
 
 pub use expressions::{expression, tokens_write_one_expression};

@@ -1,4 +1,4 @@
-use Rattle.std.proofs.Common.{◌≡◌, ◌<◌, ap, ◌∙◌, arith}
+use Rattle.std.proofs.Common.{◌≡◌, ap, ◌∙◌, arith}
 use Rattle.unit_tree.specs.Phrases.{strength, binary_level, right_level}
 use Rattle.unit_text.specs.Levels.{grammar_level}
 use Rattle.unit_text.proofs.Infix.{infix_at_rises, strongest}
