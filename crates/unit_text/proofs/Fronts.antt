@@ -32,16 +32,19 @@ pub then_holds : {A B : Type 0} (found : Option A) (next : A → Option B) (P : 
 then_holds None next P Q is more = tt
 then_holds (Some x) next P Q is more = more x is
 
+-- What holds where a test passes holds of the reading that wants it passed.
 if_holds : {B : Type 0} (test : Bool) (found : Option B) (Q : B → Type 0) → (test ≡ true → IfSome found Q) → IfSome (cond test found None) Q
 if_holds true found Q more = more refl
 if_holds false found Q more = tt
 
+-- Symbols with one text are one.
 same_symbol_is : (one other : Symbol) → same_symbol one other ≡ true → one ≡ other
 same_symbol_is one other same =
     let texts : symbol_text one ≡ symbol_text other = (bytes_eq-Decides (symbol_text one) (symbol_text other)).0 same in
     let both : ◌≡◌ {A = Option Symbol} (Some one) (Some other) = sym (symbol_of-symbol_text one) ∙ ap symbol_of texts ∙ symbol_of-symbol_text other in
     cc
 
+-- Single tokens are read only where they stand.
 after_symbol_is : (wanted : Symbol) (tokens : List Token) → IfSome (after_symbol wanted tokens) (λ rest. symbol wanted ∷ rest ≡ tokens)
 after_symbol_is wanted [] = tt
 after_symbol_is wanted (token.Symbol found ∷ rest) =
@@ -71,6 +74,7 @@ decimals_at_is (_ ∷ rest) = tt
 
 -- ---- Where expressions stand
 
+-- The strongest level is allowed everywhere.
 pub primary_stands : (asked : Level) → allows asked Primary ≡ true
 primary_stands asked = allows_from asked Primary (strongest asked)
 
@@ -115,6 +119,7 @@ pub record IsGroup (limit : ℕ) (tokens : List Token) (found : Expr × List Tok
   pub nested : nesting written < limit
   pub fits : numbers_fit written ≡ true
 
+-- What is read in parentheses stands there.
 pub grouped_is : (limit : ℕ) (inner : Reader) (tokens : List Token) → IsSound limit inner → IfSome (grouped_at inner tokens) (IsGroup limit tokens)
 unfolding grouped_at
 grouped_is limit inner tokens sound =
@@ -147,6 +152,7 @@ call_at_is limit inner asked op before tokens sound calls primary ranged =
       fits = and_from (unary_is_ranged op) _ ranged is.fits;
     })
 
+-- A conversion to fixed point, which has its decimals before the parentheses.
 fix_at_is : (limit : ℕ) (inner : Reader) (asked : Level) (tokens : List Token) → IsSound limit inner → IfSome (fix_at inner tokens) (IsFront (suc limit) asked (keyword word.Fix ∷ tokens))
 unfolding fix_at
 fix_at_is limit inner asked tokens sound =
@@ -154,6 +160,7 @@ fix_at_is limit inner asked tokens sound =
     subst (λ all. IfSome (call_at inner (of.ToFix found.0) found.1) (IsFront (suc limit) asked (keyword word.Fix ∷ all))) is.0
     (call_at_is limit inner asked (of.ToFix found.0) (keyword word.Fix ∷ whole found.0 ∷ []) found.1 sound (λ arg. refl) refl is.1))
 
+-- An operation before its operand.
 prefix_at_is : (limit : ℕ) (inner : Reader) (asked : Level) (op : UnOp) (first : Token) (tokens : List Token) → IsSound limit inner
     → ((arg : List Token) → unary_tokens op arg ≡ first ∷ arg) → operand_level (unary_level op) ≡ unary_level op → unary_is_ranged op ≡ true
     → IfSome (prefix_at inner asked op tokens) (IsFront (suc limit) asked (first ∷ tokens))
@@ -171,6 +178,7 @@ prefix_at_is limit inner asked op first tokens sound begins same ranged =
       fits = and_from (unary_is_ranged op) _ ranged is.fits;
     }))
 
+-- Calls of two operands are of the strongest level, one level of nesting deeper, and written as calls.
 call_stands : (asked : Level) (op : BinOp) (left right : Phrase) → is_infix op ≡ false → stands Whole left ≡ true → stands Whole right ≡ true → stands asked (phrase.Binary op left right) ≡ true
 call_stands asked by.Min left right called one other = and_from (allows asked Primary) _ (primary_stands asked) (and_from (stands Whole left) _ one other)
 call_stands asked by.Max left right called one other = and_from (allows asked Primary) _ (primary_stands asked) (and_from (stands Whole left) _ one other)
@@ -195,15 +203,16 @@ call_tokens by.Max left right called = refl
 call_tokens by.Add left right called = absurd (cc)
 call_tokens _ left right called = absurd (cc)
 
+-- A call of two operands.
 pair_at_is : (limit : ℕ) (inner : Reader) (asked : Level) (op : BinOp) (tokens : List Token) → IsSound limit inner → is_infix op ≡ false → IfSome (pair_at inner op tokens) (IsFront (suc limit) asked (operation op ∷ tokens))
 unfolding pair_at
 pair_at_is limit inner asked op tokens sound called =
-    let Told = IsFront (suc limit) asked (operation op ∷ tokens) in
-    then_holds (after_symbol sign.Open tokens) _ _ Told (after_symbol_is sign.Open tokens) (λ first opened.
-    then_holds (inner Whole first) _ _ Told (sound Whole first) (λ left one.
-    then_holds (after_symbol sign.Comma left.2) _ _ Told (after_symbol_is sign.Comma left.2) (λ second between.
-    then_holds (inner Whole second) _ _ Told (sound Whole second) (λ right other.
-    then_holds (after_symbol sign.Close right.2) _ _ Told (after_symbol_is sign.Close right.2) (λ rest closed.
+    let Claim = IsFront (suc limit) asked (operation op ∷ tokens) in
+    then_holds (after_symbol sign.Open tokens) _ _ Claim (after_symbol_is sign.Open tokens) (λ first opened.
+    then_holds (inner Whole first) _ _ Claim (sound Whole first) (λ left one.
+    then_holds (after_symbol sign.Comma left.2) _ _ Claim (after_symbol_is sign.Comma left.2) (λ second between.
+    then_holds (inner Whole second) _ _ Claim (sound Whole second) (λ right other.
+    then_holds (after_symbol sign.Close right.2) _ _ Claim (after_symbol_is sign.Close right.2) (λ rest closed.
     record {
       written = phrase.Binary op one.written other.written;
       is_tree = ap (λ e. expr.Binary op e (tree_of other.written)) one.is_tree ∙ ap (λ e. expr.Binary op left.0 e) other.is_tree;
@@ -221,53 +230,58 @@ pair_at_is limit inner asked op tokens sound called =
       fits = and_from (numbers_fit one.written) _ one.fits other.fits;
     })))))
 
+-- A call of `clamp`.
 clamp_at_is : (limit : ℕ) (inner : Reader) (asked : Level) (tokens : List Token) → IsSound limit inner → IfSome (clamp_at inner tokens) (IsFront (suc limit) asked (keyword word.Clamp ∷ tokens))
 unfolding clamp_at
 clamp_at_is limit inner asked tokens sound =
-    let Told = IsFront (suc limit) asked (keyword word.Clamp ∷ tokens) in
-    then_holds (after_symbol sign.Open tokens) _ _ Told (after_symbol_is sign.Open tokens) (λ first opened.
-    then_holds (inner Whole first) _ _ Told (sound Whole first) (λ value v.
-    then_holds (after_symbol sign.Comma value.2) _ _ Told (after_symbol_is sign.Comma value.2) (λ second between.
-    then_holds (inner Whole second) _ _ Told (sound Whole second) (λ low l.
-    then_holds (after_symbol sign.Comma low.2) _ _ Told (after_symbol_is sign.Comma low.2) (λ third behind.
-    then_holds (inner Whole third) _ _ Told (sound Whole third) (λ high h.
-    then_holds (after_symbol sign.Close high.2) _ _ Told (after_symbol_is sign.Close high.2) (λ rest closed.
+    let Claim = IsFront (suc limit) asked (keyword word.Clamp ∷ tokens) in
+    then_holds (after_symbol sign.Open tokens) _ _ Claim (after_symbol_is sign.Open tokens) (λ first opened.
+    then_holds (inner Whole first) _ _ Claim (sound Whole first) (λ value of_value.
+    then_holds (after_symbol sign.Comma value.2) _ _ Claim (after_symbol_is sign.Comma value.2) (λ second between.
+    then_holds (inner Whole second) _ _ Claim (sound Whole second) (λ low of_low.
+    then_holds (after_symbol sign.Comma low.2) _ _ Claim (after_symbol_is sign.Comma low.2) (λ third behind.
+    then_holds (inner Whole third) _ _ Claim (sound Whole third) (λ high of_high.
+    then_holds (after_symbol sign.Close high.2) _ _ Claim (after_symbol_is sign.Close high.2) (λ rest closed.
     record {
-      written = phrase.Clamp v.written l.written h.written;
-      is_tree = rw (v.is_tree, l.is_tree, h.is_tree) refl;
+      written = phrase.Clamp of_value.written of_low.written of_high.written;
+      is_tree = rw (of_value.is_tree, of_low.is_tree, of_high.is_tree) refl;
       is_level = refl;
-      spelled = ap (λ all. keyword word.Clamp ∷ all) (clamp_tokens (phrase_tokens v.written) (phrase_tokens l.written) (phrase_tokens h.written) rest ∙ rw (closed, h.spelled, behind, l.spelled, between, v.spelled) opened);
-      stands_so = and_from (stands Whole v.written) _ v.stands_so (and_from (stands Whole l.written) _ l.stands_so h.stands_so);
-      nested = let one = v.nested in let other = l.nested in let last = h.nested in omega arith;
-      fits = and_from (numbers_fit v.written) _ v.fits (and_from (numbers_fit l.written) _ l.fits h.fits);
+      spelled = ap (λ all. keyword word.Clamp ∷ all) (clamp_tokens (phrase_tokens of_value.written) (phrase_tokens of_low.written) (phrase_tokens of_high.written) rest ∙ rw (closed, of_high.spelled, behind, of_low.spelled, between, of_value.spelled) opened);
+      stands_so = and_from (stands Whole of_value.written) _ of_value.stands_so (and_from (stands Whole of_low.written) _ of_low.stands_so of_high.stands_so);
+      nested = let one = of_value.nested in let other = of_low.nested in let last = of_high.nested in omega arith;
+      fits = and_from (numbers_fit of_value.written) _ of_value.fits (and_from (numbers_fit of_low.written) _ of_low.fits of_high.fits);
     })))))))
 
+-- A choice, whose last part ends it.
 choice_at_is : (limit : ℕ) (inner : Reader) (asked : Level) (tokens : List Token) → IsSound limit inner → allows asked Whole ≡ true → IfSome (choice_at inner tokens) (IsFront (suc limit) asked (keyword word.If ∷ tokens))
 unfolding choice_at
 choice_at_is limit inner asked tokens sound allowed =
-    let Told = IsFront (suc limit) asked (keyword word.If ∷ tokens) in
-    then_holds (inner Whole tokens) _ _ Told (sound Whole tokens) (λ condition c.
-    then_holds (after_then condition.2) _ _ Told (after_then_is condition.2) (λ first between.
-    then_holds (inner Whole first) _ _ Told (sound Whole first) (λ chosen y.
-    then_holds (after_else chosen.2) _ _ Told (after_else_is chosen.2) (λ second behind.
-    then_holds (inner Whole second) _ _ Told (sound Whole second) (λ other n.
+    let Claim = IsFront (suc limit) asked (keyword word.If ∷ tokens) in
+    then_holds (inner Whole tokens) _ _ Claim (sound Whole tokens) (λ condition of_condition.
+    then_holds (after_then condition.2) _ _ Claim (after_then_is condition.2) (λ first between.
+    then_holds (inner Whole first) _ _ Claim (sound Whole first) (λ chosen of_chosen.
+    then_holds (after_else chosen.2) _ _ Claim (after_else_is chosen.2) (λ second behind.
+    then_holds (inner Whole second) _ _ Claim (sound Whole second) (λ other of_other.
     record {
-      written = phrase.Choose c.written y.written n.written;
-      is_tree = rw (c.is_tree, y.is_tree, n.is_tree) refl;
+      written = phrase.Choose of_condition.written of_chosen.written of_other.written;
+      is_tree = rw (of_condition.is_tree, of_chosen.is_tree, of_other.is_tree) refl;
       is_level = refl;
-      spelled = ap (λ all. keyword word.If ∷ all) (choice_tokens (phrase_tokens c.written) (phrase_tokens y.written) (phrase_tokens n.written) other.2 ∙ rw (n.spelled, behind, y.spelled, between) c.spelled);
-      stands_so = and_from (allows asked Whole) _ allowed (and_from (stands Whole c.written) _ c.stands_so (and_from (stands Whole y.written) _ y.stands_so n.stands_so));
-      nested = let one = c.nested in let another = y.nested in let last = n.nested in omega arith;
-      fits = and_from (numbers_fit c.written) _ c.fits (and_from (numbers_fit y.written) _ y.fits n.fits);
+      spelled =
+          let parts : phrase_tokens of_condition.written ++ (keyword word.Then ∷ (phrase_tokens of_chosen.written ++ (keyword word.Else ∷ (phrase_tokens of_other.written ++ other.2)))) ≡ tokens = rw (of_other.spelled, behind, of_chosen.spelled, between) of_condition.spelled in
+          ap (λ all. keyword word.If ∷ all) (choice_tokens (phrase_tokens of_condition.written) (phrase_tokens of_chosen.written) (phrase_tokens of_other.written) other.2 ∙ parts);
+      stands_so = and_from (allows asked Whole) _ allowed (and_from (stands Whole of_condition.written) _ of_condition.stands_so (and_from (stands Whole of_chosen.written) _ of_chosen.stands_so of_other.stands_so));
+      nested = let one = of_condition.nested in let another = of_chosen.nested in let last = of_other.nested in omega arith;
+      fits = and_from (numbers_fit of_condition.written) _ of_condition.fits (and_from (numbers_fit of_chosen.written) _ of_chosen.fits of_other.fits);
     })))))
 
+-- Whether an event occurs.
 present_at_is : (limit : ℕ) (asked : Level) (tokens : List Token) → IfSome (present_at tokens) (IsFront (suc limit) asked (keyword word.Present ∷ tokens))
 unfolding present_at
 present_at_is limit asked tokens =
-    let Told = IsFront (suc limit) asked (keyword word.Present ∷ tokens) in
-    then_holds (after_symbol sign.Open tokens) _ _ Told (after_symbol_is sign.Open tokens) (λ first opened.
-    then_holds (name_at first) _ _ Told (name_at_is first) (λ name named.
-    then_holds (after_symbol sign.Close name.1) _ _ Told (after_symbol_is sign.Close name.1) (λ rest closed.
+    let Claim = IsFront (suc limit) asked (keyword word.Present ∷ tokens) in
+    then_holds (after_symbol sign.Open tokens) _ _ Claim (after_symbol_is sign.Open tokens) (λ first opened.
+    then_holds (name_at first) _ _ Claim (name_at_is first) (λ name named.
+    then_holds (after_symbol sign.Close name.1) _ _ Claim (after_symbol_is sign.Close name.1) (λ rest closed.
     record {
       written = phrase.Present name.0;
       is_tree = refl;
@@ -278,6 +292,7 @@ present_at_is limit asked tokens =
       fits = refl;
     })))
 
+-- An operand by its first token.
 keyword_operand_is : (limit : ℕ) (inner : Reader) (asked : Level) (spelled : Keyword) (rest : List Token) → IsSound limit inner → IfSome (keyword_operand inner asked spelled rest) (IsFront (suc limit) asked (keyword spelled ∷ rest))
 keyword_operand_is limit inner asked word.True rest sound = record { written = phrase.Truth true; is_tree = refl; is_level = refl; spelled = refl; stands_so = refl; nested = omega arith; fits = refl }
 keyword_operand_is limit inner asked word.False rest sound = record { written = phrase.Truth false; is_tree = refl; is_level = refl; spelled = refl; stands_so = refl; nested = omega arith; fits = refl }
@@ -303,6 +318,7 @@ symbol_operand_is limit inner asked sign.Open rest sound =
     record { written = phrase.Parens is.written; is_tree = is.is_tree; is_level = refl; spelled = is.spelled; stands_so = is.stands_so; nested = let deep = is.nested in omega arith; fits = is.fits })
 symbol_operand_is limit inner asked _ rest sound = tt
 
+-- An operand is an expression that the grammar has there.
 pub operand_at_is : (limit : ℕ) (inner : Reader) (asked : Level) (tokens : List Token) → IsSound limit inner → IfSome (operand_at inner asked tokens) (IsFront (suc limit) asked tokens)
 unfolding operand_at
 operand_at_is limit inner asked [] sound = tt
@@ -315,11 +331,13 @@ operand_at_is limit inner asked (token.Keyword spelled ∷ rest) sound = keyword
 
 -- ---- Infix operations, and expressions
 
+-- The operands of an infix operation are nested no deeper.
 pub infix_nesting : (op : BinOp) (deepest : ℕ) → is_infix op ≡ true → binary_nesting op deepest ≡ deepest
 infix_nesting by.Min deepest between = absurd (cc)
 infix_nesting by.Max deepest between = absurd (cc)
 infix_nesting _ deepest between = refl
 
+-- A left side with one more operation and its right side is an expression that the grammar has there.
 with_right_is : (limit : ℕ) (reader : Reader) (asked : Level) (tokens : List Token) (next : Front → Option Front) (left : Front) (found : Option (BinOp × List Token)) → IsSound limit reader
     → ((x : Front) → IsFront limit asked tokens x → IfSome (next x) (IsFront limit asked tokens)) → IsFront limit asked tokens left → IfSome found (Takes asked left.1 left.2)
     → IfSome (with_right reader next left found) (IsFront limit asked tokens)
@@ -343,11 +361,13 @@ with_right_is limit reader asked tokens next left (Some (op, behind)) sound more
       fits = and_from (numbers_fit is.written) _ is.fits other.fits;
     }))
 
+-- So it is with all the operations behind it.
 climb_is : (limit : ℕ) (reader : Reader) (asked : Level) (tokens turns : List Token) (left : Front) → IsSound limit reader → IsFront limit asked tokens left → IfSome (climb reader asked turns left) (IsFront limit asked tokens)
 climb_is limit reader asked tokens [] left sound is = is
 climb_is limit reader asked tokens (turn ∷ turns) left sound is =
     with_right_is limit reader asked tokens (climb reader asked turns) left (infix_at asked left.1 left.2) sound (λ x front. climb_is limit reader asked tokens turns x sound front) is (infix_at_is asked left.1 left.2)
 
+-- So it is with any number of levels left.
 within_is : (limit : ℕ) (inner : Reader) (levels_left : ℕ) → IsSound limit inner → IsSound (suc limit) (within inner levels_left)
 unfolding within
 within_is limit inner zero sound asked tokens = tt
@@ -355,6 +375,7 @@ within_is limit inner (suc levels_left) sound asked tokens =
     then_holds (operand_at inner asked tokens) _ _ (IsFront (suc limit) asked tokens) (operand_at_is limit inner asked tokens sound) (λ left is.
     climb_is (suc limit) (within inner levels_left) asked tokens left.2 left (within_is limit inner levels_left sound) is)
 
+-- Whatever is read is an expression that the grammar has there, nested no deeper than is allowed.
 pub read_is : (budget : ℕ) → IsSound (suc budget) (read budget)
 unfolding read
 read_is zero asked tokens = within_is 0 (λ level behind. None) 9 (λ level behind. tt) asked tokens

@@ -29,6 +29,7 @@ rises by.And is = refl
 rises by.Add is = refl
 rises _ is = refl
 
+-- An infix operation is written between its operands.
 pub infix_tokens : (op : BinOp) (left right : List Token) → is_infix op ≡ true → binary_tokens op left right ≡ left ++ (operation op ∷ right)
 infix_tokens by.Min left right is = absurd (cc)
 infix_tokens by.Max left right is = absurd (cc)
@@ -57,6 +58,7 @@ infix_again by.Or is = refl
 abbrev pub Reads : Token → BinOp → Type 0
 Reads first op = (operation op ≡ first) × (is_infix op ≡ true)
 
+-- A symbol, and a keyword, is the operation that it is read as.
 infix_symbol_is : (symbol : _) → IfSome (infix_symbol symbol) (Reads (token.Symbol symbol))
 infix_symbol_is sign.Plus = (refl, refl)
 infix_symbol_is sign.Minus = (refl, refl)
@@ -77,17 +79,20 @@ infix_keyword_is word.And = (refl, refl)
 infix_keyword_is word.Or = (refl, refl)
 infix_keyword_is _ = tt
 
+-- So it is with each token.
 pub infix_is : (first : Token) → IfSome (infix_of first) (Reads first)
 infix_is (token.Symbol symbol) = infix_symbol_is symbol
 infix_is (token.Keyword keyword) = infix_keyword_is keyword
 infix_is _ = tt
 
+-- A level allows what is no weaker.
 pub allows_is : (asked level : Level) → allows asked level ≡ true → strength asked ≤ strength level
 allows_is asked level is = grind (arith, nat_tests)
 
 pub allows_from : (asked level : Level) → strength asked ≤ strength level → allows asked level ≡ true
 allows_from asked level is = grind (arith, nat_tests)
 
+-- No level is stronger than the last.
 pub strongest : (level : Level) → strength level ≤ 8
 strongest Whole = omega arith
 strongest Or = omega arith
@@ -108,21 +113,24 @@ pub record Takes (asked left : Level) (tokens : List Token) (found : BinOp × Li
   pub asked_for : allows asked (binary_level found.0) ≡ true
   pub left_fits : allows (left_level (binary_level found.0)) left ≡ true
 
+-- An operation is taken where both tests pass.
 takes_test : (asked left : Level) (first : Token) (rest : List Token) (op : BinOp) (one other : Bool) → Reads first op → allows asked (binary_level op) ≡ one → allows (left_level (binary_level op)) left ≡ other → IfSome (cond (one && other) (Some (op, rest)) None) (Takes asked left (first ∷ rest))
 takes_test asked left first rest op true true is one other = record { spelled = ap (λ t. t ∷ rest) (sym is.0); between = is.1; asked_for = one; left_fits = other }
 takes_test asked left first rest op true false is one other = tt
 takes_test asked left first rest op false other is one same = tt
 
+-- So it is with what the first token is read as.
 takes_by : (asked left : Level) (first : Token) (rest : List Token) (found : Option BinOp) → IfSome found (Reads first)
     → IfSome (option_and_then (λ op. cond (allows asked (binary_level op) && allows (left_level (binary_level op)) left) (Some (op, rest)) None) found) (Takes asked left (first ∷ rest))
 takes_by asked left first rest None is = tt
 takes_by asked left first rest (Some op) is = takes_test asked left first rest op (allows asked (binary_level op)) (allows (left_level (binary_level op)) left) is refl refl
 
+-- So it is with the first of any tokens.
 pub infix_at_is : (asked left : Level) (tokens : List Token) → IfSome (infix_at asked left tokens) (Takes asked left tokens)
 infix_at_is asked left [] = tt
 infix_at_is asked left (first ∷ rest) = takes_by asked left first rest (infix_of first) (infix_is first)
 
--- The right side of the operation that comes first is on a stronger level than the one asked for.
+-- The right side of an operation that is found is on a stronger level than the one asked for.
 rises_by : (asked left : Level) (tokens : List Token) (found : Option (BinOp × List Token)) (op : BinOp) (rest : List Token) → IfSome found (Takes asked left tokens) → found ≡ Some (op, rest) → strength asked < strength (right_level (binary_level op))
 rises_by asked left tokens None op rest is same = absurd (cc)
 rises_by asked left tokens (Some other) op rest is same =
@@ -131,6 +139,7 @@ rises_by asked left tokens (Some other) op rest is same =
     let within = allows_is asked (binary_level other.0) is.asked_for in
     rw (← one) (omega arith)
 
+-- So it is with the operation that comes first.
 pub infix_at_rises : (asked left : Level) (tokens : List Token) (op : BinOp) (rest : List Token) → infix_at asked left tokens ≡ Some (op, rest) → strength asked < strength (right_level (binary_level op))
 infix_at_rises asked left tokens op rest same = rises_by asked left tokens (infix_at asked left tokens) op rest (infix_at_is asked left tokens) same
 
@@ -145,6 +154,7 @@ then_same (Some x) f g same = same x
 abbrev Agree : Reader → Reader → Level → Type 0
 Agree one other asked = (op : BinOp) (tokens : List Token) → is_infix op ≡ true → allows asked (binary_level op) ≡ true → one (right_level (binary_level op)) tokens ≡ other (right_level (binary_level op)) tokens
 
+-- With one more operation two readers that agree give the same.
 agree_by : (one other : Reader) (asked : Level) (f g : Front → Option Front) (left : Front) (found : Option (BinOp × List Token)) → Agree one other asked → ((x : Front) → f x ≡ g x) → IfSome found (Takes asked left.1 left.2) → with_right one f left found ≡ with_right other g left found
 agree_by one other asked f g left None same next is = refl
 agree_by one other asked f g left (Some (op, behind)) same next is =
@@ -152,6 +162,7 @@ agree_by one other asked f g left (Some (op, behind)) same next is =
     ap (option_and_then (λ (right : Front). f (expr.Binary op left.0 right.0, binary_level op, right.2))) (same op behind is.between is.asked_for)
     ∙ then_same (other (right_level (binary_level op)) behind) (λ right. f (expr.Binary op left.0 right.0, binary_level op, right.2)) (λ right. g (expr.Binary op left.0 right.0, binary_level op, right.2)) on
 
+-- With all the operations behind a left side two readers that agree give the same.
 climb_agree : (one other : Reader) (asked : Level) (turns : List Token) (left : Front) → Agree one other asked → climb one asked turns left ≡ climb other asked turns left
 climb_agree one other asked [] left same = refl
 climb_agree one other asked (turn ∷ turns) left same =

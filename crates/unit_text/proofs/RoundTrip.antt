@@ -29,6 +29,7 @@ abbrev pub Follows : Level → List Token → Type 0
 Follows level [] = ⊤
 Follows level (first ∷ rest) = IfSome (infix_of first) (λ op. allows (left_level (binary_level op)) level ≡ true)
 
+-- What may follow an expression may follow a stronger one.
 follows_stronger : (weak strong : Level) (rest : List Token) → strength weak ≤ strength strong → Follows weak rest → Follows strong rest
 follows_stronger weak strong [] order follows = tt
 follows_stronger weak strong (first ∷ rest) order follows =
@@ -40,6 +41,7 @@ follows_stronger weak strong (first ∷ rest) order follows =
 abbrev Never : Level → Level → Type 0
 Never asked bound = (op : BinOp) → is_infix op ≡ true → allows (left_level (binary_level op)) bound ≡ true → allows asked (binary_level op) ≡ false
 
+-- Behind the last part of a choice, the operand of `not` and that of the prefix `-`, no operation is allowed that may follow the whole.
 never_whole : Never Whole Whole
 never_whole by.Min between follows = absurd (cc)
 never_whole by.Max between follows = absurd (cc)
@@ -57,11 +59,13 @@ never_negation by.Min between follows = absurd (cc)
 never_negation by.Max between follows = absurd (cc)
 never_negation _ between follows = refl
 
+-- The left side of an infix operation is no weaker.
 left_within : (op : BinOp) → is_infix op ≡ true → strength (binary_level op) ≤ strength (left_level (binary_level op))
 left_within by.Min between = absurd (cc)
 left_within by.Max between = absurd (cc)
 left_within _ between = omega arith
 
+-- Nor behind the right side of an infix operation.
 never_right : (op : BinOp) → is_infix op ≡ true → Never (right_level (binary_level op)) (binary_level op)
 never_right op is next between follows =
     let up = rises op is in
@@ -69,35 +73,42 @@ never_right op is next between follows =
     let within = allows_is (left_level (binary_level next)) (binary_level op) follows in
     grind (arith, nat_tests)
 
+-- Where no operation is allowed, none is found.
 ends_by : (asked left bound : Level) (first : Token) (rest : List Token) (found : Option BinOp) → Never asked bound → IfSome found (Reads first) → IfSome found (λ op. allows (left_level (binary_level op)) bound ≡ true)
     → option_and_then {U = BinOp × List Token} (λ op. cond (allows asked (binary_level op) && allows (left_level (binary_level op)) left) (Some (op, rest)) None) found ≡ None
 ends_by asked left bound first rest None never reads follows = refl
 ends_by asked left bound first rest (Some op) never reads follows = rw (never op reads.1 follows) refl
 
+-- So it is with the first of any tokens.
 ends : (asked left bound : Level) (rest : List Token) → Never asked bound → Follows bound rest → infix_at asked left rest ≡ None
 ends asked left bound [] never follows = refl
 ends asked left bound (first ∷ rest) never follows = ends_by asked left bound first rest (infix_of first) never (infix_is first) follows
 
+-- Where no operation is found, the left side is all.
 climb_ends : (reader : Reader) (asked : Level) (turns : List Token) (front : Front) → infix_at asked front.1 front.2 ≡ None → climb reader asked turns front ≡ Some front
 climb_ends reader asked [] front none = refl
 climb_ends reader asked (turn ∷ turns) front none = ap (with_right reader (climb reader asked turns) front) none
 
 -- ---- Turns
 
+-- What is left behind a front is no longer than the tokens.
 shorter : (limit : ℕ) (asked : Level) (tokens : List Token) (front : Front) → IsFront limit asked tokens front → length front.2 ≤ length tokens
 shorter limit asked tokens front is =
     let same = ap length is.spelled in
     let both = length-append (phrase_tokens is.written) front.2 in
     omega arith
 
+-- Of no tokens no operation is found.
 none_left : (asked left : Level) (tokens : List Token) → length tokens ≤ 0 → infix_at asked left tokens ≡ None
 none_left asked left [] empty = refl
 none_left asked left (first ∷ rest) empty = absurd (omega arith)
 
+-- What two functions that agree on what holds make of one reading.
 same_where : {A B : Type 0} (found : Option A) (f g : A → Option B) (P : A → Type 0) → IfSome found P → ((x : A) → P x → f x ≡ g x) → option_and_then f found ≡ option_and_then g found
 same_where None f g P is same = refl
 same_where (Some x) f g P is same = same x is
 
+-- With one more operation fewer tokens are left.
 turns_by : (limit : ℕ) (reader : Reader) (asked : Level) (f g : Front → Option Front) (front : Front) (found : Option (BinOp × List Token)) → IsSound limit reader
     → ((x : Front) → length x.2 < length front.2 → f x ≡ g x) → IfSome found (Takes asked front.1 front.2) → with_right reader f front found ≡ with_right reader g front found
 turns_by limit reader asked f g front None sound same takes = refl
@@ -119,22 +130,24 @@ climb_turns limit reader asked (turn ∷ turns) (turn' ∷ others) front sound o
 
 -- Reading gives back the expression from its tokens, and goes on behind it.
 abbrev Again : Phrase → Type 0
-Again p = (budget : ℕ) (asked : Level) (rest : List Token) → stands asked p ≡ true → nesting p ≤ budget → numbers_fit p ≡ true → Follows (level_of p) rest → read budget asked (phrase_tokens p ++ rest) ≡ climb (read budget) asked rest (tree_of p, level_of p, rest)
+Again written = (budget : ℕ) (asked : Level) (rest : List Token) → stands asked written ≡ true → nesting written ≤ budget → numbers_fit written ≡ true → Follows (level_of written) rest → read budget asked (phrase_tokens written ++ rest) ≡ climb (read budget) asked rest (tree_of written, level_of written, rest)
 
-by_operand : (p : Phrase) (budget : ℕ) (asked : Level) (rest : List Token) → operand_at (deeper budget) asked (phrase_tokens p ++ rest) ≡ Some (tree_of p, level_of p, rest) → read budget asked (phrase_tokens p ++ rest) ≡ climb (read budget) asked rest (tree_of p, level_of p, rest)
-by_operand p budget asked rest given = read_step budget asked (phrase_tokens p ++ rest) ∙ ap (option_and_then (λ left. climb (read budget) asked left.2 left)) given
+-- An operand is read, and reading goes on behind it.
+by_operand : (written : Phrase) (budget : ℕ) (asked : Level) (rest : List Token) → operand_at (deeper budget) asked (phrase_tokens written ++ rest) ≡ Some (tree_of written, level_of written, rest) → read budget asked (phrase_tokens written ++ rest) ≡ climb (read budget) asked rest (tree_of written, level_of written, rest)
+by_operand written budget asked rest given = read_step budget asked (phrase_tokens written ++ rest) ∙ ap (option_and_then (λ left. climb (read budget) asked left.2 left)) given
 
 -- A part that nothing goes on behind.
-part_again : (p : Phrase) → Again p → (budget : ℕ) (asked bound : Level) (rest : List Token) → Never asked bound → strength bound ≤ strength (level_of p) → Follows bound rest → stands asked p ≡ true → nesting p < budget → numbers_fit p ≡ true → deeper budget asked (phrase_tokens p ++ rest) ≡ Some (tree_of p, level_of p, rest)
-part_again p again zero asked bound rest never order follows so deep fits = absurd (omega arith)
-part_again p again (suc budget) asked bound rest never order follows so deep fits =
-    again budget asked rest so (omega arith) fits (follows_stronger bound (level_of p) rest order follows)
-    ∙ climb_ends (read budget) asked rest (tree_of p, level_of p, rest) (ends asked (level_of p) bound rest never follows)
+part_again : (written : Phrase) → Again written → (budget : ℕ) (asked bound : Level) (rest : List Token) → Never asked bound → strength bound ≤ strength (level_of written) → Follows bound rest → stands asked written ≡ true → nesting written < budget → numbers_fit written ≡ true → deeper budget asked (phrase_tokens written ++ rest) ≡ Some (tree_of written, level_of written, rest)
+part_again written again zero asked bound rest never order follows so deep fits = absurd (omega arith)
+part_again written again (suc budget) asked bound rest never order follows so deep fits =
+    again budget asked rest so (omega arith) fits (follows_stronger bound (level_of written) rest order follows)
+    ∙ climb_ends (read budget) asked rest (tree_of written, level_of written, rest) (ends asked (level_of written) bound rest never follows)
 
 -- A whole part, with a token behind it that is no infix operation.
-whole_again : (p : Phrase) → Again p → (budget : ℕ) (rest : List Token) → Follows Whole rest → stands Whole p ≡ true → nesting p < budget → numbers_fit p ≡ true → deeper budget Whole (phrase_tokens p ++ rest) ≡ Some (tree_of p, level_of p, rest)
-whole_again p again budget rest follows so deep fits = part_again p again budget Whole Whole rest never_whole (omega arith) follows so deep fits
+whole_again : (written : Phrase) → Again written → (budget : ℕ) (rest : List Token) → Follows Whole rest → stands Whole written ≡ true → nesting written < budget → numbers_fit written ≡ true → deeper budget Whole (phrase_tokens written ++ rest) ≡ Some (tree_of written, level_of written, rest)
+whole_again written again budget rest follows so deep fits = part_again written again budget Whole Whole rest never_whole (omega arith) follows so deep fits
 
+-- Each form is read again, where its parts are.
 pub grouped_again : (inner : Reader) (tokens rest : List Token) (tree : Expr) (level : Level) → inner Whole (tokens ++ (symbol sign.Close ∷ rest)) ≡ Some (tree, level, symbol sign.Close ∷ rest) → grouped_at inner (in_parens tokens ++ rest) ≡ Some (tree, rest)
 unfolding grouped_at
 grouped_again inner tokens rest tree level given = ap (grouped_at inner) (group_tokens tokens rest) ∙ rw given refl
@@ -159,21 +172,21 @@ pair_again : (inner : Reader) (op : BinOp) (left right rest : List Token) (one o
 unfolding pair_at
 pair_again inner op left right rest one other level below first second = ap (pair_at inner op) (pair_tokens left right rest) ∙ rw (first, second) refl
 
-clamp_again : (inner : Reader) (value low high rest : List Token) (v l h : Expr) (one two three : Level)
-    → inner Whole (value ++ (symbol sign.Comma ∷ (low ++ (symbol sign.Comma ∷ (high ++ (symbol sign.Close ∷ rest)))))) ≡ Some (v, one, symbol sign.Comma ∷ (low ++ (symbol sign.Comma ∷ (high ++ (symbol sign.Close ∷ rest)))))
-    → inner Whole (low ++ (symbol sign.Comma ∷ (high ++ (symbol sign.Close ∷ rest)))) ≡ Some (l, two, symbol sign.Comma ∷ (high ++ (symbol sign.Close ∷ rest)))
-    → inner Whole (high ++ (symbol sign.Close ∷ rest)) ≡ Some (h, three, symbol sign.Close ∷ rest)
-    → clamp_at inner (in_parens (value ++ (symbol sign.Comma ∷ (low ++ (symbol sign.Comma ∷ high)))) ++ rest) ≡ Some (expr.Clamp v l h, Primary, rest)
+clamp_again : (inner : Reader) (value low high rest : List Token) (value_tree low_tree high_tree : Expr) (one two three : Level)
+    → inner Whole (value ++ (symbol sign.Comma ∷ (low ++ (symbol sign.Comma ∷ (high ++ (symbol sign.Close ∷ rest)))))) ≡ Some (value_tree, one, symbol sign.Comma ∷ (low ++ (symbol sign.Comma ∷ (high ++ (symbol sign.Close ∷ rest)))))
+    → inner Whole (low ++ (symbol sign.Comma ∷ (high ++ (symbol sign.Close ∷ rest)))) ≡ Some (low_tree, two, symbol sign.Comma ∷ (high ++ (symbol sign.Close ∷ rest)))
+    → inner Whole (high ++ (symbol sign.Close ∷ rest)) ≡ Some (high_tree, three, symbol sign.Close ∷ rest)
+    → clamp_at inner (in_parens (value ++ (symbol sign.Comma ∷ (low ++ (symbol sign.Comma ∷ high)))) ++ rest) ≡ Some (expr.Clamp value_tree low_tree high_tree, Primary, rest)
 unfolding clamp_at
-clamp_again inner value low high rest v l h one two three first second third = ap (clamp_at inner) (clamp_tokens value low high rest) ∙ rw (first, second, third) refl
+clamp_again inner value low high rest value_tree low_tree high_tree one two three first second third = ap (clamp_at inner) (clamp_tokens value low high rest) ∙ rw (first, second, third) refl
 
-choice_again : (inner : Reader) (condition chosen other rest : List Token) (c y n : Expr) (one two three : Level)
-    → inner Whole (condition ++ (keyword word.Then ∷ (chosen ++ (keyword word.Else ∷ (other ++ rest))))) ≡ Some (c, one, keyword word.Then ∷ (chosen ++ (keyword word.Else ∷ (other ++ rest))))
-    → inner Whole (chosen ++ (keyword word.Else ∷ (other ++ rest))) ≡ Some (y, two, keyword word.Else ∷ (other ++ rest))
-    → inner Whole (other ++ rest) ≡ Some (n, three, rest)
-    → choice_at inner ((condition ++ (keyword word.Then ∷ (chosen ++ (keyword word.Else ∷ other)))) ++ rest) ≡ Some (expr.Choose c y n, Whole, rest)
+choice_again : (inner : Reader) (condition chosen other rest : List Token) (condition_tree chosen_tree other_tree : Expr) (one two three : Level)
+    → inner Whole (condition ++ (keyword word.Then ∷ (chosen ++ (keyword word.Else ∷ (other ++ rest))))) ≡ Some (condition_tree, one, keyword word.Then ∷ (chosen ++ (keyword word.Else ∷ (other ++ rest))))
+    → inner Whole (chosen ++ (keyword word.Else ∷ (other ++ rest))) ≡ Some (chosen_tree, two, keyword word.Else ∷ (other ++ rest))
+    → inner Whole (other ++ rest) ≡ Some (other_tree, three, rest)
+    → choice_at inner ((condition ++ (keyword word.Then ∷ (chosen ++ (keyword word.Else ∷ other)))) ++ rest) ≡ Some (expr.Choose condition_tree chosen_tree other_tree, Whole, rest)
 unfolding choice_at
-choice_again inner condition chosen other rest c y n one two three first second third = ap (choice_at inner) (choice_tokens condition chosen other rest) ∙ rw (first, second, third) refl
+choice_again inner condition chosen other rest condition_tree chosen_tree other_tree one two three first second third = ap (choice_at inner) (choice_tokens condition chosen other rest) ∙ rw (first, second, third) refl
 
 present_again : (name : List ℕ) (rest : List Token) → present_at (in_parens (token.Name name ∷ []) ++ rest) ≡ Some (expr.Present name, Primary, rest)
 unfolding present_at
@@ -181,6 +194,7 @@ present_again name rest = refl
 
 -- ---- Expressions
 
+-- Parts in parentheses, and operands.
 again-Parens : (inner : Phrase) → Again inner → Again (phrase.Parens inner)
 unfolding operand_at
 again-Parens inner given budget asked rest so deep fits follows =
@@ -217,9 +231,11 @@ again-Unary (of.ToFix decimals) arg given budget asked rest so deep fits follows
 follows_operation : (op : BinOp) (level : Level) (rest : List Token) → is_infix op ≡ true → allows (left_level (binary_level op)) level ≡ true → Follows level (operation op ∷ rest)
 follows_operation op level rest between allowed = subst (λ found. IfSome found (λ next. allows (left_level (binary_level next)) level ≡ true)) (sym (infix_again op between)) allowed
 
+-- So it is where the grammar asks for a level.
 infix_at_again : (asked level : Level) (op : BinOp) (rest : List Token) → is_infix op ≡ true → allows asked (binary_level op) ≡ true → allows (left_level (binary_level op)) level ≡ true → infix_at asked level (operation op ∷ rest) ≡ Some (op, rest)
 infix_at_again asked level op rest between one other = rw (infix_again op between) (rw (one, other) refl)
 
+-- An infix operation: its left side is read first, then the operation is found, and then its right side is read.
 again-infix : (op : BinOp) (left right : Phrase) → Again left → Again right → is_infix op ≡ true → Again (phrase.Binary op left right)
 again-infix op left right on_left on_right between budget asked rest so deep fits follows =
     let level : Level = binary_level op in
@@ -244,6 +260,7 @@ again-infix op left right on_left on_right between budget asked rest so deep fit
     ∙ climb_ends (read budget) (right_level level) rest (tree_of right, level_of right, rest) (ends (right_level level) (level_of right) level rest (never_right op between) follows))
     ∙ climb_turns (suc budget) (read budget) asked behind rest found (read_is budget) (omega (arith, length-append (phrase_tokens right) rest)) (omega arith)
 
+-- A call of two operands.
 again-call : (op : BinOp) (left right : Phrase) → Again left → Again right → is_infix op ≡ false → Again (phrase.Binary op left right)
 unfolding operand_at
 again-call by.Min left right on_left on_right called budget asked rest so deep fits follows =
@@ -265,10 +282,12 @@ again-call by.Max left right on_left on_right called budget asked rest so deep f
 again-call by.Add left right on_left on_right called budget asked rest so deep fits follows = absurd (cc)
 again-call _ left right on_left on_right called budget asked rest so deep fits follows = absurd (cc)
 
+-- An operation on two operands is the one or the other.
 again-Binary : (op : BinOp) (left right : Phrase) (between : Bool) → is_infix op ≡ between → Again left → Again right → Again (phrase.Binary op left right)
 again-Binary op left right true is on_left on_right = again-infix op left right on_left on_right is
 again-Binary op left right false is on_left on_right = again-call op left right on_left on_right is
 
+-- A call of `clamp`, and a choice.
 again-Clamp : (value low high : Phrase) → Again value → Again low → Again high → Again (phrase.Clamp value low high)
 unfolding operand_at
 again-Clamp value low high on_value on_low on_high budget asked rest so deep fits follows =
@@ -300,7 +319,7 @@ again-Choose condition chosen other on_condition on_chosen on_other budget asked
     (whole_again other on_other budget rest follows others.1 (omega arith) numbers.1)))
 
 -- Any expression of the grammar is read again from its tokens, wherever it may stand.
-pub read_again : (p : Phrase) → Again p
+pub read_again : (written : Phrase) → Again written
 unfolding operand_at
 read_again (phrase.Number digits decimals) = λ budget asked rest so deep fits follows. by_operand (phrase.Number digits decimals) budget asked rest (rw fits refl)
 read_again (phrase.Truth true) = λ budget asked rest so deep fits follows. by_operand (phrase.Truth true) budget asked rest refl

@@ -25,6 +25,7 @@ read_written tree tokens is =
     ∙ ap whole_tree (read_again is.phrase 64 Whole [] whole.0 (grind (arith, nat_tests)) numbers.1 tt)
     ∙ ap Some is.is_tree
 
+-- A front with no token behind it is written.
 written_by : (tree : Expr) (tokens : List Token) (found : Option Front) → IfSome found (IsFront 65 Whole tokens) → whole_tree found ≡ Some tree → Writes tree tokens
 written_by tree tokens None is same = absurd (cc)
 written_by tree tokens (Some (read, level, [])) is same =
@@ -42,6 +43,7 @@ pub written_read : (tree : Expr) (tokens : List Token) → read_expression token
 unfolding read_expression
 written_read tree tokens same = written_by tree tokens (read 64 Whole tokens) (read_is 64 Whole tokens) same
 
+-- What is read says what the tokens write.
 pub expression_is : (tokens : List Token) (found : Option Expr) → read_expression tokens ≡ found → ExpressionIs tokens found
 expression_is tokens (Some tree) same = written_read tree tokens same
 expression_is tokens None same = λ tree written. let is = read_written tree tokens written in absurd (cc)
@@ -53,6 +55,7 @@ reads_as tokens (Err unread.NoForm) gives = expression_is tokens None gives
 reads_as tokens (Err unread.NoMemory) gives = tt
 
 -- Tokens write an expression, or none.
+-- What says what they write decides it.
 decided_by : (tokens : List Token) (found : Option Expr) → ExpressionIs tokens found → ((tree : Expr) × Writes tree tokens) ⊎ ((tree : Expr) → Writes tree tokens → ⊥)
 decided_by tokens (Some tree) is = inl (tree, is)
 decided_by tokens None is = inr is
@@ -60,6 +63,7 @@ decided_by tokens None is = inr is
 pub expression_decided : (tokens : List Token) → ((tree : Expr) × Writes tree tokens) ⊎ ((tree : Expr) → Writes tree tokens → ⊥)
 expression_decided tokens = decided_by tokens (read_expression tokens) (expression_is tokens (read_expression tokens) refl)
 
+-- Two that they write are both what is read.
 pub writes_one : WritesOneTree
 writes_one tokens one other first second =
     let same : ◌≡◌ {A = Option Expr} (Some one) (Some other) = sym (read_written one tokens first) ∙ read_written other tokens second in

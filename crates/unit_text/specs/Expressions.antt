@@ -1,4 +1,4 @@
--- Reading of an expression from tokens.
+-- Reading of an expression from tokens: what its answer says, and how it is read.
 use Rattle.std.specs.Prelude.{◌≡◌, ℕ, suc, zero, ◌^◌, pos, Bool, true, false, ◌&&◌, ◌==◌, nat_le, nat_lt, List, [], ◌∷◌, Option, Some, None, Result, Ok, Err, ⊤, if◌then◌else◌, option_and_then}
 use Rattle.std.specs.Borrow.{Bor}
 use Rattle.std.specs.Str.{bytes_eq}
@@ -20,6 +20,17 @@ use Rattle.unit_tokens.specs.declared.fault.Unread.{Unread}
 use Rattle.unit_tokens.specs.declared.fault.Unread.TheVariants as unread
 use Rattle.unit_text.specs.Levels.{grammar_level}
 use Rattle.unit_text.specs.declared.levels.Level as levels
+
+-- The tokens write the expression, or none.
+abbrev pub ExpressionIs : List Token → Option Expr → Type 0
+ExpressionIs tokens (Some tree) = Writes tree tokens
+ExpressionIs tokens None = (tree : Expr) → Writes tree tokens → ⊥
+
+-- Tokens write one expression at most.
+abbrev pub WritesOneTree : Type 0
+WritesOneTree = (tokens : List Token) (one other : Expr) → Writes one tokens → Writes other tokens → one ≡ other
+
+-- ---- How it is read
 
 infixl 10 ◌>>=◌
 abbrev pub ◌>>=◌ : {A B : Type 0} → Option A → (A → Option B) → Option B
@@ -258,14 +269,3 @@ whole_tree (Some (tree, level, first ∷ rest)) = None
 -- The expression that the tokens write.
 unfoldable pub read_expression : List Token → Option Expr
 read_expression tokens = whole_tree (read 64 Whole tokens)
-
--- The tokens write the expression, or none.
-abbrev pub ExpressionIs : List Token → Option Expr → Type 0
-ExpressionIs tokens (Some tree) = Writes tree tokens
-ExpressionIs tokens None = (tree : Expr) → Writes tree tokens → ⊥
-
--- ---- Law
-
--- Tokens write one expression at most.
-abbrev pub WritesOneTree : Type 0
-WritesOneTree = (tokens : List Token) (one other : Expr) → Writes one tokens → Writes other tokens → one ≡ other

@@ -1,4 +1,5 @@
 use crate::expression;
+use fixed_words::NoMemory;
 use std::alloc::Global;
 use std::test::Fail;
 use unit_tokens::{Unread, tokens};
@@ -6,100 +7,95 @@ use unit_tree::{BinOp, Expr, UnOp};
 
 fn operation(op: BinOp) -> &'static str {
     match op {
-        BinOp::Add => " + ",
-        BinOp::Sub => " - ",
-        BinOp::Mul => " * ",
-        BinOp::Slash => " / ",
-        BinOp::Div => " div ",
-        BinOp::Mod => " mod ",
-        BinOp::Eq => " == ",
-        BinOp::Ne => " != ",
-        BinOp::Lt => " < ",
-        BinOp::Le => " <= ",
-        BinOp::Gt => " > ",
-        BinOp::Ge => " >= ",
-        BinOp::And => " and ",
-        BinOp::Or => " or ",
-        BinOp::Min => " min ",
-        BinOp::Max => " max ",
+        BinOp::Add => " +",
+        BinOp::Sub => " -",
+        BinOp::Mul => " *",
+        BinOp::Slash => " /",
+        BinOp::Div => " div",
+        BinOp::Mod => " mod",
+        BinOp::Eq => " ==",
+        BinOp::Ne => " !=",
+        BinOp::Lt => " <",
+        BinOp::Le => " <=",
+        BinOp::Gt => " >",
+        BinOp::Ge => " >=",
+        BinOp::And => " and",
+        BinOp::Or => " or",
+        BinOp::Min => " min",
+        BinOp::Max => " max",
     }
 }
 
-fn put_name(text: &mut String, name: &[u8]) -> Result<(), Fail> {
+fn prefix(op: UnOp) -> &'static str {
+    match op {
+        UnOp::Neg => " neg",
+        UnOp::Not => " not",
+        UnOp::Abs => " abs",
+        UnOp::ToInt => " int",
+        UnOp::ToFix(2) => " fix 2",
+        UnOp::ToFix(_) => " fix",
+    }
+}
+
+fn put_name(text: &mut String, name: &[u8]) -> Result<(), NoMemory> {
+    text.push(' ')?;
     for byte in name {
         text.push(char::from(*byte))?;
     }
     Ok(())
 }
 
-fn put_unary(alloc: Global, text: &mut String, op: UnOp) -> Result<(), Fail> {
-    match op {
-        UnOp::Neg => text.push_str("- ")?,
-        UnOp::Not => text.push_str("not ")?,
-        UnOp::Abs => text.push_str("abs ")?,
-        UnOp::ToInt => text.push_str("int ")?,
-        UnOp::ToFix(decimals) => text.push_str(format!(in alloc; "fix {decimals} ")?.as_str())?,
-    }
-    Ok(())
-}
-
-/// Puts a tree with parentheses around each operation.
-fn put(alloc: Global, text: &mut String, tree: &Expr) -> Result<(), Fail> {
+/// Puts a tree, each operation behind its operands.
+fn put(text: &mut String, tree: &Expr) -> Result<(), NoMemory> {
     match tree {
-        Expr::Number { word, decimals } => {
-            text.push_str(format!(in alloc; "{word}:{decimals}")?.as_str())?;
-        }
-        Expr::Truth(told) => text.push_str(if *told { "true" } else { "false" })?,
-        Expr::Var(name) => put_name(text, name.as_slice())?,
-        Expr::Time => text.push('t')?,
-        Expr::Step => text.push('h')?,
+        Expr::Number {
+            word: 250,
+            decimals: 2,
+        } => text.push_str(" 2.50"),
+        Expr::Number {
+            word: i64::MAX,
+            decimals: 0,
+        } => text.push_str(" greatest"),
+        Expr::Number { .. } => text.push_str(" number"),
+        Expr::Truth(told) => text.push_str(if *told { " true" } else { " false" }),
+        Expr::Var(name) => put_name(text, name.as_slice()),
+        Expr::Time => text.push_str(" t"),
+        Expr::Step => text.push_str(" h"),
         Expr::Unary { op, arg } => {
-            text.push('(')?;
-            put_unary(alloc, text, *op)?;
-            put(alloc, text, arg.get())?;
-            text.push(')')?;
+            put(text, arg.get())?;
+            text.push_str(prefix(*op))
         }
         Expr::Binary { op, left, right } => {
-            text.push('(')?;
-            put(alloc, text, left.get())?;
-            text.push_str(operation(*op))?;
-            put(alloc, text, right.get())?;
-            text.push(')')?;
+            put(text, left.get())?;
+            put(text, right.get())?;
+            text.push_str(operation(*op))
         }
         Expr::Clamp { value, low, high } => {
-            text.push_str("(clamp ")?;
-            put(alloc, text, value.get())?;
-            text.push(' ')?;
-            put(alloc, text, low.get())?;
-            text.push(' ')?;
-            put(alloc, text, high.get())?;
-            text.push(')')?;
+            put(text, value.get())?;
+            put(text, low.get())?;
+            put(text, high.get())?;
+            text.push_str(" clamp")
         }
         Expr::Choose { cond, yes, no } => {
-            text.push_str("(if ")?;
-            put(alloc, text, cond.get())?;
-            text.push(' ')?;
-            put(alloc, text, yes.get())?;
-            text.push(' ')?;
-            put(alloc, text, no.get())?;
-            text.push(')')?;
+            put(text, cond.get())?;
+            put(text, yes.get())?;
+            put(text, no.get())?;
+            text.push_str(" if")
         }
-        Expr::Absent => text.push_str("absent")?,
+        Expr::Absent => text.push_str(" absent"),
         Expr::Present(name) => {
-            text.push_str("(present ")?;
             put_name(text, name.as_slice())?;
-            text.push(')')?;
+            text.push_str(" present")
         }
     }
-    Ok(())
 }
 
-/// The tree that a line writes, and `?` where it writes none.
+/// The tree that a line writes, each operation behind its operands, and `?` where it writes none.
 fn tree_text(alloc: Global, line: &[u8]) -> Result<String, Fail> {
     let tokens = tokens(alloc, line).map_err(|_| Fail::from("no tokens"))?;
     let mut text = String::new(alloc);
     match expression(alloc, tokens.as_slice()) {
-        Ok(tree) => put(alloc, &mut text, &tree)?,
+        Ok(tree) => put(&mut text, &tree)?,
         Err(Unread::NoForm) => text.push('?')?,
         Err(Unread::NoMemory) => return Err(Fail::from("no memory")),
     }
@@ -109,22 +105,19 @@ fn tree_text(alloc: Global, line: &[u8]) -> Result<String, Fail> {
 #[test]
 fn expressions_are_read(rt: HostRuntime) -> Result<(), Fail> {
     let lines: [(&str, &str); 14] = [
-        ("a - b - c", "((a - b) - c)"),
-        ("-a * b", "((- a) * b)"),
-        ("not a == b", "(not (a == b))"),
+        ("a - b - c", " a b - c -"),
+        ("-a * b", " a neg b *"),
+        ("not a == b", " a b == not"),
         (
             "a or b and not c < d + e div -f",
-            "(a or (b and (not (c < (d + (e div (- f)))))))",
+            " a b c d e f neg div + < not and or",
         ),
-        ("max(if a then b else c + t, h)", "((if a b (c + t)) max h)"),
-        ("fix 2 (2.50 / (a - b))", "(fix 2 (250:2 / (a - b)))"),
-        (
-            "clamp(abs(a), -1, int(b))",
-            "(clamp (abs a) (- 1:0) (int b))",
-        ),
-        ("present(u) != false", "((present u) != false)"),
-        ("if true then absent else u", "(if true absent u)"),
-        ("9223372036854775807", "9223372036854775807:0"),
+        ("max(if a then b else c + t, h)", " a b c t + if h max"),
+        ("fix 2 (2.50 / (a - b))", " 2.50 a b - / fix 2"),
+        ("clamp(abs(a), -1, int(b))", " a abs number neg b int clamp"),
+        ("present(u) != false", " u present false !="),
+        ("if true then absent else u", " true absent u if"),
+        ("9223372036854775807", " greatest"),
         ("9223372036854775808", "?"),
         ("a < b < c", "?"),
         ("a + not b", "?"),
@@ -152,7 +145,7 @@ fn nested(alloc: Global, levels: usize) -> Result<String, Fail> {
 
 #[test]
 fn parts_are_nested_64_levels_deep_at_most(rt: HostRuntime) -> Result<(), Fail> {
-    for (levels, tree) in [(64, "a"), (65, "?")].iter() {
+    for (levels, tree) in [(64, " a"), (65, "?")].iter() {
         let line = nested(rt.alloc(), *levels)?;
         let found = tree_text(rt.alloc(), line.as_bytes())?;
         assert_eq!(rt; found.as_str(), *tree);
