@@ -24,9 +24,6 @@ is_infix _ = true
 pub rises : (op : BinOp) → is_infix op ≡ true → strength (right_level (binary_level op)) ≡ suc (strength (binary_level op))
 rises by.Min is = absurd (cc)
 rises by.Max is = absurd (cc)
-rises by.Or is = refl
-rises by.And is = refl
-rises by.Add is = refl
 rises _ is = refl
 
 -- An infix operation is written between its operands.

@@ -32,6 +32,7 @@ WritesOneTree = (tokens : List Token) (one other : Expr) → Writes one tokens �
 
 -- ---- How it is read
 
+-- One reading after another, where each gives something.
 infixl 10 ◌>>=◌
 abbrev pub ◌>>=◌ : {A B : Type 0} → Option A → (A → Option B) → Option B
 found >>= next = option_and_then next found
@@ -63,6 +64,7 @@ GivesRest (Err unread.NoMemory) read = ⊤
 
 -- ---- Single tokens
 
+-- Symbols are compared by their texts, which differ.
 abbrev pub same_symbol : Symbol → Symbol → Bool
 same_symbol one other = bytes_eq (symbol_text one) (symbol_text other)
 
@@ -196,6 +198,7 @@ operand_at deeper asked (token.Keyword keyword ∷ rest) = keyword_operand deepe
 
 -- ---- Infix operations
 
+-- The infix operation that the symbol, and that the keyword, is.
 abbrev pub infix_symbol : Symbol → Option BinOp
 infix_symbol sign.Plus = Some by.Add
 infix_symbol sign.Minus = Some by.Sub

@@ -80,7 +80,7 @@ fn part(
 {
     match budget.checked_sub(1) {
         None => Err(Unread::NoForm),
-        Some(left) => read(alloc, left, asked, tokens),
+        Some(levels_left) => read(alloc, levels_left, asked, tokens),
     }
 }
 
