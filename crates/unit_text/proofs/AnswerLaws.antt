@@ -21,7 +21,7 @@ use Rattle.unit_text.specs.Nesting.{Nested, headed_by, and_form, nested_forms, b
 use Rattle.unit_text.proofs.NestingLaws.{before_next, same_parts, whole_forms, parts_close}
 use Rattle.unit_text.proofs.Refusing.{unbroken, IsUnbroken, AreUnbroken, IsLeast, first_broken, no_break}
 use Rattle.unit_text.proofs.Walks.{FormsAreKnown, Decided, FormOf, FirstLine, first_line, version_known, FormIn, form_in, same_forms, AreBlank, NestTo, IsClean, are_short, blank_more, nest_blank, header_begins, line_nests, BreaksLeast, bytes_break, length_breaks, formless_breaks, place_breaks, first_place_breaks, headless_breaks, blank_unbroken, is_written, none_written, blank_have_none, one_in}
-use Rattle.unit_text.proofs.SpelledBytes.{form_is_clean}
+use Rattle.unit_text.proofs.SpelledBytes.{none_forbidden}
 use Rattle.unit_tree.specs.Texts.{BeginsVersion2}
 
 -- ---- A line, whatever it is
@@ -330,7 +330,7 @@ line_keeps known text before line later version all says cut = elim (cases_Bool 
     first_is_header front some others is none = let whole = is ∙ ap (λ all_front. all_front ++ (some ∷ others)) none in cc
 
     by_form : Stands text before line version all → IsUnbroken text before line
-    by_form at = unbroken text before line (form_is_clean line at.some at.has.has_form) short
+    by_form at = unbroken text before line (none_forbidden at.has.has_form.tokens line at.has.has_form.spelled) short
         (λ none. none.1 at.some at.has)
         (λ off.
             let forms = same_forms known text before off.forms at.front off.lines at.have in

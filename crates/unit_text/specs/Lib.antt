@@ -1,4 +1,6 @@
 pub mod Drafts
+pub mod Expressions
 pub mod Laws
+pub mod Levels
 pub mod Nesting
 pub mod WorkedTexts
