@@ -22,9 +22,14 @@ use Rattle.unit_tree.specs.declared.line_form.LineForm.TheVariants as form
 use Rattle.unit_tree.specs.declared.system.Instance.{Instance}
 use Rattle.unit_tree.specs.declared.system.Setting.{Setting}
 use Rattle.unit_tree.proofs.FoldLemmas.{fold-Assign, fold-If, fold-Repeat, fold-Accept}
+use Rattle.unit_tree.proofs.OpenBlocks.{blocks_behind, lines_leave, unit_parts_leave, settings_leave, parts_leave}
 use Rattle.unit_text.specs.Laws.{NestingIsByParts}
+use Rattle.unit_text.specs.Drafts.{headed}
 use Rattle.unit_text.specs.Nesting as nesting
-use Rattle.unit_text.specs.Nesting.{Head, Then, Else, Times, Around, Inner, Open, AtTop, InUnit, InStep, InInstance, Nested, and_part, opened, block_in, headed_by, nested_by, and_form, head_forms, around_forms, open_forms, nested_forms, block_of, blocks_of}
+use Rattle.unit_text.specs.declared.draft.Around.{Around}
+use Rattle.unit_text.specs.declared.draft.Head.{Head}
+use Rattle.unit_text.specs.declared.draft.Head.TheVariants.{Then, Else, Times}
+use Rattle.unit_text.specs.Nesting.{Inner, Open, AtTop, InUnit, InStep, InInstance, Nested, and_part, opened, block_in, headed_by, nested_by, and_form, head_forms, around_forms, open_forms, nested_forms, block_of, blocks_of}
 
 -- ---- Lines of a step
 
@@ -172,110 +177,6 @@ same_parts version by one other is =
       parts_are = ap (λ nested. nested.parts) (sym (parts_are_nested version one) ∙ ap (nested_by version) lines ∙ parts_are_nested version other);
     }
 
--- ---- Open blocks
-
-blocks_behind : (lines : List LineForm) (before : Before) → (and_lines before lines).open_blocks ≡ fold behind before.open_blocks lines
-blocks_behind [] before = refl
-blocks_behind (some ∷ lines) before = blocks_behind lines (and_line before some)
-
--- A line of a step leaves the open blocks as they are.
-abbrev IsClosed : Line → Type 0
-IsClosed some = (open_before : List Block) → fold behind open_before (line_forms some) ≡ open_before
-
-abbrev Closed : Type 0
-Closed = (some : Line) × IsClosed some
-
-abbrev closed_line : Closed → Line
-closed_line one = one.0
-
-joined_closed : (lines : List Closed) (open_before : List Block) → fold behind open_before (joined (map line_forms (map closed_line lines))) ≡ open_before
-joined_closed [] open_before = refl
-joined_closed (one ∷ lines) open_before =
-    fold-append behind open_before (line_forms one.0) (joined (map line_forms (map closed_line lines)))
-    ∙ ap (λ now. fold behind now (joined (map line_forms (map closed_line lines)))) (one.1 open_before)
-    ∙ joined_closed lines open_before
-
-closed-Repeat : (count : ℕ) (body : List Closed) → IsClosed (line.Repeat count (map closed_line body))
-closed-Repeat count body open_before =
-    ap (fold behind open_before) (fold-Repeat (List LineForm) block_forms count (map closed_line body))
-    ∙ fold-append behind (blocks.InRepeat ∷ open_before) (joined (map line_forms (map closed_line body))) (form.End ∷ [])
-    ∙ ap (λ now. fold behind now (form.End ∷ [])) (joined_closed body (blocks.InRepeat ∷ open_before))
-
-closed-IfNone : (condition : Expr) (then_lines : List Closed) → IsClosed (line.If condition (map closed_line then_lines) None)
-closed-IfNone condition then_lines open_before =
-    ap (fold behind open_before) (fold-If (List LineForm) block_forms condition (map closed_line then_lines) None)
-    ∙ fold-append behind (blocks.InIf ∷ open_before) (joined (map line_forms (map closed_line then_lines)) ++ []) (form.End ∷ [])
-    ∙ ap (λ forms. fold behind (fold behind (blocks.InIf ∷ open_before) forms) (form.End ∷ [])) (append-nil (joined (map line_forms (map closed_line then_lines))))
-    ∙ ap (λ now. fold behind now (form.End ∷ [])) (joined_closed then_lines (blocks.InIf ∷ open_before))
-
-closed-IfElse : (condition : Expr) (then_lines else_lines : List Closed) → IsClosed (line.If condition (map closed_line then_lines) (Some (map closed_line else_lines)))
-closed-IfElse condition then_lines else_lines open_before =
-    ap (fold behind open_before) (fold-If (List LineForm) block_forms condition (map closed_line then_lines) (Some (map closed_line else_lines)))
-    ∙ fold-append behind (blocks.InIf ∷ open_before) (joined (map line_forms (map closed_line then_lines)) ++ (form.Else ∷ joined (map line_forms (map closed_line else_lines)))) (form.End ∷ [])
-    ∙ ap (λ now. fold behind now (form.End ∷ [])) (
-        fold-append behind (blocks.InIf ∷ open_before) (joined (map line_forms (map closed_line then_lines))) (form.Else ∷ joined (map line_forms (map closed_line else_lines)))
-        ∙ ap (λ now. fold behind now (form.Else ∷ joined (map line_forms (map closed_line else_lines)))) (joined_closed then_lines (blocks.InIf ∷ open_before))
-        ∙ joined_closed else_lines (blocks.InElse ∷ open_before)
-    )
-
-closed_node : (y : Line-F Closed) → IsClosed (roll-Line (map-Line Closed Line closed_line y))
-closed_node (Line-F.Assign target value) =
-    subst IsClosed (sym (rolls-Assign target value)) (λ open_before. ap (fold behind open_before) (fold-Assign (List LineForm) block_forms target value))
-closed_node (Line-F.If condition then_lines None) = subst IsClosed (sym (rolls-If condition (map closed_line then_lines) None)) (closed-IfNone condition then_lines)
-closed_node (Line-F.If condition then_lines (Some else_lines)) =
-    subst IsClosed (sym (rolls-If condition (map closed_line then_lines) (Some (map closed_line else_lines)))) (closed-IfElse condition then_lines else_lines)
-closed_node (Line-F.Repeat count body) = subst IsClosed (sym (rolls-Repeat count (map closed_line body))) (closed-Repeat count body)
-closed_node (Line-F.Accept value) =
-    subst IsClosed (sym (rolls-Accept value)) (λ open_before. ap (fold behind open_before) (fold-Accept (List LineForm) block_forms value))
-
-line_is_closed : (some : Line) → IsClosed some
-line_is_closed = ind-Line IsClosed (λ x y is. subst (λ z. IsClosed (roll-Line z)) is (closed_node y))
-
-all_closed : {A : Type 0} (forms : A → List LineForm) (open_before : List Block) → ((one : A) → fold behind open_before (forms one) ≡ open_before) → (all : List A) → fold behind open_before (flat_map forms all) ≡ open_before
-all_closed forms open_before is [] = refl
-all_closed forms open_before is (one ∷ all) =
-    fold-append behind open_before (forms one) (flat_map forms all)
-    ∙ ap (λ now. fold behind now (flat_map forms all)) (is one)
-    ∙ all_closed forms open_before is all
-
-lines_are_closed : (open_before : List Block) (lines : List Line) → fold behind open_before (flat_map line_forms lines) ≡ open_before
-lines_are_closed open_before lines = all_closed line_forms open_before (λ some. line_is_closed some open_before) lines
-
-unit_part_is_closed : (part : UnitPart) → fold behind (blocks.InUnit ∷ []) (unit_part_forms part) ≡ blocks.InUnit ∷ []
-unit_part_is_closed (parts.Resolution decimals) = refl
-unit_part_is_closed (parts.HasParam param) = refl
-unit_part_is_closed (parts.HasState state) = refl
-unit_part_is_closed (parts.HasLocal local) = refl
-unit_part_is_closed (parts.HasInput input) = refl
-unit_part_is_closed (parts.HasEventIn event) = refl
-unit_part_is_closed (parts.HasOutput output) = refl
-unit_part_is_closed (parts.HasEventOut event) = refl
-unit_part_is_closed (parts.Max value) = refl
-unit_part_is_closed (parts.Step lines) =
-    fold-append behind (blocks.InStep ∷ blocks.InUnit ∷ []) (flat_map line_forms lines) (form.End ∷ [])
-    ∙ ap (λ now. fold behind now (form.End ∷ [])) (lines_are_closed (blocks.InStep ∷ blocks.InUnit ∷ []) lines)
-
-unit_parts_are_closed : (unit_parts : List UnitPart) → fold behind (blocks.InUnit ∷ []) (flat_map unit_part_forms unit_parts) ≡ blocks.InUnit ∷ []
-unit_parts_are_closed unit_parts = all_closed unit_part_forms (blocks.InUnit ∷ []) unit_part_is_closed unit_parts
-
-settings_are_closed : (settings : List Setting) → fold behind (blocks.InInstance ∷ []) (map form.Setting settings) ≡ blocks.InInstance ∷ []
-settings_are_closed [] = refl
-settings_are_closed (setting ∷ settings) = settings_are_closed settings
-
-part_is_closed : (part : Part) → fold behind [] (part_forms part) ≡ []
-part_is_closed (parts.HasUnit name unit_parts) =
-    fold-append behind (blocks.InUnit ∷ []) (flat_map unit_part_forms unit_parts) (form.End ∷ [])
-    ∙ ap (λ now. fold behind now (form.End ∷ [])) (unit_parts_are_closed unit_parts)
-part_is_closed (parts.HasInstance instance) =
-    fold-append behind (blocks.InInstance ∷ []) (map form.Setting instance.settings) (form.End ∷ [])
-    ∙ ap (λ now. fold behind now (form.End ∷ [])) (settings_are_closed instance.settings)
-part_is_closed (parts.Connects wire) = refl
-part_is_closed (parts.Stop seconds) = refl
-part_is_closed (parts.Longest seconds) = refl
-part_is_closed (parts.Zero count) = refl
-part_is_closed (parts.Rows count) = refl
-part_is_closed (parts.Samples port) = refl
-
 -- ---- The block that nested lines leave open
 
 abbrev step_blocks : List Block
@@ -285,7 +186,7 @@ head_opens : (head : Head) (open_before : List Block) → fold behind open_befor
 head_opens (Then condition) open_before = refl
 head_opens (Else condition then_lines) open_before =
     fold-append behind (blocks.InIf ∷ open_before) (flat_map line_forms then_lines) (form.Else ∷ [])
-    ∙ ap (λ now. fold behind now (form.Else ∷ [])) (lines_are_closed (blocks.InIf ∷ open_before) then_lines)
+    ∙ ap (λ now. fold behind now (form.Else ∷ [])) (lines_leave then_lines (blocks.InIf ∷ open_before))
 head_opens (Times count) open_before = refl
 
 around_opens : (around : List Around) → fold behind step_blocks (around_forms around) ≡ map (λ block. block_of block.head) around ++ step_blocks
@@ -295,26 +196,26 @@ around_opens (block ∷ others) =
     ∙ ap (λ now. fold behind now (head_forms block.head)) (
         fold-append behind step_blocks (around_forms others) (flat_map line_forms block.before)
         ∙ ap (λ now. fold behind now (flat_map line_forms block.before)) (around_opens others)
-        ∙ lines_are_closed (map (λ one. block_of one.head) others ++ step_blocks) block.before
+        ∙ lines_leave block.before (map (λ one. block_of one.head) others ++ step_blocks)
     )
     ∙ head_opens block.head (map (λ one. block_of one.head) others ++ step_blocks)
 
 open_opens : (block : Open) → fold behind [] (open_forms block) ≡ blocks_of block
 open_opens AtTop = refl
-open_opens (InUnit name unit_parts) = unit_parts_are_closed unit_parts
+open_opens (InUnit name unit_parts) = unit_parts_leave unit_parts
 open_opens (InStep name unit_parts inner) =
     fold-append behind (blocks.InUnit ∷ []) (flat_map unit_part_forms unit_parts) (form.Step ∷ around_forms inner.around ++ flat_map line_forms inner.lines)
-    ∙ ap (λ now. fold behind now (form.Step ∷ around_forms inner.around ++ flat_map line_forms inner.lines)) (unit_parts_are_closed unit_parts)
+    ∙ ap (λ now. fold behind now (form.Step ∷ around_forms inner.around ++ flat_map line_forms inner.lines)) (unit_parts_leave unit_parts)
     ∙ fold-append behind step_blocks (around_forms inner.around) (flat_map line_forms inner.lines)
     ∙ ap (λ now. fold behind now (flat_map line_forms inner.lines)) (around_opens inner.around)
-    ∙ lines_are_closed (map (λ block. block_of block.head) inner.around ++ step_blocks) inner.lines
-open_opens (InInstance instance) = settings_are_closed instance.settings
+    ∙ lines_leave inner.lines (map (λ block. block_of block.head) inner.around ++ step_blocks)
+open_opens (InInstance instance) = settings_leave instance.settings
 
 pub blocks_are : (nested : Nested) → open_blocks (nested_forms nested) ≡ blocks_of nested.block
 blocks_are nested =
-    blocks_behind (nested_forms nested) no_lines
+    blocks_behind no_lines (nested_forms nested)
     ∙ fold-append behind [] (flat_map part_forms nested.parts) (open_forms nested.block)
-    ∙ ap (λ now. fold behind now (open_forms nested.block)) (all_closed part_forms [] part_is_closed nested.parts)
+    ∙ ap (λ now. fold behind now (open_forms nested.block)) (parts_leave nested.parts)
     ∙ open_opens nested.block
 
 -- ---- One line more
@@ -487,7 +388,7 @@ joined_is : (lines : List Line) → joined (map line_forms lines) ≡ flat_map l
 joined_is [] = refl
 joined_is (some ∷ lines) = ap (λ others. line_forms some ++ others) (joined_is lines)
 
-headed_forms : (head : Head) (lines : List Line) → line_forms (nesting.headed head lines) ≡ head_forms head ++ (flat_map line_forms lines ++ (form.End ∷ []))
+headed_forms : (head : Head) (lines : List Line) → line_forms (headed head lines) ≡ head_forms head ++ (flat_map line_forms lines ++ (form.End ∷ []))
 headed_forms (Then condition) lines =
     fold-If (List LineForm) block_forms condition lines None
     ∙ ap (λ forms. form.If condition ∷ forms ++ (form.End ∷ [])) (append-nil (joined (map line_forms lines)) ∙ joined_is lines)
@@ -503,10 +404,10 @@ headed_forms (Times count) lines =
     fold-Repeat (List LineForm) block_forms count lines
     ∙ ap (λ forms. form.Repeat count ∷ forms ++ (form.End ∷ [])) (joined_is lines)
 
-ended_adds : (lines : List Line) (block : Around) (others : List Around) → around_forms others ++ flat_map line_forms (block.before ++ (nesting.headed block.head lines ∷ [])) ≡ (around_forms (block ∷ others) ++ flat_map line_forms lines) ++ (form.End ∷ [])
+ended_adds : (lines : List Line) (block : Around) (others : List Around) → around_forms others ++ flat_map line_forms (block.before ++ (headed block.head lines ∷ [])) ≡ (around_forms (block ∷ others) ++ flat_map line_forms lines) ++ (form.End ∷ [])
 ended_adds lines block others =
     let ending = flat_map line_forms lines ++ (form.End ∷ []) in
-    ap (λ forms. around_forms others ++ forms) (flat_map-append line_forms block.before (nesting.headed block.head lines ∷ []) ∙ ap (λ forms. flat_map line_forms block.before ++ forms) (append-nil (line_forms (nesting.headed block.head lines)) ∙ headed_forms block.head lines))
+    ap (λ forms. around_forms others ++ forms) (flat_map-append line_forms block.before (headed block.head lines ∷ []) ∙ ap (λ forms. flat_map line_forms block.before ++ forms) (append-nil (line_forms (headed block.head lines)) ∙ headed_forms block.head lines))
     ∙ sym (
         append_assoc (around_forms (block ∷ others)) (flat_map line_forms lines) (form.End ∷ [])
         ∙ append_assoc (around_forms others ++ flat_map line_forms block.before) (head_forms block.head) ending
@@ -520,7 +421,7 @@ step_ends version all unit inside lines [] =
     ∙ ap (λ forms. form.Unit unit ∷ flat_map unit_part_forms inside ++ forms) (append-nil (unit_part_forms (parts.Step lines)))
     ∙ sym (append_assoc (form.Unit unit ∷ flat_map unit_part_forms inside) (form.Step ∷ flat_map line_forms lines) (form.End ∷ [])))
 step_ends version all unit inside lines (block ∷ others) =
-    inner_adds version all unit inside (record { lines = lines; around = block ∷ others }) (record { lines = block.before ++ (nesting.headed block.head lines ∷ []); around = others }) form.End (ended_adds lines block others)
+    inner_adds version all unit inside (record { lines = lines; around = block ∷ others }) (record { lines = block.before ++ (headed block.head lines ∷ []); around = others }) form.End (ended_adds lines block others)
 
 step_adds : (version : ℕ) (all : List Part) (unit : List ℕ) (inside : List UnitPart) (inner : Inner) (some : LineForm) → IsHeld (in_step_at version all unit inside inner) some → Adds (in_step_at version all unit inside inner) some
 step_adds version all unit inside inner (form.Header other) is = absurd (is.no_header other refl)

@@ -191,14 +191,18 @@ ended_by system unit lines (Some split) =
 abbrev pub ended : System → Unit → StepSoFar → Option Draft
 ended system unit step = Some (ended_by system unit step.lines (split_last step.around))
 
+-- The lines of a step that end no block.
+abbrev pub line_in_step : StepSoFar → LineForm → Option StepSoFar
+line_in_step step (form.Assign target value) = Some (and_line step (line.Assign target value))
+line_in_step step (form.Accept value) = Some (and_line step (line.Accept value))
+line_in_step step (form.If cond) = in_block step (Then cond)
+line_in_step step (form.Repeat count) = in_block step (Times count)
+line_in_step step form.Else = turned step
+line_in_step step _ = None
+
 abbrev pub step_form : System → Unit → StepSoFar → LineForm → Option Draft
-step_form system unit step (form.Assign target value) = Some (in_step system unit (and_line step (line.Assign target value)))
-step_form system unit step (form.Accept value) = Some (in_step system unit (and_line step (line.Accept value)))
-step_form system unit step (form.If cond) = option_map (in_step system unit) (in_block step (Then cond))
-step_form system unit step (form.Repeat count) = option_map (in_step system unit) (in_block step (Times count))
-step_form system unit step form.Else = option_map (in_step system unit) (turned step)
 step_form system unit step form.End = ended system unit step
-step_form system unit step _ = None
+step_form system unit step some = option_map (in_step system unit) (line_in_step step some)
 
 -- ---- One line more
 

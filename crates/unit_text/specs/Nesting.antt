@@ -11,19 +11,12 @@ use Rattle.unit_tree.specs.declared.line.Line as line
 use Rattle.unit_tree.specs.declared.line_form.LineForm.{LineForm}
 use Rattle.unit_tree.specs.declared.line_form.LineForm.TheVariants as form
 use Rattle.unit_tree.specs.declared.system.Instance.{Instance}
+use Rattle.unit_text.specs.Drafts.{headed}
+use Rattle.unit_text.specs.declared.draft.Around.{Around}
+use Rattle.unit_text.specs.declared.draft.Head.{Head}
+use Rattle.unit_text.specs.declared.draft.Head.TheVariants.{Then, Else, Times}
 
 -- ---- What is open
-
--- What a block of step lines began with: `if`; `if` with the lines up to its `else`; or `repeat`.
-pub data Head : Type 0 where
-  Then : Expr → Head
-  Else : Expr → List Line → Head
-  Times : ℕ → Head
-
--- An open block of step lines: the lines before it in the block around it, and what it began with.
-pub record Around : Type 0 where
-  pub before : List Line
-  pub head : Head
 
 -- A step so far: the lines of its innermost block, and the blocks around that, the innermost first.
 pub record Inner : Type 0 where
@@ -72,12 +65,6 @@ and_part nested part = record nested { parts = nested.parts ++ (part ∷ []); bl
 
 abbrev pub opened : Nested → Open → Nested
 opened nested block = record nested { block = block }
-
--- A block of step lines that ends.
-abbrev pub headed : Head → List Line → Line
-headed (Then cond) lines = line.If cond lines None
-headed (Else cond then_lines) lines = line.If cond then_lines (Some lines)
-headed (Times count) lines = line.Repeat count lines
 
 -- A line at the top. One that may not stand there changes nothing, as below.
 abbrev pub at_top : Nested → LineForm → Nested

@@ -2,7 +2,7 @@
 ghost use Rattle.std.specs.Prelude.{◌≡◌, Some};
 ghost use Rattle.unit_tokens.specs.Scanning.{Gives};
 ghost use Rattle.unit_tree.specs.Parts.{bare_unit};
-ghost use Rattle.unit_text.specs.Drafts.{bare_draft, at_top, in_unit, in_step, in_instance, bare_instance, with_wire, with_stop, with_longest, with_zero, with_rows, with_sample, with_resolution, with_param, with_state, with_local, with_input, with_event_in, with_output, with_event_out, with_max, with_step, with_unit, with_setting, with_instance, headed, with_form, top_form, declared_form, unit_form, and_line, in_block, turned, ended, step_form, instance_form, split_last, whole_system};
+ghost use Rattle.unit_text.specs.Drafts.{bare_draft, at_top, in_unit, in_step, in_instance, bare_instance, with_wire, with_stop, with_longest, with_zero, with_rows, with_sample, with_resolution, with_param, with_state, with_local, with_input, with_event_in, with_output, with_event_out, with_max, with_step, with_unit, with_setting, with_instance, headed, with_form, top_form, declared_form, unit_form, and_line, in_block, turned, ended, line_in_step, step_form, instance_form, split_last, whole_system};
 
 use fixed_words::{List, Literal};
 use std::alloc::Global;
@@ -472,6 +472,20 @@ fn ended(system: System, mut unit: Unit, step: StepSoFar) -> Result<Draft, Unrea
     }
 }
 
+/// A line in a step that does not end a block.
+fn line_in_step(alloc: Global, step: StepSoFar, form: LineForm) -> Result<StepSoFar, Unread>
+    ensures { Gives result (line_in_step step form) }
+{
+    match form {
+        LineForm::Assign { target, value } => with_line(step, Line::Assign { target, value }),
+        LineForm::Accept(value) => with_line(step, Line::Accept { value }),
+        LineForm::If(cond) => in_block(alloc, step, Head::Then(cond)),
+        LineForm::Repeat(count) => in_block(alloc, step, Head::Times(count)),
+        LineForm::Else => turned(alloc, step),
+        _ => Err(Unread::NoForm),
+    }
+}
+
 /// A line in a step.
 fn step_form(
     alloc: Global,
@@ -482,16 +496,10 @@ fn step_form(
 ) -> Result<Draft, Unread>
     ensures { Gives result (step_form system unit step form) }
 {
-    let step = match form {
-        LineForm::Assign { target, value } => with_line(step, Line::Assign { target, value })?,
-        LineForm::Accept(value) => with_line(step, Line::Accept { value })?,
-        LineForm::If(cond) => in_block(alloc, step, Head::Then(cond))?,
-        LineForm::Repeat(count) => in_block(alloc, step, Head::Times(count))?,
-        LineForm::Else => turned(alloc, step)?,
-        LineForm::End => return ended(system, unit, step),
-        _ => return Err(Unread::NoForm),
-    };
-    Ok(in_step(system, unit, step))
+    match form {
+        LineForm::End => ended(system, unit, step),
+        _ => Ok(in_step(system, unit, line_in_step(alloc, step, form)?)),
+    }
 }
 
 /// With a setting more.

@@ -49,3 +49,7 @@ returns-in_err-header-clause-trace g c =
 pub returns-in_err-start_words-clause-trace : goal.returns-in_err-start_words-clause-trace
 returns-in_err-start_words-clause-trace g c =
     puts_header_front c.args.system.now c.requires (g.O.Sink.held c.args.out.now) (g.O.Sink.held c.args.out.now) c.from_residual-in_err-start_words.result c.from_residual-in_err-start_words.ensures.0 (AppendsPrefix-nil (g.O.Sink.held c.args.out.now) (header_text (one_column c.requires.instance.name c.requires.output)))
+
+pub returns-in_err-variables-clause-trace : goal.returns-in_err-variables-clause-trace
+returns-in_err-variables-clause-trace g c =
+    puts_header_front c.args.system.now c.requires (g.O.Sink.held c.args.out.now) (g.O.Sink.held c.args.out.now) c.from_residual.result c.from_residual.ensures.0 (AppendsPrefix-nil (g.O.Sink.held c.args.out.now) (header_text (one_column c.requires.instance.name c.requires.output)))
