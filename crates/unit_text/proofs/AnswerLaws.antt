@@ -279,7 +279,7 @@ zip_cut R (x ∷ xs) (y ∷ ys) zs all =
     let rest = zip_cut R xs ys zs all.1 in
     record { front = x ∷ rest.front; back = rest.back; cut = ap (λ more. x ∷ more) rest.cut; on_front = (all.0, rest.on_front); on_back = rest.on_back }
 
-placed_at : (front : List LineForm) (some : LineForm) (others : List LineForm) (before : Before) → are_placed before (front ++ (some ∷ others)) ≡ true → may_stand (and_lines before front) some ≡ true
+pub placed_at : (front : List LineForm) (some : LineForm) (others : List LineForm) (before : Before) → are_placed before (front ++ (some ∷ others)) ≡ true → may_stand (and_lines before front) some ≡ true
 placed_at [] some others before placed = (and_parts (may_stand before some) (are_placed (and_line before some) others) placed).0
 placed_at (first ∷ front) some others before placed =
     placed_at front some others (and_line before first) (and_parts (may_stand before first) (are_placed (and_line before first) (front ++ (some ∷ others))) placed).1

@@ -148,7 +148,7 @@ part_is_added (parts.Zero count) nested = refl
 part_is_added (parts.Rows count) nested = refl
 part_is_added (parts.Samples port) nested = refl
 
-abbrev holding : ℕ → List Part → Nested
+abbrev pub holding : ℕ → List Part → Nested
 holding version all = record { version = version; parts = all; block = AtTop }
 
 parts_are_added : (more all : List Part) (version : ℕ) → fold and_form (holding version all) (flat_map part_forms more) ≡ holding version (all ++ more)
@@ -179,7 +179,7 @@ same_parts version by one other is =
 
 -- ---- The block that nested lines leave open
 
-abbrev step_blocks : List Block
+abbrev pub step_blocks : List Block
 step_blocks = blocks.InStep ∷ blocks.InUnit ∷ []
 
 head_opens : (head : Head) (open_before : List Block) → fold behind open_before (head_forms head) ≡ block_of head ∷ open_before
@@ -269,7 +269,7 @@ top_adds version all (form.Zero count) is = part_adds (holding version all) (par
 top_adds version all (form.Rows count) is = part_adds (holding version all) (parts.Rows count) (form.Rows count) refl
 top_adds version all (form.Sample port) is = part_adds (holding version all) (parts.Samples port) (form.Sample port) refl
 
-abbrev in_unit_at : ℕ → List Part → List ℕ → List UnitPart → Nested
+abbrev pub in_unit_at : ℕ → List Part → List ℕ → List UnitPart → Nested
 in_unit_at version all unit inside = opened (holding version all) (InUnit unit inside)
 
 unit_part_adds : (version : ℕ) (all : List Part) (unit : List ℕ) (inside : List UnitPart) (part : UnitPart) (some : LineForm) → unit_part_forms part ≡ some ∷ [] → nested_forms (in_unit_at version all unit (inside ++ (part ∷ []))) ≡ nested_forms (in_unit_at version all unit inside) ++ (some ∷ [])
@@ -305,7 +305,7 @@ unit_adds version all unit inside (form.Zero count) is = let held = is.held in a
 unit_adds version all unit inside (form.Rows count) is = let held = is.held in absurd (cc)
 unit_adds version all unit inside (form.Sample port) is = let held = is.held in absurd (cc)
 
-abbrev in_instance_at : ℕ → List Part → Instance → Nested
+abbrev pub in_instance_at : ℕ → List Part → Instance → Nested
 in_instance_at version all instance = opened (holding version all) (InInstance instance)
 
 instance_adds : (version : ℕ) (all : List Part) (instance : Instance) (some : LineForm) → IsHeld (in_instance_at version all instance) some → Adds (in_instance_at version all instance) some
@@ -338,19 +338,19 @@ instance_adds version all instance (form.Zero count) is = let held = is.held in 
 instance_adds version all instance (form.Rows count) is = let held = is.held in absurd (cc)
 instance_adds version all instance (form.Sample port) is = let held = is.held in absurd (cc)
 
-abbrev in_step_at : ℕ → List Part → List ℕ → List UnitPart → Inner → Nested
+abbrev pub in_step_at : ℕ → List Part → List ℕ → List UnitPart → Inner → Nested
 in_step_at version all unit inside inner = opened (holding version all) (InStep unit inside inner)
 
-abbrev blocks_around : List Around → List Block
+abbrev pub blocks_around : List Around → List Block
 blocks_around around = map (λ block. block_of block.head) around ++ step_blocks
 
 -- A step is none of the other blocks.
-record IsInStep (open_before : List Block) : Type 0 where
-  not_top : blocks.at_top open_before ≡ false
-  not_unit : blocks.in_unit open_before ≡ false
-  not_instance : blocks.in_instance open_before ≡ false
+pub record IsInStep (open_before : List Block) : Type 0 where
+  pub not_top : blocks.at_top open_before ≡ false
+  pub not_unit : blocks.in_unit open_before ≡ false
+  pub not_instance : blocks.in_instance open_before ≡ false
 
-in_step : (around : List Around) → IsInStep (blocks_around around)
+pub in_step : (around : List Around) → IsInStep (blocks_around around)
 in_step [] = record { not_top = refl; not_unit = refl; not_instance = refl }
 in_step (block ∷ others) = by_head block.head
   where
@@ -475,7 +475,7 @@ all_in_text : (lines : List LineForm) (before : Before) → (and_lines before li
 all_in_text [] before = sym (append-nil before.in_text)
 all_in_text (some ∷ lines) before = all_in_text lines (and_line before some) ∙ append_assoc before.in_text (some ∷ []) lines
 
-header_has_rival : (nested : Nested) (version : ℕ) → has_rival (before_next nested) (form.Header version) ≡ true
+pub header_has_rival : (nested : Nested) (version : ℕ) → has_rival (before_next nested) (form.Header version) ≡ true
 header_has_rival nested version = ap (list_any (are_alike (form.Header version))) (all_in_text (nested_forms nested) no_lines)
 
 pub is_held : (nested : Nested) (some : LineForm) → may_stand (before_next nested) some ≡ true → IsHeld nested some
