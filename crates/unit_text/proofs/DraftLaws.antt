@@ -2,7 +2,7 @@
 -- more, and where a line may not stand there is none.
 use Rattle.std.proofs.Common.{◌≡◌, cond, ℕ, suc, ◌+◌, ◌<◌, Bool, true, false, not, List, [], ◌∷◌, ◌++◌, append_assoc, map, length, Option, Some, None, refl, ap, sym, subst, ◌∙◌, arith}
 use Rattle.std.specs.Prelude.{◌&&◌, ◌||◌, is_some, nat_lt, reverse, option_and_then}
-use Rattle.std.specs.List.{count_by, flat_map, list_any}
+use Rattle.std.specs.List.{count_by, flat_map, fold, list_any}
 use Rattle.std.specs.Option.{option_map}
 use Rattle.std.proofs.lemmas.Bool.{cases_Bool}
 use Rattle.std.proofs.lemmas.List.{append-nil, length-reverse, reverse-append}
@@ -250,11 +250,17 @@ head_is_inner (Then condition) = refl
 head_is_inner (Else condition then_lines) = refl
 head_is_inner (Times count) = refl
 
+abbrev counting : ℕ → Block → ℕ
+counting count block = count + cond (is_inner block) 1 0
+
+counted : (around : List Around) (count : ℕ) → fold counting count (blocks_around around) ≡ count + length around
+counted [] count = omega arith
+counted (block ∷ others) count =
+    let rest = counted others (count + 1) in
+    ap (λ told. fold counting (count + cond told 1 0) (blocks_around others)) (head_is_inner block.head) ∙ rest ∙ omega arith
+
 blocks_are_inner : (around : List Around) → count_by is_inner (blocks_around around) ≡ length around
-blocks_are_inner [] = refl
-blocks_are_inner (block ∷ others) =
-    ap (λ told. cond told (suc (count_by is_inner (blocks_around others))) (count_by is_inner (blocks_around others))) (head_is_inner block.head)
-    ∙ ap suc (blocks_are_inner others)
+blocks_are_inner around = counted around 0 ∙ omega arith
 
 abbrev stepping : System → Unit → StepSoFar → Draft
 stepping system unit step = record { system = system; block = block.Step unit step }
