@@ -15,6 +15,7 @@ use Rattle.unit_tree.specs.declared.line_form.LineForm.TheVariants as form
 use Rattle.unit_tree.specs.declared.token.Token.{Token}
 use Rattle.unit_tokens.proofs.TokenLemmas.{spells_one}
 use Rattle.unit_text.specs.Laws.{HasOneForm}
+use Rattle.unit_text.specs.Seen.{IsClean}
 use Rattle.unit_text.specs.Nesting.{Nested, headed_by, and_form, nested_forms}
 use Rattle.unit_text.proofs.NestingLaws.{IsHeld, before_next, is_held, before_more, adds}
 use Rattle.unit_text.proofs.Refusing.{IsUnbroken, AreUnbroken, IsLeast, unbroken, least}
@@ -248,11 +249,6 @@ pub record NestTo (text before : List (List ℕ)) (nested : Nested) : Type 0 whe
   pub written : list_all is_blank_line before ≡ false
   pub forms : HaveForms text (nested_forms nested) before
   pub placed : are_placed no_lines (nested_forms nested) ≡ true
-
--- A line keeps the rules that look at its bytes alone.
-pub record IsClean (line : List ℕ) : Type 0 where
-  pub bytes : has_forbidden_byte line ≡ false
-  pub short : length line ≤ line_limit
 
 are_more : (text done before : List (List ℕ)) (line : List ℕ) → AreUnbroken text done before → IsUnbroken text (done ++ before) line → AreUnbroken text done (before ++ (line ∷ []))
 are_more text done [] line kept is = (subst (λ d. IsUnbroken text d line) (append-nil done) is, tt)

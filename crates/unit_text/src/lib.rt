@@ -9,6 +9,8 @@
 #![tactic(auto)]
 
 mod draft;
+mod lines;
+mod versions;
 mod expressions;
 mod laws;
 mod levels;
