@@ -11,8 +11,8 @@ use crate::run_system::run_system;
 use crate::status::Status;
 use crate::verdict::Verdict;
 use cosim_io::{ReadEnd, Sink, Source, read_all};
-use std::alloc::Global;
 use first_form::{LONGEST_TEXT, SIZE_RULE, TextFault, read_first_form};
+use std::alloc::Global;
 use unit_tree::{Ending, System};
 
 /// The status of how a run ended.
