@@ -1,6 +1,6 @@
 -- Each text says one system, or is refused at one line by one rule.
 use Rattle.std.proofs.Common.{◌≡◌, cond, ℕ, suc, ◌<◌, ◌≤◌, ◌==◌, Bool, true, false, not, List, [], ◌∷◌, ◌++◌, append_assoc, length, ◌⊎◌, inl, inr, refl, ap, sym, subst, ◌∙◌, arith}
-use Rattle.std.specs.Prelude.{◌&&◌, ◌||◌, nat_le, IsTrue, ◌≢◌}
+use Rattle.std.specs.Prelude.{◌&&◌, ◌||◌, nat_le, nat_lt, IsTrue, ◌≢◌}
 use Rattle.std.specs.List.{list_all, filter, AllZip}
 use Rattle.std.proofs.lemmas.Bool.{and_parts, cases_Bool, cases_lt, true≢false}
 use Rattle.std.proofs.lemmas.Bool.Decides.{nat_tests}
@@ -17,6 +17,7 @@ use Rattle.unit_tree.specs.declared.line_form.LineForm.{LineForm}
 use Rattle.unit_tree.specs.declared.line_form.LineForm.TheVariants as form
 use Rattle.unit_tree.specs.declared.system.System.{System}
 use Rattle.unit_text.specs.Laws.{IsAnswered, HasOneReading, SaysOneSystem, EveryTextIsAnsweredOnce}
+use Rattle.unit_text.specs.Reading.{blank_rule}
 use Rattle.unit_text.specs.Seen.{IsClean}
 use Rattle.unit_text.specs.Nesting.{Nested, headed_by, and_form, nested_forms, blocks_of}
 use Rattle.unit_text.proofs.NestingLaws.{before_next, same_parts, whole_forms, parts_close}
@@ -180,19 +181,19 @@ blank_has_bytes : (line : List ℕ) → is_blank_line line ≡ true → has_forb
 blank_has_bytes line blank = ap not (blanks_are_code (code_of line) blank)
 
 -- A text of blank lines is refused at line 1: where that is too long, for its length, and else for its header.
-blank_text : (text : List (List ℕ)) → list_all is_blank_line text ≡ true → (rule : ℕ) × IsFirstBroken text 1 rule
-blank_text [] blank = (7, record {
+pub blank_is_refused : (text : List (List ℕ)) → list_all is_blank_line text ≡ true → IsFirstBroken text 1 (blank_rule text)
+blank_is_refused [] blank = record {
   breaks = inr (refl, refl, refl);
   first = λ other by found. elim found [
     | inl at ↦ absurd (none at.before at.line at.later at.cut)
     | inr told ↦ inr (sym told.1, omega (arith, told.2))
   ];
-})
+}
   where
     none : (before : List (List ℕ)) (line : List ℕ) (later : List (List ℕ)) → [] ≡ before ++ (line ∷ later) → ⊥
     none [] line later is = cc
     none (first ∷ before) line later is = cc
-blank_text (line ∷ lines) blank = by_length (cases_lt line_limit (length line))
+blank_is_refused (line ∷ lines) blank = by_length (nat_lt line_limit (length line)) refl
   where
     text : List (List ℕ)
     text = line ∷ lines
@@ -210,22 +211,24 @@ blank_text (line ∷ lines) blank = by_length (cases_lt line_limit (length line)
             inr (sym number, is_least by (subst (λ l. LineBreaks text by [] l) same breaks))
         by_place (first ∷ before) cut number breaks = inl (omega (arith, number))
 
-    by_length : (line_limit < length line) ⊎ (length line ≤ line_limit) → (rule : ℕ) × IsFirstBroken text 1 rule
-    by_length (inl long) =
+    by_length : (long : Bool) → nat_lt line_limit (length line) ≡ long → IsFirstBroken text 1 (cond long 3 7)
+    by_length true is =
+        let long : line_limit < length line = grind (arith, nat_tests, is) in
         let broken = length_breaks text [] line (blank_has_bytes line here) long in
-        (3, record {
+        record {
           breaks = inl (record { before = []; line = line; later = lines; cut = refl; is_number = refl; breaks = broken.breaks });
           first = least_at 3 (omega arith) broken.is_least;
-        })
-    by_length (inr short) =
-        (7, record {
+        }
+    by_length false is =
+        let short : length line ≤ line_limit = grind (arith, nat_tests, is) in
+        record {
           breaks = inr (blank, refl, refl);
           first = least_at 7 (omega arith) (λ by breaks. absurd (blank_unbroken text [] line (record { bytes = blank_has_bytes line here; short = short }) here by breaks));
-        })
+        }
 
 -- ---- The end of a text
 
-version_is : (version : ℕ) (all : List Part) → (system_of version all).version ≡ version
+pub version_is : (version : ℕ) (all : List Part) → (system_of version all).version ≡ version
 version_is version [] = refl
 version_is version (part ∷ all) = with_keeps part (system_of version all) ∙ version_is version all
   where
@@ -364,7 +367,7 @@ answered : FormsAreKnown → (text : List ℕ) → IsAnswered text
 answered known text = elim (cases_lt text_limit (size_of text)) [
   | inl long ↦ inr (1, 2, inl (long, refl, refl))
   | inr fits ↦ elim (cases_Bool (list_all is_blank_line (source_lines text))) [
-    | inl blank ↦ let broken = blank_text (source_lines text) blank in inr (1, broken.0, inr (fits, inl broken.1))
+    | inl blank ↦ inr (1, blank_rule (source_lines text), inr (fits, inl (blank_is_refused (source_lines text) blank)))
     | inr some_written ↦ answered_by known text fits (judged known (source_lines text) some_written) some_written
   ]
 ]

@@ -3,5 +3,6 @@ pub mod Expressions
 pub mod Laws
 pub mod Levels
 pub mod Nesting
+pub mod Reading
 pub mod Seen
 pub mod WorkedTexts

@@ -9,13 +9,18 @@
 #![tactic(auto)]
 
 mod draft;
-mod lines;
-mod versions;
+
+
 mod expressions;
+mod fault;
 mod laws;
 mod levels;
+mod line_form;
 #[cfg(test)]
 mod tests;
+mod lines;
+mod reading;
+mod versions;
 mod worked;
 
 pub use expressions::{expression, tokens_write_one_expression};

@@ -12,13 +12,13 @@ const COMMENT: u8 = b'#';
 const RETURN: u8 = b'\r';
 
 /// The most bytes of a line without its end.
-const LONGEST_LINE: usize = 1000;
+pub const LONGEST_LINE: usize = 1000;
 
 /// The rule that code holds no other bytes than those that it may.
 const BYTE_RULE: u8 = 1;
 
 /// The rule that bounds a line.
-const LENGTH_RULE: u8 = 3;
+pub const LENGTH_RULE: u8 = 3;
 
 /// What the bytes of a line tell.
 #[derive(Clone, Copy, Debug, PartialEq, Eq)]

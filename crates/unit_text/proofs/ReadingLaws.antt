@@ -1,0 +1,342 @@
+-- Reading goes along the lines as the definitions of texts have it.
+use Rattle.std.proofs.Common.{◌≡◌, cond, ℕ, suc, ◌+◌, ◌<◌, ◌≤◌, ◌==◌, Bool, true, false, not, List, [], ◌∷◌, ◌++◌, append_assoc, map, length, Option, Some, None, Result, Ok, Err, ◌⊎◌, inl, inr, refl, ap, sym, subst, ◌∙◌, arith}
+use Rattle.std.specs.Prelude.{◌&&◌, IsTrue, nat_lt}
+use Rattle.std.specs.Borrow.{Bor}
+use Rattle.std.specs.List.{AllByRecursion, list_all}
+use Rattle.std.proofs.lemmas.Bool.{cases_Bool, cases_lt, true≢false}
+use Rattle.std.proofs.lemmas.Bool.Decides.{nat_tests}
+use Rattle.std.proofs.lemmas.List.{append-nil}
+use Rattle.unit_tree.specs.Blocks.{Block, no_lines, may_stand, are_placed, open_blocks}
+use Rattle.unit_tree.specs.LineForms.{HasForm, is_of_version_2}
+use Rattle.unit_tree.specs.Lines.{lines_of, without_return, source_lines, size_of, is_blank_line, has_forbidden_byte}
+use Rattle.unit_tree.specs.Parts.{system_of}
+use Rattle.unit_tree.specs.Texts.{text_limit, line_limit, BeginsVersion2, HasFormIn, Reads, IsFirstBroken, IsUnended, IsRefused}
+use Rattle.unit_tree.specs.declared.line_form.LineForm.{LineForm}
+use Rattle.unit_tree.specs.declared.line_form.LineForm.TheVariants as form
+use Rattle.unit_tree.specs.declared.system.System.{System}
+use Rattle.unit_text.specs.Drafts.{bare_draft, with_form, whole_by, whole_system}
+use Rattle.unit_text.specs.Nesting.{Open, AtTop, InUnit, InStep, InInstance, Inner, Nested, headed_by, and_step_form, in_step, and_form_in, and_form, nested_forms, blocks_of}
+use Rattle.unit_text.specs.Reading.{IsWritten, LineIs, IsHeadless, FirstGives, IsFormOf, IsOfOther, FormIn, FormGives, LineGives, headless_rule, blank_rule, FirstAt, HeadsText, HeadBreaks, HeaderGives, AnswersText}
+use Rattle.unit_text.specs.Seen.{IsClean, TellsOf}
+use Rattle.unit_text.specs.declared.draft.Around.{Around}
+use Rattle.unit_text.specs.declared.draft.Draft.{Draft}
+use Rattle.unit_text.specs.declared.fault.TextFault.{TextFault}
+use Rattle.unit_text.specs.declared.fault.TextFault.TheVariants as fault
+use Rattle.unit_text.specs.declared.lines.Seen.TheVariants as told
+use Rattle.unit_text.proofs.AnswerLaws.{broken_at, ends_whole, ends_open, blank_is_refused, version_is}
+use Rattle.unit_text.proofs.DraftLaws.{draft_of, open_of, draft_goes}
+use Rattle.unit_text.proofs.NestingLaws.{before_next, blocks_are, blocks_around, whole_forms}
+use Rattle.unit_text.proofs.Refusing.{AreUnbroken}
+use Rattle.unit_text.proofs.Walks.{FormsAreKnown, Decided, FirstLine, first_is, begins_so, AreBlank, NestTo, BreaksLeast, blank_more, nest_blank, header_begins, line_nests, bytes_break, length_breaks, formless_breaks, place_breaks, first_place_breaks, headless_breaks}
+
+-- ---- Cutting lines
+
+-- a line that is cut off a text is its first line
+pub source_cut : (rest line behind : List ℕ) → lines_of rest ≡ line ∷ lines_of behind → source_lines rest ≡ without_return line ∷ source_lines behind
+source_cut rest line behind cut = ap (map without_return) cut
+
+pub blank_cut : (rest line behind : List ℕ) → lines_of rest ≡ line ∷ lines_of behind → list_all is_blank_line (source_lines rest) ≡ (is_blank_line (without_return line) && list_all is_blank_line (source_lines behind))
+blank_cut rest line behind cut = ap (list_all is_blank_line) (source_cut rest line behind cut)
+
+none_left : (rest : List ℕ) → length rest ≡ 0 → source_lines rest ≡ []
+none_left [] is = refl
+none_left (byte ∷ rest) is = absurd (omega (arith, is))
+
+-- ---- Before the header
+
+-- So many lines of the text are read, all blank.
+pub record BlankSoFar (text rest : List ℕ) (number : ℕ) : Type 0 where
+  pub before : List (List ℕ)
+  pub cut : source_lines text ≡ before ++ source_lines rest
+  pub blank : AllByRecursion (λ one. IsClean one × (is_blank_line one ≡ true)) before
+  pub number_is : number ≡ length before
+  pub within : number + length rest ≤ length text
+
+pub blank_none : (text : List ℕ) → BlankSoFar text text 0
+blank_none text = record { before = []; cut = refl; blank = tt; number_is = refl; within = omega arith }
+
+each_more : (P : List ℕ → Type 0) (before : List (List ℕ)) (line : List ℕ) → AllByRecursion P before → P line → AllByRecursion P (before ++ (line ∷ []))
+each_more P [] line all is = (is, tt)
+each_more P (one ∷ before) line all is = (all.0, each_more P before line all.1 is)
+
+length_more : (before : List (List ℕ)) (line : List ℕ) → length (before ++ (line ∷ [])) ≡ suc (length before)
+length_more [] line = refl
+length_more (one ∷ before) line = ap suc (length_more before line)
+
+pub first_at : (text rest line behind : List ℕ) (number : ℕ) → BlankSoFar text rest number → lines_of rest ≡ line ∷ lines_of behind → length behind < length rest → FirstAt text (without_return line) (number + 1) behind
+first_at text rest line behind number so_far cut shorter = record {
+  before = so_far.before;
+  cut = so_far.cut ∙ ap (λ lines. so_far.before ++ lines) (source_cut rest line behind cut);
+  blank = so_far.blank;
+  number_is = let is = so_far.number_is in omega (arith, is);
+  within = let within = so_far.within in omega (arith, within, shorter);
+}
+
+pub blank_next : (text rest line behind : List ℕ) (number : ℕ) → BlankSoFar text rest number → lines_of rest ≡ line ∷ lines_of behind → length behind < length rest → IsClean (without_return line) → is_blank_line (without_return line) ≡ true → BlankSoFar text behind (number + 1)
+blank_next text rest line behind number so_far cut shorter clean blank = record {
+  before = so_far.before ++ (without_return line ∷ []);
+  cut = so_far.cut ∙ ap (λ lines. so_far.before ++ lines) (source_cut rest line behind cut) ∙ sym (append_assoc so_far.before (without_return line ∷ []) (source_lines behind));
+  blank = each_more (λ one. IsClean one × (is_blank_line one ≡ true)) so_far.before (without_return line) so_far.blank (clean, blank);
+  number_is = let is = so_far.number_is in let more = length_more so_far.before (without_return line) in omega (arith, is, more);
+  within = let within = so_far.within in omega (arith, within, shorter);
+}
+
+all_are_blank : (before : List (List ℕ)) → AllByRecursion (λ one. IsClean one × (is_blank_line one ≡ true)) before → list_all is_blank_line before ≡ true
+all_are_blank [] all = refl
+all_are_blank (one ∷ before) all = ap (λ told. told && list_all is_blank_line before) all.0.1 ∙ all_are_blank before all.1
+
+pub blank_end : (text rest : List ℕ) (number : ℕ) → BlankSoFar text rest number → length rest ≡ 0 → IsTrue (list_all is_blank_line (source_lines text))
+blank_end text rest number so_far none =
+    ap (list_all is_blank_line) (so_far.cut ∙ ap (λ lines. so_far.before ++ lines) (none_left rest none) ∙ append-nil so_far.before) ∙ all_are_blank so_far.before so_far.blank
+
+-- ---- At the header
+
+are_blank : (text done before : List (List ℕ)) → AreBlank text done → AllByRecursion (λ one. IsClean one × (is_blank_line one ≡ true)) before → AreBlank text (done ++ before)
+are_blank text done [] so_far all = subst (AreBlank text) (sym (append-nil done)) so_far
+are_blank text done (one ∷ before) so_far all =
+    subst (AreBlank text) (append_assoc done (one ∷ []) before)
+    (are_blank text (done ++ (one ∷ [])) before (blank_more text done one so_far all.0.0 all.0.1) all.1)
+
+blank_before : (text before : List (List ℕ)) → AllByRecursion (λ one. IsClean one × (is_blank_line one ≡ true)) before → AreBlank text before
+blank_before text before all = are_blank text [] before (record { kept = tt; short = refl; blank = refl }) all
+
+-- The first line that is not blank, as the definitions have it.
+first_of : (text line rest : List ℕ) (number : ℕ) (first : FirstAt text line number rest) → IsWritten line → FirstLine (source_lines text)
+first_of text line rest number first is = record {
+  before = first.before;
+  line = line;
+  later = source_lines rest;
+  cut = first.cut;
+  before_is_blank = all_are_blank first.before first.blank;
+  is_written = is.written;
+}
+
+-- What is told of a line's bytes breaks its least rule.
+bytes_least : (text before : List (List ℕ)) (line : List ℕ) (rule : ℕ) → TellsOf line (told.Broken rule) → BreaksLeast text before line rule
+bytes_least text before line rule (inl (is, byte)) = subst (BreaksLeast text before line) (sym is) (bytes_break text before line byte)
+bytes_least text before line rule (inr (is, bytes, long)) = subst (BreaksLeast text before line) (sym is) (length_breaks text before line bytes long)
+
+-- A line that breaks a rule, and the least that it breaks, behind lines that break none.
+refused_at : (text : List ℕ) (before : List (List ℕ)) (line : List ℕ) (later : List (List ℕ)) (number rule : ℕ) → size_of text ≤ text_limit → list_all is_blank_line (source_lines text) ≡ false → source_lines text ≡ before ++ (line ∷ later) → number ≡ suc (length before) → AreUnbroken (source_lines text) [] before → BreaksLeast (source_lines text) before line rule → IsRefused text number rule
+refused_at text before line later number rule fits some_written cut number_is kept broken =
+    inr (fits, inl (subst (λ at. IsFirstBroken (source_lines text) at rule) (sym number_is) (broken_at (source_lines text) before line later rule (sym cut) some_written kept broken)))
+
+plain_form_in : (text : List (List ℕ)) (line : List ℕ) (some : LineForm) → HasForm some line → is_of_version_2 some ≡ false → HasFormIn text some line
+plain_form_in text line some has plain = record { has_form = has; of_version = λ told. absurd (true≢false (sym told ∙ plain)) }
+
+headless_least : FormsAreKnown → (text before : List (List ℕ)) (line : List ℕ) (rule : ℕ) (first : FirstLine text) → first.line ≡ line → AreBlank text before → IsWritten line → IsHeadless line rule → BreaksLeast text before line rule
+headless_least known text before line rule first same blank is head = subst (BreaksLeast text before line) (sym head.rule_is) (by_version (is_of_version_2 head.some) refl)
+  where
+    none_in : is_of_version_2 head.some ≡ true → ((some : LineForm) × HasFormIn text some line) → ⊥
+    none_in told (some, has) =
+        let one = known.one line head.some some head.has_form has.has_form in
+        let begins = has.of_version (ap is_of_version_2 (sym one) ∙ told) in
+        head.no_header 2 (known.one line head.some (form.Header 2) head.has_form (subst (HasForm (form.Header 2)) same (first_is text first begins)))
+
+    by_place : is_of_version_2 head.some ≡ false → (may : Bool) → may_stand no_lines head.some ≡ may → BreaksLeast text before line (cond may 7 5)
+    by_place plain true may = headless_breaks known text before line head.some blank is.clean (plain_form_in text line head.some head.has_form plain) may head.no_header
+    by_place plain false may = first_place_breaks text before line head.some blank is.clean (plain_form_in text line head.some head.has_form plain) may
+
+    by_version : (told : Bool) → is_of_version_2 head.some ≡ told → BreaksLeast text before line (cond told 4 (cond (may_stand no_lines head.some) 7 5))
+    by_version true told = formless_breaks text before line is.clean is.written (none_in told)
+    by_version false plain = by_place plain (may_stand no_lines head.some) refl
+
+first_least : FormsAreKnown → (text before : List (List ℕ)) (line : List ℕ) (rule : ℕ) (first : FirstLine text) → first.line ≡ line → AreBlank text before → IsWritten line → FirstGives line (Err rule) → BreaksLeast text before line rule
+first_least known text before line rule first same blank is (inl (rule_is, none)) =
+    subst (BreaksLeast text before line) (sym rule_is) (formless_breaks text before line is.clean is.written (λ found. none found.0 found.1.has_form))
+first_least known text before line rule first same blank is (inr head) = headless_least known text before line rule first same blank is head
+
+pub head_refused : FormsAreKnown → (text : List ℕ) (number rule : ℕ) → size_of text ≤ text_limit → list_all is_blank_line (source_lines text) ≡ false → HeadBreaks text number rule → IsRefused text number rule
+head_refused known text number rule fits some_written head =
+    refused_at text head.first.before head.line (source_lines head.rest) number rule fits some_written head.first.cut head.first.number_is blank.kept (by_breaks head.breaks)
+  where
+    blank : AreBlank (source_lines text) head.first.before
+    blank = blank_before (source_lines text) head.first.before head.first.blank
+
+    by_breaks : TellsOf head.line (told.Broken rule) ⊎ (IsWritten head.line × FirstGives head.line (Err rule)) → BreaksLeast (source_lines text) head.first.before head.line rule
+    by_breaks (inl tells) = bytes_least (source_lines text) head.first.before head.line rule tells
+    by_breaks (inr (is, gives)) = first_least known (source_lines text) head.first.before head.line rule (first_of text head.line head.rest number head.first is) refl blank is gives
+
+-- ---- Behind the header
+
+-- So many lines of the text are read, and nest to what the draft is of.
+pub record Reached (text rest : List ℕ) (number : ℕ) (draft : Draft) : Type 0 where
+  pub before : List (List ℕ)
+  pub nested : Nested
+  pub cut : source_lines text ≡ before ++ source_lines rest
+  pub number_is : number ≡ length before
+  pub within : number + length rest ≤ length text
+  pub nests : NestTo (source_lines text) before nested
+  pub draft_is : draft ≡ draft_of nested
+  pub begins : BeginsVersion2 (source_lines text) → nested.version ≡ 2
+  pub begins_so : nested.version ≡ 2 → BeginsVersion2 (source_lines text)
+
+pub reached_first : FormsAreKnown → (text : List ℕ) (version number : ℕ) (rest : List ℕ) → HeadsText text version number rest → Reached text rest number (bare_draft version)
+reached_first known text version number rest head = record {
+  before = head.first.before ++ (head.line ∷ []);
+  nested = headed_by version;
+  cut = head.first.cut ∙ sym (append_assoc head.first.before (head.line ∷ []) (source_lines rest));
+  number_is = let is = head.first.number_is in let more = length_more head.first.before head.line in omega (arith, is, more);
+  within = head.first.within;
+  nests = header_begins known (source_lines text) head.first.before head.line version (blank_before (source_lines text) head.first.before head.first.blank) head.is_written.clean
+      (record { has_form = head.is_header; of_version = λ told. begins_by (is_two version told) });
+  draft_is = refl;
+  begins = λ begins.
+      let same = known.one head.line (form.Header version) (form.Header 2) head.is_header (first_is (source_lines text) first begins) in
+      cc;
+  begins_so = begins_by;
+}
+  where
+    first : FirstLine (source_lines text)
+    first = first_of text head.line rest number head.first head.is_written
+
+    is_two : (version : ℕ) → (version == 2) ≡ true → version ≡ 2
+    is_two version told = grind (arith, nat_tests, told)
+
+    begins_by : version ≡ 2 → BeginsVersion2 (source_lines text)
+    begins_by is = begins_so (source_lines text) first (subst (λ number. HasForm (form.Header number) head.line) is head.is_header)
+
+keeps_version : (nested : Nested) (some : LineForm) → (and_form nested some).version ≡ nested.version
+keeps_version nested some = by_block nested.block some
+  where
+    by_block : (block : Open) (some : LineForm) → (and_form_in nested block some).version ≡ nested.version
+    by_block AtTop (form.Unit name) = refl
+    by_block AtTop _ = refl
+    by_block (InUnit name inside) form.Step = refl
+    by_block (InUnit name inside) _ = refl
+    by_block (InStep name inside inner) some = by_inner (and_step_form inner some)
+      where
+        by_inner : (found : Option Inner) → (in_step nested name inside inner.lines found).version ≡ nested.version
+        by_inner (Some next) = refl
+        by_inner None = refl
+    by_block (InInstance instance) form.End = refl
+    by_block (InInstance instance) _ = refl
+
+draft_version : (nested : Nested) → (draft_of nested).system.version ≡ nested.version
+draft_version nested = version_is nested.version nested.parts
+
+some_is : {A : Type 0} (one other : A) → Some one ≡ Some other → one ≡ other
+some_is one other same = cc
+
+-- What a line of a form does to the draft goes along with whether it may stand.
+may_of : (nested : Nested) (some : LineForm) (next : Option Draft) → are_placed no_lines (nested_forms nested) ≡ true → with_form (draft_of nested) some ≡ next → next ≡ cond (may_stand (before_next nested) some) (Some (draft_of (and_form nested some))) None
+may_of nested some next placed is = sym is ∙ draft_goes nested some placed
+
+pub reached_next : FormsAreKnown → (text rest line behind : List ℕ) (number : ℕ) (draft next : Draft) → Reached text rest number draft → lines_of rest ≡ line ∷ lines_of behind → length behind < length rest → LineGives draft (without_return line) (Ok next) → Reached text behind (number + 1) next
+reached_next known text rest line behind number draft next so_far cut shorter gives = by_gives gives
+  where
+    source : List ℕ
+    source = without_return line
+
+    lines : List (List ℕ)
+    lines = source_lines text
+
+    reached : (nested : Nested) → NestTo lines (so_far.before ++ (source ∷ [])) nested → next ≡ draft_of nested → nested.version ≡ so_far.nested.version → Reached text behind (number + 1) next
+    reached nested nests draft_is same = record {
+      before = so_far.before ++ (source ∷ []);
+      nested = nested;
+      cut = so_far.cut ∙ ap (λ rest. so_far.before ++ rest) (source_cut rest line behind cut) ∙ sym (append_assoc so_far.before (source ∷ []) (source_lines behind));
+      number_is = let is = so_far.number_is in let more = length_more so_far.before source in omega (arith, is, more);
+      within = let within = so_far.within in omega (arith, within, shorter);
+      nests = nests;
+      draft_is = draft_is;
+      begins = λ begins. same ∙ so_far.begins begins;
+      begins_so = λ is. so_far.begins_so (sym same ∙ is);
+    }
+
+    by_may : (some : LineForm) → IsWritten source → HasFormIn lines some source → (may : Bool) → may_stand (before_next so_far.nested) some ≡ may → Some next ≡ cond may (Some (draft_of (and_form so_far.nested some))) None → Reached text behind (number + 1) next
+    by_may some is has true may same =
+        reached (and_form so_far.nested some) (line_nests known lines so_far.before source so_far.nested some so_far.nests is.clean has may) (some_is next (draft_of (and_form so_far.nested some)) same) (keeps_version so_far.nested some)
+    by_may some is has false off same = absurd (cc)
+
+    by_gives : LineGives draft source (Ok next) → Reached text behind (number + 1) next
+    by_gives (inl (clean, blank, same)) = reached so_far.nested (nest_blank lines so_far.before source so_far.nested so_far.nests clean blank) (same ∙ so_far.draft_is) refl
+    by_gives (inr given) =
+        by_may given.some given.is_written
+        (record { has_form = given.form_in.0; of_version = λ told. so_far.begins_so (sym (draft_version so_far.nested) ∙ sym (ap (λ (d : Draft). d.system.version) so_far.draft_is) ∙ given.form_in.1 told) })
+        (may_stand (before_next so_far.nested) given.some) refl
+        (may_of so_far.nested given.some (Some next) so_far.nests.placed (subst (λ d. with_form d given.some ≡ Some next) so_far.draft_is given.next_is))
+
+pub line_refused : FormsAreKnown → (text rest line behind : List ℕ) (number : ℕ) (draft : Draft) (rule : ℕ) → size_of text ≤ text_limit → list_all is_blank_line (source_lines text) ≡ false → Reached text rest number draft → lines_of rest ≡ line ∷ lines_of behind → LineGives draft (without_return line) (Err rule) → IsRefused text (number + 1) rule
+line_refused known text rest line behind number draft rule fits some_written so_far cut gives =
+    refused_at text so_far.before source (source_lines behind) (number + 1) rule fits some_written
+    (so_far.cut ∙ ap (λ rest. so_far.before ++ rest) (source_cut rest line behind cut))
+    (let is = so_far.number_is in omega (arith, is)) so_far.nests.kept (by_gives gives)
+  where
+    source : List ℕ
+    source = without_return line
+
+    lines : List (List ℕ)
+    lines = source_lines text
+
+    of_draft : draft.system.version ≡ so_far.nested.version
+    of_draft = ap (λ (d : Draft). d.system.version) so_far.draft_is ∙ draft_version so_far.nested
+
+    none_in : FormIn draft.system.version source None → ((some : LineForm) × HasFormIn lines some source) → ⊥
+    none_in (inl none) (some, has) = none some has.has_form
+    none_in (inr other) (some, has) =
+        let one = known.one source other.some some other.has_form has.has_form in
+        other.of_other (λ told. of_draft ∙ so_far.begins (has.of_version (ap is_of_version_2 (sym one) ∙ told)))
+
+    by_may : (some : LineForm) → IsWritten source → HasFormIn lines some source → (may : Bool) → may_stand (before_next so_far.nested) some ≡ may → None ≡ cond may (Some (draft_of (and_form so_far.nested some))) None → BreaksLeast lines so_far.before source 5
+    by_may some is has true may same = absurd (cc)
+    by_may some is has false off same = place_breaks lines so_far.before source so_far.nested some so_far.nests is.clean has off
+
+    by_gives : LineGives draft source (Err rule) → BreaksLeast lines so_far.before source rule
+    by_gives (inl tells) = bytes_least lines so_far.before source rule tells
+    by_gives (inr (inl (rule_is, is, none))) = subst (BreaksLeast lines so_far.before source) (sym rule_is) (formless_breaks lines so_far.before source is.clean is.written (none_in none))
+    by_gives (inr (inr (rule_is, given))) =
+        subst (BreaksLeast lines so_far.before source) (sym rule_is)
+        (by_may given.some given.is_written
+        (record { has_form = given.form_in.0; of_version = λ told. so_far.begins_so (sym of_draft ∙ given.form_in.1 told) })
+        (may_stand (before_next so_far.nested) given.some) refl
+        (may_of so_far.nested given.some None so_far.nests.placed (subst (λ d. with_form d given.some ≡ None) so_far.draft_is given.next_is)))
+
+-- ---- At the end
+
+all_read : (text rest : List ℕ) (number : ℕ) (draft : Draft) (so_far : Reached text rest number draft) → length rest ≡ 0 → so_far.before ≡ source_lines text
+all_read text rest number draft so_far none = sym (so_far.cut ∙ ap (λ lines. so_far.before ++ lines) (none_left rest none) ∙ append-nil so_far.before)
+
+whole_parts : (nested : Nested) (system : System) → whole_system (draft_of nested) ≡ Some system → (blocks_of nested.block ≡ []) × (system_of nested.version nested.parts ≡ system)
+whole_parts nested system is = by_block nested.block is
+  where
+    by_block : (block : Open) → whole_by (system_of nested.version nested.parts) (open_of block) ≡ Some system → (blocks_of block ≡ []) × (system_of nested.version nested.parts ≡ system)
+    by_block AtTop is = (refl, some_is (system_of nested.version nested.parts) system is)
+    by_block (InUnit name inside) is = absurd (cc)
+    by_block (InStep name inside inner) is = absurd (cc)
+    by_block (InInstance instance) is = absurd (cc)
+
+open_parts : (nested : Nested) → whole_system (draft_of nested) ≡ None → blocks_of nested.block ≡ [] → ⊥
+open_parts nested is none = by_block nested.block is none
+  where
+    by_block : (block : Open) → whole_by (system_of nested.version nested.parts) (open_of block) ≡ None → blocks_of block ≡ [] → ⊥
+    by_block AtTop is none = cc
+    by_block (InUnit name inside) is none = cc
+    by_block (InStep name inside inner) is none = around_is_some inner.around none
+      where
+        around_is_some : (around : List Around) → blocks_around around ≡ [] → ⊥
+        around_is_some [] is = cc
+        around_is_some (block ∷ others) is = cc
+    by_block (InInstance instance) is none = cc
+
+pub reads_end : (text rest : List ℕ) (number : ℕ) (draft : Draft) (system : System) → size_of text ≤ text_limit → Reached text rest number draft → length rest ≡ 0 → whole_system draft ≡ Some system → Reads text system
+reads_end text rest number draft system fits so_far none is =
+    let whole = whole_parts so_far.nested system (subst (λ d. whole_system d ≡ Some system) so_far.draft_is is) in
+    subst (Reads text) whole.1
+    (ends_whole text so_far.nested fits (subst (λ before. NestTo (source_lines text) before so_far.nested) (all_read text rest number draft so_far none) so_far.nests)
+    (whole_forms so_far.nested (blocks_are so_far.nested ∙ whole.0)))
+
+pub end_refused : (text rest : List ℕ) (number : ℕ) (draft : Draft) → size_of text ≤ text_limit → list_all is_blank_line (source_lines text) ≡ false → Reached text rest number draft → length rest ≡ 0 → whole_system draft ≡ None → IsRefused text number 6
+end_refused text rest number draft fits some_written so_far none is =
+    let lines = all_read text rest number draft so_far none in
+    inr (fits, inr (subst (λ at. IsUnended (source_lines text) at 6) (sym (so_far.number_is ∙ ap length lines))
+    (ends_open (source_lines text) so_far.nested some_written (subst (λ before. NestTo (source_lines text) before so_far.nested) lines so_far.nests)
+    (λ closed. open_parts so_far.nested (subst (λ d. whole_system d ≡ None) so_far.draft_is is) (sym (blocks_are so_far.nested) ∙ closed)))))
+
+-- ---- Texts without a written line
+
+pub blank_refused : (text : List ℕ) → size_of text ≤ text_limit → IsTrue (list_all is_blank_line (source_lines text)) → IsRefused text 1 (blank_rule (source_lines text))
+blank_refused text fits blank = inr (fits, inl (blank_is_refused (source_lines text) blank))
+
+pub long_refused : (text : List ℕ) → text_limit < size_of text → IsRefused text 1 2
+long_refused text long = inl (long, refl, refl)

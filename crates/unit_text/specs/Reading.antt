@@ -1,0 +1,132 @@
+-- Reading of a text along its lines: what each line makes of what was read before it.
+use Rattle.std.specs.Prelude.{◌≡◌, ◌≤◌, ◌+◌, ◌⊎◌, ℕ, suc, nat_lt, Bool, List, [], ◌∷◌, ◌++◌, length, IsTrue, Option, Some, None, Result, Ok, Err, true, false, ⊤, if◌then◌else◌}
+use Rattle.std.specs.Borrow.{Bor}
+use Rattle.std.specs.List.{AllByRecursion, list_all}
+use Rattle.unit_tree.specs.Blocks.{no_lines, may_stand}
+use Rattle.unit_tree.specs.LineForms.{HasForm, is_of_version_2}
+use Rattle.unit_tree.specs.Lines.{source_lines, is_blank_line}
+use Rattle.unit_tree.specs.Texts.{line_limit, Reads, IsRefused}
+use Rattle.unit_tree.specs.declared.line_form.LineForm.{LineForm}
+use Rattle.unit_tree.specs.declared.line_form.LineForm.TheVariants as form
+use Rattle.unit_tree.specs.declared.system.System.{System}
+use Rattle.unit_tokens.specs.declared.fault.Unread.{Unread}
+use Rattle.unit_tokens.specs.declared.fault.Unread.TheVariants as unread
+use Rattle.unit_text.specs.Drafts.{with_form}
+use Rattle.unit_text.specs.Seen.{IsClean, TellsOf}
+use Rattle.unit_text.specs.declared.draft.Draft.{Draft}
+use Rattle.unit_text.specs.declared.fault.TextFault.{TextFault}
+use Rattle.unit_text.specs.declared.fault.TextFault.TheVariants as fault
+use Rattle.unit_text.specs.declared.lines.Seen.TheVariants as told
+
+-- The line keeps the rules that look at its bytes alone, and is not blank.
+pub record IsWritten (line : List ℕ) : Type 0 where
+  pub clean : IsClean line
+  pub written : is_blank_line line ≡ false
+
+-- The line has the form.
+abbrev pub LineIs : List ℕ → Option LineForm → Type 0
+LineIs line (Some some) = HasForm some line
+LineIs line None = (some : LineForm) → HasForm some line → ⊥
+
+-- ---- The first line that is not blank
+
+-- The rule that the first line breaks which has this form, and is no header: it has no form of version 1, or may not stand
+-- outside blocks, or begins no text.
+abbrev pub headless_rule : LineForm → ℕ
+headless_rule some = if is_of_version_2 some then 4 else (if may_stand no_lines some then 7 else 5)
+
+-- It has a form, and is no header.
+pub record IsHeadless (line : List ℕ) (rule : ℕ) : Type 0 where
+  pub some : LineForm
+  pub has_form : HasForm some line
+  pub no_header : (version : ℕ) → some ≡ form.Header version → ⊥
+  pub rule_is : rule ≡ headless_rule some
+
+-- Such a line gives the version, or breaks a rule.
+abbrev pub FirstGives : List ℕ → Result ℕ ℕ → Type 0
+FirstGives line (Ok version) = HasForm (form.Header version) line
+FirstGives line (Err rule) = ((rule ≡ 4) × LineIs line None) ⊎ IsHeadless line rule
+
+-- ---- The lines behind the header
+
+-- A text of the version has the form.
+abbrev pub IsFormOf : ℕ → LineForm → Type 0
+IsFormOf version some = is_of_version_2 some ≡ true → version ≡ 2
+
+-- The line has a form that no text of the version has.
+pub record IsOfOther (version : ℕ) (line : List ℕ) : Type 0 where
+  pub some : LineForm
+  pub has_form : HasForm some line
+  pub of_other : IsFormOf version some → ⊥
+
+-- The form of a line in a text of the version.
+abbrev pub FormIn : ℕ → List ℕ → Option LineForm → Type 0
+FormIn version line (Some some) = HasForm some line × IsFormOf version some
+FormIn version line None = LineIs line None ⊎ IsOfOther version line
+
+-- The line has a form of the version, and the draft becomes this with it: none where the form may not stand there.
+pub record FormGives (draft : Draft) (line : List ℕ) (next : Option Draft) : Type 0 where
+  pub is_written : IsWritten line
+  pub some : LineForm
+  pub form_in : FormIn draft.system.version line (Some some)
+  pub next_is : with_form draft some ≡ next
+
+-- What the line makes of the draft of the lines before it: the draft with it, or a rule that it breaks.
+abbrev pub LineGives : Draft → List ℕ → Result Draft ℕ → Type 0
+LineGives draft line (Ok next) = (IsClean line × (is_blank_line line ≡ true) × (next ≡ draft)) ⊎ FormGives draft line (Some next)
+LineGives draft line (Err rule) =
+    TellsOf line (told.Broken rule)
+    ⊎ ((rule ≡ 4) × IsWritten line × FormIn draft.system.version line None)
+    ⊎ ((rule ≡ 5) × FormGives draft line None)
+
+-- ---- Answers
+
+abbrev pub fault_at : Unread → ℕ → ℕ → TextFault
+fault_at unread.NoForm line rule = fault.Line line rule
+fault_at unread.NoMemory line rule = fault.NoMemory
+
+-- What is answered is so; want of memory says nothing, and a refusal is at the line of that number.
+abbrev pub AnswersAt : {X : Type 0} → ℕ → (Result X ℕ → Type 0) → Result X TextFault → Type 0
+AnswersAt number Says (Ok read) = Says (Ok read)
+AnswersAt number Says (Err (fault.Line line rule)) = (line ≡ number) × Says (Err rule)
+AnswersAt number Says (Err fault.NoMemory) = ⊤
+
+-- ---- Texts
+
+-- The rule that a text of blank lines breaks at its first: that of its length, where it is too long, and else that a text
+-- begins with a header.
+abbrev pub blank_rule : List (List ℕ) → ℕ
+blank_rule [] = 7
+blank_rule (line ∷ lines) = if nat_lt line_limit (length line) then 3 else 7
+
+-- A line of a text, behind blank lines that keep the rules.
+pub record FirstAt (text : List ℕ) (line : List ℕ) (number : ℕ) (rest : List ℕ) : Type 0 where
+  pub before : List (List ℕ)
+  pub cut : source_lines text ≡ before ++ (line ∷ source_lines rest)
+  pub blank : AllByRecursion (λ one. IsClean one × (is_blank_line one ≡ true)) before
+  pub number_is : number ≡ suc (length before)
+  pub within : number + length rest ≤ length text
+
+-- The first line of a text that is not blank, or that breaks a rule, gives a version there, or breaks the rule.
+pub record HeadsText (text : List ℕ) (version number : ℕ) (rest : List ℕ) : Type 0 where
+  pub line : List ℕ
+  pub first : FirstAt text line number rest
+  pub is_written : IsWritten line
+  pub is_header : HasForm (form.Header version) line
+
+pub record HeadBreaks (text : List ℕ) (number rule : ℕ) : Type 0 where
+  pub line : List ℕ
+  pub rest : List ℕ
+  pub first : FirstAt text line number rest
+  pub breaks : TellsOf line (told.Broken rule) ⊎ (IsWritten line × FirstGives line (Err rule))
+
+abbrev pub HeaderGives : List ℕ → Result (ℕ × ℕ × Bor (List ℕ)) TextFault → Type 0
+HeaderGives text (Ok (version, number, rest)) = HeadsText text version number rest.now
+HeaderGives text (Err (fault.Line number rule)) = HeadBreaks text number rule ⊎ IsTrue (list_all is_blank_line (source_lines text))
+HeaderGives text (Err fault.NoMemory) = ⊤
+
+-- The answer to a text: the system that it says, or the line and the rule by which it is refused.
+abbrev pub AnswersText : List ℕ → Result System TextFault → Type 0
+AnswersText text (Ok system) = Reads text system
+AnswersText text (Err (fault.Line line rule)) = IsRefused text line rule
+AnswersText text (Err fault.NoMemory) = ⊤
