@@ -12,6 +12,12 @@ use Rattle.unit_tree.specs.declared.line_form.LineForm.{LineForm}
 use Rattle.unit_tree.specs.declared.line_form.LineForm.TheVariants as form
 use Rattle.unit_tree.specs.declared.system.System.{System}
 
+-- ---- Proved
+
+-- A canonical line is never longer than a line that it came from.
+abbrev pub CanonicalLinesAreShortest : Type 0
+CanonicalLinesAreShortest = (some : LineForm) (line : List ℕ) → HasForm some line → length (line_text some) ≤ length line
+
 -- ---- Owed
 
 -- A line has one form at most.
@@ -53,7 +59,3 @@ WhatIsReadIsPrintable = (text : List ℕ) (system : System) → Reads text syste
 -- Reading the canonical text of a system gives this system.
 abbrev pub CanonicalTextIsReadBack : Type 0
 CanonicalTextIsReadBack = (system : System) → IsPrintable system → Reads (canonical_text system) system
-
--- A canonical line is never longer than a line that it came from.
-abbrev pub CanonicalLinesAreShortest : Type 0
-CanonicalLinesAreShortest = (some : LineForm) (line : List ℕ) → HasForm some line → length (line_text some) ≤ length line
