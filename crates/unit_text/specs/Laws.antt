@@ -18,6 +18,10 @@ use Rattle.unit_tree.specs.declared.system.System.{System}
 abbrev pub CanonicalLinesAreShortest : Type 0
 CanonicalLinesAreShortest = (some : LineForm) (line : List ℕ) → HasForm some line → length (line_text some) ≤ length line
 
+-- Reading the canonical text of a system gives this system.
+abbrev pub CanonicalTextIsReadBack : Type 0
+CanonicalTextIsReadBack = (system : System) → IsPrintable system → Reads (canonical_text system) system
+
 -- ---- Owed
 
 -- A line has one form at most.
@@ -55,7 +59,3 @@ NestingIsByParts =
 -- What a text says has a canonical text, and is in range.
 abbrev pub WhatIsReadIsPrintable : Type 0
 WhatIsReadIsPrintable = (text : List ℕ) (system : System) → Reads text system → IsPrintable system
-
--- Reading the canonical text of a system gives this system.
-abbrev pub CanonicalTextIsReadBack : Type 0
-CanonicalTextIsReadBack = (system : System) → IsPrintable system → Reads (canonical_text system) system

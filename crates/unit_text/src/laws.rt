@@ -1,6 +1,11 @@
-ghost use Rattle.unit_text.specs.Laws.{CanonicalLinesAreShortest};
+ghost use Rattle.unit_text.specs.Laws.{CanonicalLinesAreShortest, CanonicalTextIsReadBack};
 
 /// A law: a canonical line is never longer than a line that it came from.
 pub fn canonical_lines_are_shortest()
     ensures { CanonicalLinesAreShortest }
+{}
+
+/// A law: reading the canonical text of a system gives this system.
+pub fn canonical_text_is_read_back()
+    ensures { CanonicalTextIsReadBack }
 {}
