@@ -22,6 +22,10 @@ CanonicalLinesAreShortest = (some : LineForm) (line : List ℕ) → HasForm some
 abbrev pub CanonicalTextIsReadBack : Type 0
 CanonicalTextIsReadBack = (system : System) → IsPrintable system → Reads (canonical_text system) system
 
+-- What a text says has a canonical text, and is in range.
+abbrev pub WhatIsReadIsPrintable : Type 0
+WhatIsReadIsPrintable = (text : List ℕ) (system : System) → Reads text system → IsPrintable system
+
 -- ---- Owed
 
 -- A line has one form at most.
@@ -55,7 +59,3 @@ EveryTextIsAnsweredOnce = (text : List ℕ) → IsAnsweredOnce text
 abbrev pub NestingIsByParts : Type 0
 NestingIsByParts =
     (version : ℕ) (forms : List LineForm) → IsTrue (are_placed no_lines (form.Header version ∷ forms)) → (open_blocks (form.Header version ∷ forms) ≡ []) ↔ ((parts : List Part) × (form.Header version ∷ forms ≡ text_forms version parts))
-
--- What a text says has a canonical text, and is in range.
-abbrev pub WhatIsReadIsPrintable : Type 0
-WhatIsReadIsPrintable = (text : List ℕ) (system : System) → Reads text system → IsPrintable system

@@ -1,4 +1,4 @@
-ghost use Rattle.unit_text.specs.Laws.{CanonicalLinesAreShortest, CanonicalTextIsReadBack};
+ghost use Rattle.unit_text.specs.Laws.{CanonicalLinesAreShortest, CanonicalTextIsReadBack, WhatIsReadIsPrintable};
 
 /// A law: a canonical line is never longer than a line that it came from.
 pub fn canonical_lines_are_shortest()
@@ -8,4 +8,9 @@ pub fn canonical_lines_are_shortest()
 /// A law: reading the canonical text of a system gives this system.
 pub fn canonical_text_is_read_back()
     ensures { CanonicalTextIsReadBack }
+{}
+
+/// A law: what a text says has a canonical text, and is in range.
+pub fn what_is_read_is_printable()
+    ensures { WhatIsReadIsPrintable }
 {}
