@@ -1,14 +1,14 @@
 -- Each canonical line may stand where it does.
-use Rattle.std.proofs.Common.{◌≡◌, ℕ, ◌≤◌, Bool, true, false, cond, ◌&&◌, not, nat_le, List, [], ◌∷◌, ◌++◌, append_assoc, map, Option, Some, None, IsTrue, refl, ap, sym, subst, ◌∙◌, arith}
+use Rattle.std.proofs.Common.{◌≡◌, ℕ, Bool, true, false, cond, not, nat_le, List, [], ◌∷◌, ◌++◌, append_assoc, map, Option, Some, None, IsTrue, refl, ap, sym, subst, ◌∙◌}
 use Rattle.std.specs.Prelude.{◌||◌}
-use Rattle.std.specs.List.{flat_map, list_any, list_all, fold}
+use Rattle.std.specs.List.{flat_map, list_any, list_all}
 use Rattle.std.proofs.lemmas.Bool.{and_parts, and_from, or_parts}
 use Rattle.std.proofs.lemmas.List.{append-nil}
 use Rattle.std.proofs.lemmas.List.Folds.{list_any-append}
 use Rattle.std.proofs.lemmas.List.Sums.{fold-append}
 use Rattle.std.proofs.lemmas.Grind.{flat_map-append}
 use Rattle.fixed_words.specs.declared.types.Literal.{Literal}
-use Rattle.unit_tree.specs.Blocks.{opens_unit, Before, no_lines, and_line, and_lines, has_rival, may_stand, are_placed}
+use Rattle.unit_tree.specs.Blocks.{opens_unit, Before, no_lines, and_line, and_lines, has_rival, are_placed}
 use Rattle.unit_tree.specs.Canonical.{optional, unit_parts, canonical_parts, canonical_forms}
 use Rattle.unit_tree.specs.LineForms.{are_alike}
 use Rattle.unit_tree.specs.Parts as parts
@@ -30,6 +30,7 @@ use Rattle.unit_text.proofs.SpelledBytes.{all_joined, all_pass}
 
 -- ---- Parts behind others
 
+-- Parts may stand one behind the other where the first ones do, and the others behind them.
 may_follow_both : {P : Type 0} (forms : P → List LineForm) (may : Before → P → Bool) (xs ys : List P) (before : Before) → may_follow forms may before xs ≡ true → may_follow forms may (and_lines before (flat_map forms xs)) ys ≡ true → may_follow forms may before (xs ++ ys) ≡ true
 may_follow_both forms may [] ys before on_xs on_ys = on_ys
 may_follow_both forms may (part ∷ xs) ys before on_xs on_ys =
@@ -51,9 +52,11 @@ optional_follows forms may part (Some one) before free = and_from (may before (p
 
 -- ---- Lines of which none passes a test
 
+-- No line of parts passes the test.
 abbrev NonePasses : {P : Type 0} → (LineForm → Bool) → (P → List LineForm) → List P → Type 0
 NonePasses test forms all = list_any test (flat_map forms all) ≡ false
 
+-- None does of two lists in a row.
 none_of_both : {P : Type 0} (test : LineForm → Bool) (forms : P → List LineForm) (xs ys : List P) → NonePasses test forms xs → NonePasses test forms ys → NonePasses test forms (xs ++ ys)
 none_of_both test forms xs ys on_xs on_ys =
     ap (list_any test) (flat_map-append forms xs ys)
@@ -61,6 +64,7 @@ none_of_both test forms xs ys on_xs on_ys =
     ∙ ap (λ told. told || list_any test (flat_map forms ys)) on_xs
     ∙ on_ys
 
+-- None does of parts of one kind.
 none_of_each : {A P : Type 0} (test : LineForm → Bool) (forms : P → List LineForm) (part : A → P) → ((one : A) → list_any test (forms (part one)) ≡ false) → (all : List A) → NonePasses test forms (map part all)
 none_of_each test forms part none [] = refl
 none_of_each test forms part none (one ∷ all) =
@@ -68,6 +72,7 @@ none_of_each test forms part none (one ∷ all) =
     ∙ ap (λ told. told || list_any test (flat_map forms (map part all))) (none one)
     ∙ none_of_each test forms part none all
 
+-- None does of a part that may be missing.
 none_of_optional : {A P : Type 0} (test : LineForm → Bool) (forms : P → List LineForm) (part : A → P) → ((one : A) → list_any test (forms (part one)) ≡ false) → (given : Option A) → NonePasses test forms (optional part given)
 none_of_optional test forms part none None = refl
 none_of_optional test forms part none (Some one) = ap (list_any test) (append-nil (forms (part one))) ∙ none one
@@ -97,6 +102,7 @@ record Declares {A : Type 0} (part : A → UnitPart) : Type 0 where
   no_max : (one : A) (value : Expr) → list_any (are_alike (form.Max value)) (unit_part_forms (part one)) ≡ false
   no_step : (one : A) → list_any (are_alike form.Step) (unit_part_forms (part one)) ≡ false
 
+-- Declarations of one kind more.
 and_declared : {A : Type 0} (part : A → UnitPart) (all : List A) (start : Before) (front : List UnitPart) → Declares part → IsBare start front → IsBare start (front ++ map part all)
 and_declared part all start front declares bare = record {
   stands = may_follow_both unit_part_forms unit_part_may_stand front (map part all) start bare.stands (each_follows unit_part_forms unit_part_may_stand part declares.free all (and_lines start (flat_map unit_part_forms front)));
@@ -135,8 +141,9 @@ with_max_and_step front start limit lines first bare shallow =
     step_follows None before shallow none = refl
     step_follows (Some all) before shallow none = and_from (unit_part_may_stand before (parts.Step all)) true (and_from (not (has_rival before form.Step)) (is_shallow all) none shallow) refl
 
-declares_by_nature : {A : Type 0} (part : A → UnitPart) → ((one : A) (before : Before) → unit_part_may_stand before (part one) ≡ true) → ((one : A) → list_any opens_unit (unit_part_forms (part one)) ≡ false) → ((one : A) (value : Expr) → list_any (are_alike (form.Max value)) (unit_part_forms (part one)) ≡ false) → ((one : A) → list_any (are_alike form.Step) (unit_part_forms (part one)) ≡ false) → Declares part
-declares_by_nature part free no_unit no_max no_step = record { free = free; no_unit = no_unit; no_max = no_max; no_step = no_step }
+-- A part that declares a name may stand everywhere in a unit, and begins with other words than those.
+declares : {A : Type 0} (part : A → UnitPart) → ((one : A) (before : Before) → unit_part_may_stand before (part one) ≡ true) → ((one : A) → list_any opens_unit (unit_part_forms (part one)) ≡ false) → ((one : A) (value : Expr) → list_any (are_alike (form.Max value)) (unit_part_forms (part one)) ≡ false) → ((one : A) → list_any (are_alike form.Step) (unit_part_forms (part one)) ≡ false) → Declares part
+declares part free no_unit no_max no_step = record { free = free; no_unit = no_unit; no_max = no_max; no_step = no_step }
 
 -- The canonical parts of a unit may stand in it.
 unit_parts_may_stand : (unit : Unit) (start : Before) → start.in_unit ≡ [] → nat_le (step_depth unit.step) 16 ≡ true → inside_may_stand start (unit_parts unit) ≡ true
@@ -150,13 +157,13 @@ unit_parts_may_stand unit start first shallow =
     let six = five ++ map parts.HasOutput unit.outputs in
     let seven = six ++ map parts.HasEventOut unit.events_out in
     let bare_zero : IsBare start zero = resolution_is_bare unit.resolution start first in
-    let bare_one : IsBare start one = and_declared parts.HasParam unit.params start zero (declares_by_nature parts.HasParam (λ x before. refl) (λ x. refl) (λ x value. refl) (λ x. refl)) bare_zero in
-    let bare_two : IsBare start two = and_declared parts.HasState unit.states start one (declares_by_nature parts.HasState (λ x before. refl) (λ x. refl) (λ x value. refl) (λ x. refl)) bare_one in
-    let bare_three : IsBare start three = and_declared parts.HasLocal unit.locals start two (declares_by_nature parts.HasLocal (λ x before. refl) (λ x. refl) (λ x value. refl) (λ x. refl)) bare_two in
-    let bare_four : IsBare start four = and_declared parts.HasInput unit.inputs start three (declares_by_nature parts.HasInput (λ x before. refl) (λ x. refl) (λ x value. refl) (λ x. refl)) bare_three in
-    let bare_five : IsBare start five = and_declared parts.HasEventIn unit.events_in start four (declares_by_nature parts.HasEventIn (λ x before. refl) (λ x. refl) (λ x value. refl) (λ x. refl)) bare_four in
-    let bare_six : IsBare start six = and_declared parts.HasOutput unit.outputs start five (declares_by_nature parts.HasOutput (λ x before. refl) (λ x. refl) (λ x value. refl) (λ x. refl)) bare_five in
-    let bare_seven : IsBare start seven = and_declared parts.HasEventOut unit.events_out start six (declares_by_nature parts.HasEventOut (λ x before. refl) (λ x. refl) (λ x value. refl) (λ x. refl)) bare_six in
+    let bare_one : IsBare start one = and_declared parts.HasParam unit.params start zero (declares parts.HasParam (λ x before. refl) (λ x. refl) (λ x value. refl) (λ x. refl)) bare_zero in
+    let bare_two : IsBare start two = and_declared parts.HasState unit.states start one (declares parts.HasState (λ x before. refl) (λ x. refl) (λ x value. refl) (λ x. refl)) bare_one in
+    let bare_three : IsBare start three = and_declared parts.HasLocal unit.locals start two (declares parts.HasLocal (λ x before. refl) (λ x. refl) (λ x value. refl) (λ x. refl)) bare_two in
+    let bare_four : IsBare start four = and_declared parts.HasInput unit.inputs start three (declares parts.HasInput (λ x before. refl) (λ x. refl) (λ x value. refl) (λ x. refl)) bare_three in
+    let bare_five : IsBare start five = and_declared parts.HasEventIn unit.events_in start four (declares parts.HasEventIn (λ x before. refl) (λ x. refl) (λ x value. refl) (λ x. refl)) bare_four in
+    let bare_six : IsBare start six = and_declared parts.HasOutput unit.outputs start five (declares parts.HasOutput (λ x before. refl) (λ x. refl) (λ x value. refl) (λ x. refl)) bare_five in
+    let bare_seven : IsBare start seven = and_declared parts.HasEventOut unit.events_out start six (declares parts.HasEventOut (λ x before. refl) (λ x. refl) (λ x value. refl) (λ x. refl)) bare_six in
     with_max_and_step seven start unit.max unit.step first bare_seven shallow
 
 -- ---- Lines that stand more than once
@@ -170,6 +177,7 @@ is_common (form.Zero count) = false
 is_common (form.Rows count) = false
 is_common _ = true
 
+-- Step lines are common.
 step_line_is_common : (some : LineForm) → is_step_line some ≡ true → is_common some ≡ true
 step_line_is_common (form.Header version) is = absurd (cc)
 step_line_is_common (form.Stop seconds) is = absurd (cc)
@@ -178,29 +186,36 @@ step_line_is_common (form.Zero count) is = absurd (cc)
 step_line_is_common (form.Rows count) is = absurd (cc)
 step_line_is_common _ is = refl
 
+-- Lines of many are common where those of each are.
 all_common : {A : Type 0} (forms : A → List LineForm) → ((one : A) → list_all is_common (forms one) ≡ true) → (all : List A) → list_all is_common (flat_map forms all) ≡ true
 all_common forms common [] = refl
 all_common forms common (one ∷ all) = all_joined is_common (forms one) (flat_map forms all) (common one) (all_common forms common all)
 
+-- Lines of a part of a unit are common.
 unit_part_is_common : (part : UnitPart) → list_all is_common (unit_part_forms part) ≡ true
 unit_part_is_common (parts.Step lines) =
     all_joined is_common (flat_map line_forms lines) (form.End ∷ []) (all_pass is_step_line is_common step_line_is_common (flat_map line_forms lines) (all_step_lines lines)) refl
 unit_part_is_common _ = refl
 
+-- So are those of a unit.
 unit_is_common : (name : List ℕ) (inside : List UnitPart) → list_all is_common (part_forms (parts.HasUnit name inside)) ≡ true
 unit_is_common name inside = all_joined is_common (flat_map unit_part_forms inside) (form.End ∷ []) (all_common unit_part_forms unit_part_is_common inside) refl
 
+-- Settings are common.
 settings_are_common : (settings : List Setting) → list_all is_common (map form.Setting settings) ≡ true
 settings_are_common [] = refl
 settings_are_common (setting ∷ settings) = settings_are_common settings
 
+-- So are the lines of an instance.
 instance_is_common : (instance : Instance) → list_all is_common (part_forms (parts.HasInstance instance)) ≡ true
 instance_is_common instance = all_joined is_common (map form.Setting instance.settings) (form.End ∷ []) (settings_are_common instance.settings) refl
 
+-- Lines of parts of one kind are common where those of each are.
 mapped_are_common : {A : Type 0} (part : A → Part) → ((one : A) → list_all is_common (part_forms (part one)) ≡ true) → (all : List A) → list_all is_common (flat_map part_forms (map part all)) ≡ true
 mapped_are_common part common [] = refl
 mapped_are_common part common (one ∷ all) = all_joined is_common (part_forms (part one)) (flat_map part_forms (map part all)) (common one) (mapped_are_common part common all)
 
+-- Those of two lists in a row are.
 both_are_common : (xs ys : List Part) → list_all is_common (flat_map part_forms xs) ≡ true → list_all is_common (flat_map part_forms ys) ≡ true → list_all is_common (flat_map part_forms (xs ++ ys)) ≡ true
 both_are_common xs ys on_xs on_ys = ap (list_all is_common) (flat_map-append part_forms xs ys) ∙ all_joined is_common (flat_map part_forms xs) (flat_map part_forms ys) on_xs on_ys
 
@@ -219,6 +234,7 @@ record IsRare (key : LineForm) : Type 0 where
   header : (version : ℕ) → are_alike key (form.Header version) ≡ false
   other : (some : LineForm) → is_common some ≡ true → are_alike key some ≡ false
 
+-- A `stop` is like a `stop` alone.
 rare-Stop : (seconds : Literal) → IsRare (form.Stop seconds)
 rare-Stop seconds = record { rival = λ before. refl; header = λ version. refl; other = other }
   where
@@ -226,6 +242,7 @@ rare-Stop seconds = record { rival = λ before. refl; header = λ version. refl;
     other (form.Stop value) is = absurd (cc)
     other _ is = refl
 
+-- A `longest` is like a `longest` alone.
 rare-Longest : (seconds : Literal) → IsRare (form.Longest seconds)
 rare-Longest seconds = record { rival = λ before. refl; header = λ version. refl; other = other }
   where
@@ -233,6 +250,7 @@ rare-Longest seconds = record { rival = λ before. refl; header = λ version. re
     other (form.Longest value) is = absurd (cc)
     other _ is = refl
 
+-- A `zero` is like a `zero` alone.
 rare-Zero : (count : ℕ) → IsRare (form.Zero count)
 rare-Zero count = record { rival = λ before. refl; header = λ version. refl; other = other }
   where
@@ -240,6 +258,7 @@ rare-Zero count = record { rival = λ before. refl; header = λ version. refl; o
     other (form.Zero value) is = absurd (cc)
     other _ is = refl
 
+-- A `rows` is like a `rows` alone.
 rare-Rows : (count : ℕ) → IsRare (form.Rows count)
 rare-Rows count = record { rival = λ before. refl; header = λ version. refl; other = other }
   where
@@ -247,6 +266,7 @@ rare-Rows count = record { rival = λ before. refl; header = λ version. refl; o
     other (form.Rows value) is = absurd (cc)
     other _ is = refl
 
+-- No common line is like it.
 common_lack : (key : LineForm) → IsRare key → (lines : List LineForm) → list_all is_common lines ≡ true → list_any (are_alike key) lines ≡ false
 common_lack key rare [] common = refl
 common_lack key rare (some ∷ lines) common =
@@ -257,6 +277,7 @@ common_lack key rare (some ∷ lines) common =
 abbrev Lack : LineForm → List Part → Type 0
 Lack key front = NonePasses (are_alike key) part_forms front
 
+-- All lines of the text so far.
 all_in_text : (lines : List LineForm) (before : Before) → (and_lines before lines).in_text ≡ before.in_text ++ lines
 all_in_text [] before = sym (append-nil before.in_text)
 all_in_text (some ∷ lines) before = all_in_text lines (and_line before some) ∙ append_assoc before.in_text (some ∷ []) lines
@@ -265,14 +286,15 @@ all_in_text (some ∷ lines) before = all_in_text lines (and_line before some) �
 no_rival : (version : ℕ) (front : List Part) (key : LineForm) → IsRare key → Lack key front → not (has_rival (and_lines (headed version) (flat_map part_forms front)) key) ≡ true
 no_rival version front key rare lack =
     ap not (
-        rare.rival (and_lines (headed version) (flat_map part_forms front))
-        ∙ ap (list_any (are_alike key)) (all_in_text (flat_map part_forms front) (headed version))
-        ∙ ap (λ told. told || list_any (are_alike key) (flat_map part_forms front)) (rare.header version)
-        ∙ lack
+    rare.rival (and_lines (headed version) (flat_map part_forms front))
+    ∙ ap (list_any (are_alike key)) (all_in_text (flat_map part_forms front) (headed version))
+    ∙ ap (λ told. told || list_any (are_alike key) (flat_map part_forms front)) (rare.header version)
+    ∙ lack
     )
 
 -- ---- A text
 
+-- Units whose steps are shallow may stand one behind the other.
 units_follow : (units : List Unit) (before : Before) → list_all (λ unit. nat_le (step_depth unit.step) 16) units ≡ true → parts_may_stand before (map (λ unit. parts.HasUnit unit.name (unit_parts unit)) units) ≡ true
 units_follow [] before shallow = refl
 units_follow (unit ∷ units) before shallow =
@@ -286,6 +308,7 @@ and_once : {A : Type 0} (version : ℕ) (front : List Part) (part : A → Part) 
 and_once version front part given stands may =
     may_follow_both part_forms part_may_stand front (optional part given) (headed version) stands (optional_follows part_forms part_may_stand part given (and_lines (headed version) (flat_map part_forms front)) may)
 
+-- The canonical parts of a system with such units may stand behind its header.
 canonical_parts_may_stand : (system : System) → list_all (λ unit. nat_le (step_depth unit.step) 16) system.units ≡ true → parts_may_stand (headed system.version) (canonical_parts system) ≡ true
 canonical_parts_may_stand system shallow =
     let start = headed system.version in
@@ -315,9 +338,9 @@ canonical_parts_may_stand system shallow =
     and_once system.version ((many ++ stop) ++ longest) parts.Zero system.zero longest_stands (λ count. no_rival system.version ((many ++ stop) ++ longest) (form.Zero count) (rare-Zero count) (zero_lacks count)) in
     let rows_lack : (count : ℕ) → Lack (form.Rows count) (((many ++ stop) ++ longest) ++ zero) =
     λ count.
-        none_of_both (are_alike (form.Rows count)) part_forms ((many ++ stop) ++ longest) zero
-        (none_of_both (are_alike (form.Rows count)) part_forms (many ++ stop) longest (no_stop (form.Rows count) (rare-Rows count) (λ other. refl)) (none_of_optional (are_alike (form.Rows count)) part_forms parts.Longest (λ other. refl) system.longest))
-        (none_of_optional (are_alike (form.Rows count)) part_forms parts.Zero (λ other. refl) system.zero) in
+    none_of_both (are_alike (form.Rows count)) part_forms ((many ++ stop) ++ longest) zero
+    (none_of_both (are_alike (form.Rows count)) part_forms (many ++ stop) longest (no_stop (form.Rows count) (rare-Rows count) (λ other. refl)) (none_of_optional (are_alike (form.Rows count)) part_forms parts.Longest (λ other. refl) system.longest))
+    (none_of_optional (are_alike (form.Rows count)) part_forms parts.Zero (λ other. refl) system.zero) in
     let rows_stand : parts_may_stand start ((((many ++ stop) ++ longest) ++ zero) ++ rows) ≡ true =
     and_once system.version (((many ++ stop) ++ longest) ++ zero) parts.Rows system.rows zero_stands (λ count. no_rival system.version (((many ++ stop) ++ longest) ++ zero) (form.Rows count) (rare-Rows count) (rows_lack count)) in
     may_follow_both part_forms part_may_stand ((((many ++ stop) ++ longest) ++ zero) ++ rows) (map parts.Samples system.samples) start rows_stand

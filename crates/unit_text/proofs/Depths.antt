@@ -1,9 +1,7 @@
 -- Lines of a step: they close what they open, and they may stand exactly where their blocks are not too deep.
-use Rattle.std.proofs.Common.{◌≡◌, ℕ, suc, ◌+◌, ◌≤◌, Bool, true, false, ◌&&◌, not, nat_le, nat_lt, max, cond, List, [], ◌∷◌, ◌++◌, append_assoc, map, drop, Option, Some, None, refl, ap, sym, subst, ◌∙◌, arith}
+use Rattle.std.proofs.Common.{◌≡◌, ℕ, suc, ◌+◌, Bool, true, false, ◌&&◌, not, nat_le, nat_lt, max, cond, List, [], ◌∷◌, ◌++◌, append_assoc, map, drop, Some, None, refl, ap, sym, subst, ◌∙◌, arith}
 use Rattle.std.specs.List.{count_by, fold, flat_map}
-use Rattle.std.proofs.lemmas.Bool.{and_parts}
 use Rattle.std.proofs.lemmas.Bool.Decides.{nat_tests}
-use Rattle.std.proofs.lemmas.List.{append-nil}
 use Rattle.std.proofs.lemmas.List.Sums.{fold-append, sum_by-cons}
 use Rattle.unit_tree.specs.Blocks.{Block, InIf, InElse, InRepeat, behind, Before, and_line, and_lines, at_top, in_step, lacks_else, is_inner, may_stand, are_placed}
 use Rattle.unit_tree.specs.Parts.{block_forms, joined, line_forms}
@@ -54,6 +52,7 @@ pub record IsStep (before : Before) (blocks : List Block) : Type 0 where
   pub step : in_step blocks ≡ true
   pub room : have_room blocks 0 ≡ true
 
+-- The deepest is found from any start.
 deepest_more : (start : ℕ) (depths : List ℕ) → fold max start depths ≡ max start (deepest depths)
 deepest_more start [] = omega arith
 deepest_more start (depth ∷ depths) =
@@ -61,6 +60,7 @@ deepest_more start (depth ∷ depths) =
     let other = deepest_more (max 0 depth) depths in
     omega (arith, one, other)
 
+-- Two have room where the deeper one has.
 two_have_room : (around one other : ℕ) → (nat_le (around + one) 16 && nat_le (around + other) 16) ≡ nat_le (around + max one other) 16
 two_have_room around one other = grind (arith, nat_tests)
 
@@ -77,18 +77,23 @@ record IsDeep (some : Line) : Type 0 where
   closed : (blocks : List Block) → fold behind blocks (line_forms some) ≡ blocks
   placed : (before : Before) (blocks : List Block) → IsStep before blocks → are_placed before (line_forms some) ≡ have_room blocks (line_depth some)
 
+-- A line with what is known of it.
 abbrev Deep : Type 0
 Deep = (some : Line) × IsDeep some
 
+-- The line alone.
 abbrev line_in : Deep → Line
 line_in one = one.0
 
+-- The lines of such lines.
 abbrev forms_in : List Deep → List LineForm
 forms_in lines = joined (map line_forms (map line_in lines))
 
+-- How deep they are.
 abbrev depth_of : List Deep → ℕ
 depth_of lines = deepest (map line_depth (map line_in lines))
 
+-- They close what they open.
 all_closed : (lines : List Deep) (blocks : List Block) → fold behind blocks (forms_in lines) ≡ blocks
 all_closed [] blocks = refl
 all_closed (one ∷ lines) blocks = fold-append behind blocks (line_forms one.0) (forms_in lines) ∙ ap (λ all. fold behind all (forms_in lines)) (one.1.closed blocks) ∙ all_closed lines blocks
@@ -97,9 +102,11 @@ all_closed (one ∷ lines) blocks = fold-append behind blocks (line_forms one.0)
 left_open : (lines : List Deep) (before : Before) (blocks : List Block) → before.open_blocks ≡ blocks → (and_lines before (forms_in lines)).open_blocks ≡ blocks
 left_open lines before blocks is = blocks_behind before (forms_in lines) ∙ ap (λ all. fold behind all (forms_in lines)) is ∙ all_closed lines blocks
 
+-- The same behind one line.
 line_left_open : (some : Line) (before : Before) (blocks : List Block) → ((all : List Block) → fold behind all (line_forms some) ≡ all) → before.open_blocks ≡ blocks → (and_lines before (line_forms some)).open_blocks ≡ blocks
 line_left_open some before blocks closed is = blocks_behind before (line_forms some) ∙ ap (λ all. fold behind all (line_forms some)) is ∙ closed blocks
 
+-- They may stand in a step exactly where the deepest has room.
 all_placed : (lines : List Deep) (before : Before) (blocks : List Block) → IsStep before blocks → are_placed before (forms_in lines) ≡ have_room blocks (depth_of lines)
 all_placed [] before blocks is = sym is.room
 all_placed (one ∷ lines) before blocks is =
@@ -119,10 +126,12 @@ block_placed lines rest before blocks told is behind_them =
     ∙ ap (λ first. first && are_placed (and_lines before (forms_in lines)) rest) (all_placed lines before blocks is)
     ∙ ap (λ last. have_room blocks (depth_of lines) && last) (behind_them (and_lines before (forms_in lines)) (left_open lines before blocks is.blocks_are))
 
+-- An `end` may stand where a block is open.
 end_placed : (block : Block) (blocks : List Block) (after : Before) → after.open_blocks ≡ block ∷ blocks → are_placed after (form.End ∷ []) ≡ true
 end_placed block blocks after is = ap (λ all. (not (at_top all) && true) && true) is
 
-and_true : (told : Bool) → (told && true) ≡ told
+-- A test that holds adds nothing.
+pub and_true : (told : Bool) → (told && true) ≡ told
 and_true true = refl
 and_true false = refl
 
@@ -153,6 +162,7 @@ record Opens (some : LineForm) (block : Block) : Type 0 where
   step : (blocks : List Block) → in_step (block ∷ blocks) ≡ true
   may_be : (before : Before) → may_stand before some ≡ (in_step before.open_blocks && nat_lt (depth_in before.open_blocks) 16)
 
+-- Such a line may stand with what is inside exactly where there is room for one block more.
 opened_placed : (some : LineForm) (block : Block) (lines : List LineForm) (before : Before) (blocks : List Block) (deep : ℕ) → Opens some block → IsStep before blocks → (IsStep (and_line before some) (block ∷ blocks) → are_placed (and_line before some) lines ≡ have_room (block ∷ blocks) deep) → are_placed before (some ∷ lines) ≡ have_room blocks (suc deep)
 opened_placed some block lines before blocks deep opens is inside =
     ap (λ told. told && are_placed (and_line before some) lines)
@@ -167,14 +177,17 @@ opened_placed some block lines before blocks deep opens is inside =
     enough : (around : ℕ) → nat_lt around 16 ≡ true → nat_le (around + 1) 16 ≡ true
     enough around less = grind (arith, nat_tests)
 
+-- An `if` opens a block.
 opens-If : (condition : Expr) → Opens (form.If condition) InIf
 opens-If condition = record { behind_is = λ blocks. refl; inner = refl; step = λ blocks. refl; may_be = λ before. refl }
 
+-- A `repeat` opens a block.
 opens-Repeat : (count : ℕ) → Opens (form.Repeat count) InRepeat
 opens-Repeat count = record { behind_is = λ blocks. refl; inner = refl; step = λ blocks. refl; may_be = λ before. refl }
 
 -- ---- Each line
 
+-- A line with no block.
 simple_placed : (some : Line) (own : LineForm) → line_forms some ≡ own ∷ [] → ((blocks : List Block) → behind blocks own ≡ blocks) → ((before : Before) → may_stand before own ≡ in_step before.open_blocks) → line_depth some ≡ 0 → IsDeep some
 simple_placed some own are same may_be depth = record {
   closed = λ blocks. ap (fold behind blocks) are ∙ same blocks;
@@ -184,17 +197,21 @@ simple_placed some own are same may_be depth = record {
       ∙ sym (ap (have_room blocks) depth ∙ is.room);
 }
 
+-- An assignment has no block.
 deep-Assign : (target : List ℕ) (value : Expr) → IsDeep (line.Assign target value)
 deep-Assign target value =
     simple_placed (line.Assign target value) (form.Assign target value) (fold-Assign (List LineForm) block_forms target value) (λ blocks. refl) (λ before. and_true (in_step before.open_blocks)) (fold-Assign ℕ block_depth target value)
 
+-- An `accept` has no block.
 deep-Accept : (value : Expr) → IsDeep (line.Accept value)
 deep-Accept value =
     simple_placed (line.Accept value) (form.Accept value) (fold-Accept (List LineForm) block_forms value) (λ blocks. refl) (λ before. and_true (in_step before.open_blocks)) (fold-Accept ℕ block_depth value)
 
+-- The lines of a block, and what closes it.
 block_closed : (lines : List Deep) (rest : List LineForm) (blocks after : List Block) → fold behind blocks rest ≡ after → fold behind blocks (forms_in lines ++ rest) ≡ after
 block_closed lines rest blocks after is = fold-append behind blocks (forms_in lines) rest ∙ ap (λ all. fold behind all rest) (all_closed lines blocks) ∙ is
 
+-- A `repeat` is one deeper than its lines.
 deep-Repeat : (count : ℕ) (body : List Deep) → IsDeep (line.Repeat count (map line_in body))
 deep-Repeat count body =
     let are = fold-Repeat (List LineForm) block_forms count (map line_in body) in
@@ -210,6 +227,7 @@ deep-Repeat count body =
 abbrev if_forms : Expr → List Deep → List LineForm → List LineForm
 if_forms condition then_lines rest = form.If condition ∷ forms_in then_lines ++ rest
 
+-- An `if` is one deeper than its lines.
 deep-IfNone : (condition : Expr) (then_lines : List Deep) → IsDeep (line.If condition (map line_in then_lines) None)
 deep-IfNone condition then_lines =
     let are : line_forms (line.If condition (map line_in then_lines) None) ≡ if_forms condition then_lines (form.End ∷ []) =
@@ -235,6 +253,7 @@ else_placed else_lines blocks room after is =
     as_deep : (deep : ℕ) → have_room (InElse ∷ blocks) deep ≡ have_room (InIf ∷ blocks) deep
     as_deep deep = one_deeper InElse blocks deep refl ∙ sym (one_deeper InIf blocks deep refl)
 
+-- An `if` with an `else` is one deeper than the lines of both.
 deep-IfElse : (condition : Expr) (then_lines else_lines : List Deep) → IsDeep (line.If condition (map line_in then_lines) (Some (map line_in else_lines)))
 deep-IfElse condition then_lines else_lines =
     let rest = form.Else ∷ forms_in else_lines ++ (form.End ∷ []) in
@@ -248,11 +267,12 @@ deep-IfElse condition then_lines else_lines =
           ap (are_placed before) are
           ∙ opened_placed (form.If condition) InIf (forms_in then_lines ++ rest) before blocks (max (depth_of then_lines) (depth_of else_lines)) (opens-If condition) is
           (λ within.
-              block_placed then_lines rest (and_line before (form.If condition)) (InIf ∷ blocks) (have_room (InIf ∷ blocks) (depth_of else_lines)) within (else_placed else_lines blocks within.room)
-              ∙ two_have_room (depth_in (InIf ∷ blocks)) (depth_of then_lines) (depth_of else_lines))
+          block_placed then_lines rest (and_line before (form.If condition)) (InIf ∷ blocks) (have_room (InIf ∷ blocks) (depth_of else_lines)) within (else_placed else_lines blocks within.room)
+          ∙ two_have_room (depth_in (InIf ∷ blocks)) (depth_of then_lines) (depth_of else_lines))
           ∙ ap (have_room blocks) (sym depth);
     }
 
+-- Each line is so where the lines of its blocks are.
 deep_node : (y : Line-F Deep) → IsDeep (roll-Line (map-Line Deep Line line_in y))
 deep_node (Line-F.Assign target value) = subst IsDeep (sym (rolls-Assign target value)) (deep-Assign target value)
 deep_node (Line-F.If condition then_lines None) = subst IsDeep (sym (rolls-If condition (map line_in then_lines) None)) (deep-IfNone condition then_lines)
@@ -261,6 +281,7 @@ deep_node (Line-F.If condition then_lines (Some else_lines)) =
 deep_node (Line-F.Repeat count body) = subst IsDeep (sym (rolls-Repeat count (map line_in body))) (deep-Repeat count body)
 deep_node (Line-F.Accept value) = subst IsDeep (sym (rolls-Accept value)) (deep-Accept value)
 
+-- Every line is so.
 is_deep : (some : Line) → IsDeep some
 is_deep = ind-Line IsDeep (λ x y is. subst (λ z. IsDeep (roll-Line z)) is (deep_node y))
 

@@ -1,5 +1,5 @@
 -- The canonical lines of what parts say are the lines of the parts, each once.
-use Rattle.std.proofs.Common.{◌≡◌, ℕ, ◌<◌, Bool, true, false, cond, List, [], ◌∷◌, ◌++◌, map, length, take, drop, get_or, IsTrue, refl, ap, sym, subst, ◌∙◌}
+use Rattle.std.proofs.Common.{◌≡◌, ℕ, Bool, true, false, cond, List, [], ◌∷◌, ◌++◌, map, length, take, drop, get_or, IsTrue, refl, ap, sym, subst, ◌∙◌}
 use Rattle.std.specs.Prelude.{◌==◌}
 use Rattle.std.specs.List.{AllByRecursion, filter, flat_map, range_with_len}
 use Rattle.std.specs.List.Sorted.{IsPermutation}
@@ -28,11 +28,13 @@ of_rank_by : {A B : Type 0} (f : A → B) (told : Bool) (rank : ℕ) (list : Lis
 of_rank_by f true rank list ours others same = ap (λ rest. map f list ++ rest) same ∙ sym (map-append f list (flat_map (λ one. one.1) others))
 of_rank_by f false rank list ours others same = same
 
+-- The entries of a rank.
 of_rank_map : {A B : Type 0} (f : A → B) (lists : List (ℕ × List A)) (rank : ℕ) → of_rank (relisted f lists) rank ≡ map f (of_rank lists rank)
 of_rank_map f [] rank = refl
 of_rank_map f (first ∷ lists) rank =
     of_rank_by f (first.0 == rank) first.0 first.1 (filter (λ one. one.0 == rank) (relisted f lists)) (filter (λ one. one.0 == rank) lists) (of_rank_map f lists rank)
 
+-- The entries of all ranks.
 by_rank_map : {A B : Type 0} (f : A → B) (ranks : List ℕ) (lists : List (ℕ × List A)) → by_rank ranks (relisted f lists) ≡ map f (by_rank ranks lists)
 by_rank_map f [] lists = refl
 by_rank_map f (rank ∷ ranks) lists =
@@ -40,6 +42,7 @@ by_rank_map f (rank ∷ ranks) lists =
     ∙ ap (λ rest. map f (of_rank lists rank) ++ rest) (by_rank_map f ranks lists)
     ∙ sym (map-append f (of_rank lists rank) (by_rank ranks lists))
 
+-- The lists with their ranks, where each part keeps its own entries in order.
 each_ranked_map : {A B P : Type 0} (f : A → B) (rank size : P → ℕ) (inside : P → List A → List A) (ours : P → List B → List B) → ((part : P) (lines : List A) → ours part (map f lines) ≡ map f (inside part lines)) → (all : List P) (lines : List A) → each_ranked rank size ours all (map f lines) ≡ relisted f (each_ranked rank size inside all lines)
 each_ranked_map f rank size inside ours same [] lines = refl
 each_ranked_map f rank size inside ours same (part ∷ all) lines =
@@ -50,6 +53,7 @@ each_ranked_map f rank size inside ours same (part ∷ all) lines =
     ∙ ap (λ later. (rank part, map f (inside part here)) ∷ each_ranked rank size ours all later) (drop-map f (size part) lines)
     ∙ ap (λ later. (rank part, map f (inside part here)) ∷ later) (each_ranked_map f rank size inside ours same all rest)
 
+-- The entries of a unit.
 unit_order_map : {A B : Type 0} (f : A → B) (inside : List UnitPart) (lines : List A) → unit_lines_in_order inside (map f lines) ≡ map f (unit_lines_in_order inside lines)
 unit_order_map f inside lines =
     let ranks = 0 ∷ 1 ∷ 2 ∷ 3 ∷ 4 ∷ 5 ∷ 6 ∷ 7 ∷ 8 ∷ 9 ∷ [] in
@@ -60,6 +64,7 @@ unit_order_map f inside lines =
 three_map : {A B : Type 0} (f : A → B) (one two three : List A) → map f one ++ map f two ++ map f three ≡ map f (one ++ two ++ three)
 three_map f one two three = ap (λ front. front ++ map f three) (sym (map-append f one two)) ∙ sym (map-append f (one ++ two) three)
 
+-- The entries of a part.
 part_order_map : {A B : Type 0} (f : A → B) (part : Part) (lines : List A) → part_lines_in_order part (map f lines) ≡ map f (part_lines_in_order part lines)
 part_order_map f (parts.HasUnit name inside) lines =
     let rest = drop 1 lines in
@@ -71,6 +76,7 @@ part_order_map f (parts.HasUnit name inside) lines =
     ∙ three_map f (take 1 lines) (unit_lines_in_order inside rest) (drop size rest)
 part_order_map f _ lines = refl
 
+-- The entries of a text.
 order_map : {A B : Type 0} (f : A → B) (all : List Part) (lines : List A) → in_canonical_order all (map f lines) ≡ map f (in_canonical_order all lines)
 order_map f all lines =
     let ranks = 0 ∷ 1 ∷ 2 ∷ 3 ∷ 4 ∷ 5 ∷ 6 ∷ 7 ∷ [] in

@@ -47,11 +47,13 @@ placed_parens false canonical deep within = omega (arith, within)
 deeper_within : (one other written written_too : ℕ) → one ≤ written → other ≤ written_too → max one other ≤ max written written_too
 deeper_within one other written written_too within within_too = omega (arith, within, within_too)
 
+-- An operation nests a deeper operand no less.
 binary_within : (op : BinOp) (canonical written : ℕ) → canonical ≤ written → binary_nesting op canonical ≤ binary_nesting op written
 binary_within by.Min canonical written within = omega (arith, within)
 binary_within by.Max canonical written within = omega (arith, within)
 binary_within _ canonical written within = within
 
+-- The canonical operand stands in its place no deeper, and so the operation does.
 on_unary : (op : UnOp) (arg : Phrase) → Claim arg → Claim (phrase.Unary op arg)
 on_unary op arg given asked so =
     let level = operand_level (unary_level op) in
@@ -60,6 +62,7 @@ on_unary op arg given asked so =
     rw (fold-Unary Phrase node_phrase op (tree_of arg))
     (placed_bare asked (phrase.Unary op (placed level (again arg))) (suc (nesting arg)) parts.0 (omega (arith, within)))
 
+-- The same with two operands.
 on_binary : (op : BinOp) (left right : Phrase) → Claim left → Claim right → Claim (phrase.Binary op left right)
 on_binary op left right on_left on_right asked so =
     let left_asked = left_level (binary_level op) in
@@ -79,12 +82,14 @@ three_within one two three on_one on_two on_three so =
     deeper_within (nesting (again one)) (max (nesting (again two)) (nesting (again three))) (nesting one) (max (nesting two) (nesting three)) (on_whole one on_one parts.0)
     (deeper_within (nesting (again two)) (nesting (again three)) (nesting two) (nesting three) (on_whole two on_two others.0) (on_whole three on_three others.1))
 
+-- A call of three parts, each a whole expression.
 on_clamp : (value low high : Phrase) → Claim value → Claim low → Claim high → Claim (phrase.Clamp value low high)
 on_clamp value low high on_value on_low on_high asked so =
     let within = three_within value low high on_value on_low on_high so in
     rw (fold-Clamp Phrase node_phrase (tree_of value) (tree_of low) (tree_of high))
     (placed_bare asked (phrase.Clamp (again value) (again low) (again high)) (nesting (phrase.Clamp value low high)) (primary_stands asked) (omega (arith, within)))
 
+-- An `if`, whose parts are whole expressions.
 on_choose : (condition then_part else_part : Phrase) → Claim condition → Claim then_part → Claim else_part → Claim (phrase.Choose condition then_part else_part)
 on_choose condition then_part else_part on_condition on_then on_else asked so =
     let parts = and_parts (allows asked Whole) (stands Whole condition && (stands Whole then_part && stands Whole else_part)) so in
@@ -92,9 +97,11 @@ on_choose condition then_part else_part on_condition on_then on_else asked so =
     rw (fold-Choose Phrase node_phrase (tree_of condition) (tree_of then_part) (tree_of else_part))
     (placed_bare asked (phrase.Choose (again condition) (again then_part) (again else_part)) (nesting (phrase.Choose condition then_part else_part)) parts.0 (omega (arith, within)))
 
+-- A number keeps its digits.
 number_again : (digits decimals : ℕ) → again (phrase.Number digits decimals) ≡ phrase.Number digits decimals
 number_again digits decimals = fold-Number Phrase node_phrase (pos digits) decimals ∙ ap (λ n. phrase.Number n decimals) (omega arith)
 
+-- Each phrase, by its parts.
 nests_less : (written : Phrase) → Claim written
 nests_less (phrase.Number digits decimals) = leaf (phrase.Number digits decimals) (number_again digits decimals) refl
 nests_less (phrase.Truth told) = leaf (phrase.Truth told) (fold-Truth Phrase node_phrase told) refl
@@ -119,6 +126,7 @@ canonical_nests_less asked written so = nests_less written asked so
 abbrev NumbersAre : Phrase → Type 0
 NumbersAre written = numbers_fit written ≡ (is_unsigned (tree_of written) && is_ranged (tree_of written))
 
+-- Four tests in another order.
 swapped : (a b c d : Bool) → ((a && b) && (c && d)) ≡ ((a && c) && (b && d))
 swapped true true c d = refl
 swapped true false true d = refl
@@ -129,17 +137,21 @@ swapped false b c d = refl
 two_are : (one other : Bool) (first second first_too second_too : Bool) → one ≡ (first && first_too) → other ≡ (second && second_too) → (one && other) ≡ ((first && second) && (first_too && second_too))
 two_are one other first second first_too second_too is is_too = rw (is, is_too) (swapped first first_too second second_too)
 
+-- With the tests of the parts in place of those of the whole.
 told_by : (fits unsigned ranged unsigned_parts ranged_parts : Bool) → unsigned ≡ unsigned_parts → ranged ≡ ranged_parts → fits ≡ (unsigned_parts && ranged_parts) → fits ≡ (unsigned && ranged)
 told_by fits unsigned ranged unsigned_parts ranged_parts is is_too same = rw (is, is_too) same
 
+-- A number from 0 up is a word below 2^63.
 word_is : (digits : ℕ) → nat_lt digits (2 ^ 63) ≡ (not (is_negative (pos digits)) && is_word_of Int64 (pos digits))
 word_is digits = grind (arith, nat_tests)
 
+-- Three tests in another order.
 swapped_unary : (ranged unsigned inner : Bool) → (ranged && (unsigned && inner)) ≡ (unsigned && (ranged && inner))
 swapped_unary true unsigned inner = refl
 swapped_unary false true inner = refl
 swapped_unary false false inner = refl
 
+-- Each phrase, by its parts.
 pub numbers_are : (written : Phrase) → NumbersAre written
 numbers_are (phrase.Number digits decimals) =
     told_by (numbers_fit (phrase.Number digits decimals)) _ _ (not (is_negative (pos digits)) && is_word_of Int64 (pos digits)) (nat_le decimals 9) (fold-Number Bool node_is_unsigned (pos digits) decimals) (fold-Number Bool node_is_ranged (pos digits) decimals)
@@ -189,6 +201,7 @@ pub record IsWritten (value : Expr) : Type 0 where
   pub writable : is_writable (OfExpression value) ≡ true
   pub ranged : is_ranged value ≡ true
 
+-- The tree of a phrase that the grammar has.
 tree_is_written : (written : Phrase) → phrase.is_expression written ≡ true → IsWritten (tree_of written)
 tree_is_written written is =
     let whole = and_parts (stands Whole written) (nat_le (nesting written) 64 && numbers_fit written) is in
@@ -200,5 +213,6 @@ tree_is_written written is =
       ranged = numbers.1;
     }
 
+-- What tokens write can be written again.
 pub expression_is_written : (value : Expr) (tokens : List Token) → Writes value tokens → IsWritten value
 expression_is_written value tokens writes = subst IsWritten writes.is_tree (tree_is_written writes.phrase writes.is_grammatical)

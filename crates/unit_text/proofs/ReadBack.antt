@@ -1,13 +1,13 @@
 -- The canonical text of a system that can be printed is read as this system.
-use Rattle.std.proofs.Common.{◌≡◌, ◌≤◌, ℕ, Bool, true, false, not, nat_le, List, [], ◌∷◌, ◌++◌, map, length, ◌⊎◌, inl, inr, IsTrue, IsFalse, refl, ap, sym, subst, ◌∙◌, arith}
-use Rattle.std.specs.List.{AllByRecursion, AllZip, filter, list_all, list_any}
+use Rattle.std.proofs.Common.{◌≡◌, ◌≤◌, ℕ, nat_le, List, [], ◌∷◌, map, length, ◌⊎◌, inl, inr, IsTrue, IsFalse, refl, ap, sym, subst, ◌∙◌, arith}
+use Rattle.std.specs.List.{AllByRecursion, AllZip, list_all, list_any}
 use Rattle.std.proofs.lemmas.Bool.{and_parts, or_parts, true≢false}
 use Rattle.std.proofs.lemmas.List.Folds.{list_all-map}
 use Rattle.unit_tree.specs.Canonical.{canonical_parts, canonical_forms, canonical_text, form_tokens, line_text}
 use Rattle.unit_tree.specs.LineForms.{HasForm, is_of_version_2, tail_of}
-use Rattle.unit_tree.specs.Lines.{code_of, source_lines, is_blank_line}
+use Rattle.unit_tree.specs.Lines.{code_of, source_lines}
 use Rattle.unit_tree.specs.Printable.{IsInRange, IsPrintable, is_writable}
-use Rattle.unit_tree.specs.Texts.{BeginsVersion2, HasFormIn, HaveForms, Reads, line_limit}
+use Rattle.unit_tree.specs.Texts.{BeginsVersion2, HasFormIn, HaveForms, line_limit}
 use Rattle.unit_tree.specs.Tokens.{Spells}
 use Rattle.unit_tree.specs.declared.line_form.LineForm.{LineForm}
 use Rattle.unit_tree.specs.declared.line_form.LineForm.TheVariants as form
@@ -22,6 +22,7 @@ use Rattle.unit_text.proofs.CanonicalPlaces.{canonical_is_placed}
 abbrev HasItsForm : LineForm → Type 0
 HasItsForm some = HasForm some (line_text some)
 
+-- Lines that are spelled have the forms that are in range.
 all_have_forms : (forms : List LineForm) → AllByRecursion (λ some. Spells (form_tokens some) (code_of (line_text some))) forms → AllByRecursion IsInRange forms → IsTrue (list_all (λ some. is_writable (tail_of some)) forms) → AllByRecursion HasItsForm forms
 all_have_forms [] spelled ranged writable = _
 all_have_forms (some ∷ forms) spelled ranged writable =
@@ -42,9 +43,11 @@ of_version_1 text (some ∷ forms) have none =
     let both = or_parts (is_of_version_2 some) (list_any is_of_version_2 forms) none in
     (record { has_form = have.0; of_version = λ is. absurd (true≢false (sym is ∙ both.0)) }, of_version_1 text forms have.1 both.1)
 
+-- There are two versions.
 one_or_two : (version : ℕ) → 1 ≤ version → version ≤ 2 → (version ≡ 1) ⊎ (version ≡ 2)
 one_or_two version least most = grind (arith, least, most)
 
+-- Canonical lines of version 2 begin with its header.
 begins_so : (system : System) → system.version ≡ 2 → AllByRecursion HasItsForm (canonical_forms system) → BeginsVersion2 (map line_text (canonical_forms system))
 begins_so system is have = record {
   before = [];
@@ -66,10 +69,12 @@ all_have_forms_in system printable have =
 
 -- ---- The text
 
+-- The lines have the forms, one for one.
 texts_have_forms : (text : List (List ℕ)) (forms : List LineForm) → AllByRecursion (λ some. HasFormIn text some (line_text some)) forms → AllZip (HasFormIn text) forms (map line_text forms)
 texts_have_forms text [] have = _
 texts_have_forms text (some ∷ forms) have = (have.0, texts_have_forms text forms have.1)
 
+-- Its parts, its lines, their places and their lengths are those of a text that says the system.
 pub read_back : CanonicalTextIsReadBack
 read_back system printable =
     let forms = canonical_forms system in

@@ -1,20 +1,16 @@
 -- A form that a line has can be printed: its names are names, its numbers are in range, and its tail can be written.
-use Rattle.std.proofs.Common.{◌≡◌, ℕ, ◌<◌, ◌≤◌, ◌^◌, Bool, true, false, not, ◌&&◌, ℤ, pos, nat_le, List, [], ◌∷◌, ◌++◌, refl, ap, sym, subst, ◌∙◌, arith, append_assoc}
-use Rattle.std.specs.Int.{is_negative}
+use Rattle.std.proofs.Common.{◌≡◌, ℕ, ◌<◌, ◌≤◌, ◌^◌, Bool, true, false, pos, List, [], ◌∷◌, ◌++◌, refl, ap, sym, subst, ◌∙◌, arith}
 use Rattle.std.specs.List.{AllByRecursion}
-use Rattle.std.proofs.lemmas.Bool.{and_from}
 use Rattle.std.proofs.lemmas.Bool.Decides.{nat_tests}
-use Rattle.fixed_words.specs.Types.{is_word_of}
 use Rattle.fixed_words.specs.declared.types.Literal.{Literal}
 use Rattle.fixed_words.specs.declared.types.Literal.TheVariants as literal
 use Rattle.fixed_words.specs.declared.types.Ty.{Ty}
-use Rattle.fixed_words.specs.declared.types.Ty.TheVariants.{Int64}
-use Rattle.unit_tree.specs.LineForms.{Tail, Nothing, OfLiteral, OfSeconds, OfExpression, front_tokens, tail_of, declaration, names_tokens, needs_tokens, equals, sign_tokens, WritesNumber, WritesLiteral, WritesSeconds, WritesTail, WritesForm, HasForm}
+use Rattle.unit_tree.specs.LineForms.{Tail, Nothing, OfLiteral, OfSeconds, OfExpression, front_tokens, tail_of, declaration, names_tokens, needs_tokens, equals, sign_tokens, WritesLiteral, WritesSeconds, WritesTail, WritesForm, HasForm}
 use Rattle.unit_tree.specs.Lines.{code_of}
 use Rattle.unit_tree.specs.Names.{node_names, names_in, expression_in, expression_on}
 use Rattle.unit_tree.specs.Phrases as phrase
 use Rattle.unit_tree.specs.Phrases.{Phrase, tree_of, keyword, symbol, in_parens, unary_tokens, operation, call_of_two, binary_tokens, phrase_tokens, Writes}
-use Rattle.unit_tree.specs.Printable.{IsInRange, IsLiteralInRange, IsTailInRange, is_word_literal, is_seconds, is_writable, names_said, names_on, names_on_expression}
+use Rattle.unit_tree.specs.Printable.{IsInRange, IsTailInRange, is_seconds, is_writable, names_said, names_on, names_on_expression}
 use Rattle.unit_tree.specs.Tokens.{IsName, IsSpelling, Spells}
 use Rattle.unit_tree.specs.declared.expr.BinOp.{BinOp}
 use Rattle.unit_tree.specs.declared.expr.BinOp.TheVariants as by
@@ -42,12 +38,14 @@ spelling_fits (token.Name name) text is = is.1
 spelling_fits (token.Number digits decimals) text is = (is.bounded, is.is_fraction.2)
 spelling_fits (token.Symbol spelled) text is = _
 
+-- Tokens that are spelled fit.
 pub spelled_fit : (tokens : List Token) (line : List ℕ) → Spells tokens line → AreFit tokens
 spelled_fit [] line spelled = _
 spelled_fit (first ∷ others) line spelled = (spelling_fits first spelled.1.text spelled.1.spelling, spelled_fit others spelled.0 spelled.2)
 
 -- ---- Names of an expression
 
+-- What stands in parentheses fits.
 inside_parens : (tokens : List Token) → AreFit (in_parens tokens) → AreFit tokens
 inside_parens tokens fit = (each_part IsFit tokens (symbol sign.Close ∷ []) fit.1).0
 
@@ -57,6 +55,7 @@ around_one left right between fit =
     let parts = each_part IsFit left (between ∷ right) fit in
     (parts.0, parts.1.1)
 
+-- The operand fits.
 unary_part : (op : UnOp) (arg : List Token) → AreFit (unary_tokens op arg) → AreFit arg
 unary_part of.Neg arg fit = fit.1
 unary_part of.Not arg fit = fit.1
@@ -64,9 +63,11 @@ unary_part of.Abs arg fit = inside_parens arg fit.1
 unary_part of.ToInt arg fit = inside_parens arg fit.1
 unary_part (of.ToFix decimals) arg fit = inside_parens arg fit.1.1
 
+-- Both operands of a call fit.
 call_parts : (called : Token) (left right : List Token) → AreFit (call_of_two called left right) → AreFit left × AreFit right
 call_parts called left right fit = around_one left right (symbol sign.Comma) (inside_parens (left ++ (symbol sign.Comma ∷ right)) fit.1)
 
+-- Both operands of an operation fit.
 binary_parts : (op : BinOp) (left right : List Token) → AreFit (binary_tokens op left right) → AreFit left × AreFit right
 binary_parts by.Min left right fit = call_parts (operation by.Min) left right fit
 binary_parts by.Max left right fit = call_parts (operation by.Max) left right fit
@@ -115,17 +116,20 @@ tree_names (phrase.Choose condition then_part else_part) fit =
 tree_names phrase.Absent fit = subst AreNames (sym (fold-Absent (List (List ℕ)) node_names)) _
 tree_names (phrase.Present name) fit = subst AreNames (sym (fold-Present (List (List ℕ)) node_names name)) ((inside_parens (token.Name name ∷ []) fit.1).0, _)
 
+-- The names in an expression that fitting tokens write are names.
 expression_names : (value : Expr) (tokens : List Token) → Writes value tokens → AreFit tokens → AreNames (names_in value)
 expression_names value tokens writes fit =
     subst (λ tree. AreNames (names_in tree)) writes.is_tree (tree_names writes.phrase (subst AreFit (sym writes.spelled) fit))
 
 -- ---- Fronts
 
+-- Names with commas are names.
 names_listed : (names : List (List ℕ)) → AreFit (names_tokens names) → AreNames names
 names_listed [] fit = _
 names_listed (name ∷ []) fit = (fit.0, _)
 names_listed (name ∷ next ∷ names) fit = (fit.0, names_listed (next ∷ names) fit.1.1)
 
+-- What is needed are names.
 needed_names : (needs : List (List ℕ)) → AreFit (needs_tokens needs) → AreNames needs
 needed_names [] fit = _
 needed_names (name ∷ names) fit = names_listed (name ∷ names) fit.1
@@ -137,6 +141,7 @@ declared_names declared name ty needs fit =
     let parts = each_part IsFit (declaration declared name ty) (needs_tokens needs) front.0 in
     (fit.1.0, needed_names needs parts.1)
 
+-- The names in front of a literal or an expression are names.
 front_names : (some : LineForm) → AreFit (front_tokens some) → AreNames (names_said some)
 front_names (form.Unit name) fit = (fit.1.0, _)
 front_names (form.Param param) fit = (fit.1.0, _)
@@ -161,10 +166,12 @@ record IsSound (tail : Tail) : Type 0 where
   in_range : IsTailInRange tail
   writable : is_writable tail ≡ true
 
+-- A number that fits has few decimals.
 signed_decimals : (negative : Bool) (digits decimals : ℕ) → AreFit (sign_tokens negative ++ (token.Number digits decimals ∷ [])) → decimals ≤ 9
 signed_decimals true digits decimals fit = fit.1.0.1
 signed_decimals false digits decimals fit = fit.0.1
 
+-- A literal that fitting tokens write is sound.
 literal_is_sound : (value : Literal) (tokens : List Token) → WritesLiteral value tokens → AreFit tokens → IsSound (OfLiteral value)
 literal_is_sound (literal.Truth told) tokens writes fit = record { names = _; in_range = _; writable = refl }
 literal_is_sound (literal.Number number decimals) tokens writes fit = record {
@@ -173,9 +180,11 @@ literal_is_sound (literal.Number number decimals) tokens writes fit = record {
   writable = writes.fits;
 }
 
+-- A number below 2^63 is one of seconds.
 unsigned_is_seconds : (digits decimals : ℕ) → digits < 2 ^ 63 → is_seconds (literal.Number (pos digits) decimals) ≡ true
 unsigned_is_seconds digits decimals small = grind (arith, nat_tests)
 
+-- A number of seconds is sound.
 seconds_are_sound : (seconds : Literal) (tokens : List Token) → WritesSeconds seconds tokens → AreFit tokens → IsSound (OfSeconds seconds)
 seconds_are_sound (literal.Truth told) tokens writes fit = absurd writes
 seconds_are_sound (literal.Number number decimals) tokens writes fit = record {
@@ -184,6 +193,7 @@ seconds_are_sound (literal.Number number decimals) tokens writes fit = record {
   writable = ap (λ n. is_seconds (literal.Number n decimals)) writes.2 ∙ unsigned_is_seconds writes.0 decimals writes.1;
 }
 
+-- A tail that fitting tokens write is sound.
 tail_is_sound : (tail : Tail) (tokens : List Token) → WritesTail tail tokens → AreFit tokens → IsSound tail
 tail_is_sound Nothing tokens writes fit = record { names = _; in_range = _; writable = refl }
 tail_is_sound (OfLiteral value) tokens writes fit = literal_is_sound value tokens writes fit
@@ -200,6 +210,7 @@ pub record IsPrintableForm (some : LineForm) : Type 0 where
   pub in_range : IsInRange some
   pub writable : is_writable (tail_of some) ≡ true
 
+-- The form that fitting tokens write can be printed.
 pub written_is_printable : (some : LineForm) (tokens : List Token) → WritesForm some tokens → AreFit tokens → IsPrintableForm some
 written_is_printable some tokens writes fit =
     let parts = each_part IsFit (front_tokens some) writes.tail (subst AreFit writes.spelled fit) in

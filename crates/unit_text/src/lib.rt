@@ -8,5 +8,7 @@
 mod laws;
 mod worked;
 
-pub use laws::{canonical_lines_are_shortest, canonical_text_is_read_back, what_is_read_is_printable};
+pub use laws::{
+    canonical_lines_are_shortest, canonical_text_is_read_back, what_is_read_is_printable,
+};
 pub use worked::texts_are_worked;
