@@ -49,7 +49,7 @@ has_tokens (form.Rows count) = refl
 has_tokens (form.Sample port) = refl
 
 -- A line that spells tokens is not blank.
-not_blank : (tokens : List Token) (line : List ℕ) (blank : Bool) → list_all is_blank line ≡ blank → starts_with (λ first. true) tokens ≡ true → Spells tokens line → blank ≡ false
+pub not_blank : (tokens : List Token) (line : List ℕ) (blank : Bool) → list_all is_blank line ≡ blank → starts_with (λ first. true) tokens ≡ true → Spells tokens line → blank ≡ false
 not_blank tokens line false is some spelled = refl
 not_blank tokens line true is some spelled =
     let none : tokens ≡ [] = spells_one tokens [] line spelled is in

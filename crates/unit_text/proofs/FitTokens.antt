@@ -53,7 +53,7 @@ abbrev pub AreFit : List Token → Type 0
 AreFit tokens = AllByRecursion IsFit tokens
 
 -- Each of the texts is a name.
-abbrev AreNames : List (List ℕ) → Type 0
+abbrev pub AreNames : List (List ℕ) → Type 0
 AreNames names = AllByRecursion IsName names
 
 -- The parts of a list whose elements all keep a claim.

@@ -25,7 +25,7 @@ not_negative : (number : ℕ) → is_negative (pos number) ≡ false
 not_negative number = grind (arith, nat_tests)
 
 -- A number from 0 up has no sign.
-unsigned_tokens : (digits decimals : ℕ) → literal_tokens (literal.Number (pos digits) decimals) ≡ token.Number digits decimals ∷ []
+pub unsigned_tokens : (digits decimals : ℕ) → literal_tokens (literal.Number (pos digits) decimals) ≡ token.Number digits decimals ∷ []
 unsigned_tokens digits decimals =
     let magnitude : unsigned_abs (pos digits) ≡ digits = omega arith in
     rw (not_negative digits, magnitude) refl

@@ -108,11 +108,11 @@ take_three first second on_one on_two on_three = take_between first on_one (take
 -- ---- Phrases in their places
 
 -- The weakest level allows every other.
-all_in_whole : (level : Level) → allows Whole level ≡ true
+pub all_in_whole : (level : Level) → allows Whole level ≡ true
 all_in_whole level = search rules
 
 -- Every level allows the strongest.
-primary_stands : (asked : Level) → allows asked Primary ≡ true
+pub primary_stands : (asked : Level) → allows asked Primary ≡ true
 primary_stands asked = search rules
 
 -- A phrase takes no more than another one.
@@ -124,7 +124,7 @@ placed_bare : (asked : Level) (canonical written : Phrase) → allows asked (lev
 placed_bare asked canonical written allowed less = rw allowed less
 
 -- The weakest level allows every phrase as it is.
-placed_whole : (canonical : Phrase) → placed Whole canonical ≡ canonical
+pub placed_whole : (canonical : Phrase) → placed Whole canonical ≡ canonical
 placed_whole canonical = ap (λ allowed. cond allowed canonical (phrase.Parens canonical)) (all_in_whole (level_of canonical))
 
 -- What was written in parentheses has them again at most.
@@ -135,7 +135,7 @@ placed_parens false canonical inner less = take_inside less
 -- ---- Phrases
 
 -- The canonical phrase of the tree of what is written.
-abbrev again : Phrase → Phrase
+abbrev pub again : Phrase → Phrase
 again written = canonical_phrase (tree_of written)
 
 -- In every place where a phrase may stand, the canonical one of its tree takes no more.

@@ -18,6 +18,20 @@ use Rattle.unit_tree.specs.declared.system.System.{System}
 abbrev pub CanonicalLinesAreShortest : Type 0
 CanonicalLinesAreShortest = (some : LineForm) (line : List ℕ) → HasForm some line → length (line_text some) ≤ length line
 
+-- Reading the canonical text of a system gives this system.
+abbrev pub CanonicalTextIsReadBack : Type 0
+CanonicalTextIsReadBack = (system : System) → IsPrintable system → Reads (canonical_text system) system
+
+-- What a text says has a canonical text, and is in range.
+abbrev pub WhatIsReadIsPrintable : Type 0
+WhatIsReadIsPrintable = (text : List ℕ) (system : System) → Reads text system → IsPrintable system
+
+-- Lines nest exactly where they are those of parts: the header and lines that may stand behind it, with no block
+-- open at the end, are the lines of some parts.
+abbrev pub NestingIsByParts : Type 0
+NestingIsByParts =
+    (version : ℕ) (forms : List LineForm) → IsTrue (are_placed no_lines (form.Header version ∷ forms)) → (open_blocks (form.Header version ∷ forms) ≡ []) ↔ ((parts : List Part) × (form.Header version ∷ forms ≡ text_forms version parts))
+
 -- ---- Owed
 
 -- A line has one form at most.
@@ -45,17 +59,3 @@ pub record IsAnsweredOnce (text : List ℕ) : Type 0 where
 
 abbrev pub EveryTextIsAnsweredOnce : Type 0
 EveryTextIsAnsweredOnce = (text : List ℕ) → IsAnsweredOnce text
-
--- Lines nest exactly where they are those of parts: the header and lines that may stand behind it, with no block
--- open at the end, are the lines of some parts.
-abbrev pub NestingIsByParts : Type 0
-NestingIsByParts =
-    (version : ℕ) (forms : List LineForm) → IsTrue (are_placed no_lines (form.Header version ∷ forms)) → (open_blocks (form.Header version ∷ forms) ≡ []) ↔ ((parts : List Part) × (form.Header version ∷ forms ≡ text_forms version parts))
-
--- What a text says has a canonical text, and is in range.
-abbrev pub WhatIsReadIsPrintable : Type 0
-WhatIsReadIsPrintable = (text : List ℕ) (system : System) → Reads text system → IsPrintable system
-
--- Reading the canonical text of a system gives this system.
-abbrev pub CanonicalTextIsReadBack : Type 0
-CanonicalTextIsReadBack = (system : System) → IsPrintable system → Reads (canonical_text system) system
