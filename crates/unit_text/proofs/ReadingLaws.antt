@@ -16,7 +16,7 @@ use Rattle.unit_tree.specs.declared.line_form.LineForm.TheVariants as form
 use Rattle.unit_tree.specs.declared.system.System.{System}
 use Rattle.unit_text.specs.Drafts.{bare_draft, with_form, whole_by, whole_system}
 use Rattle.unit_text.specs.Nesting.{Open, AtTop, InUnit, InStep, InInstance, Inner, Nested, headed_by, and_step_form, in_step, and_form_in, and_form, nested_forms, blocks_of}
-use Rattle.unit_text.specs.Reading.{IsWritten, LineIs, IsHeadless, FirstGives, IsFormOf, IsOfOther, FormIn, FormGives, LineGives, headless_rule, blank_rule, FirstAt, HeadsText, HeadBreaks, HeaderGives, AnswersText}
+use Rattle.unit_text.specs.Reading.{IsWritten, LineIs, IsHeadless, FirstGives, IsFormOf, IsOfOther, FormIn, FormGives, LineGives, headless_rule, blank_rule, FirstAt, HeadsText, HeadBreaks, HeaderGives, AnswersAt, AnswersText}
 use Rattle.unit_text.specs.Seen.{IsClean, TellsOf}
 use Rattle.unit_text.specs.declared.draft.Around.{Around}
 use Rattle.unit_text.specs.declared.draft.Draft.{Draft}
@@ -81,6 +81,12 @@ blank_next text rest line behind number so_far cut shorter clean blank = record 
   within = let within = so_far.within in omega (arith, within, shorter);
 }
 
+-- a first written line that gives no version
+pub head_answer : (text line rest : List ℕ) (number : ℕ) (why : TextFault) → FirstAt text line number rest → IsWritten line → AnswersAt number (FirstGives line) (Err why) → HeaderGives text (Err why)
+head_answer text line rest number (fault.Line at rule) first is (at_is, gives) =
+    inl (record { line = line; rest = rest; first = subst (λ n. FirstAt text line n rest) (sym at_is) first; breaks = inr (is, gives) })
+head_answer text line rest number fault.NoMemory first is gives = tt
+
 all_are_blank : (before : List (List ℕ)) → AllByRecursion (λ one. IsClean one × (is_blank_line one ≡ true)) before → list_all is_blank_line before ≡ true
 all_are_blank [] all = refl
 all_are_blank (one ∷ before) all = ap (λ told. told && list_all is_blank_line before) all.0.1 ∙ all_are_blank before all.1
@@ -101,7 +107,7 @@ blank_before : (text before : List (List ℕ)) → AllByRecursion (λ one. IsCle
 blank_before text before all = are_blank text [] before (record { kept = tt; short = refl; blank = refl }) all
 
 -- The first line that is not blank, as the definitions have it.
-first_of : (text line rest : List ℕ) (number : ℕ) (first : FirstAt text line number rest) → IsWritten line → FirstLine (source_lines text)
+abbrev first_of : (text line rest : List ℕ) (number : ℕ) (first : FirstAt text line number rest) → IsWritten line → FirstLine (source_lines text)
 first_of text line rest number first is = record {
   before = first.before;
   line = line;

@@ -172,6 +172,7 @@ fn blank_rule(text: &[u8]) -> u8
 }
 
 /// The version that the header of a text gives, the number of its line, and the text behind it.
+#[tactic(auto, using(unit_tokens::proofs::LineLemmas::length_le_size_of, crate::proofs::ReadingLaws::blank_none, crate::proofs::ReadingLaws::blank_next, crate::proofs::ReadingLaws::blank_end))]
 fn header_of(alloc: Global, text: &[u8]) -> Result<(u8, u32, &[u8]), TextFault>
     requires { size_of text.now ≤ text_limit }
     ensures { HeaderGives text.now result }
@@ -186,7 +187,12 @@ fn header_of(alloc: Global, text: &[u8]) -> Result<(u8, u32, &[u8]), TextFault>
         match look_at(line) {
             Seen::Broken(rule) => return Err(TextFault::Line { line: number, rule }),
             Seen::Blank => {}
-            Seen::Written => return Ok((version_of(alloc, line, number)?, number, rest)),
+            Seen::Written => {
+                return match version_of(alloc, line, number) {
+                    Ok(version) => Ok((version, number, rest)),
+                    Err(fault) => Err(fault),
+                };
+            }
         }
     }
     Err(TextFault::Line {
