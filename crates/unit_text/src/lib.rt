@@ -12,6 +12,7 @@ mod draft;
 mod expressions;
 mod laws;
 mod levels;
+mod line_form;
 #[cfg(test)]
 mod tests;
 mod worked;
