@@ -133,9 +133,9 @@ AreNeeds tokens found = needs_tokens found.0 ++ found.1 ≡ tokens
 more_names_is : (first : List ℕ) (names : List (List ℕ)) (tokens : List Token) → IfSome (more_names (first ∷ names) tokens) (AreNeeds (needs_tokens (first ∷ names) ++ tokens))
 more_names_is first names (token.Symbol sign.Comma ∷ token.Name next ∷ rest) =
     subst (λ all. IfSome (more_names (first ∷ names ++ (next ∷ [])) rest) (AreNeeds all))
-        (ap (λ all. keyword word.Needs ∷ all ++ rest) (names_and_one first next names)
-        ∙ ap (λ all. keyword word.Needs ∷ all) (append_assoc (names_tokens (first ∷ names)) (symbol sign.Comma ∷ token.Name next ∷ []) rest))
-        (more_names_is first (names ++ (next ∷ [])) rest)
+    (ap (λ all. keyword word.Needs ∷ all ++ rest) (names_and_one first next names)
+    ∙ ap (λ all. keyword word.Needs ∷ all) (append_assoc (names_tokens (first ∷ names)) (symbol sign.Comma ∷ token.Name next ∷ []) rest))
+    (more_names_is first (names ++ (next ∷ [])) rest)
 more_names_is first names (token.Symbol sign.Comma ∷ rest) = tt
 more_names_is first names _ = refl
 
@@ -202,7 +202,7 @@ started_of_is tokens =
     record {
       tail = behind;
       spelled = sym (
-        ap (λ all. token.Name declared.0.name ∷ symbol sign.Colon ∷ all) (append_assoc (type_tokens declared.0.ty) equals behind ∙ ap (λ all. type_tokens declared.0.ty ++ all) behind_is) ∙ is.0);
+          ap (λ all. token.Name declared.0.name ∷ symbol sign.Colon ∷ all) (append_assoc (type_tokens declared.0.ty) equals behind ∙ ap (λ all. type_tokens declared.0.ty ++ all) behind_is) ∙ is.0);
       tail_is = start_is;
       counts = is.1;
     })))
@@ -224,7 +224,7 @@ output_of_is tokens =
     record {
       tail = behind;
       spelled = sym (
-        ap (λ all. token.Name declared.0.name ∷ symbol sign.Colon ∷ all) (append_assoc (type_tokens declared.0.ty ++ needs_tokens needed.0) equals behind
+          ap (λ all. token.Name declared.0.name ∷ symbol sign.Colon ∷ all) (append_assoc (type_tokens declared.0.ty ++ needs_tokens needed.0) equals behind
           ∙ ap (λ all. (type_tokens declared.0.ty ++ needs_tokens needed.0) ++ all) behind_is
           ∙ append_assoc (type_tokens declared.0.ty) (needs_tokens needed.0) needed.1
           ∙ ap (λ all. type_tokens declared.0.ty ++ all) needed_is) ∙ is.0);
@@ -331,9 +331,9 @@ instance_is tokens =
     then_holds (after_symbol sign.Colon name.1) _ _ (Written (keyword word.Instance ∷ tokens)) (after_symbol_is sign.Colon name.1) (λ behind colon.
     then_holds (name_at behind) _ _ (Written (keyword word.Instance ∷ tokens)) (name_at_is behind) (λ unit is.
     last_is (form.Instance name.0 unit.0) unit.1 _ refl (
-        ap (λ all. keyword word.Instance ∷ token.Name name.0 ∷ symbol sign.Colon ∷ all) is
-        ∙ ap (λ all. keyword word.Instance ∷ token.Name name.0 ∷ all) colon
-        ∙ ap (λ all. keyword word.Instance ∷ all) named) tt)))
+    ap (λ all. keyword word.Instance ∷ token.Name name.0 ∷ symbol sign.Colon ∷ all) is
+    ∙ ap (λ all. keyword word.Instance ∷ token.Name name.0 ∷ all) colon
+    ∙ ap (λ all. keyword word.Instance ∷ all) named) tt)))
 
 connect_is : (tokens : List Token) → IfSome (connect_form tokens) (Written (keyword word.Connect ∷ tokens))
 unfolding connect_form
@@ -342,9 +342,9 @@ connect_is tokens =
     then_holds (after_symbol sign.Arrow from.1) _ _ (Written (keyword word.Connect ∷ tokens)) (after_symbol_is sign.Arrow from.1) (λ behind arrow.
     then_holds (port_at behind) _ _ (Written (keyword word.Connect ∷ tokens)) (port_at_is behind) (λ to to_is.
     last_is (form.Connect (record { from = from.0; to = to.0 })) to.1 _ refl (
-        ap (λ all. keyword word.Connect ∷ port_tokens from.0 ++ (symbol sign.Arrow ∷ all)) to_is
-        ∙ ap (λ all. keyword word.Connect ∷ port_tokens from.0 ++ all) arrow
-        ∙ ap (λ all. keyword word.Connect ∷ all) from_is) tt)))
+    ap (λ all. keyword word.Connect ∷ port_tokens from.0 ++ (symbol sign.Arrow ∷ all)) to_is
+    ∙ ap (λ all. keyword word.Connect ∷ port_tokens from.0 ++ all) arrow
+    ∙ ap (λ all. keyword word.Connect ∷ all) from_is) tt)))
 
 stop_is : (tokens : List Token) → IfSome (stop_form tokens) (Written (keyword word.Stop ∷ tokens))
 unfolding stop_form

@@ -18,11 +18,11 @@ use Rattle.unit_tree.specs.declared.system.System.{System}
 abbrev pub CanonicalLinesAreShortest : Type 0
 CanonicalLinesAreShortest = (some : LineForm) (line : List ℕ) → HasForm some line → length (line_text some) ≤ length line
 
--- ---- Owed
-
 -- A line has one form at most.
 abbrev pub HasOneForm : Type 0
 HasOneForm = (line : List ℕ) (one other : LineForm) → HasForm one line → HasForm other line → one ≡ other
+
+-- ---- Owed
 
 -- A text is written with one version and one list of parts at most, and so says one system at most.
 abbrev pub HasOneReading : List ℕ → Type 0

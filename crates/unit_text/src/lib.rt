@@ -4,7 +4,11 @@
 //! one at most is [`tokens_write_one_expression`]. How the reading goes about it stands in `specs/Expressions.antt`;
 //! `proofs/WrittenTrees.antt` has what follows for tokens that write an expression.
 //!
-//! `specs/Laws.antt` states the laws; [`canonical_lines_are_shortest`] is of canonical lines. [`texts_are_worked`] is one
+//! [`line_form`] gives the form that the tokens of a line write, or that they write none. How a line is read stands in
+//! `specs/LineReading.antt`; `proofs/FormsOfLines.antt` has what follows for lines, of which each has a form or none.
+//!
+//! `specs/Laws.antt` states the laws; [`canonical_lines_are_shortest`] is of canonical lines, and
+//! [`lines_have_one_form`] of all. [`texts_are_worked`] is one
 //! of worked texts, `specs/WorkedTexts.antt`: each is read or refused as the definitions say.
 #![tactic(auto)]
 
@@ -12,11 +16,12 @@ mod draft;
 mod expressions;
 mod laws;
 mod levels;
-mod line_form;
+mod line_forms;
 #[cfg(test)]
 mod tests;
 mod worked;
 
 pub use expressions::{expression, tokens_write_one_expression};
-pub use laws::canonical_lines_are_shortest;
+pub use laws::{canonical_lines_are_shortest, lines_have_one_form};
+pub use line_forms::line_form;
 pub use worked::texts_are_worked;

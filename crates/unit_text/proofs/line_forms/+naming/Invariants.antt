@@ -1,5 +1,5 @@
 use Rattle.std.proofs.Common.{length}
-use Rattle.unit_text.proofs.line_form.+naming.Given as goal
+use Rattle.unit_text.proofs.line_forms.+naming.Given as goal
 
 abbrev pub decreases-more_names : goal.decreases-more_names
 decreases-more_names l = length l.tokens.now

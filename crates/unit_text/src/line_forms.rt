@@ -1,5 +1,6 @@
 //! Reading of the form of a line.
-ghost use Rattle.std.specs.Prelude.{◌≡◌, [], ◌∷◌, ◌++◌, Some, None, if◌then◌else◌};
+ghost use Rattle.std.specs.Prelude.{◌≡◌, ◌==◌, [], ◌∷◌, ◌++◌, Some, None, if◌then◌else◌};
+ghost use Rattle.std.specs.List.{position_or_len};
 ghost use Rattle.fixed_words.specs.Literals.{with_sign};
 ghost use Rattle.fixed_words.specs.Types.{is_word_of};
 ghost use Rattle.fixed_words.specs.declared.types.Ty.TheVariants.{Int64};
@@ -13,7 +14,7 @@ ghost use Rattle.unit_text.specs.LineReading.{FormIs, LineHas, count_at, unsigne
 use crate::expressions::{after_symbol, decimals_at, name_at, whole_expression};
 use fixed_words::{List, Literal, Ty};
 use std::alloc::Global;
-use unit_tokens::Unread;
+use unit_tokens::{Unread, tokens};
 use unit_tree::{
     EventIn, EventOut, Input, Keyword, LineForm, Local, Name, Output, Param, PortName, Setting,
     State, Symbol, Token, Wire,
@@ -36,8 +37,11 @@ const MOST_ROWS: u32 = 100_000;
 
 /// The names of the integer types from 0 up, and of fixed point.
 const UINT8: &[u8] = b"UInt8";
+
 const UINT16: &[u8] = b"UInt16";
+
 const UINT32: &[u8] = b"UInt32";
+
 const FIXED: &[u8] = b"Fixed";
 
 /// A whole number from `low` to `high`.
@@ -209,9 +213,10 @@ fn whole_literal(tokens: &[Token]) -> Result<Literal, Unread>
         [Token::Keyword(Keyword::True)] => Ok(Literal::Truth(true)),
         [Token::Keyword(Keyword::False)] => Ok(Literal::Truth(false)),
         [Token::Number { digits, decimals }] => number_literal(false, *digits, *decimals),
-        [Token::Symbol(Symbol::Minus), Token::Number { digits, decimals }] => {
-            number_literal(true, *digits, *decimals)
-        }
+        [
+            Token::Symbol(Symbol::Minus),
+            Token::Number { digits, decimals },
+        ] => { number_literal(true, *digits, *decimals) }
         _ => Err(Unread::NoForm),
     }
 }
@@ -533,4 +538,29 @@ pub fn line_form(alloc: Global, tokens: &[Token]) -> Result<LineForm, Unread>
     ensures { ReadsAs result (FormIs tokens.now) }
 {
     whole_line(alloc, tokens)
+}
+
+/// The place of the first `#`, or the length where there is none.
+fn comment_place(line: &[u8]) -> usize
+    ensures { result ≡ position_or_len (λ byte. byte == 35) line.now }
+{
+    line.iter()
+        .position(|&byte| byte == b'#')
+        .unwrap_or(line.len())
+}
+
+/// The code of a line, which stands before its comment.
+fn code(line: &[u8]) -> &[u8]
+    ensures { result.now ≡ code_of line.now }
+{
+    line.split_at(comment_place(line)).0
+}
+
+/// The form that a line, without its end, has.
+#[tactic(auto, using(crate::proofs::FormsOfLines::line_reads, crate::proofs::FormsOfLines::line_unspelled))]
+pub(crate) fn form_of_line(alloc: Global, line: &[u8]) -> Result<LineForm, Unread>
+    ensures { ReadsAs result (LineHas line.now) }
+{
+    let tokens = tokens(alloc, code(line))?;
+    line_form(alloc, tokens.as_slice())
 }
