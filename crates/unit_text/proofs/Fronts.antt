@@ -33,19 +33,19 @@ then_holds None next P Q is more = tt
 then_holds (Some x) next P Q is more = more x is
 
 -- What holds where a test passes holds of the reading that wants it passed.
-if_holds : {B : Type 0} (test : Bool) (found : Option B) (Q : B → Type 0) → (test ≡ true → IfSome found Q) → IfSome (cond test found None) Q
+pub if_holds : {B : Type 0} (test : Bool) (found : Option B) (Q : B → Type 0) → (test ≡ true → IfSome found Q) → IfSome (cond test found None) Q
 if_holds true found Q more = more refl
 if_holds false found Q more = tt
 
 -- Symbols with one text are one.
-same_symbol_is : (one other : Symbol) → same_symbol one other ≡ true → one ≡ other
+pub same_symbol_is : (one other : Symbol) → same_symbol one other ≡ true → one ≡ other
 same_symbol_is one other same =
     let texts : symbol_text one ≡ symbol_text other = (bytes_eq-Decides (symbol_text one) (symbol_text other)).0 same in
     let both : ◌≡◌ {A = Option Symbol} (Some one) (Some other) = sym (symbol_of-symbol_text one) ∙ ap symbol_of texts ∙ symbol_of-symbol_text other in
     cc
 
 -- Single tokens are read only where they stand.
-after_symbol_is : (wanted : Symbol) (tokens : List Token) → IfSome (after_symbol wanted tokens) (λ rest. symbol wanted ∷ rest ≡ tokens)
+pub after_symbol_is : (wanted : Symbol) (tokens : List Token) → IfSome (after_symbol wanted tokens) (λ rest. symbol wanted ∷ rest ≡ tokens)
 after_symbol_is wanted [] = tt
 after_symbol_is wanted (token.Symbol found ∷ rest) =
     if_holds (same_symbol found wanted) (Some rest) (λ behind. symbol wanted ∷ behind ≡ token.Symbol found ∷ rest) (λ same. ap (λ s. token.Symbol s ∷ rest) (sym (same_symbol_is found wanted same)))
@@ -59,12 +59,12 @@ after_else_is : (tokens : List Token) → IfSome (after_else tokens) (λ rest. k
 after_else_is (token.Keyword word.Else ∷ rest) = refl
 after_else_is _ = tt
 
-name_at_is : (tokens : List Token) → IfSome (name_at tokens) (λ found. token.Name found.0 ∷ found.1 ≡ tokens)
+pub name_at_is : (tokens : List Token) → IfSome (name_at tokens) (λ found. token.Name found.0 ∷ found.1 ≡ tokens)
 name_at_is [] = tt
 name_at_is (token.Name name ∷ rest) = refl
 name_at_is (_ ∷ rest) = tt
 
-decimals_at_is : (tokens : List Token) → IfSome (decimals_at tokens) (λ found. (whole found.0 ∷ found.1 ≡ tokens) × (nat_le found.0 9 ≡ true))
+pub decimals_at_is : (tokens : List Token) → IfSome (decimals_at tokens) (λ found. (whole found.0 ∷ found.1 ≡ tokens) × (nat_le found.0 9 ≡ true))
 decimals_at_is [] = tt
 decimals_at_is (token.Number digits decimals ∷ rest) =
     if_holds ((decimals == 0) && nat_le digits 9) (Some (digits, rest)) (λ found. (whole found.0 ∷ found.1 ≡ token.Number digits decimals ∷ rest) × (nat_le found.0 9 ≡ true)) (λ both.

@@ -16,7 +16,8 @@ use Rattle.unit_tree.specs.declared.line_form.LineForm.TheVariants as form
 use Rattle.unit_tree.specs.declared.system.System.{System}
 use Rattle.unit_text.specs.Drafts.{bare_draft, with_form, whole_by, whole_system}
 use Rattle.unit_text.specs.Nesting.{Open, AtTop, InUnit, InStep, InInstance, Inner, Nested, headed_by, and_step_form, in_step, and_form_in, and_form, nested_forms, blocks_of}
-use Rattle.unit_text.specs.Reading.{IsWritten, LineIs, IsHeadless, FirstGives, IsFormOf, IsOfOther, FormIn, FormGives, LineGives, headless_rule, blank_rule, FirstAt, HeadsText, HeadBreaks, HeaderGives, AnswersAt, AnswersText}
+use Rattle.unit_text.specs.Reading.{IsWritten, IsHeadless, FirstGives, IsFormOf, IsOfOther, FormIn, FormGives, LineGives, headless_rule, blank_rule, FirstAt, HeadsText, HeadBreaks, HeaderGives, AnswersAt, AnswersText}
+use Rattle.unit_text.specs.LineReading.{LineHas}
 use Rattle.unit_text.specs.Seen.{IsClean, TellsOf}
 use Rattle.unit_text.specs.declared.draft.Around.{Around}
 use Rattle.unit_text.specs.declared.draft.Draft.{Draft}

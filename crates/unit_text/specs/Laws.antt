@@ -1,5 +1,4 @@
--- Laws of reading: what the definitions of the language promise to those who read texts and write them. Those of the
--- first part are proved; those of the second are owed, and not proved yet.
+-- Laws of reading: what the definitions of the language promise to those who read texts and write them.
 use Rattle.std.specs.Prelude.{◌≡◌, ◌≤◌, ◌⊎◌, ◌↔◌, ℕ, List, [], ◌∷◌, length, IsTrue}
 use Rattle.unit_tree.specs.Blocks.{no_lines, open_blocks, are_placed}
 use Rattle.unit_tree.specs.Canonical.{canonical_text, line_text}
@@ -11,28 +10,6 @@ use Rattle.unit_tree.specs.Texts.{HaveForms, Reads, IsRefused}
 use Rattle.unit_tree.specs.declared.line_form.LineForm.{LineForm}
 use Rattle.unit_tree.specs.declared.line_form.LineForm.TheVariants as form
 use Rattle.unit_tree.specs.declared.system.System.{System}
-
--- ---- Proved
-
--- A canonical line is never longer than a line that it came from.
-abbrev pub CanonicalLinesAreShortest : Type 0
-CanonicalLinesAreShortest = (some : LineForm) (line : List ℕ) → HasForm some line → length (line_text some) ≤ length line
-
--- Reading the canonical text of a system gives this system.
-abbrev pub CanonicalTextIsReadBack : Type 0
-CanonicalTextIsReadBack = (system : System) → IsPrintable system → Reads (canonical_text system) system
-
--- What a text says has a canonical text, and is in range.
-abbrev pub WhatIsReadIsPrintable : Type 0
-WhatIsReadIsPrintable = (text : List ℕ) (system : System) → Reads text system → IsPrintable system
-
--- Lines nest exactly where they are those of parts: the header and lines that may stand behind it, with no block
--- open at the end, are the lines of some parts.
-abbrev pub NestingIsByParts : Type 0
-NestingIsByParts =
-    (version : ℕ) (forms : List LineForm) → IsTrue (are_placed no_lines (form.Header version ∷ forms)) → (open_blocks (form.Header version ∷ forms) ≡ []) ↔ ((parts : List Part) × (form.Header version ∷ forms ≡ text_forms version parts))
-
--- ---- Owed
 
 -- A line has one form at most.
 abbrev pub HasOneForm : Type 0
@@ -59,3 +36,21 @@ pub record IsAnsweredOnce (text : List ℕ) : Type 0 where
 
 abbrev pub EveryTextIsAnsweredOnce : Type 0
 EveryTextIsAnsweredOnce = (text : List ℕ) → IsAnsweredOnce text
+
+-- Lines nest exactly where they are those of parts: the header and lines that may stand behind it, with no block
+-- open at the end, are the lines of some parts.
+abbrev pub NestingIsByParts : Type 0
+NestingIsByParts =
+    (version : ℕ) (forms : List LineForm) → IsTrue (are_placed no_lines (form.Header version ∷ forms)) → (open_blocks (form.Header version ∷ forms) ≡ []) ↔ ((parts : List Part) × (form.Header version ∷ forms ≡ text_forms version parts))
+
+-- What a text says has a canonical text, and is in range.
+abbrev pub WhatIsReadIsPrintable : Type 0
+WhatIsReadIsPrintable = (text : List ℕ) (system : System) → Reads text system → IsPrintable system
+
+-- Reading the canonical text of a system gives this system.
+abbrev pub CanonicalTextIsReadBack : Type 0
+CanonicalTextIsReadBack = (system : System) → IsPrintable system → Reads (canonical_text system) system
+
+-- A canonical line is never longer than a line that it came from.
+abbrev pub CanonicalLinesAreShortest : Type 0
+CanonicalLinesAreShortest = (some : LineForm) (line : List ℕ) → HasForm some line → length (line_text some) ≤ length line

@@ -2,6 +2,7 @@ pub mod Drafts
 pub mod Expressions
 pub mod Laws
 pub mod Levels
+pub mod LineReading
 pub mod Nesting
 pub mod Reading
 pub mod Seen

@@ -12,6 +12,7 @@ use Rattle.unit_tree.specs.declared.system.System.{System}
 use Rattle.unit_tokens.specs.declared.fault.Unread.{Unread}
 use Rattle.unit_tokens.specs.declared.fault.Unread.TheVariants as unread
 use Rattle.unit_text.specs.Drafts.{with_form}
+use Rattle.unit_text.specs.LineReading.{LineHas}
 use Rattle.unit_text.specs.Seen.{IsClean, TellsOf}
 use Rattle.unit_text.specs.declared.draft.Draft.{Draft}
 use Rattle.unit_text.specs.declared.fault.TextFault.{TextFault}
@@ -22,11 +23,6 @@ use Rattle.unit_text.specs.declared.lines.Seen.TheVariants as told
 pub record IsWritten (line : List ℕ) : Type 0 where
   pub clean : IsClean line
   pub written : is_blank_line line ≡ false
-
--- The line has the form.
-abbrev pub LineIs : List ℕ → Option LineForm → Type 0
-LineIs line (Some some) = HasForm some line
-LineIs line None = (some : LineForm) → HasForm some line → ⊥
 
 -- ---- The first line that is not blank
 
@@ -45,7 +41,7 @@ pub record IsHeadless (line : List ℕ) (rule : ℕ) : Type 0 where
 -- Such a line gives the version, or breaks a rule.
 abbrev pub FirstGives : List ℕ → Result ℕ ℕ → Type 0
 FirstGives line (Ok version) = HasForm (form.Header version) line
-FirstGives line (Err rule) = ((rule ≡ 4) × LineIs line None) ⊎ IsHeadless line rule
+FirstGives line (Err rule) = ((rule ≡ 4) × LineHas line None) ⊎ IsHeadless line rule
 
 -- ---- The lines behind the header
 
@@ -62,7 +58,7 @@ pub record IsOfOther (version : ℕ) (line : List ℕ) : Type 0 where
 -- The form of a line in a text of the version.
 abbrev pub FormIn : ℕ → List ℕ → Option LineForm → Type 0
 FormIn version line (Some some) = HasForm some line × IsFormOf version some
-FormIn version line None = LineIs line None ⊎ IsOfOther version line
+FormIn version line None = LineHas line None ⊎ IsOfOther version line
 
 -- The line has a form of the version, and the draft becomes this with it: none where the form may not stand there.
 pub record FormGives (draft : Draft) (line : List ℕ) (next : Option Draft) : Type 0 where

@@ -19,7 +19,7 @@ const MOST_DECIMALS: u8 = 9;
 /// The first number that no word of 64 bits is.
 const WORD_END: u64 = 1 << 63;
 
-fn after_symbol(symbol: Symbol, tokens: &[Token]) -> Result<&[Token], Unread>
+pub(crate) fn after_symbol(symbol: Symbol, tokens: &[Token]) -> Result<&[Token], Unread>
     ensures { GivesRest result (after_symbol symbol tokens.now) }
 {
     match tokens {
@@ -46,7 +46,7 @@ fn after_else(tokens: &[Token]) -> Result<&[Token], Unread>
     }
 }
 
-fn name_at(alloc: Global, tokens: &[Token]) -> Result<(Name, &[Token]), Unread>
+pub(crate) fn name_at(alloc: Global, tokens: &[Token]) -> Result<(Name, &[Token]), Unread>
     ensures { GivesFront result (name_at tokens.now) }
 {
     match tokens {
@@ -56,7 +56,7 @@ fn name_at(alloc: Global, tokens: &[Token]) -> Result<(Name, &[Token]), Unread>
 }
 
 /// How many decimals a conversion to fixed point asks for.
-fn decimals_at(tokens: &[Token]) -> Result<(u8, &[Token]), Unread>
+pub(crate) fn decimals_at(tokens: &[Token]) -> Result<(u8, &[Token]), Unread>
     ensures { GivesFront result (decimals_at tokens.now) }
 {
     match tokens {
@@ -364,7 +364,7 @@ fn read(
 
 /// An expression with no token behind it.
 #[tactic(auto, unfolding(crate::specs::Expressions::read_expression))]
-fn whole_expression(alloc: Global, tokens: &[Token]) -> Result<Expr, Unread>
+pub(crate) fn whole_expression(alloc: Global, tokens: &[Token]) -> Result<Expr, Unread>
     ensures { Gives result (read_expression tokens.now) }
 {
     let (tree, _, rest) = read(alloc, DEEPEST, Level::Whole, tokens)?;

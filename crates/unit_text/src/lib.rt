@@ -2,7 +2,8 @@
 //! text is refused.
 //!
 //! The layer above uses [`read_system`] with its [`TextFault`]. The laws of reading are public functions without a body:
-//! each text is answered once ([`texts_are_answered_once`]), nesting is by parts ([`nesting_is_by_parts`]), what is read is
+//! each text is answered once ([`texts_are_answered_once`]), a line has one form at most ([`lines_have_one_form`]) and so
+//! has an expression ([`tokens_write_one_expression`]), nesting is by parts ([`nesting_is_by_parts`]), what is read is
 //! printable ([`what_is_read_is_printable`]), a canonical text is read back ([`canonical_text_is_read_back`]), and no
 //! canonical line is longer than a line that it came from ([`canonical_lines_are_shortest`]). [`texts_are_worked`] is of
 //! texts that were worked out by hand.
@@ -17,7 +18,7 @@ mod expressions;
 mod fault;
 mod laws;
 mod levels;
-mod line_form;
+mod line_forms;
 mod lines;
 mod reading;
 #[cfg(test)]
@@ -28,8 +29,9 @@ mod worked;
 pub use expressions::{expression, tokens_write_one_expression};
 pub use fault::TextFault;
 pub use laws::{
-    canonical_lines_are_shortest, canonical_text_is_read_back, nesting_is_by_parts,
-    what_is_read_is_printable,
+    canonical_lines_are_shortest, canonical_text_is_read_back, lines_have_one_form,
+    nesting_is_by_parts, texts_are_answered_once, what_is_read_is_printable,
 };
+pub use line_forms::line_form;
 pub use reading::{LONGEST_TEXT, SIZE_RULE, read_system};
 pub use worked::texts_are_worked;

@@ -6,11 +6,11 @@ ghost use Rattle.unit_tree.specs.Lines.{source_lines, size_of, is_blank_line};
 ghost use Rattle.unit_tree.specs.Texts.{text_limit};
 ghost use Rattle.unit_tokens.specs.Scanning.{ReadsAs};
 ghost use Rattle.unit_text.specs.Seen.{TellsOf};
-ghost use Rattle.unit_text.specs.Reading.{LineIs, IsWritten, headless_rule, FirstGives, IsFormOf, FormIn, LineGives, fault_at, AnswersAt, blank_rule, HeaderGives, AnswersText};
+ghost use Rattle.unit_text.specs.Reading.{IsWritten, headless_rule, FirstGives, IsFormOf, FormIn, LineGives, fault_at, AnswersAt, blank_rule, HeaderGives, AnswersText};
 
 use crate::draft::Draft;
 use crate::fault::TextFault;
-use crate::line_form::form_of_line;
+use crate::line_forms::form_of_line;
 use crate::lines::{LENGTH_RULE, LONGEST_LINE, Seen, is_blank_line, look_at, without_return};
 use crate::versions::{VERSION_2, is_of_version_2};
 use std::alloc::Global;

@@ -1,9 +1,10 @@
 use crate::expression;
+use crate::line_forms::form_of_line;
 use fixed_words::NoMemory;
 use std::alloc::Global;
 use std::test::Fail;
 use unit_tokens::{Unread, tokens};
-use unit_tree::{BinOp, Expr, UnOp};
+use unit_tree::{BinOp, Expr, LineForm, UnOp};
 
 fn operation(op: BinOp) -> &'static str {
     match op {
@@ -149,6 +150,58 @@ fn parts_are_nested_64_levels_deep_at_most(rt: HostRuntime) -> Result<(), Fail> 
         let line = nested(rt.alloc(), *levels)?;
         let found = tree_text(rt.alloc(), line.as_bytes())?;
         assert_eq!(rt; found.as_str(), *tree);
+    }
+    Ok(())
+}
+
+/// What the line is, or `?` where it has no form.
+fn kind(form: &LineForm) -> &'static str {
+    match form {
+        LineForm::Header(1) => "version 1",
+        LineForm::State(_) => "state",
+        LineForm::Param(_) => "param",
+        LineForm::Local(_) => "local",
+        LineForm::Output(_) => "output",
+        LineForm::EventOutput(_) => "event output",
+        LineForm::Max(_) => "max",
+        LineForm::Connect(_) => "connect",
+        _ => "another",
+    }
+}
+
+/// The kind of form that a line has, and `?` where it has none.
+fn form_text(alloc: Global, line: &[u8]) -> Result<&'static str, Fail> {
+    match form_of_line(alloc, line) {
+        Ok(form) => Ok(kind(&form)),
+        Err(Unread::NoForm) => Ok("?"),
+        Err(Unread::NoMemory) => Err(Fail::from("no memory")),
+    }
+}
+
+#[test]
+fn forms_of_lines_are_read(rt: HostRuntime) -> Result<(), Fail> {
+    let lines: [(&str, &str); 18] = [
+        ("cosim 01 # the version", "version 1"),
+        ("cosim 1.0", "?"),
+        ("local x : Fixed 02", "local"),
+        ("local x : Fixed 10", "?"),
+        ("max (1)", "max"),
+        ("max (1, 2)", "?"),
+        ("resolution 10", "?"),
+        ("repeat 0", "?"),
+        ("rows 100001", "?"),
+        ("x := 1 2", "?"),
+        ("state s : Int8 = -0", "state"),
+        ("output y : Int64 needs a, b = a", "output"),
+        ("output y : Int64 needs a, = a", "?"),
+        ("event output e : Bool needs u = present(u)", "event output"),
+        ("connect a.y -> b.u", "connect"),
+        ("stop -1", "?"),
+        ("param p : Int64 = -9223372036854775808", "param"),
+        ("x := -9223372036854775808", "?"),
+    ];
+    for (line, found) in lines.iter() {
+        assert_eq!(rt; form_text(rt.alloc(), line.as_bytes())?, *found);
     }
     Ok(())
 }

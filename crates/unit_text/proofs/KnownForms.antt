@@ -1,0 +1,6 @@
+-- Each line has one form, or none.
+use Rattle.unit_text.proofs.FormsOfLines.{form_of, one_form}
+use Rattle.unit_text.proofs.Walks.{FormsAreKnown}
+
+pub known : FormsAreKnown
+known = record { form_of = form_of; one = one_form }
