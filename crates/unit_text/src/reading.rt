@@ -202,6 +202,7 @@ fn header_of(alloc: Global, text: &[u8]) -> Result<(u8, u32, &[u8]), TextFault>
 }
 
 /// The system that a text says whose lines are not all blank.
+#[tactic(auto, using(unit_tokens::proofs::LineLemmas::length_le_size_of))]
 fn read_lines(alloc: Global, text: &[u8]) -> Result<System, TextFault>
     requires short { size_of text.now ≤ text_limit }
     requires written { list_all is_blank_line (source_lines text.now) ≡ false }
