@@ -1,6 +1,5 @@
 -- What tokens write is the form that is read of them: what is written is read again.
-use Rattle.std.proofs.Common.{◌≡◌, ℕ, ◌<◌, ◌≤◌, ◌^◌, Bool, true, false, cond, ◌&&◌, ◌==◌, ℤ, pos, nat_le, nat_lt, List, [], ◌∷◌, ◌++◌, append_assoc, Option, Some, None, Result, Ok, Err, refl, ap, sym, subst, ◌∙◌, arith, ◌⊎◌, inl, inr}
-use Rattle.std.specs.Prelude.{option_and_then}
+use Rattle.std.proofs.Common.{◌≡◌, ℕ, ◌≤◌, ◌^◌, Bool, true, false, ℤ, pos, nat_le, nat_lt, List, [], ◌∷◌, ◌++◌, append_assoc, Option, Some, None, Result, Ok, Err, refl, ap, sym, subst, ◌∙◌, arith}
 use Rattle.std.proofs.lemmas.Bool.{cond-true}
 use Rattle.std.proofs.lemmas.Bool.Decides.{nat_tests}
 use Rattle.std.proofs.lemmas.List.{append-nil}
@@ -10,9 +9,8 @@ use Rattle.fixed_words.specs.declared.types.Literal.{Literal}
 use Rattle.fixed_words.specs.declared.types.Literal.TheVariants as literal
 use Rattle.fixed_words.specs.declared.types.Ty.{Ty}
 use Rattle.fixed_words.specs.declared.types.Ty.TheVariants as types
-use Rattle.unit_tree.specs.LineForms.{type_tokens, port_tokens, names_tokens, needs_tokens, equals, front_tokens, tail_of, sign_tokens, WritesNumber, WritesLiteral, WritesSeconds, WritesTail, AreCountsInRange, WritesForm}
+use Rattle.unit_tree.specs.LineForms.{type_tokens, names_tokens, needs_tokens, equals, front_tokens, tail_of, sign_tokens, WritesNumber, WritesLiteral, WritesSeconds, WritesTail, AreCountsInRange, WritesForm}
 use Rattle.unit_tree.specs.Phrases.{keyword, symbol, whole, Writes}
-use Rattle.unit_tree.specs.declared.expr.Expr.{Expr}
 use Rattle.unit_tree.specs.declared.line_form.LineForm.{LineForm}
 use Rattle.unit_tree.specs.declared.line_form.LineForm.TheVariants as form
 use Rattle.unit_tree.specs.declared.token.Keyword.TheVariants as word
@@ -24,7 +22,7 @@ use Rattle.unit_tree.specs.declared.unit.Param.{Param}
 use Rattle.unit_tokens.specs.Scanning.{Gives, ReadsAs}
 use Rattle.unit_tokens.specs.declared.fault.Unread.{Unread}
 use Rattle.unit_tokens.specs.declared.fault.Unread.TheVariants as unread
-use Rattle.unit_text.specs.Expressions.{decimals_at, read_expression}
+use Rattle.unit_text.specs.Expressions.{decimals_at}
 use Rattle.unit_text.specs.LineReading.{FormIs, count_at, named_type, type_at, declaration_at, more_names, needs_at, literal_of, seconds_of, started_of, output_of, header_form, unit_form, resolution_form, param_form, state_form, local_form, input_form, event_input_form, output_form, event_output_form, max_form, if_form, accept_form, repeat_form, instance_form, connect_form, stop_form, longest_form, zero_form, rows_form, sample_form, assign_form, setting_form, port_at, read_form}
 use Rattle.unit_text.proofs.WrittenLines.{written_form}
 use Rattle.unit_text.proofs.WrittenTrees.{read_written}

@@ -1,19 +1,17 @@
 -- The form that tokens write is the one that is read of them: what is read is written.
-use Rattle.std.proofs.Common.{◌≡◌, ℕ, ◌<◌, ◌≤◌, ◌^◌, Bool, true, false, cond, ◌&&◌, ◌==◌, pos, nat_le, nat_lt, List, [], ◌∷◌, ◌++◌, append_assoc, codes, Option, Some, None, refl, ap, sym, subst, ◌∙◌, arith}
-use Rattle.std.specs.Prelude.{IfSome, ⊤}
+use Rattle.std.proofs.Common.{◌≡◌, ℕ, ◌≤◌, ◌^◌, Bool, true, false, cond, ◌&&◌, ◌==◌, pos, nat_le, nat_lt, List, [], ◌∷◌, ◌++◌, append_assoc, codes, Option, Some, None, refl, ap, sym, subst, ◌∙◌, arith}
+use Rattle.std.specs.Prelude.{IfSome}
 use Rattle.std.specs.Str.{bytes_eq}
 use Rattle.std.proofs.lemmas.Bool.{and_parts, eqb-true}
 use Rattle.std.proofs.lemmas.Bool.Decides.{nat_tests}
 use Rattle.std.proofs.lemmas.Slice.Eq.{bytes_eq-Decides}
 use Rattle.fixed_words.specs.Literals.{with_sign}
 use Rattle.fixed_words.specs.Types.{AreDecimals, is_word_of}
-use Rattle.fixed_words.specs.declared.types.Literal.{Literal}
 use Rattle.fixed_words.specs.declared.types.Literal.TheVariants as literal
 use Rattle.fixed_words.specs.declared.types.Ty.{Ty}
 use Rattle.fixed_words.specs.declared.types.Ty.TheVariants as types
 use Rattle.unit_tree.specs.LineForms.{type_tokens, port_tokens, names_tokens, needs_tokens, equals, front_tokens, Nothing, tail_of, sign_tokens, WritesLiteral, WritesSeconds, WritesTail, AreCountsInRange, WritesForm}
 use Rattle.unit_tree.specs.Phrases.{keyword, symbol, whole, Writes}
-use Rattle.unit_tree.specs.declared.expr.Expr.{Expr}
 use Rattle.unit_tree.specs.declared.line_form.LineForm.{LineForm}
 use Rattle.unit_tree.specs.declared.line_form.LineForm.TheVariants as form
 use Rattle.unit_tree.specs.declared.system.PortName.{PortName}
