@@ -2,6 +2,7 @@
 use Rattle.std.proofs.Common.{◌≡◌, cond, ℕ, suc, ◌+◌, ◌<◌, ◌≤◌, ◌==◌, Bool, true, false, not, List, [], ◌∷◌, ◌++◌, append_assoc, map, length, Option, Some, None, Result, Ok, Err, ◌⊎◌, inl, inr, refl, ap, sym, subst, ◌∙◌, arith}
 use Rattle.std.specs.Prelude.{◌&&◌, IsTrue, nat_lt}
 use Rattle.std.specs.Borrow.{Bor}
+use Rattle.std.specs.Result.{IsErrAnd}
 use Rattle.std.specs.List.{AllByRecursion, list_all}
 use Rattle.std.proofs.lemmas.Bool.{cases_Bool, cases_lt, true≢false}
 use Rattle.std.proofs.lemmas.Bool.Decides.{nat_tests}
@@ -347,3 +348,21 @@ blank_refused text fits blank = inr (fits, inl (blank_is_refused (source_lines t
 
 pub long_refused : (text : List ℕ) → text_limit < size_of text → IsRefused text 1 2
 long_refused text long = inl (long, refl, refl)
+
+-- ---- Errors that are handed on
+
+pub header_error : FormsAreKnown → (text : List ℕ) (why : TextFault) (result : Result System TextFault) → size_of text ≤ text_limit → list_all is_blank_line (source_lines text) ≡ false → HeaderGives text (Err why) → IsErrAnd result (λ found. found ≡ why) → AnswersText text result
+header_error known text why (Ok system) fits some_written gives is = absurd is
+header_error known text (fault.Line line rule) (Err found) fits some_written gives is = subst (λ one. AnswersText text (Err one)) (sym is) (by_gives gives)
+  where
+    by_gives : HeadBreaks text line rule ⊎ IsTrue (list_all is_blank_line (source_lines text)) → IsRefused text line rule
+    by_gives (inl head) = head_refused known text line rule fits some_written head
+    by_gives (inr blank) = absurd (true≢false (sym blank ∙ some_written))
+header_error known text fault.NoMemory (Err found) fits some_written gives is = subst (λ one. AnswersText text (Err one)) (sym is) tt
+
+pub line_error : FormsAreKnown → (text rest line behind : List ℕ) (number : ℕ) (draft : Draft) (why : TextFault) (result : Result System TextFault) → size_of text ≤ text_limit → list_all is_blank_line (source_lines text) ≡ false → Reached text rest number draft → lines_of rest ≡ line ∷ lines_of behind → AnswersAt (number + 1) (LineGives draft (without_return line)) (Err why) → IsErrAnd result (λ found. found ≡ why) → AnswersText text result
+line_error known text rest line behind number draft why (Ok system) fits some_written so_far cut gives is = absurd is
+line_error known text rest line behind number draft (fault.Line at rule) (Err found) fits some_written so_far cut gives is =
+    subst (λ one. AnswersText text (Err one)) (sym is)
+    (subst (λ n. IsRefused text n rule) (sym gives.0) (line_refused known text rest line behind number draft rule fits some_written so_far cut gives.1))
+line_error known text rest line behind number draft fault.NoMemory (Err found) fits some_written so_far cut gives is = subst (λ one. AnswersText text (Err one)) (sym is) tt
