@@ -229,6 +229,7 @@ fn read_lines(alloc: Global, text: &[u8]) -> Result<System, TextFault>
 ///
 /// Any other text is refused: one that is too long at line 1 by rule 2, and else at the first line that breaks a rule, by the
 /// least that it breaks; where only the end of a block lacks, at the last line by rule 6.
+#[tactic(auto, using(crate::proofs::ReadingLaws::long_refused, crate::proofs::ReadingLaws::blank_refused))]
 pub fn read_system(alloc: Global, text: &[u8]) -> Result<System, TextFault>
     ensures { AnswersText text.now result }
 {
