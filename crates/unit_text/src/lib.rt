@@ -12,6 +12,7 @@ mod draft;
 mod expressions;
 mod laws;
 mod levels;
+mod numbers;
 #[cfg(test)]
 mod tests;
 mod worked;
