@@ -58,9 +58,11 @@ with_piece numbers piece = record {
 
 -- ---- Numbers that go along with the lines of parts
 
+-- The numbers of each part of a unit, with its rank.
 abbrev pub unit_pieces : List UnitPart → List ℕ → List (ℕ × List ℕ)
 unit_pieces inside lines = each_ranked unit_part_rank (λ part. length (unit_part_forms part)) (λ part own. own) inside lines
 
+-- The numbers of each part of a text, in the order that they have inside the part, with its rank.
 abbrev pub text_pieces : List Part → List ℕ → List (ℕ × List ℕ)
 text_pieces all lines = each_ranked part_rank (λ part. length (part_forms part)) part_lines_in_order all lines
 
@@ -68,6 +70,7 @@ text_pieces all lines = each_ranked part_rank (λ part. length (part_forms part)
 abbrev pub unit_numbers : List ℕ → List UnitPart → List ℕ → UnitNumbers
 unit_numbers head inside lines = fold with_unit_piece (record no_unit_numbers { head = head }) (unit_pieces inside lines)
 
+-- The number of the header, and no others.
 abbrev pub header_numbers : List ℕ → Numbers
 header_numbers header = record {
   header = header;
@@ -86,6 +89,7 @@ header_numbers header = record {
 abbrev pub part_numbers : List ℕ → List Part → List ℕ → Numbers
 part_numbers header all lines = fold with_piece (header_numbers header) (text_pieces all lines)
 
+-- The numbers of a unit with more lines of its step.
 abbrev with_step_lines : UnitNumbers → List ℕ → UnitNumbers
 with_step_lines unit lines = record unit { step = unit.step ++ lines }
 
@@ -93,6 +97,7 @@ with_step_lines unit lines = record unit { step = unit.step ++ lines }
 abbrev unit_size : List UnitPart → ℕ
 unit_size inside = length (flat_map unit_part_forms inside)
 
+-- The same of the parts of a text.
 abbrev text_size : List Part → ℕ
 text_size all = length (flat_map part_forms all)
 
@@ -118,8 +123,8 @@ each_more rank forms own (part ∷ all) more lines =
     let size = length (forms part) in
     let behind : drop (length (flat_map forms all)) (drop size lines) ≡ drop (length (flat_map forms (part ∷ all))) lines = drop-drop (length (flat_map forms all)) size lines ∙ ap (λ n. drop n lines) (omega (arith, length-append (forms part) (flat_map forms all))) in
     ap (λ pieces. (rank part, own part (take size lines)) ∷ pieces) (
-        each_more rank forms own all more (drop size lines)
-        ∙ ap (λ rest. each_ranked rank (λ p. length (forms p)) own all (drop size lines) ++ each_ranked rank (λ p. length (forms p)) own more rest) behind
+    each_more rank forms own all more (drop size lines)
+    ∙ ap (λ rest. each_ranked rank (λ p. length (forms p)) own all (drop size lines) ++ each_ranked rank (λ p. length (forms p)) own more rest) behind
     )
 
 -- What is behind the lines of the parts changes nothing.
@@ -145,6 +150,7 @@ each_one rank forms own all part lines extra enough same =
 
 -- ---- Of each kind
 
+-- What is collected of a part stands in front of what the later ones have of the kind.
 ranked_behind : (asked : ℕ) (piece : ℕ × List ℕ) (test : Bool) (so_far : List ℕ) (pieces : List (ℕ × List ℕ)) → (piece.0 == asked) ≡ test → with_ranked asked piece.0 so_far piece.1 ++ of_rank pieces asked ≡ so_far ++ of_rank (piece ∷ pieces) asked
 ranked_behind asked piece true so_far pieces is = rw is (append_assoc so_far piece.1 (of_rank pieces asked))
 ranked_behind asked piece false so_far pieces is = rw is refl
@@ -162,9 +168,11 @@ stays : {A B : Type 0} (more : A → ℕ × List ℕ → A) (kind : A → B) →
 stays more kind law [] so_far = refl
 stays more kind law (piece ∷ pieces) so_far = stays more kind law pieces (more so_far piece) ∙ law so_far piece
 
+-- Lists that are joined, with equal ones in their places.
 eleven_lists : {a b c d e f g h i j k a' b' c' d' e' f' g' h' i' j' k' : List ℕ} → a ≡ a' → b ≡ b' → c ≡ c' → d ≡ d' → e ≡ e' → f ≡ f' → g ≡ g' → h ≡ h' → i ≡ i' → j ≡ j' → k ≡ k' → joined (a ∷ b ∷ c ∷ d ∷ e ∷ f ∷ g ∷ h ∷ i ∷ j ∷ k ∷ []) ≡ joined (a' ∷ b' ∷ c' ∷ d' ∷ e' ∷ f' ∷ g' ∷ h' ∷ i' ∷ j' ∷ k' ∷ [])
 eleven_lists pa pb pc pd pe pf pg ph pi pj pk = rw (pa, pb, pc, pd, pe, pf, pg, ph, pi, pj, pk) refl
 
+-- The same of nine lists.
 nine_lists : {a b c d e f g h i a' b' c' d' e' f' g' h' i' : List ℕ} → a ≡ a' → b ≡ b' → c ≡ c' → d ≡ d' → e ≡ e' → f ≡ f' → g ≡ g' → h ≡ h' → i ≡ i' → joined (a ∷ b ∷ c ∷ d ∷ e ∷ f ∷ g ∷ h ∷ i ∷ []) ≡ joined (a' ∷ b' ∷ c' ∷ d' ∷ e' ∷ f' ∷ g' ∷ h' ∷ i' ∷ [])
 nine_lists pa pb pc pd pe pf pg ph pi = rw (pa, pb, pc, pd, pe, pf, pg, ph, pi) refl
 
@@ -230,6 +238,7 @@ record GoesAlong (nested : Nested) (rest : List ℕ) : Type 0 where
   enough : text_size nested.parts ≤ length rest
   behind : length (drop (text_size nested.parts) rest) ≡ length (open_forms nested.block)
 
+-- A list of as many numbers goes along with the parts and the open block.
 goes_along : (nested : Nested) (header : ℕ) (rest : List ℕ) → length (header ∷ rest) ≡ length (nested_forms nested) → GoesAlong nested rest
 goes_along nested header rest same =
     let long = length-append (flat_map part_forms nested.parts) (open_forms nested.block) in
@@ -238,6 +247,7 @@ goes_along nested header rest same =
       behind = omega (arith, same, long, length-drop (text_size nested.parts) rest);
     }
 
+-- The parts of a text that are whole, and the block behind them.
 abbrev holding : ℕ → List Part → Open → Nested
 holding version all block = record { version = version; parts = all; block = block }
 
@@ -261,6 +271,7 @@ part_more version all part header number rest enough same =
 no_unit : (header : ℕ) (all : List Part) (rest : List ℕ) → (whole_numbers header all rest).unit ≡ no_unit_numbers
 no_unit header all rest = stays with_piece (λ numbers. numbers.unit) (λ numbers piece. refl) (text_pieces all rest) (header_numbers (header ∷ []))
 
+-- A list of no length is empty.
 none_behind : (lines : List ℕ) → length lines ≡ 0 → lines ≡ []
 none_behind [] none = refl
 none_behind (line ∷ lines) none = absurd (omega arith)
@@ -285,6 +296,7 @@ block_begins version all block header number rest along =
     block_more version all block header number rest along.enough
     ∙ ap (λ behind. with_open (whole_numbers header all rest) block (behind ++ (number ∷ []))) (none_behind (drop (text_size all) rest) along.behind)
 
+-- A line outside blocks is collected.
 top_more : (version : ℕ) (all : List Part) (some : LineForm) → IsHeld (holding version all AtTop) some → IsCollected (holding version all AtTop) some
 top_more version all (form.Header other) is header number rest along = absurd (is.no_header other refl)
 top_more version all (form.Unit name) is header number rest along =
@@ -336,6 +348,7 @@ open_unit inside behind = unit_numbers (take 1 behind) inside (drop 1 behind)
 abbrev behind_parts : List UnitPart → List ℕ → List ℕ
 behind_parts inside behind = drop (unit_size inside) (drop 1 behind)
 
+-- The same numbers, with others of the unit that is open.
 abbrev with_unit : Numbers → UnitNumbers → Numbers
 with_unit numbers unit = record numbers { unit = unit }
 
@@ -357,11 +370,13 @@ step_goes_on version all name inside inner header number rest enough hold =
     ∙ ap (λ unit. with_unit base (with_step_lines unit (drop (unit_size inside) (drop 1 behind ++ (number ∷ []))))) (unit_extra inside (take 1 behind) (drop 1 behind) (number ∷ []) hold.enough)
     ∙ ap (λ lines. with_unit base (with_step_lines (open_unit inside behind) lines)) (drop-append-le (unit_size inside) (drop 1 behind) (number ∷ []) hold.enough)
 
+-- Where a unit is open, its lines are there.
 unit_holds : (version : ℕ) (all : List Part) (name : List ℕ) (inside : List UnitPart) (rest : List ℕ) → GoesAlong (holding version all (InUnit name inside)) rest → HoldUnit inside (drop (text_size all) rest)
 unit_holds version all name inside rest along =
     let same = along.behind in
     record { long = omega (arith, same); enough = omega (arith, same, length-drop 1 (drop (text_size all) rest)) }
 
+-- Between the parts of an open unit no line is left over.
 nothing_behind : (version : ℕ) (all : List Part) (name : List ℕ) (inside : List UnitPart) (rest : List ℕ) → GoesAlong (holding version all (InUnit name inside)) rest → behind_parts inside (drop (text_size all) rest) ≡ []
 nothing_behind version all name inside rest along =
     let behind = drop (text_size all) rest in
@@ -391,9 +406,11 @@ ended_order name inside number behind hold none =
     ∙ ap (λ end. head ++ unit_lines_in_order inside lines ++ end) (drop-append-le (unit_size inside) lines (number ∷ []) hold.enough ∙ ap (λ end. end ++ (number ∷ [])) none)
     ∙ ap (λ all. all ++ (number ∷ [])) (sym (unit_order head inside lines))
 
+-- A unit that ends has the lines behind the whole parts, and its `end`.
 ended_length : (name : List ℕ) (inside : List UnitPart) (number : ℕ) (behind : List ℕ) → length behind ≡ length (open_forms (InUnit name inside)) → length (behind ++ (number ∷ [])) ≡ length (part_forms (parts.HasUnit name inside))
 ended_length name inside number behind same = omega (arith, same, length-append behind (number ∷ []), length-append (flat_map unit_part_forms inside) (form.End ∷ []))
 
+-- The `end` of a unit is collected.
 unit_ends : (version : ℕ) (all : List Part) (name : List ℕ) (inside : List UnitPart) (header number : ℕ) (rest : List ℕ) → GoesAlong (holding version all (InUnit name inside)) rest → unit_end (with_unit (whole_numbers header all rest) (open_unit inside (drop (text_size all) rest))) number ≡ numbers_of (holding version (all ++ (parts.HasUnit name inside ∷ [])) AtTop) (header ∷ rest ++ (number ∷ []))
 unit_ends version all name inside header number rest along =
     let base = whole_numbers header all rest in
@@ -403,6 +420,7 @@ unit_ends version all name inside header number rest along =
     ∙ ap (λ unit. record base { units = base.units ++ part_lines_in_order (parts.HasUnit name inside) (behind ++ (number ∷ [])); unit = unit }) (sym (no_unit header all rest))
     ∙ sym (part_more version all (parts.HasUnit name inside) header number rest along.enough (ended_length name inside number behind along.behind))
 
+-- A line in a unit is collected.
 unit_more : (version : ℕ) (all : List Part) (name : List ℕ) (inside : List UnitPart) (some : LineForm) → IsHeld (holding version all (InUnit name inside)) some → IsCollected (holding version all (InUnit name inside)) some
 unit_more version all name inside (form.Header other) is header number rest along = absurd (is.no_header other refl)
 unit_more version all name inside (form.Unit other) is header number rest along = let held = is.held in absurd (cc)
@@ -433,6 +451,7 @@ unit_more version all name inside (form.Sample port) is header number rest along
 
 -- ---- One line more: in a step
 
+-- Where a step is open, the lines of its unit are there.
 step_holds : (version : ℕ) (all : List Part) (name : List ℕ) (inside : List UnitPart) (inner : Inner) (rest : List ℕ) → GoesAlong (holding version all (InStep name inside inner)) rest → HoldUnit inside (drop (text_size all) rest)
 step_holds version all name inside inner rest along =
     let same = along.behind in
@@ -446,19 +465,21 @@ step_length version all name inside inner some number rest along grows =
     let behind = drop (text_size all) rest in
     let before = text_forms version all in
     let blocks : length (open_forms (InUnit name (inside ++ (part ∷ [])))) ≡ length (open_forms (InStep name inside inner)) + 1 =
-        omega (arith, ap length grows, length-append before (open_forms (InUnit name (inside ++ (part ∷ [])))), length-append before (open_forms (InStep name inside inner)), length-append (nested_forms (holding version all (InStep name inside inner))) (some ∷ [])) in
+    omega (arith, ap length grows, length-append before (open_forms (InUnit name (inside ++ (part ∷ [])))), length-append before (open_forms (InStep name inside inner)), length-append (nested_forms (holding version all (InStep name inside inner))) (some ∷ [])) in
     let size : unit_size (inside ++ (part ∷ [])) ≡ unit_size inside + length (unit_part_forms part) =
-        ap length (flat_map-append unit_part_forms inside (part ∷ [])) ∙ length-append (flat_map unit_part_forms inside) (unit_part_forms part ++ []) ∙ ap (λ own. unit_size inside + length own) (append-nil (unit_part_forms part)) in
+    ap length (flat_map-append unit_part_forms inside (part ∷ [])) ∙ length-append (flat_map unit_part_forms inside) (unit_part_forms part ++ []) ∙ ap (λ own. unit_size inside + length own) (append-nil (unit_part_forms part)) in
     let same = along.behind in
     let hold = (step_holds version all name inside inner rest along).enough in
     omega (arith, blocks, size, same, hold, length-append (behind_parts inside behind) (number ∷ []), length-drop 1 behind, length-drop (unit_size inside) (drop 1 behind))
 
+-- A line in a step is collected, be it one more of its lines or its `end`.
 step_more_by : (version : ℕ) (all : List Part) (name : List ℕ) (inside : List UnitPart) (inner : Inner) (some : LineForm) (next : Option Inner) → nested_forms (nesting.in_step (holding version all (InStep name inside inner)) name inside inner.lines next) ≡ nested_forms (holding version all (InStep name inside inner)) ++ (some ∷ []) → (header number : ℕ) (rest : List ℕ) → GoesAlong (holding version all (InStep name inside inner)) rest → with_unit (whole_numbers header all rest) (with_step_lines (open_unit inside (drop (text_size all) rest)) (behind_parts inside (drop (text_size all) rest) ++ (number ∷ []))) ≡ numbers_of (nesting.in_step (holding version all (InStep name inside inner)) name inside inner.lines next) (header ∷ rest ++ (number ∷ []))
 step_more_by version all name inside inner some (Some next) grows header number rest along =
     sym (step_goes_on version all name inside next header number rest along.enough (step_holds version all name inside inner rest along))
 step_more_by version all name inside inner some None grows header number rest along =
     sym (unit_part_ends version all name inside (parts.Step inner.lines) header number rest along.enough (step_holds version all name inside inner rest along) (step_length version all name inside inner some number rest along grows))
 
+-- A line in a step is collected.
 step_more : (version : ℕ) (all : List Part) (name : List ℕ) (inside : List UnitPart) (inner : Inner) (some : LineForm) → IsHeld (holding version all (InStep name inside inner)) some → IsCollected (holding version all (InStep name inside inner)) some
 step_more version all name inside inner some is header number rest along =
     let behind = drop (text_size all) rest in
@@ -468,15 +489,18 @@ step_more version all name inside inner some is header number rest along =
 
 -- ---- One line more: in an instance
 
+-- The same numbers, with others of the instances.
 abbrev with_instances : Numbers → List ℕ → Numbers
 with_instances numbers lines = record numbers { instances = lines }
 
+-- A line of an instance that does not end it is collected.
 instance_goes_on : (version : ℕ) (all : List Part) (instance next : Instance) (header number : ℕ) (rest : List ℕ) → GoesAlong (holding version all (InInstance instance)) rest → instance_line (numbers_of (holding version all (InInstance instance)) (header ∷ rest)) number ≡ numbers_of (holding version all (InInstance next)) (header ∷ rest ++ (number ∷ []))
 instance_goes_on version all instance next header number rest along =
     let base = whole_numbers header all rest in
     ap (with_instances base) (append_assoc base.instances (drop (text_size all) rest) (number ∷ []))
     ∙ sym (block_more version all (InInstance next) header number rest along.enough)
 
+-- The `end` of an instance is collected.
 instance_ends : (version : ℕ) (all : List Part) (instance : Instance) → IsCollected (holding version all (InInstance instance)) form.End
 instance_ends version all instance header number rest along =
     let base = whole_numbers header all rest in
@@ -485,6 +509,7 @@ instance_ends version all instance header number rest along =
     ap (with_instances base) (append_assoc base.instances behind (number ∷ []))
     ∙ sym (part_more version all (parts.HasInstance instance) header number rest along.enough (omega (arith, same, length-append behind (number ∷ []), length-append (map form.Setting instance.settings) (form.End ∷ []))))
 
+-- A line in an instance is collected.
 instance_more : (version : ℕ) (all : List Part) (instance : Instance) (some : LineForm) → IsHeld (holding version all (InInstance instance)) some → IsCollected (holding version all (InInstance instance)) some
 instance_more version all instance (form.Header other) is header number rest along = absurd (is.no_header other refl)
 instance_more version all instance (form.Unit other) is header number rest along = let held = is.held in absurd (cc)
@@ -516,6 +541,7 @@ instance_more version all instance (form.Sample port) is header number rest alon
 
 -- ---- One line more
 
+-- A line in any block is collected.
 more_in : (version : ℕ) (all : List Part) (block : Open) (some : LineForm) → IsHeld (holding version all block) some → IsCollected (holding version all block) some
 more_in version all AtTop some is = top_more version all some is
 more_in version all (InUnit name inside) some is = unit_more version all name inside some is
@@ -526,3 +552,8 @@ more_in version all (InInstance instance) some is = instance_more version all in
 pub numbers_more : (nested : Nested) (some : LineForm) (numbers : List ℕ) (number : ℕ) → IsHeld nested some → length numbers ≡ length (nested_forms nested) → with_line (numbers_of nested numbers) (place_of nested.block) some number ≡ numbers_of (and_form nested some) (numbers ++ (number ∷ []))
 numbers_more nested some [] number is same = absurd (omega (arith, same))
 numbers_more nested some (header ∷ rest) number is same = more_in nested.version nested.parts nested.block some is header number rest (goes_along nested header rest same)
+
+-- The numbers still go along with the lines.
+pub lengths_more : (nested : Nested) (some : LineForm) (numbers : List ℕ) (number : ℕ) → IsHeld nested some → length numbers ≡ length (nested_forms nested) → length (numbers ++ (number ∷ [])) ≡ length (nested_forms (and_form nested some))
+lengths_more nested some numbers number is same =
+    omega (arith, same, ap length (adds nested some is), length-append numbers (number ∷ []), length-append (nested_forms nested) (some ∷ []))

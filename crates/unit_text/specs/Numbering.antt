@@ -35,6 +35,7 @@ place_of (InInstance instance) = place.Instance
 
 -- ---- No lines
 
+-- Of a unit.
 abbrev pub no_unit_numbers : UnitNumbers
 no_unit_numbers = record {
   head = [];
@@ -91,6 +92,7 @@ abbrev pub unit_end : Numbers → ℕ → Numbers
 unit_end numbers number =
     record numbers { units = numbers.units ++ unit_in_order numbers.unit ++ (number ∷ []); unit = no_unit_numbers }
 
+-- A line in a unit.
 abbrev pub line_in_unit : Numbers → LineForm → ℕ → Numbers
 line_in_unit numbers form.End number = unit_end numbers number
 line_in_unit numbers some number = record numbers { unit = unit_line numbers.unit some number }
@@ -109,14 +111,17 @@ top_line numbers (form.Rows count) number = record numbers { rows = numbers.rows
 top_line numbers (form.Sample port) number = record numbers { samples = numbers.samples ++ (number ∷ []) }
 top_line numbers _ number = numbers
 
+-- A line in a step, also its `end`.
 abbrev pub step_line : Numbers → ℕ → Numbers
 step_line numbers number = record numbers { unit = record numbers.unit { step = numbers.unit.step ++ (number ∷ []) } }
 
+-- A line in an instance, also its `end`.
 abbrev pub instance_line : Numbers → ℕ → Numbers
 instance_line numbers number = record numbers { instances = numbers.instances ++ (number ∷ []) }
 
 -- ---- One line more
 
+-- A line behind the header, which stands in this place.
 abbrev pub with_line : Numbers → Place → LineForm → ℕ → Numbers
 with_line numbers place.Top some number = top_line numbers some number
 with_line numbers place.Unit some number = line_in_unit numbers some number

@@ -174,16 +174,15 @@ impl Numbers {
     }
 
     /// Behind the `end` of the unit that is open.
-    fn with_unit_end(self, alloc: Global, number: u32) -> Result<Numbers, NoMemory>
+    fn with_unit_end(mut self, alloc: Global, number: u32) -> Result<Numbers, NoMemory>
         ensures { IfOk result (λ numbers. numbers ≡ unit_end self number) }
     {
-        let mut numbers = self;
-        let mut units = numbers.units.into_vec();
-        numbers.unit.append_to(&mut units)?;
+        let mut units = self.units.into_vec();
+        self.unit.append_to(&mut units)?;
         units.push(number)?;
-        numbers.units = List::from_vec(units);
-        numbers.unit = UnitNumbers::new(alloc);
-        Ok(numbers)
+        self.units = List::from_vec(units);
+        self.unit = UnitNumbers::new(alloc);
+        Ok(self)
     }
 
     /// With a line more of the unit that is open.
