@@ -4,6 +4,7 @@ pub mod Laws
 pub mod Levels
 pub mod LineReading
 pub mod Nesting
+pub mod Numbering
 pub mod Reading
 pub mod Seen
 pub mod WorkedTexts

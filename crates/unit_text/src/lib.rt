@@ -20,6 +20,7 @@ mod laws;
 mod levels;
 mod line_forms;
 mod lines;
+mod numbers;
 mod reading;
 #[cfg(test)]
 mod tests;
