@@ -5,19 +5,22 @@ use Rattle.std.specs.List.{AllByRecursion, list_all}
 use Rattle.unit_tree.specs.Blocks.{no_lines, may_stand}
 use Rattle.unit_tree.specs.LineForms.{HasForm, is_of_version_2}
 use Rattle.unit_tree.specs.Lines.{source_lines, is_blank_line}
-use Rattle.unit_tree.specs.Texts.{line_limit, Reads, IsRefused}
+use Rattle.unit_tree.specs.SourceLines.{ReadsFrom}
+use Rattle.unit_tree.specs.Texts.{line_limit, IsRefused}
 use Rattle.unit_tree.specs.declared.line_form.LineForm.{LineForm}
 use Rattle.unit_tree.specs.declared.line_form.LineForm.TheVariants as form
-use Rattle.unit_tree.specs.declared.system.System.{System}
 use Rattle.unit_tokens.specs.declared.fault.Unread.{Unread}
 use Rattle.unit_tokens.specs.declared.fault.Unread.TheVariants as unread
-use Rattle.unit_text.specs.Drafts.{with_form}
+use Rattle.unit_text.specs.Drafts.{bare_draft, with_form, whole_system}
 use Rattle.unit_text.specs.LineReading.{LineHas}
+use Rattle.unit_text.specs.Numbering.{place_in, bare_numbers, with_line, in_order}
 use Rattle.unit_text.specs.Seen.{IsClean, TellsOf}
 use Rattle.unit_text.specs.declared.draft.Draft.{Draft}
 use Rattle.unit_text.specs.declared.fault.TextFault.{TextFault}
 use Rattle.unit_text.specs.declared.fault.TextFault.TheVariants as fault
 use Rattle.unit_text.specs.declared.lines.Seen.TheVariants as told
+use Rattle.unit_text.specs.declared.reading.ReadText.{ReadText}
+use Rattle.unit_text.specs.declared.reading.Reading.{Reading}
 
 -- The line keeps the rules that look at its bytes alone, and is not blank.
 pub record IsWritten (line : List ℕ) : Type 0 where
@@ -67,13 +70,28 @@ pub record FormGives (draft : Draft) (line : List ℕ) (next : Option Draft) : T
   pub form_in : FormIn draft.system.version line (Some some)
   pub next_is : with_form draft some ≡ next
 
--- What the line makes of the draft of the lines before it: the draft with it, or a rule that it breaks.
-abbrev pub LineGives : Draft → List ℕ → Result Draft ℕ → Type 0
-LineGives draft line (Ok next) = (IsClean line × (is_blank_line line ≡ true) × (next ≡ draft)) ⊎ FormGives draft line (Some next)
-LineGives draft line (Err rule) =
+-- So it becomes that of what is read with it, which has the number of the line in its place.
+pub record NextGives (reading : Reading) (line : List ℕ) (number : ℕ) (next : Reading) : Type 0 where
+  pub gives : FormGives reading.draft line (Some next.draft)
+  pub numbers_are : next.numbers ≡ with_line reading.numbers (place_in reading.draft.block) gives.some number
+
+-- What the line of this number makes of what the lines before it say: what they say with it, or a rule that it breaks.
+abbrev pub LineGives : Reading → List ℕ → ℕ → Result Reading ℕ → Type 0
+LineGives reading line number (Ok next) = (IsClean line × (is_blank_line line ≡ true) × (next ≡ reading)) ⊎ NextGives reading line number next
+LineGives reading line number (Err rule) =
     TellsOf line (told.Broken rule)
-    ⊎ ((rule ≡ 4) × IsWritten line × FormIn draft.system.version line None)
-    ⊎ ((rule ≡ 5) × FormGives draft line None)
+    ⊎ ((rule ≡ 4) × IsWritten line × FormIn reading.draft.system.version line None)
+    ⊎ ((rule ≡ 5) × FormGives reading.draft line None)
+
+-- What the header of a version says, at the line of this number.
+abbrev pub bare_reading : ℕ → ℕ → Reading
+bare_reading version number = record { draft = bare_draft version; numbers = bare_numbers number }
+
+-- What all lines say, of which the last has this number, or that a block is open there.
+abbrev pub WholeGives : Reading → ℕ → Result ReadText TextFault → Type 0
+WholeGives reading number (Ok read) = (whole_system reading.draft ≡ Some read.system) × (read.lines ≡ in_order reading.numbers)
+WholeGives reading number (Err (fault.Line line rule)) = (whole_system reading.draft ≡ None) × (line ≡ number) × (rule ≡ 6)
+WholeGives reading number (Err fault.NoMemory) = ⊤
 
 -- ---- Answers
 
@@ -121,8 +139,9 @@ HeaderGives text (Ok (version, number, rest)) = HeadsText text version number re
 HeaderGives text (Err (fault.Line number rule)) = HeadBreaks text number rule ⊎ IsTrue (list_all is_blank_line (source_lines text))
 HeaderGives text (Err fault.NoMemory) = ⊤
 
--- The answer to a text: the system that it says, or the line and the rule by which it is refused.
-abbrev pub AnswersText : List ℕ → Result System TextFault → Type 0
-AnswersText text (Ok system) = Reads text system
+-- The answer to a text: the system that it says, with the lines that its canonical lines came from, or the line and the rule
+-- by which it is refused.
+abbrev pub AnswersText : List ℕ → Result ReadText TextFault → Type 0
+AnswersText text (Ok read) = ReadsFrom text read.system read.lines
 AnswersText text (Err (fault.Line line rule)) = IsRefused text line rule
 AnswersText text (Err fault.NoMemory) = ⊤

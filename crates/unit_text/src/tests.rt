@@ -1,16 +1,11 @@
 use crate::expression;
 use crate::line_forms::form_of_line;
+use crate::{ReadText, TextFault, read_system};
 use fixed_words::NoMemory;
 use std::alloc::Global;
 use std::test::Fail;
 use unit_tokens::{Unread, tokens};
 use unit_tree::{BinOp, Expr, LineForm, UnOp};
-use crate::numbers::{Numbers, Place};
-use fixed_words::{List, NoMemory};
-use std::alloc::Global;
-use std::test::Fail;
-use unit_tokens::{Unread, tokens};
-use unit_tree::{BinOp, Expr, LineForm, Name, UnOp};
 
 fn operation(op: BinOp) -> &'static str {
     match op {
@@ -209,48 +204,5 @@ fn forms_of_lines_are_read(rt: HostRuntime) -> Result<(), Fail> {
     for (line, found) in lines.iter() {
         assert_eq!(rt; form_text(rt.alloc(), line.as_bytes())?, *found);
     }
-fn name(alloc: Global, text: &[u8]) -> Result<Name, NoMemory> {
-    List::from_slice(alloc, text)
-}
-
-/// The lines behind the header of a text of two units, with the number and the place of each.
-fn lines_of_two_units(alloc: Global) -> Result<[(u32, Place, LineForm); 13], NoMemory> {
-    Ok([
-        (2, Place::Top, LineForm::Rows(5)),
-        (3, Place::Top, LineForm::Unit(name(alloc, b"A")?)),
-        (5, Place::Unit, LineForm::Step),
-        (6, Place::Step, LineForm::End),
-        (7, Place::Unit, LineForm::Resolution(3)),
-        (8, Place::Unit, LineForm::End),
-        (
-            9,
-            Place::Top,
-            LineForm::Instance {
-                name: name(alloc, b"a")?,
-                unit: name(alloc, b"A")?,
-            },
-        ),
-        (10, Place::Instance, LineForm::End),
-        (11, Place::Top, LineForm::Unit(name(alloc, b"B")?)),
-        (12, Place::Unit, LineForm::Max(Expr::Time)),
-        (13, Place::Unit, LineForm::Resolution(2)),
-        (14, Place::Unit, LineForm::End),
-        (16, Place::Top, LineForm::Zero(7)),
-    ])
-}
-
-#[test]
-fn numbers_are_put_into_canonical_order(rt: HostRuntime) -> Result<(), Fail> {
-    let alloc = rt.alloc();
-    let mut numbers = Numbers::new(alloc, 1)?;
-    let lines = lines_of_two_units(alloc)?;
-    for (number, place, form) in lines.iter() {
-        numbers = numbers.with_line(alloc, *place, form, *number)?;
-    }
-    let numbers = numbers.in_order(alloc)?;
-    assert_eq!(rt;
-        numbers.as_slice(),
-        &[1, 3, 7, 5, 6, 8, 11, 13, 12, 14, 9, 10, 16, 2][..]
-    );
     Ok(())
 }
