@@ -2,6 +2,7 @@
 use Rattle.std.specs.Prelude.{◌≡◌, ◌≤◌, ◌+◌, ◌⊎◌, ℕ, suc, nat_lt, Bool, List, [], ◌∷◌, ◌++◌, length, IsTrue, Option, Some, None, Result, Ok, Err, true, false, ⊤, if◌then◌else◌}
 use Rattle.std.specs.Borrow.{Bor}
 use Rattle.std.specs.List.{AllByRecursion, list_all}
+use Rattle.std.specs.Option.{option_map}
 use Rattle.unit_tree.specs.Blocks.{no_lines, may_stand}
 use Rattle.unit_tree.specs.LineForms.{HasForm, is_of_version_2}
 use Rattle.unit_tree.specs.Lines.{source_lines, is_blank_line}
@@ -15,7 +16,6 @@ use Rattle.unit_text.specs.Drafts.{bare_draft, with_form, whole_system}
 use Rattle.unit_text.specs.LineReading.{LineHas}
 use Rattle.unit_text.specs.Numbering.{place_in, bare_numbers, with_line, in_order}
 use Rattle.unit_text.specs.Seen.{IsClean, TellsOf}
-use Rattle.unit_text.specs.declared.draft.Draft.{Draft}
 use Rattle.unit_text.specs.declared.fault.TextFault.{TextFault}
 use Rattle.unit_text.specs.declared.fault.TextFault.TheVariants as fault
 use Rattle.unit_text.specs.declared.lines.Seen.TheVariants as told
@@ -63,25 +63,25 @@ abbrev pub FormIn : ℕ → List ℕ → Option LineForm → Type 0
 FormIn version line (Some some) = HasForm some line × IsFormOf version some
 FormIn version line None = LineHas line None ⊎ IsOfOther version line
 
--- The line has a form of the version, and the draft becomes this with it: none where the form may not stand there.
-pub record FormGives (draft : Draft) (line : List ℕ) (next : Option Draft) : Type 0 where
+-- What is read with a line of the form, which has this number: none where the form may not stand there.
+abbrev pub and_form : Reading → LineForm → ℕ → Option Reading
+and_form reading some number =
+    option_map (λ draft. record { draft = draft; numbers = with_line reading.numbers (place_in reading.draft.block) some number }) (with_form reading.draft some)
+
+-- The line has a form of the version, and this is read with it.
+pub record FormGives (reading : Reading) (line : List ℕ) (number : ℕ) (next : Option Reading) : Type 0 where
   pub is_written : IsWritten line
   pub some : LineForm
-  pub form_in : FormIn draft.system.version line (Some some)
-  pub next_is : with_form draft some ≡ next
-
--- So it becomes that of what is read with it, which has the number of the line in its place.
-pub record NextGives (reading : Reading) (line : List ℕ) (number : ℕ) (next : Reading) : Type 0 where
-  pub gives : FormGives reading.draft line (Some next.draft)
-  pub numbers_are : next.numbers ≡ with_line reading.numbers (place_in reading.draft.block) gives.some number
+  pub form_in : FormIn reading.draft.system.version line (Some some)
+  pub next_is : and_form reading some number ≡ next
 
 -- What the line of this number makes of what the lines before it say: what they say with it, or a rule that it breaks.
 abbrev pub LineGives : Reading → List ℕ → ℕ → Result Reading ℕ → Type 0
-LineGives reading line number (Ok next) = (IsClean line × (is_blank_line line ≡ true) × (next ≡ reading)) ⊎ NextGives reading line number next
+LineGives reading line number (Ok next) = (IsClean line × (is_blank_line line ≡ true) × (next ≡ reading)) ⊎ FormGives reading line number (Some next)
 LineGives reading line number (Err rule) =
     TellsOf line (told.Broken rule)
     ⊎ ((rule ≡ 4) × IsWritten line × FormIn reading.draft.system.version line None)
-    ⊎ ((rule ≡ 5) × FormGives reading.draft line None)
+    ⊎ ((rule ≡ 5) × FormGives reading line number None)
 
 -- What the header of a version says, at the line of this number.
 abbrev pub bare_reading : ℕ → ℕ → Reading

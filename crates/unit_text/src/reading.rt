@@ -4,9 +4,9 @@ ghost use Rattle.std.specs.List.{list_all};
 ghost use Rattle.unit_tree.specs.Blocks.{no_lines, may_stand};
 ghost use Rattle.unit_tree.specs.Lines.{source_lines, size_of, is_blank_line};
 ghost use Rattle.unit_tree.specs.Texts.{text_limit};
-ghost use Rattle.unit_tokens.specs.Scanning.{ReadsAs};
+ghost use Rattle.unit_tokens.specs.Scanning.{Gives, ReadsAs};
 ghost use Rattle.unit_text.specs.Seen.{TellsOf};
-ghost use Rattle.unit_text.specs.Reading.{IsWritten, headless_rule, FirstGives, IsFormOf, FormIn, LineGives, fault_at, AnswersAt, bare_reading, WholeGives, blank_rule, HeaderGives, AnswersText};
+ghost use Rattle.unit_text.specs.Reading.{IsWritten, headless_rule, FirstGives, IsFormOf, FormIn, and_form, LineGives, fault_at, AnswersAt, bare_reading, WholeGives, blank_rule, HeaderGives, AnswersText};
 
 use crate::draft::Draft;
 use crate::fault::TextFault;
@@ -130,6 +130,22 @@ fn at_line(unread: Unread, line: u32, rule: u8) -> TextFault
     }
 }
 
+/// What the lines say with a line of the form more. `NoForm` where that may not stand there.
+fn with_form(
+    alloc: Global,
+    reading: Reading,
+    form: LineForm,
+    number: u32,
+) -> Result<Reading, Unread>
+    ensures { Gives result (and_form reading form number) }
+{
+    let Reading { draft, numbers } = reading;
+    let place = Place::of(&draft.block);
+    let numbers = numbers.with_line(alloc, place, &form, number)?;
+    let draft = draft.with_form(alloc, form)?;
+    Ok(Reading { draft, numbers })
+}
+
 /// What the lines say with a written line more.
 fn with_written(
     alloc: Global,
@@ -140,15 +156,12 @@ fn with_written(
     requires { IsWritten line.now }
     ensures { AnswersAt number (LineGives reading line.now number) result }
 {
-    let Reading { draft, numbers } = reading;
-    let form = match form_in(alloc, line, draft.system.version) {
+    let form = match form_in(alloc, line, reading.draft.system.version) {
         Ok(form) => form,
         Err(unread) => return Err(at_line(unread, number, FORM_RULE)),
     };
-    let place = Place::of(&draft.block);
-    let numbers = numbers.with_line(alloc, place, &form, number)?;
-    match draft.with_form(alloc, form) {
-        Ok(draft) => Ok(Reading { draft, numbers }),
+    match with_form(alloc, reading, form, number) {
+        Ok(reading) => Ok(reading),
         Err(unread) => Err(at_line(unread, number, PLACE_RULE)),
     }
 }
