@@ -4,8 +4,7 @@ use Rattle.unit_tree.specs.declared.line_form.LineForm.{LineForm}
 use Rattle.unit_tokens.specs.Scanning.{ReadsAs}
 use Rattle.unit_tokens.specs.declared.fault.Unread.{Unread}
 use Rattle.unit_tokens.specs.declared.fault.Unread.TheVariants as unread
-use Rattle.unit_text.specs.Reading.{IsWritten, FormIn, LineGives, fault_at, AnswersAt}
-use Rattle.unit_text.specs.declared.reading.Reading.{Reading}
+use Rattle.unit_text.specs.Reading.{IsWritten, FormIn, Reading, LineGives, fault_at, AnswersAt}
 
 pub formless_answer : (reading : Reading) (line : List ℕ) (number : ℕ) (why : Unread) → IsWritten line → ReadsAs {X = LineForm} (Err why) (FormIn reading.draft.system.version line) → AnswersAt number (LineGives reading line number) (Err (fault_at why number 4))
 formless_answer reading line number unread.NoForm is none = (refl, inr (inl (refl, is, none)))

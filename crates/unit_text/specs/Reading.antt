@@ -16,11 +16,12 @@ use Rattle.unit_text.specs.Drafts.{bare_draft, with_form, whole_system}
 use Rattle.unit_text.specs.LineReading.{LineHas}
 use Rattle.unit_text.specs.Numbering.{place_in, bare_numbers, with_line, in_order}
 use Rattle.unit_text.specs.Seen.{IsClean, TellsOf}
+use Rattle.unit_text.specs.declared.draft.Draft.{Draft}
 use Rattle.unit_text.specs.declared.fault.TextFault.{TextFault}
 use Rattle.unit_text.specs.declared.fault.TextFault.TheVariants as fault
 use Rattle.unit_text.specs.declared.lines.Seen.TheVariants as told
+use Rattle.unit_text.specs.declared.numbers.Numbers.{Numbers}
 use Rattle.unit_text.specs.declared.reading.ReadText.{ReadText}
-use Rattle.unit_text.specs.declared.reading.Reading.{Reading}
 
 -- The line keeps the rules that look at its bytes alone, and is not blank.
 pub record IsWritten (line : List ℕ) : Type 0 where
@@ -63,6 +64,19 @@ abbrev pub FormIn : ℕ → List ℕ → Option LineForm → Type 0
 FormIn version line (Some some) = HasForm some line × IsFormOf version some
 FormIn version line None = LineHas line None ⊎ IsOfOther version line
 
+-- What the lines so far say: the system as far as they have come, and their numbers.
+pub record Reading : Type 0 where
+  pub draft : Draft
+  pub numbers : Numbers
+
+abbrev pub reading : Draft → Numbers → Reading
+reading draft numbers = record { draft = draft; numbers = numbers }
+
+-- A draft that is read, with the numbers beside it.
+abbrev pub read_with : Numbers → Result Draft TextFault → Result Reading TextFault
+read_with numbers (Ok draft) = Ok (reading draft numbers)
+read_with numbers (Err why) = Err why
+
 -- What is read with a line of the form, which has this number: none where the form may not stand there.
 abbrev pub and_form : Reading → LineForm → ℕ → Option Reading
 and_form reading some number =
@@ -85,7 +99,7 @@ LineGives reading line number (Err rule) =
 
 -- What the header of a version says, at the line of this number.
 abbrev pub bare_reading : ℕ → ℕ → Reading
-bare_reading version number = record { draft = bare_draft version; numbers = bare_numbers number }
+bare_reading version number = reading (bare_draft version) (bare_numbers number)
 
 -- What all lines say, of which the last has this number, or that a block is open there.
 abbrev pub WholeGives : Reading → ℕ → Result ReadText TextFault → Type 0

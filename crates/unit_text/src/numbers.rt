@@ -138,6 +138,22 @@ impl UnitNumbers {
 }
 
 impl Numbers {
+    /// No numbers.
+    pub fn empty(alloc: Global) -> Numbers {
+        Numbers {
+            header: List::new(alloc),
+            units: List::new(alloc),
+            instances: List::new(alloc),
+            wires: List::new(alloc),
+            stop: List::new(alloc),
+            longest: List::new(alloc),
+            zero: List::new(alloc),
+            rows: List::new(alloc),
+            samples: List::new(alloc),
+            unit: UnitNumbers::new(alloc),
+        }
+    }
+
     /// The number of the header alone. Adding lines takes memory from `alloc`.
     pub fn new(alloc: Global, header: u32) -> Result<Numbers, NoMemory>
         ensures { IfOk result (λ numbers. numbers ≡ bare_numbers header) }

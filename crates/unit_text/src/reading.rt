@@ -1,12 +1,13 @@
 //! Reading of a text, along its lines.
-ghost use Rattle.std.specs.Prelude.{◌≡◌, ◌<◌, ◌≤◌, length, true, false, IfOk};
+ghost use Rattle.std.specs.Prelude.{◌≡◌, ◌<◌, ◌≤◌, length, true, false, OnOk};
 ghost use Rattle.std.specs.List.{list_all};
 ghost use Rattle.unit_tree.specs.Blocks.{no_lines, may_stand};
 ghost use Rattle.unit_tree.specs.Lines.{source_lines, size_of, is_blank_line};
 ghost use Rattle.unit_tree.specs.Texts.{text_limit};
-ghost use Rattle.unit_tokens.specs.Scanning.{Gives, ReadsAs};
+ghost use Rattle.unit_tokens.specs.Scanning.{ReadsAs};
+ghost use Rattle.unit_text.specs.Numbering.{with_line};
 ghost use Rattle.unit_text.specs.Seen.{TellsOf};
-ghost use Rattle.unit_text.specs.Reading.{IsWritten, headless_rule, FirstGives, IsFormOf, FormIn, and_form, LineGives, fault_at, AnswersAt, bare_reading, WholeGives, blank_rule, HeaderGives, AnswersText};
+ghost use Rattle.unit_text.specs.Reading.{IsWritten, headless_rule, FirstGives, IsFormOf, FormIn, reading, read_with, LineGives, fault_at, AnswersAt, WholeGives, blank_rule, HeaderGives, AnswersText};
 
 use crate::draft::Draft;
 use crate::fault::TextFault;
@@ -16,6 +17,7 @@ use crate::numbers::{Numbers, Place};
 use crate::versions::{VERSION_2, is_of_version_2};
 use fixed_words::{List, NoMemory};
 use std::alloc::Global;
+use std::mem;
 use unit_tokens::{Unread, cut_line, size};
 use unit_tree::{LineForm, System};
 
@@ -106,13 +108,6 @@ fn form_in(alloc: Global, line: &[u8], version: u8) -> Result<LineForm, Unread>
     }
 }
 
-/// What the lines so far say: the system, and the number of each line.
-#[derive(Debug, Drop)]
-pub struct Reading {
-    pub draft: Draft,
-    pub numbers: Numbers,
-}
-
 /// The system that a text says, and for each of its canonical lines the number of the line of the text that it came from.
 #[derive(Debug, Drop)]
 pub struct ReadText {
@@ -130,63 +125,69 @@ fn at_line(unread: Unread, line: u32, rule: u8) -> TextFault
     }
 }
 
-/// What the lines say with a line of the form more. `NoForm` where that may not stand there.
-fn with_form(
+/// Adds the number of a line of the form, which stands in this place.
+fn add_number(
     alloc: Global,
-    reading: Reading,
-    form: LineForm,
+    numbers: &mut Numbers,
+    place: Place,
+    form: &LineForm,
     number: u32,
-) -> Result<Reading, Unread>
-    ensures { Gives result (and_form reading form number) }
+) -> Result<(), NoMemory>
+    ensures { OnOk result (numbers.new ≡ with_line numbers.old place form.now number) }
 {
-    let Reading { draft, numbers } = reading;
-    let place = Place::of(&draft.block);
-    let numbers = numbers.with_line(alloc, place, &form, number)?;
-    let draft = draft.with_form(alloc, form)?;
-    Ok(Reading { draft, numbers })
+    let before = mem::replace(numbers, Numbers::empty(alloc));
+    *numbers = before.with_line(alloc, place, form, number)?;
+    Ok(())
 }
 
-/// What the lines say with a written line more.
+/// The draft with a written line more, whose number is added.
 fn with_written(
     alloc: Global,
-    reading: Reading,
+    draft: Draft,
+    numbers: &mut Numbers,
     line: &[u8],
     number: u32,
-) -> Result<Reading, TextFault>
+) -> Result<Draft, TextFault>
     requires { IsWritten line.now }
-    ensures { AnswersAt number (LineGives reading line.now number) result }
+    ensures { AnswersAt number (LineGives (reading draft numbers.old) line.now number) (read_with numbers.new result) }
 {
-    let form = match form_in(alloc, line, reading.draft.system.version) {
+    let form = match form_in(alloc, line, draft.system.version) {
         Ok(form) => form,
         Err(unread) => return Err(at_line(unread, number, FORM_RULE)),
     };
-    match with_form(alloc, reading, form, number) {
-        Ok(reading) => Ok(reading),
+    add_number(alloc, numbers, Place::of(&draft.block), &form, number)?;
+    match draft.with_form(alloc, form) {
+        Ok(draft) => Ok(draft),
         Err(unread) => Err(at_line(unread, number, PLACE_RULE)),
     }
 }
 
-/// What the lines say with a line more, whatever it is.
+/// The draft with a line more, whatever it is. The number of a line that is not blank is added.
 fn with_line(
     alloc: Global,
-    reading: Reading,
+    draft: Draft,
+    numbers: &mut Numbers,
     line: &[u8],
     number: u32,
-) -> Result<Reading, TextFault>
-    ensures { AnswersAt number (LineGives reading line.now number) result }
+) -> Result<Draft, TextFault>
+    ensures { AnswersAt number (LineGives (reading draft numbers.old) line.now number) (read_with numbers.new result) }
 {
     match look_at(line) {
         Seen::Broken(rule) => Err(TextFault::Line { line: number, rule }),
-        Seen::Blank => Ok(reading),
-        Seen::Written => with_written(alloc, reading, line, number),
+        Seen::Blank => Ok(draft),
+        Seen::Written => with_written(alloc, draft, numbers, line, number),
     }
 }
 
 /// What the lines of a text say, of which the last has this number.
-fn whole_text(alloc: Global, reading: Reading, number: u32) -> Result<ReadText, TextFault>
-    ensures { WholeGives reading number result }
+fn whole_text(
+    alloc: Global,
+    draft: Draft,
+    numbers: Numbers,
+    number: u32,
+) -> Result<ReadText, TextFault>
+    ensures { WholeGives (reading draft numbers) number result }
 {
-    let Reading { draft, numbers } = reading;
     match draft.whole_system() {
         Some(system) => {
             let lines = numbers.in_order(alloc)?;
@@ -197,16 +198,6 @@ fn whole_text(alloc: Global, reading: Reading, number: u32) -> Result<ReadText, 
             rule: END_RULE,
         }),
     }
-}
-
-/// What the header of a version says, at the line of this number.
-fn headed_by(alloc: Global, version: u8, number: u32) -> Result<Reading, NoMemory>
-    ensures { IfOk result (λ reading. reading ≡ bare_reading version number) }
-{
-    Ok(Reading {
-        draft: Draft::new(alloc, version),
-        numbers: Numbers::new(alloc, number)?,
-    })
 }
 
 /// Whether all lines are blank.
@@ -278,14 +269,15 @@ fn read_lines(alloc: Global, text: &[u8]) -> Result<ReadText, TextFault>
     ensures { AnswersText text.now result }
 {
     let (version, mut number, mut rest) = header_of(alloc, text)?;
-    let mut reading = headed_by(alloc, version, number)?;
+    let mut draft = Draft::new(alloc, version);
+    let mut numbers = Numbers::new(alloc, number)?;
     while !rest.is_empty() {
         let (line, behind) = cut_line(rest);
         rest = behind;
         number += 1;
-        reading = with_line(alloc, reading, without_return(line), number)?;
+        draft = with_line(alloc, draft, &mut numbers, without_return(line), number)?;
     }
-    whole_text(alloc, reading, number)
+    whole_text(alloc, draft, numbers, number)
 }
 
 /// The system that a text says, and where its canonical lines came from.
