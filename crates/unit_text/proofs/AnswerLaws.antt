@@ -1,6 +1,6 @@
 -- Each text says one system, or is refused at one line by one rule.
-use Rattle.std.proofs.Common.{◌≡◌, cond, ℕ, suc, ◌<◌, ◌≤◌, ◌==◌, Bool, true, false, not, List, [], ◌∷◌, ◌++◌, append_assoc, length, ◌⊎◌, inl, inr, refl, ap, sym, subst, ◌∙◌, arith}
-use Rattle.std.specs.Prelude.{◌&&◌, ◌||◌, nat_le, nat_lt, IsTrue, ◌≢◌}
+use Rattle.std.proofs.Common.{◌≡◌, cond, ℕ, suc, ◌<◌, ◌≤◌, Bool, true, false, not, List, [], ◌∷◌, ◌++◌, append_assoc, length, ◌⊎◌, inl, inr, refl, ap, sym, subst, ◌∙◌, arith}
+use Rattle.std.specs.Prelude.{◌&&◌, nat_le, nat_lt, ◌≢◌}
 use Rattle.std.specs.List.{list_all, filter, AllZip}
 use Rattle.std.proofs.lemmas.Bool.{and_parts, cases_Bool, cases_lt, true≢false}
 use Rattle.std.proofs.lemmas.Bool.Decides.{nat_tests}
@@ -11,7 +11,7 @@ use Rattle.unit_tree.specs.Blocks.{Block, Before, no_lines, and_line, and_lines,
 use Rattle.unit_tree.specs.Lines.{source_lines, size_of, code_of, is_code_byte, is_blank_line, has_forbidden_byte}
 use Rattle.unit_tree.specs.Parts.{Part, with_part, text_forms, system_of}
 use Rattle.unit_tree.specs.Parts as parts
-use Rattle.unit_tree.specs.Texts.{text_limit, line_limit, BreaksAt, Breaks, HaveForms, HasFormIn, LineBreaks, Reads, IsFirstBroken, IsUnended, IsRefused}
+use Rattle.unit_tree.specs.Texts.{text_limit, line_limit, Breaks, HaveForms, HasFormIn, LineBreaks, Reads, IsFirstBroken, IsUnended, IsRefused}
 use Rattle.unit_tree.specs.Tokens.{is_blank}
 use Rattle.unit_tree.specs.declared.line_form.LineForm.{LineForm}
 use Rattle.unit_tree.specs.declared.line_form.LineForm.TheVariants as form
@@ -19,10 +19,10 @@ use Rattle.unit_tree.specs.declared.system.System.{System}
 use Rattle.unit_text.specs.Laws.{IsAnswered, HasOneReading, SaysOneSystem, EveryTextIsAnsweredOnce}
 use Rattle.unit_text.specs.Reading.{blank_rule}
 use Rattle.unit_text.specs.Seen.{IsClean}
-use Rattle.unit_text.specs.Nesting.{Nested, headed_by, and_form, nested_forms, blocks_of}
+use Rattle.unit_text.specs.Nesting.{Nested, headed_by, and_form, nested_forms}
 use Rattle.unit_text.proofs.NestingLaws.{before_next, same_parts, whole_forms, parts_close}
 use Rattle.unit_text.proofs.Refusing.{unbroken, IsUnbroken, AreUnbroken, IsLeast, first_broken, no_break}
-use Rattle.unit_text.proofs.Walks.{FormsAreKnown, Decided, FormOf, FirstLine, first_line, version_known, FormIn, form_in, same_forms, AreBlank, NestTo, are_short, blank_more, nest_blank, header_begins, line_nests, BreaksLeast, bytes_break, length_breaks, formless_breaks, place_breaks, first_place_breaks, headless_breaks, blank_unbroken, is_written, none_written, blank_have_none, one_in}
+use Rattle.unit_text.proofs.Walks.{FormsAreKnown, Decided, first_line, version_known, FormIn, form_in, same_forms, AreBlank, NestTo, are_short, blank_more, nest_blank, header_begins, line_nests, BreaksLeast, bytes_break, length_breaks, formless_breaks, place_breaks, first_place_breaks, headless_breaks, blank_unbroken, is_written, none_written, blank_have_none, one_in}
 use Rattle.unit_text.proofs.SpelledBytes.{none_forbidden}
 use Rattle.unit_tree.specs.Texts.{BeginsVersion2}
 
@@ -337,13 +337,13 @@ line_keeps known text before line later version all says cut = elim (cases_Bool 
     by_form at = unbroken text before line (none_forbidden at.has.has_form.tokens line at.has.has_form.spelled) short
         (λ none. none.1 at.some at.has)
         (λ off.
-            let forms = same_forms known text before off.forms at.front off.lines at.have in
-            let one = one_in known text off.some at.some line off.has_form at.has in
-            let may = placed_at at.front at.some at.others no_lines (ap (are_placed no_lines) (sym at.cut) ∙ says.placed) in
-            true≢false (sym (ap (λ all_forms. may_stand (and_lines no_lines all_forms) off.some) forms ∙ ap (may_stand (and_lines no_lines at.front)) one ∙ may) ∙ off.misplaced))
+        let forms = same_forms known text before off.forms at.front off.lines at.have in
+        let one = one_in known text off.some at.some line off.has_form at.has in
+        let may = placed_at at.front at.some at.others no_lines (ap (are_placed no_lines) (sym at.cut) ∙ says.placed) in
+        true≢false (sym (ap (λ all_forms. may_stand (and_lines no_lines all_forms) off.some) forms ∙ ap (may_stand (and_lines no_lines at.front)) one ∙ may) ∙ off.misplaced))
         (λ lacks.
-            let none = same_forms known text before at.front [] at.have (blank_have_none text before lacks.before_is_blank) in
-            lacks.is_other version (subst (λ some. HasForm some line) (first_is_header at.front at.some at.others at.cut none) at.has.has_form))
+        let none = same_forms known text before at.front [] at.have (blank_have_none text before lacks.before_is_blank) in
+        lacks.is_other version (subst (λ some. HasForm some line) (first_is_header at.front at.some at.others at.cut none) at.has.has_form))
 
 nothing_broken : FormsAreKnown → (text : List (List ℕ)) (version : ℕ) (all : List Part) → Says text version all → (number rule : ℕ) → Breaks text number rule → ⊥
 nothing_broken known text version all says number rule (inl at) = line_keeps known text at.before at.line at.later version all says at.cut rule at.breaks

@@ -1,27 +1,23 @@
 -- The draft of a system goes along with what the lines nest to: with each line that may stand it is that of one line
 -- more, and where a line may not stand there is none.
-use Rattle.std.proofs.Common.{◌≡◌, cond, ℕ, suc, ◌+◌, ◌<◌, Bool, true, false, not, List, [], ◌∷◌, ◌++◌, append_assoc, map, length, Option, Some, None, refl, ap, sym, subst, ◌∙◌, arith}
-use Rattle.std.specs.Prelude.{◌&&◌, ◌||◌, is_some, nat_lt, reverse, option_and_then}
+use Rattle.std.proofs.Common.{◌≡◌, cond, ℕ, ◌+◌, Bool, true, false, not, List, [], ◌∷◌, ◌++◌, append_assoc, length, Option, Some, None, refl, ap, sym, subst, ◌∙◌, arith}
+use Rattle.std.specs.Prelude.{◌&&◌, is_some, nat_lt, reverse, option_and_then}
 use Rattle.std.specs.List.{count_by, flat_map, fold, list_any}
 use Rattle.std.specs.Option.{option_map}
-use Rattle.std.proofs.lemmas.Bool.{cases_Bool}
 use Rattle.std.proofs.lemmas.List.{append-nil, length-reverse, reverse-append}
-use Rattle.fixed_words.specs.declared.types.Literal.{Literal}
 use Rattle.unit_tree.specs.Blocks as blocks
 use Rattle.unit_tree.specs.Blocks.{Block, no_lines, and_lines, holds_form, has_rival, has_room, may_stand, are_placed, is_inner}
 use Rattle.unit_tree.specs.LineForms.{are_alike}
 use Rattle.unit_tree.specs.Parts as parts
 use Rattle.unit_tree.specs.Parts.{Part, UnitPart, line_forms, unit_part_forms, part_forms, text_forms, unit_of, system_of}
-use Rattle.unit_tree.specs.declared.expr.Expr.{Expr}
 use Rattle.unit_tree.specs.declared.line.Line.{Line}
 use Rattle.unit_tree.specs.declared.line_form.LineForm.{LineForm}
 use Rattle.unit_tree.specs.declared.line_form.LineForm.TheVariants as form
 use Rattle.unit_tree.specs.declared.system.Instance.{Instance}
 use Rattle.unit_tree.specs.declared.system.System.{System}
 use Rattle.unit_tree.specs.declared.unit.Unit.{Unit}
-use Rattle.unit_text.specs.Drafts.{in_block, headed, with_form, form_in, top_form, declared_form, unit_form, step_form, line_in_step, instance_form, once, split_last, turned_by, ended_by}
+use Rattle.unit_text.specs.Drafts.{in_block, headed, with_form, once, split_last, turned_by, ended_by}
 use Rattle.unit_text.specs.Nesting.{Inner, Open, AtTop, InUnit, InStep, InInstance, Nested, opened, and_form, around_forms, nested_forms, block_of, blocks_of}
-use Rattle.unit_text.specs.Nesting as nesting
 use Rattle.unit_text.specs.declared.draft.Around.{Around}
 use Rattle.unit_text.specs.declared.draft.Draft.{Draft}
 use Rattle.unit_text.specs.declared.draft.Head.{Head}

@@ -1,8 +1,7 @@
 -- The last of a list, as it is taken off.
-use Rattle.std.proofs.Common.{◌≡◌, ℕ, suc, ◌<◌, List, [], ◌∷◌, ◌++◌, length, Option, Some, None, refl, ap, sym, ◌∙◌, arith}
+use Rattle.std.proofs.Common.{◌≡◌, ◌<◌, List, [], ◌∷◌, ◌++◌, length, Option, Some, None, refl, ap, ◌∙◌, arith}
 use Rattle.std.specs.Prelude.{◌↔◌, IsSome}
 use Rattle.std.specs.Option.{option_map, option_to_list}
-use Rattle.std.proofs.lemmas.List.{append-nil}
 use Rattle.unit_text.specs.Drafts.{split_from, split_last}
 
 split_one : {A : Type 0} (first : A) (others : List A) (last : A) → split_from first (others ++ (last ∷ [])) ≡ (first ∷ others, last)

@@ -1,11 +1,12 @@
 -- What is answered of a line that has no form.
-use Rattle.std.proofs.Common.{◌≡◌, ℕ, List, Result, Err, inl, inr, refl}
+use Rattle.std.proofs.Common.{ℕ, List, Err, inl, inr, refl}
 use Rattle.unit_tree.specs.declared.line_form.LineForm.{LineForm}
 use Rattle.unit_tokens.specs.Scanning.{ReadsAs}
 use Rattle.unit_tokens.specs.declared.fault.Unread.{Unread}
 use Rattle.unit_tokens.specs.declared.fault.Unread.TheVariants as unread
-use Rattle.unit_text.specs.Reading.{IsWritten, FormIn, Reading, LineGives, fault_at, AnswersAt}
+use Rattle.unit_text.specs.Reading.{IsWritten, FormIn, LineGives, fault_at, AnswersAt}
+use Rattle.unit_text.specs.declared.draft.Draft.{Draft}
 
-pub formless_answer : (reading : Reading) (line : List ℕ) (number : ℕ) (why : Unread) → IsWritten line → ReadsAs {X = LineForm} (Err why) (FormIn reading.draft.system.version line) → AnswersAt number (LineGives reading line number) (Err (fault_at why number 4))
-formless_answer reading line number unread.NoForm is none = (refl, inr (inl (refl, is, none)))
-formless_answer reading line number unread.NoMemory is none = tt
+pub formless_answer : (draft : Draft) (line : List ℕ) (number : ℕ) (why : Unread) → IsWritten line → ReadsAs {X = LineForm} (Err why) (FormIn draft.system.version line) → AnswersAt number (LineGives draft line) (Err (fault_at why number 4))
+formless_answer draft line number unread.NoForm is none = (refl, inr (inl (refl, is, none)))
+formless_answer draft line number unread.NoMemory is none = tt

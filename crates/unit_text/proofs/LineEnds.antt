@@ -1,5 +1,5 @@
 -- The carriage return that belongs to a line's end.
-use Rattle.std.proofs.Common.{◌≡◌, ℕ, ◌==◌, cond, true, false, List, [], ◌∷◌, ◌++◌, refl, ap, sym, ◌∙◌}
+use Rattle.std.proofs.Common.{◌≡◌, ℕ, ◌==◌, cond, true, false, List, [], ◌∷◌, ◌++◌, ap}
 use Rattle.unit_tree.specs.Lines.{without_return}
 
 pub without_last : (front : List ℕ) (last : ℕ) → (last == 13) ≡ true → without_return (front ++ (last ∷ [])) ≡ front

@@ -1,6 +1,6 @@
 -- Lines that may stand behind a header, and the parts that they say: one for one.
-use Rattle.std.proofs.Common.{◌≡◌, ℕ, Bool, true, false, not, List, [], ◌∷◌, ◌++◌, append_assoc, map, Option, Some, None, refl, ap, sym, subst, ◌∙◌}
-use Rattle.std.specs.Prelude.{◌&&◌, ◌||◌, ◌↔◌, IsTrue}
+use Rattle.std.proofs.Common.{◌≡◌, ℕ, true, false, not, List, [], ◌∷◌, ◌++◌, append_assoc, map, Some, None, refl, ap, sym, subst, ◌∙◌}
+use Rattle.std.specs.Prelude.{◌&&◌, IsTrue}
 use Rattle.std.specs.List.{fold, flat_map, list_any}
 use Rattle.std.proofs.lemmas.Bool.{and_parts}
 use Rattle.std.proofs.lemmas.Grind.{fold-append, flat_map-append}
@@ -77,9 +77,9 @@ added-IfElse condition then_lines else_lines nested name unit_parts inner =
     ap (fold and_form (opened nested (InStep name unit_parts inner))) (fold-If (List LineForm) block_forms condition (map added_line then_lines) (Some (map added_line else_lines)))
     ∙ fold-append and_form (opened nested (InStep name unit_parts within)) (joined (map line_forms (map added_line then_lines)) ++ (form.Else ∷ joined (map line_forms (map added_line else_lines)))) (form.End ∷ [])
     ∙ ap (λ more. fold and_form more (form.End ∷ [])) (
-        fold-append and_form (opened nested (InStep name unit_parts within)) (joined (map line_forms (map added_line then_lines))) (form.Else ∷ joined (map line_forms (map added_line else_lines)))
-        ∙ ap (λ more. fold and_form more (form.Else ∷ joined (map line_forms (map added_line else_lines)))) (joined_added then_lines nested name unit_parts within)
-        ∙ joined_added else_lines nested name unit_parts others
+    fold-append and_form (opened nested (InStep name unit_parts within)) (joined (map line_forms (map added_line then_lines))) (form.Else ∷ joined (map line_forms (map added_line else_lines)))
+    ∙ ap (λ more. fold and_form more (form.Else ∷ joined (map line_forms (map added_line else_lines)))) (joined_added then_lines nested name unit_parts within)
+    ∙ joined_added else_lines nested name unit_parts others
     )
 
 added_node : (y : Line-F Added) → IsAdded (roll-Line (map-Line Added Line added_line y))
@@ -194,9 +194,9 @@ around_opens [] = refl
 around_opens (block ∷ others) =
     fold-append behind step_blocks (around_forms others ++ flat_map line_forms block.before) (head_forms block.head)
     ∙ ap (λ now. fold behind now (head_forms block.head)) (
-        fold-append behind step_blocks (around_forms others) (flat_map line_forms block.before)
-        ∙ ap (λ now. fold behind now (flat_map line_forms block.before)) (around_opens others)
-        ∙ lines_leave block.before (map (λ one. block_of one.head) others ++ step_blocks)
+    fold-append behind step_blocks (around_forms others) (flat_map line_forms block.before)
+    ∙ ap (λ now. fold behind now (flat_map line_forms block.before)) (around_opens others)
+    ∙ lines_leave block.before (map (λ one. block_of one.head) others ++ step_blocks)
     )
     ∙ head_opens block.head (map (λ one. block_of one.head) others ++ step_blocks)
 
@@ -397,8 +397,8 @@ headed_forms (Else condition then_lines) lines =
     ∙ ap (λ forms. form.If condition ∷ (forms ++ (form.Else ∷ joined (map line_forms lines))) ++ (form.End ∷ [])) (joined_is then_lines)
     ∙ ap (λ forms. form.If condition ∷ (flat_map line_forms then_lines ++ (form.Else ∷ forms)) ++ (form.End ∷ [])) (joined_is lines)
     ∙ ap (λ forms. form.If condition ∷ forms) (
-        append_assoc (flat_map line_forms then_lines) (form.Else ∷ flat_map line_forms lines) (form.End ∷ [])
-        ∙ sym (append_assoc (flat_map line_forms then_lines) (form.Else ∷ []) (flat_map line_forms lines ++ (form.End ∷ [])))
+    append_assoc (flat_map line_forms then_lines) (form.Else ∷ flat_map line_forms lines) (form.End ∷ [])
+    ∙ sym (append_assoc (flat_map line_forms then_lines) (form.Else ∷ []) (flat_map line_forms lines ++ (form.End ∷ [])))
     )
 headed_forms (Times count) lines =
     fold-Repeat (List LineForm) block_forms count lines
@@ -409,9 +409,9 @@ ended_adds lines block others =
     let ending = flat_map line_forms lines ++ (form.End ∷ []) in
     ap (λ forms. around_forms others ++ forms) (flat_map-append line_forms block.before (headed block.head lines ∷ []) ∙ ap (λ forms. flat_map line_forms block.before ++ forms) (append-nil (line_forms (headed block.head lines)) ∙ headed_forms block.head lines))
     ∙ sym (
-        append_assoc (around_forms (block ∷ others)) (flat_map line_forms lines) (form.End ∷ [])
-        ∙ append_assoc (around_forms others ++ flat_map line_forms block.before) (head_forms block.head) ending
-        ∙ append_assoc (around_forms others) (flat_map line_forms block.before) (head_forms block.head ++ ending)
+    append_assoc (around_forms (block ∷ others)) (flat_map line_forms lines) (form.End ∷ [])
+    ∙ append_assoc (around_forms others ++ flat_map line_forms block.before) (head_forms block.head) ending
+    ∙ append_assoc (around_forms others) (flat_map line_forms block.before) (head_forms block.head ++ ending)
     )
 
 step_ends : (version : ℕ) (all : List Part) (unit : List ℕ) (inside : List UnitPart) (lines : List Line) (around : List Around) → Adds (in_step_at version all unit inside (record { lines = lines; around = around })) form.End
@@ -544,4 +544,3 @@ nesting_is_by_parts version forms placed = (closed, open_to)
 
     open_to : (all : List Part) × (form.Header version ∷ forms ≡ text_forms version all) → open_blocks (form.Header version ∷ forms) ≡ []
     open_to (all, is) = ap open_blocks is ∙ parts_close version all
-

@@ -1,43 +1,33 @@
 -- Reading goes along the lines as the definitions of texts have it.
-use Rattle.std.proofs.Common.{◌≡◌, cond, ℕ, suc, ◌+◌, ◌<◌, ◌≤◌, ◌==◌, Bool, true, false, not, List, [], ◌∷◌, ◌++◌, append_assoc, map, length, Option, Some, None, Result, Ok, Err, ◌⊎◌, inl, inr, refl, ap, sym, subst, ◌∙◌, arith}
-use Rattle.std.specs.Prelude.{◌&&◌, IsTrue, nat_lt}
-use Rattle.std.specs.Borrow.{Bor}
+use Rattle.std.proofs.Common.{◌≡◌, cond, ℕ, suc, ◌+◌, ◌<◌, ◌≤◌, ◌==◌, Bool, true, false, List, [], ◌∷◌, ◌++◌, append_assoc, map, length, Option, Some, None, Result, Ok, Err, ◌⊎◌, inl, inr, refl, ap, sym, subst, ◌∙◌, arith}
+use Rattle.std.specs.Prelude.{◌&&◌, IsTrue}
 use Rattle.std.specs.Result.{IsErrAnd}
-use Rattle.std.specs.List.{AllByRecursion, enumerate_from, filter, list_all}
-use Rattle.std.specs.Option.{option_map}
-use Rattle.std.proofs.lemmas.Bool.{and_parts, cases_Bool, cases_lt, true≢false}
+use Rattle.std.specs.List.{AllByRecursion, list_all}
+use Rattle.std.proofs.lemmas.Bool.{true≢false}
 use Rattle.std.proofs.lemmas.Bool.Decides.{nat_tests}
-use Rattle.std.proofs.lemmas.List.{append-nil, map-append}
-use Rattle.std.proofs.lemmas.List.Elements.{filter-append}
-use Rattle.unit_tree.specs.Blocks.{Block, no_lines, may_stand, are_placed, open_blocks}
+use Rattle.std.proofs.lemmas.List.{append-nil}
+use Rattle.unit_tree.specs.Blocks.{no_lines, may_stand, are_placed}
 use Rattle.unit_tree.specs.LineForms.{HasForm, is_of_version_2}
-use Rattle.unit_tree.specs.Lines.{lines_of, without_return, source_lines, size_of, is_blank_line, has_forbidden_byte}
+use Rattle.unit_tree.specs.Lines.{lines_of, without_return, source_lines, size_of, is_blank_line}
 use Rattle.unit_tree.specs.Parts.{system_of}
-use Rattle.unit_tree.specs.SourceLines as source_numbers
-use Rattle.unit_tree.specs.SourceLines.{ReadsFrom}
-use Rattle.unit_tree.specs.Texts.{text_limit, line_limit, BeginsVersion2, HasFormIn, Reads, IsFirstBroken, IsUnended, IsRefused}
+use Rattle.unit_tree.specs.Texts.{text_limit, BeginsVersion2, HasFormIn, Reads, IsFirstBroken, IsUnended, IsRefused}
 use Rattle.unit_tree.specs.declared.line_form.LineForm.{LineForm}
 use Rattle.unit_tree.specs.declared.line_form.LineForm.TheVariants as form
 use Rattle.unit_tree.specs.declared.system.System.{System}
 use Rattle.unit_text.specs.Drafts.{bare_draft, with_form, whole_by, whole_system}
-use Rattle.unit_text.specs.Numbering.{place_in, place_of, with_line, in_order}
 use Rattle.unit_text.specs.Nesting.{Open, AtTop, InUnit, InStep, InInstance, Inner, Nested, headed_by, and_step_form, in_step, and_form_in, and_form, nested_forms, blocks_of}
-use Rattle.unit_text.specs.Reading.{IsWritten, IsHeadless, FirstGives, IsFormOf, IsOfOther, FormIn, FormGives, LineGives, headless_rule, blank_rule, FirstAt, HeadsText, HeadBreaks, HeaderGives, AnswersAt, Reading, reading, bare_reading, WholeGives, AnswersText}
-use Rattle.unit_text.specs.LineReading.{LineHas}
+use Rattle.unit_text.specs.Reading.{IsWritten, IsHeadless, FirstGives, FormIn, LineGives, blank_rule, FirstAt, HeadsText, HeadBreaks, HeaderGives, AnswersAt, AnswersText}
 use Rattle.unit_text.specs.Seen.{IsClean, TellsOf}
 use Rattle.unit_text.specs.declared.draft.Around.{Around}
 use Rattle.unit_text.specs.declared.draft.Draft.{Draft}
 use Rattle.unit_text.specs.declared.fault.TextFault.{TextFault}
 use Rattle.unit_text.specs.declared.fault.TextFault.TheVariants as fault
 use Rattle.unit_text.specs.declared.lines.Seen.TheVariants as told
-use Rattle.unit_text.specs.declared.numbers.Numbers.{Numbers}
-use Rattle.unit_text.specs.declared.reading.ReadText.{ReadText}
 use Rattle.unit_text.proofs.AnswerLaws.{broken_at, ends_whole, ends_open, blank_is_refused, version_is}
 use Rattle.unit_text.proofs.DraftLaws.{draft_of, open_of, draft_goes}
-use Rattle.unit_text.proofs.NumberLaws.{numbers_of, numbers_begin, numbers_more, lengths_more, numbers_end}
-use Rattle.unit_text.proofs.NestingLaws.{is_held, before_next, blocks_are, blocks_around, whole_forms}
+use Rattle.unit_text.proofs.NestingLaws.{before_next, blocks_are, blocks_around, whole_forms}
 use Rattle.unit_text.proofs.Refusing.{AreUnbroken}
-use Rattle.unit_text.proofs.Walks.{FormsAreKnown, Decided, FirstLine, first_is, begins_so, AreBlank, NestTo, BreaksLeast, blank_more, nest_blank, header_begins, line_nests, bytes_break, length_breaks, formless_breaks, place_breaks, first_place_breaks, headless_breaks}
+use Rattle.unit_text.proofs.Walks.{FormsAreKnown, FirstLine, first_is, begins_so, AreBlank, NestTo, BreaksLeast, blank_more, nest_blank, header_begins, line_nests, bytes_break, length_breaks, formless_breaks, place_breaks, first_place_breaks, headless_breaks}
 
 -- ---- Cutting lines
 
@@ -173,60 +163,21 @@ head_refused known text number rule fits some_written head =
     by_breaks (inl tells) = bytes_least (source_lines text) head.first.before head.line rule tells
     by_breaks (inr (is, gives)) = first_least known (source_lines text) head.first.before head.line rule (first_of text head.line head.rest number head.first is) refl blank is gives
 
--- ---- Numbers of lines
-
-numbers_cut : (before : List (List ℕ)) (line : List ℕ) (from : ℕ) → enumerate_from from (before ++ (line ∷ [])) ≡ enumerate_from from before ++ ((from + length before, line) ∷ [])
-numbers_cut [] line from = let same : from ≡ from + 0 = omega arith in ap (λ number. (number, line) ∷ []) same
-numbers_cut (one ∷ before) line from =
-    let same : (from + 1) + length before ≡ from + suc (length before) = omega arith in
-    ap (λ rest. (from, one) ∷ rest) (numbers_cut before line (from + 1) ∙ ap (λ number. enumerate_from (from + 1) before ++ ((number, line) ∷ [])) same)
-
-numbers_more_by : (before : List (List ℕ)) (line : List ℕ) → source_numbers.numbers_of (before ++ (line ∷ [])) ≡ source_numbers.numbers_of before ++ map (λ numbered. numbered.0) (filter (λ numbered. not (is_blank_line numbered.1)) ((1 + length before, line) ∷ []))
-numbers_more_by before line =
-    ap (λ all. map (λ numbered. numbered.0) (filter (λ numbered. not (is_blank_line numbered.1)) all)) (numbers_cut before line 1)
-    ∙ ap (map (λ numbered. numbered.0)) (filter-append (λ numbered. not (is_blank_line numbered.1)) (enumerate_from 1 before) ((1 + length before, line) ∷ []))
-    ∙ map-append (λ numbered. numbered.0) (filter (λ numbered. not (is_blank_line numbered.1)) (enumerate_from 1 before)) (filter (λ numbered. not (is_blank_line numbered.1)) ((1 + length before, line) ∷ []))
-
-numbers_written : (before : List (List ℕ)) (line : List ℕ) → is_blank_line line ≡ false → source_numbers.numbers_of (before ++ (line ∷ [])) ≡ source_numbers.numbers_of before ++ (suc (length before) ∷ [])
-numbers_written before line is =
-    let same : 1 + length before ≡ suc (length before) = omega arith in
-    numbers_more_by before line
-    ∙ ap (λ told. source_numbers.numbers_of before ++ map (λ numbered. numbered.0) (cond (not told) ((1 + length before, line) ∷ []) [])) is
-    ∙ ap (λ number. source_numbers.numbers_of before ++ (number ∷ [])) same
-
-numbers_skip : (before : List (List ℕ)) (line : List ℕ) → is_blank_line line ≡ true → source_numbers.numbers_of (before ++ (line ∷ [])) ≡ source_numbers.numbers_of before
-numbers_skip before line is =
-    numbers_more_by before line
-    ∙ ap (λ told. source_numbers.numbers_of before ++ map (λ numbered. numbered.0) (cond (not told) ((1 + length before, line) ∷ []) [])) is
-    ∙ append-nil (source_numbers.numbers_of before)
-
-none_numbered : (lines : List (List ℕ)) (from : ℕ) → list_all is_blank_line lines ≡ true → map (λ numbered. numbered.0) (filter (λ numbered. not (is_blank_line numbered.1)) (enumerate_from from lines)) ≡ []
-none_numbered [] from blank = refl
-none_numbered (line ∷ lines) from blank =
-    let both = and_parts (is_blank_line line) (list_all is_blank_line lines) blank in
-    ap (λ told. map (λ numbered. numbered.0) (cond (not told) ((from, line) ∷ filter (λ numbered. not (is_blank_line numbered.1)) (enumerate_from (from + 1) lines)) (filter (λ numbered. not (is_blank_line numbered.1)) (enumerate_from (from + 1) lines)))) both.0
-    ∙ none_numbered lines (from + 1) both.1
-
-numbers_blank : (lines : List (List ℕ)) → list_all is_blank_line lines ≡ true → source_numbers.numbers_of lines ≡ []
-numbers_blank lines blank = none_numbered lines 1 blank
-
 -- ---- Behind the header
 
--- So many lines of the text are read, and nest to what the draft and the numbers are of.
-pub record Reached (text rest : List ℕ) (number : ℕ) (read : Reading) : Type 0 where
+-- So many lines of the text are read, and nest to what the draft is of.
+pub record Reached (text rest : List ℕ) (number : ℕ) (draft : Draft) : Type 0 where
   pub before : List (List ℕ)
   pub nested : Nested
   pub cut : source_lines text ≡ before ++ source_lines rest
   pub number_is : number ≡ length before
   pub within : number + length rest ≤ length text
   pub nests : NestTo (source_lines text) before nested
-  pub draft_is : read.draft ≡ draft_of nested
-  pub numbers_are : read.numbers ≡ numbers_of nested (source_numbers.numbers_of before)
-  pub one_each : length (source_numbers.numbers_of before) ≡ length (nested_forms nested)
+  pub draft_is : draft ≡ draft_of nested
   pub begins : BeginsVersion2 (source_lines text) → nested.version ≡ 2
   pub begins_so : nested.version ≡ 2 → BeginsVersion2 (source_lines text)
 
-pub reached_first : FormsAreKnown → (text : List ℕ) (version number : ℕ) (rest : List ℕ) → HeadsText text version number rest → Reached text rest number (bare_reading version number)
+pub reached_first : FormsAreKnown → (text : List ℕ) (version number : ℕ) (rest : List ℕ) → HeadsText text version number rest → Reached text rest number (bare_draft version)
 reached_first known text version number rest head = record {
   before = head.first.before ++ (head.line ∷ []);
   nested = headed_by version;
@@ -236,20 +187,12 @@ reached_first known text version number rest head = record {
   nests = header_begins known (source_lines text) head.first.before head.line version (blank_before (source_lines text) head.first.before head.first.blank) head.is_written.clean
       (record { has_form = head.is_header; of_version = λ told. begins_by (is_two version told) });
   draft_is = refl;
-  numbers_are = sym (ap (numbers_of (headed_by version)) numbered ∙ numbers_begin version number);
-  one_each = ap length numbered;
   begins = λ begins.
       let same = known.one head.line (form.Header version) (form.Header 2) head.is_header (first_is (source_lines text) first begins) in
       cc;
   begins_so = begins_by;
 }
   where
-    numbered : source_numbers.numbers_of (head.first.before ++ (head.line ∷ [])) ≡ number ∷ []
-    numbered =
-        numbers_written head.first.before head.line head.is_written.written
-        ∙ ap (λ numbers. numbers ++ (suc (length head.first.before) ∷ [])) (numbers_blank head.first.before (all_are_blank head.first.before head.first.blank))
-        ∙ ap (λ one. one ∷ []) (sym head.first.number_is)
-
     first : FirstLine (source_lines text)
     first = first_of text head.line rest number head.first head.is_written
 
@@ -278,12 +221,6 @@ keeps_version nested some = by_block nested.block some
 draft_version : (nested : Nested) → (draft_of nested).system.version ≡ nested.version
 draft_version nested = version_is nested.version nested.parts
 
-same_place : (block : Open) → place_in (open_of block) ≡ place_of block
-same_place AtTop = refl
-same_place (InUnit name inside) = refl
-same_place (InStep name inside inner) = refl
-same_place (InInstance instance) = refl
-
 some_is : {A : Type 0} (one other : A) → Some one ≡ Some other → one ≡ other
 some_is one other same = cc
 
@@ -291,8 +228,8 @@ some_is one other same = cc
 may_of : (nested : Nested) (some : LineForm) (next : Option Draft) → are_placed no_lines (nested_forms nested) ≡ true → with_form (draft_of nested) some ≡ next → next ≡ cond (may_stand (before_next nested) some) (Some (draft_of (and_form nested some))) None
 may_of nested some next placed is = sym is ∙ draft_goes nested some placed
 
-pub reached_next : FormsAreKnown → (text rest line behind : List ℕ) (number : ℕ) (read next : Reading) → Reached text rest number read → lines_of rest ≡ line ∷ lines_of behind → length behind < length rest → LineGives read (without_return line) (number + 1) (Ok next) → Reached text behind (number + 1) next
-reached_next known text rest line behind number read next so_far cut shorter gives = by_gives gives
+pub reached_next : FormsAreKnown → (text rest line behind : List ℕ) (number : ℕ) (draft next : Draft) → Reached text rest number draft → lines_of rest ≡ line ∷ lines_of behind → length behind < length rest → LineGives draft (without_return line) (Ok next) → Reached text behind (number + 1) next
+reached_next known text rest line behind number draft next so_far cut shorter gives = by_gives gives
   where
     source : List ℕ
     source = without_return line
@@ -300,8 +237,8 @@ reached_next known text rest line behind number read next so_far cut shorter giv
     lines : List (List ℕ)
     lines = source_lines text
 
-    reached : (nested : Nested) → NestTo lines (so_far.before ++ (source ∷ [])) nested → next.draft ≡ draft_of nested → next.numbers ≡ numbers_of nested (source_numbers.numbers_of (so_far.before ++ (source ∷ []))) → length (source_numbers.numbers_of (so_far.before ++ (source ∷ []))) ≡ length (nested_forms nested) → nested.version ≡ so_far.nested.version → Reached text behind (number + 1) next
-    reached nested nests draft_is numbers_are one_each same = record {
+    reached : (nested : Nested) → NestTo lines (so_far.before ++ (source ∷ [])) nested → next ≡ draft_of nested → nested.version ≡ so_far.nested.version → Reached text behind (number + 1) next
+    reached nested nests draft_is same = record {
       before = so_far.before ++ (source ∷ []);
       nested = nested;
       cut = so_far.cut ∙ ap (λ rest. so_far.before ++ rest) (source_cut rest line behind cut) ∙ sym (append_assoc so_far.before (source ∷ []) (source_lines behind));
@@ -309,60 +246,25 @@ reached_next known text rest line behind number read next so_far cut shorter giv
       within = let within = so_far.within in omega (arith, within, shorter);
       nests = nests;
       draft_is = draft_is;
-      numbers_are = numbers_are;
-      one_each = one_each;
       begins = λ begins. same ∙ so_far.begins begins;
       begins_so = λ is. so_far.begins_so (sym same ∙ is);
     }
 
-    this : suc (length so_far.before) ≡ number + 1
-    this = let is = so_far.number_is in omega (arith, is)
+    by_may : (some : LineForm) → IsWritten source → HasFormIn lines some source → (may : Bool) → may_stand (before_next so_far.nested) some ≡ may → Some next ≡ cond may (Some (draft_of (and_form so_far.nested some))) None → Reached text behind (number + 1) next
+    by_may some is has true may same =
+        reached (and_form so_far.nested some) (line_nests known lines so_far.before source so_far.nested some so_far.nests is.clean has may) (some_is next (draft_of (and_form so_far.nested some)) same) (keeps_version so_far.nested some)
+    by_may some is has false off same = absurd (cc)
 
-    place_is : place_in read.draft.block ≡ place_of so_far.nested.block
-    place_is = ap (λ (d : Draft). place_in d.block) so_far.draft_is ∙ same_place so_far.nested.block
-
-    by_may : (some : LineForm) → IsWritten source → HasFormIn lines some source → (may : Bool) → may_stand (before_next so_far.nested) some ≡ may → (draft : Draft) → Some draft ≡ cond may (Some (draft_of (and_form so_far.nested some))) None → next ≡ reading draft (with_line read.numbers (place_in read.draft.block) some (number + 1)) → Reached text behind (number + 1) next
-    by_may some is has true may draft same next_is =
-        let held = is_held so_far.nested some may in
-        let numbered = numbers_written so_far.before source is.written in
-        reached (and_form so_far.nested some) (line_nests known lines so_far.before source so_far.nested some so_far.nests is.clean has may)
-        (ap (λ (r : Reading). r.draft) next_is ∙ some_is draft (draft_of (and_form so_far.nested some)) same)
-        (ap (λ (r : Reading). r.numbers) next_is
-        ∙ ap (λ numbers. with_line numbers (place_in read.draft.block) some (number + 1)) so_far.numbers_are
-        ∙ ap (λ at. with_line (numbers_of so_far.nested (source_numbers.numbers_of so_far.before)) at some (number + 1)) place_is
-        ∙ numbers_more so_far.nested some (source_numbers.numbers_of so_far.before) (number + 1) held so_far.one_each
-        ∙ ap (λ one. numbers_of (and_form so_far.nested some) (source_numbers.numbers_of so_far.before ++ (one ∷ []))) (sym this)
-        ∙ ap (numbers_of (and_form so_far.nested some)) (sym numbered))
-        (ap length numbered ∙ lengths_more so_far.nested some (source_numbers.numbers_of so_far.before) (suc (length so_far.before)) held so_far.one_each)
-        (keeps_version so_far.nested some)
-    by_may some is has false off draft same next_is = absurd (cc)
-
-    -- What is read with the line is the draft with it, and its number.
-    by_found : (some : LineForm) (found : Option Draft) → with_form read.draft some ≡ found → option_map (λ draft. reading draft (with_line read.numbers (place_in read.draft.block) some (number + 1))) found ≡ Some next → IsWritten source → HasFormIn lines some source → Reached text behind (number + 1) next
-    by_found some (Some draft) found is written has =
-        by_may some written has (may_stand (before_next so_far.nested) some) refl draft
-        (may_of so_far.nested some (Some draft) so_far.nests.placed (subst (λ d. with_form d some ≡ Some draft) so_far.draft_is found))
-        (sym (some_is (reading draft (with_line read.numbers (place_in read.draft.block) some (number + 1))) next is))
-    by_found some None found is written has = absurd (cc)
-
-    by_gives : LineGives read source (number + 1) (Ok next) → Reached text behind (number + 1) next
-    by_gives (inl (clean, blank, same)) =
-        let numbered = numbers_skip so_far.before source blank in
-        reached so_far.nested (nest_blank lines so_far.before source so_far.nested so_far.nests clean blank)
-        (ap (λ (r : Reading). r.draft) same ∙ so_far.draft_is)
-        (ap (λ (r : Reading). r.numbers) same ∙ so_far.numbers_are ∙ ap (numbers_of so_far.nested) (sym numbered))
-        (ap length numbered ∙ so_far.one_each) refl
+    by_gives : LineGives draft source (Ok next) → Reached text behind (number + 1) next
+    by_gives (inl (clean, blank, same)) = reached so_far.nested (nest_blank lines so_far.before source so_far.nested so_far.nests clean blank) (same ∙ so_far.draft_is) refl
     by_gives (inr given) =
-        by_found given.some (with_form read.draft given.some) refl given.next_is given.is_written
+        by_may given.some given.is_written
         (record { has_form = given.form_in.0; of_version = λ told. so_far.begins_so (sym (draft_version so_far.nested) ∙ sym (ap (λ (d : Draft). d.system.version) so_far.draft_is) ∙ given.form_in.1 told) })
+        (may_stand (before_next so_far.nested) given.some) refl
+        (may_of so_far.nested given.some (Some next) so_far.nests.placed (subst (λ d. with_form d given.some ≡ Some next) so_far.draft_is given.next_is))
 
--- What is mapped to nothing is nothing.
-none_read : {A B : Type 0} (found : Option A) (f : A → B) → option_map f found ≡ None → found ≡ None
-none_read (Some one) f is = absurd (cc)
-none_read None f is = refl
-
-pub line_refused : FormsAreKnown → (text rest line behind : List ℕ) (number : ℕ) (read : Reading) (rule : ℕ) → size_of text ≤ text_limit → list_all is_blank_line (source_lines text) ≡ false → Reached text rest number read → lines_of rest ≡ line ∷ lines_of behind → LineGives read (without_return line) (number + 1) (Err rule) → IsRefused text (number + 1) rule
-line_refused known text rest line behind number read rule fits some_written so_far cut gives =
+pub line_refused : FormsAreKnown → (text rest line behind : List ℕ) (number : ℕ) (draft : Draft) (rule : ℕ) → size_of text ≤ text_limit → list_all is_blank_line (source_lines text) ≡ false → Reached text rest number draft → lines_of rest ≡ line ∷ lines_of behind → LineGives draft (without_return line) (Err rule) → IsRefused text (number + 1) rule
+line_refused known text rest line behind number draft rule fits some_written so_far cut gives =
     refused_at text so_far.before source (source_lines behind) (number + 1) rule fits some_written
     (so_far.cut ∙ ap (λ rest. so_far.before ++ rest) (source_cut rest line behind cut))
     (let is = so_far.number_is in omega (arith, is)) so_far.nests.kept (by_gives gives)
@@ -373,10 +275,10 @@ line_refused known text rest line behind number read rule fits some_written so_f
     lines : List (List ℕ)
     lines = source_lines text
 
-    of_draft : read.draft.system.version ≡ so_far.nested.version
+    of_draft : draft.system.version ≡ so_far.nested.version
     of_draft = ap (λ (d : Draft). d.system.version) so_far.draft_is ∙ draft_version so_far.nested
 
-    none_in : FormIn read.draft.system.version source None → ((some : LineForm) × HasFormIn lines some source) → ⊥
+    none_in : FormIn draft.system.version source None → ((some : LineForm) × HasFormIn lines some source) → ⊥
     none_in (inl none) (some, has) = none some has.has_form
     none_in (inr other) (some, has) =
         let one = known.one source other.some some other.has_form has.has_form in
@@ -386,7 +288,7 @@ line_refused known text rest line behind number read rule fits some_written so_f
     by_may some is has true may same = absurd (cc)
     by_may some is has false off same = place_breaks lines so_far.before source so_far.nested some so_far.nests is.clean has off
 
-    by_gives : LineGives read source (number + 1) (Err rule) → BreaksLeast lines so_far.before source rule
+    by_gives : LineGives draft source (Err rule) → BreaksLeast lines so_far.before source rule
     by_gives (inl tells) = bytes_least lines so_far.before source rule tells
     by_gives (inr (inl (rule_is, is, none))) = subst (BreaksLeast lines so_far.before source) (sym rule_is) (formless_breaks lines so_far.before source is.clean is.written (none_in none))
     by_gives (inr (inr (rule_is, given))) =
@@ -394,12 +296,12 @@ line_refused known text rest line behind number read rule fits some_written so_f
         (by_may given.some given.is_written
         (record { has_form = given.form_in.0; of_version = λ told. so_far.begins_so (sym of_draft ∙ given.form_in.1 told) })
         (may_stand (before_next so_far.nested) given.some) refl
-        (may_of so_far.nested given.some None so_far.nests.placed (subst (λ d. with_form d given.some ≡ None) so_far.draft_is (none_read (with_form read.draft given.some) _ given.next_is))))
+        (may_of so_far.nested given.some None so_far.nests.placed (subst (λ d. with_form d given.some ≡ None) so_far.draft_is given.next_is)))
 
 -- ---- At the end
 
-all_read : (text rest : List ℕ) (number : ℕ) (read : Reading) (so_far : Reached text rest number read) → length rest ≡ 0 → so_far.before ≡ source_lines text
-all_read text rest number read so_far none = sym (so_far.cut ∙ ap (λ lines. so_far.before ++ lines) (none_left rest none) ∙ append-nil so_far.before)
+all_read : (text rest : List ℕ) (number : ℕ) (draft : Draft) (so_far : Reached text rest number draft) → length rest ≡ 0 → so_far.before ≡ source_lines text
+all_read text rest number draft so_far none = sym (so_far.cut ∙ ap (λ lines. so_far.before ++ lines) (none_left rest none) ∙ append-nil so_far.before)
 
 whole_parts : (nested : Nested) (system : System) → whole_system (draft_of nested) ≡ Some system → (blocks_of nested.block ≡ []) × (system_of nested.version nested.parts ≡ system)
 whole_parts nested system is = by_block nested.block is
@@ -423,41 +325,22 @@ open_parts nested is none = by_block nested.block is none
         around_is_some (block ∷ others) is = cc
     by_block (InInstance instance) is none = cc
 
-top_of : (block : Open) → blocks_of block ≡ [] → block ≡ AtTop
-top_of AtTop is = refl
-top_of (InUnit name inside) is = absurd (cc)
-top_of (InStep name inside inner) is = absurd (by_around inner.around is)
-  where
-    by_around : (around : List Around) → blocks_around around ≡ [] → ⊥
-    by_around [] is = cc
-    by_around (block ∷ others) is = cc
-top_of (InInstance instance) is = absurd (cc)
+pub reads_end : (text rest : List ℕ) (number : ℕ) (draft : Draft) (system : System) → size_of text ≤ text_limit → Reached text rest number draft → length rest ≡ 0 → whole_system draft ≡ Some system → Reads text system
+reads_end text rest number draft system fits so_far none is =
+    let whole = whole_parts so_far.nested system (subst (λ d. whole_system d ≡ Some system) so_far.draft_is is) in
+    subst (Reads text) whole.1
+    (ends_whole text so_far.nested fits (subst (λ before. NestTo (source_lines text) before so_far.nested) (all_read text rest number draft so_far none) so_far.nests)
+    (whole_forms so_far.nested (blocks_are so_far.nested ∙ whole.0)))
 
--- Lines that nest and leave no block open say the system of their parts, and their numbers are those that its lines came from.
-reads_from : (text : List ℕ) (nested : Nested) (numbers : Numbers) → size_of text ≤ text_limit → NestTo (source_lines text) (source_lines text) nested → blocks_of nested.block ≡ [] → numbers ≡ numbers_of nested (source_numbers.numbers_of (source_lines text)) → ReadsFrom text (system_of nested.version nested.parts) (in_order numbers)
-reads_from text nested numbers fits nests closed are = record {
-  reads = ends_whole text nested fits nests (whole_forms nested (blocks_are nested ∙ closed));
-  are_lines = ap in_order are ∙ numbers_end nested (source_numbers.numbers_of (source_lines text)) (top_of nested.block closed);
-}
-
-end_refused : (text rest : List ℕ) (number : ℕ) (read : Reading) → size_of text ≤ text_limit → list_all is_blank_line (source_lines text) ≡ false → Reached text rest number read → length rest ≡ 0 → whole_system read.draft ≡ None → IsRefused text number 6
-end_refused text rest number read fits some_written so_far none is =
-    let lines = all_read text rest number read so_far none in
-    inr (fits, inr (subst (λ at. IsUnended (source_lines text) at 6) (sym (so_far.number_is ∙ ap length lines))
-    (ends_open (source_lines text) so_far.nested some_written (subst (λ before. NestTo (source_lines text) before so_far.nested) lines so_far.nests)
-    (λ closed. open_parts so_far.nested (subst (λ d. whole_system d ≡ None) so_far.draft_is is) (sym (blocks_are so_far.nested) ∙ closed)))))
-
-pub whole_answer : (text rest : List ℕ) (number : ℕ) (read : Reading) (result : Result ReadText TextFault) → size_of text ≤ text_limit → list_all is_blank_line (source_lines text) ≡ false → Reached text rest number read → length rest ≡ 0 → WholeGives read number result → AnswersText text result
-whole_answer text rest number read (Ok given) fits some_written so_far none gives =
-    let whole = whole_parts so_far.nested given.system (subst (λ d. whole_system d ≡ Some given.system) so_far.draft_is gives.0) in
-    let lines = all_read text rest number read so_far none in
-    subst (λ system. ReadsFrom text system given.lines) whole.1
-    (subst (ReadsFrom text (system_of so_far.nested.version so_far.nested.parts)) (sym gives.1)
-    (reads_from text so_far.nested read.numbers fits (subst (λ before. NestTo (source_lines text) before so_far.nested) lines so_far.nests) whole.0
-    (so_far.numbers_are ∙ ap (λ before. numbers_of so_far.nested (source_numbers.numbers_of before)) lines)))
-whole_answer text rest number read (Err (fault.Line line rule)) fits some_written so_far none (is, line_is, rule_is) =
-    subst (λ at. IsRefused text at rule) (sym line_is) (subst (IsRefused text number) (sym rule_is) (end_refused text rest number read fits some_written so_far none is))
-whole_answer text rest number read (Err fault.NoMemory) fits some_written so_far none gives = tt
+pub end_refused : (text rest : List ℕ) (number : ℕ) (draft : Draft) → size_of text ≤ text_limit → list_all is_blank_line (source_lines text) ≡ false → Reached text rest number draft → length rest ≡ 0 → whole_system draft ≡ None → IsRefused text number 6
+end_refused text rest number draft fits some_written so_far none is =
+    let lines = all_read text rest number draft so_far none in
+    inr (
+      fits,
+      inr (subst (λ at. IsUnended (source_lines text) at 6) (sym (so_far.number_is ∙ ap length lines))
+          (ends_open (source_lines text) so_far.nested some_written (subst (λ before. NestTo (source_lines text) before so_far.nested) lines so_far.nests)
+          (λ closed. open_parts so_far.nested (subst (λ d. whole_system d ≡ None) so_far.draft_is is) (sym (blocks_are so_far.nested) ∙ closed)))),
+    )
 
 -- ---- Texts without a written line
 
@@ -469,8 +352,8 @@ long_refused text long = inl (long, refl, refl)
 
 -- ---- Errors that are handed on
 
-pub header_error : FormsAreKnown → (text : List ℕ) (why : TextFault) (result : Result ReadText TextFault) → size_of text ≤ text_limit → list_all is_blank_line (source_lines text) ≡ false → HeaderGives text (Err why) → IsErrAnd result (λ found. found ≡ why) → AnswersText text result
-header_error known text why (Ok given) fits some_written gives is = absurd is
+pub header_error : FormsAreKnown → (text : List ℕ) (why : TextFault) (result : Result System TextFault) → size_of text ≤ text_limit → list_all is_blank_line (source_lines text) ≡ false → HeaderGives text (Err why) → IsErrAnd result (λ found. found ≡ why) → AnswersText text result
+header_error known text why (Ok system) fits some_written gives is = absurd is
 header_error known text (fault.Line line rule) (Err found) fits some_written gives is = subst (λ one. AnswersText text (Err one)) (sym is) (by_gives gives)
   where
     by_gives : HeadBreaks text line rule ⊎ IsTrue (list_all is_blank_line (source_lines text)) → IsRefused text line rule
@@ -478,9 +361,9 @@ header_error known text (fault.Line line rule) (Err found) fits some_written giv
     by_gives (inr blank) = absurd (true≢false (sym blank ∙ some_written))
 header_error known text fault.NoMemory (Err found) fits some_written gives is = subst (λ one. AnswersText text (Err one)) (sym is) tt
 
-pub line_error : FormsAreKnown → (text rest line behind : List ℕ) (number : ℕ) (read : Reading) (why : TextFault) (result : Result ReadText TextFault) → size_of text ≤ text_limit → list_all is_blank_line (source_lines text) ≡ false → Reached text rest number read → lines_of rest ≡ line ∷ lines_of behind → AnswersAt (number + 1) (LineGives read (without_return line) (number + 1)) (Err why) → IsErrAnd result (λ found. found ≡ why) → AnswersText text result
-line_error known text rest line behind number read why (Ok given) fits some_written so_far cut gives is = absurd is
-line_error known text rest line behind number read (fault.Line at rule) (Err found) fits some_written so_far cut gives is =
+pub line_error : FormsAreKnown → (text rest line behind : List ℕ) (number : ℕ) (draft : Draft) (why : TextFault) (result : Result System TextFault) → size_of text ≤ text_limit → list_all is_blank_line (source_lines text) ≡ false → Reached text rest number draft → lines_of rest ≡ line ∷ lines_of behind → AnswersAt (number + 1) (LineGives draft (without_return line)) (Err why) → IsErrAnd result (λ found. found ≡ why) → AnswersText text result
+line_error known text rest line behind number draft why (Ok system) fits some_written so_far cut gives is = absurd is
+line_error known text rest line behind number draft (fault.Line at rule) (Err found) fits some_written so_far cut gives is =
     subst (λ one. AnswersText text (Err one)) (sym is)
-    (subst (λ n. IsRefused text n rule) (sym gives.0) (line_refused known text rest line behind number read rule fits some_written so_far cut gives.1))
-line_error known text rest line behind number read fault.NoMemory (Err found) fits some_written so_far cut gives is = subst (λ one. AnswersText text (Err one)) (sym is) tt
+    (subst (λ n. IsRefused text n rule) (sym gives.0) (line_refused known text rest line behind number draft rule fits some_written so_far cut gives.1))
+line_error known text rest line behind number draft fault.NoMemory (Err found) fits some_written so_far cut gives is = subst (λ one. AnswersText text (Err one)) (sym is) tt

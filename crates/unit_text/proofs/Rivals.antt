@@ -1,7 +1,7 @@
 -- Lines that may stand once: whether one like them was said shows in the system, or the unit, that was said.
-use Rattle.std.proofs.Common.{◌≡◌, ℕ, Bool, true, false, not, List, [], ◌∷◌, ◌++◌, append_assoc, cond, map, Option, Some, None, refl, ap, sym, subst, ◌∙◌}
-use Rattle.std.specs.Prelude.{◌&&◌, ◌||◌, is_some, ⊤}
-use Rattle.std.specs.List.{AllByRecursion, flat_map, list_any, list_all, fold}
+use Rattle.std.proofs.Common.{◌≡◌, ℕ, Bool, true, false, List, [], ◌∷◌, ◌++◌, append_assoc, cond, map, Some, None, refl, ap, sym, subst, ◌∙◌}
+use Rattle.std.specs.Prelude.{◌||◌, is_some}
+use Rattle.std.specs.List.{flat_map, list_any}
 use Rattle.std.proofs.lemmas.Bool.{or_parts}
 use Rattle.std.proofs.lemmas.List.Folds.{list_any-append}
 use Rattle.std.proofs.lemmas.Grind.{fold-append}
@@ -13,7 +13,6 @@ use Rattle.unit_tree.specs.Parts as parts
 use Rattle.unit_tree.specs.Parts.{Part, UnitPart, block_forms, joined, line_forms, unit_part_forms, part_forms, text_forms, unit_of, system_of}
 use Rattle.unit_tree.specs.Sites.{is_step_line}
 use Rattle.unit_tree.specs.declared.expr.Expr.{Expr}
-use Rattle.unit_tree.specs.declared.line.Line as line
 use Rattle.unit_tree.specs.declared.line.Line.{Line}
 use Rattle.unit_tree.specs.declared.line.Line.TheFolds.{ind-Line, map-Line}
 use Rattle.unit_tree.specs.declared.line.Line.TheOpen.{Line-F}
@@ -24,7 +23,6 @@ use Rattle.unit_tree.specs.declared.line_form.LineForm.TheVariants as form
 use Rattle.unit_tree.specs.declared.system.Instance.{Instance}
 use Rattle.unit_tree.specs.declared.system.Setting.{Setting}
 use Rattle.unit_tree.proofs.FoldLemmas.{fold-Assign, fold-If, fold-Repeat, fold-Accept}
-use Rattle.unit_text.specs.Nesting.{Open, AtTop, InUnit, InStep, InInstance, Nested, nested_forms}
 
 -- ---- Tests that no step line passes
 
@@ -61,22 +59,22 @@ none_node test apart (Line-F.Repeat count body) =
     subst (HasNone test) (sym (rolls-Repeat count (map (bare_line test) body)))
     (ap (list_any test) (fold-Repeat (List LineForm) block_forms count (map (bare_line test) body))
     ∙ none_first test (form.Repeat count) (joined (map line_forms (map (bare_line test) body)) ++ (form.End ∷ [])) (apart (form.Repeat count) refl)
-        (none_of_two test (joined (map line_forms (map (bare_line test) body))) (form.End ∷ []) (none_joined test body) (none_first test form.End [] (apart form.End refl) refl)))
+    (none_of_two test (joined (map line_forms (map (bare_line test) body))) (form.End ∷ []) (none_joined test body) (none_first test form.End [] (apart form.End refl) refl)))
 none_node test apart (Line-F.If condition then_lines None) =
     let lines = joined (map line_forms (map (bare_line test) then_lines)) in
     subst (HasNone test) (sym (rolls-If condition (map (bare_line test) then_lines) None))
     (ap (list_any test) (fold-If (List LineForm) block_forms condition (map (bare_line test) then_lines) None)
     ∙ none_first test (form.If condition) ((lines ++ []) ++ (form.End ∷ [])) (apart (form.If condition) refl)
-        (none_of_two test (lines ++ []) (form.End ∷ []) (none_of_two test lines [] (none_joined test then_lines) refl) (none_first test form.End [] (apart form.End refl) refl)))
+    (none_of_two test (lines ++ []) (form.End ∷ []) (none_of_two test lines [] (none_joined test then_lines) refl) (none_first test form.End [] (apart form.End refl) refl)))
 none_node test apart (Line-F.If condition then_lines (Some else_lines)) =
     let lines = joined (map line_forms (map (bare_line test) then_lines)) in
     let others = joined (map line_forms (map (bare_line test) else_lines)) in
     subst (HasNone test) (sym (rolls-If condition (map (bare_line test) then_lines) (Some (map (bare_line test) else_lines))))
     (ap (list_any test) (fold-If (List LineForm) block_forms condition (map (bare_line test) then_lines) (Some (map (bare_line test) else_lines)))
     ∙ none_first test (form.If condition) ((lines ++ (form.Else ∷ others)) ++ (form.End ∷ [])) (apart (form.If condition) refl)
-        (none_of_two test (lines ++ (form.Else ∷ others)) (form.End ∷ [])
-            (none_of_two test lines (form.Else ∷ others) (none_joined test then_lines) (none_first test form.Else others (apart form.Else refl) (none_joined test else_lines)))
-            (none_first test form.End [] (apart form.End refl) refl)))
+    (none_of_two test (lines ++ (form.Else ∷ others)) (form.End ∷ [])
+    (none_of_two test lines (form.Else ∷ others) (none_joined test then_lines) (none_first test form.Else others (apart form.Else refl) (none_joined test else_lines)))
+    (none_first test form.End [] (apart form.End refl) refl)))
 
 none_in_line : (test : LineForm → Bool) → IsApart test → (some : Line) → HasNone test some
 none_in_line test apart = ind-Line (HasNone test) (λ x y is. subst (λ z. HasNone test (roll-Line z)) is (none_node test apart y))

@@ -1,15 +1,15 @@
 -- A text along its lines: what its lines so far nest to, while none of them breaks a rule, and the first that does.
-use Rattle.std.proofs.Common.{◌≡◌, cond, ℕ, suc, ◌<◌, ◌≤◌, ◌==◌, Bool, true, false, not, List, [], ◌∷◌, ◌++◌, append_assoc, length, Option, Some, None, ◌⊎◌, inl, inr, refl, ap, sym, subst, ◌∙◌, arith}
-use Rattle.std.specs.Prelude.{◌&&◌, nat_le, IsTrue, IsFalse, ⊤}
+use Rattle.std.proofs.Common.{◌≡◌, cond, ℕ, ◌<◌, ◌≤◌, Bool, true, false, not, List, [], ◌∷◌, ◌++◌, append_assoc, length, ◌⊎◌, inl, inr, refl, ap, sym, subst, ◌∙◌, arith}
+use Rattle.std.specs.Prelude.{◌&&◌, nat_le}
 use Rattle.std.specs.List.{AllZip, filter, list_all}
-use Rattle.std.proofs.lemmas.Bool.{and_parts, cases_Bool, cases_lt, cases_eq, true≢false}
+use Rattle.std.proofs.lemmas.Bool.{and_parts, cases_Bool, cases_eq, true≢false}
 use Rattle.std.proofs.lemmas.Bool.Decides.{nat_tests}
 use Rattle.std.proofs.lemmas.List.{append-nil}
 use Rattle.std.proofs.lemmas.List.Elements.{filter-append}
 use Rattle.unit_tree.specs.Blocks.{Before, no_lines, and_line, and_lines, may_stand, are_placed}
 use Rattle.unit_tree.specs.LineForms.{HasForm, front_tokens, is_of_version_2}
 use Rattle.unit_tree.specs.Lines.{code_of, is_blank_line, has_forbidden_byte}
-use Rattle.unit_tree.specs.Texts.{line_limit, BeginsVersion2, HasFormIn, HaveForms, HasNoForm, IsMisplaced, LacksHeader, LineBreaks}
+use Rattle.unit_tree.specs.Texts.{line_limit, BeginsVersion2, HasFormIn, HaveForms, LineBreaks}
 use Rattle.unit_tree.specs.declared.line_form.LineForm.{LineForm}
 use Rattle.unit_tree.specs.declared.line_form.LineForm.TheVariants as form
 use Rattle.unit_tree.specs.declared.token.Token.{Token}
@@ -17,7 +17,7 @@ use Rattle.unit_tokens.proofs.TokenLemmas.{spells_one}
 use Rattle.unit_text.specs.Laws.{HasOneForm}
 use Rattle.unit_text.specs.Seen.{IsClean}
 use Rattle.unit_text.specs.Nesting.{Nested, headed_by, and_form, nested_forms}
-use Rattle.unit_text.proofs.NestingLaws.{IsHeld, before_next, is_held, before_more, adds}
+use Rattle.unit_text.proofs.NestingLaws.{before_next, is_held, adds}
 use Rattle.unit_text.proofs.Refusing.{IsUnbroken, AreUnbroken, IsLeast, unbroken, least}
 
 abbrev pub is_written : List ℕ → Bool
@@ -318,9 +318,9 @@ header_begins known text before line version so_far clean has = record {
   kept = are_more text [] before line so_far.kept (unbroken text before line clean.bytes clean.short
       (λ none. none.1 (form.Header version) has)
       (λ off.
-          let forms = same_forms known text before off.forms [] off.lines (blank_have_none text before so_far.blank) in
-          let some = one_in known text off.some (form.Header version) line off.has_form has in
-          true≢false (sym (ap (λ all. may_stand (and_lines no_lines all) off.some) forms ∙ ap (may_stand no_lines) some) ∙ off.misplaced))
+      let forms = same_forms known text before off.forms [] off.lines (blank_have_none text before so_far.blank) in
+      let some = one_in known text off.some (form.Header version) line off.has_form has in
+      true≢false (sym (ap (λ all. may_stand (and_lines no_lines all) off.some) forms ∙ ap (may_stand no_lines) some) ∙ off.misplaced))
       (λ lacks. lacks.is_other version has.has_form));
   short = all_more (λ line. nat_le (length line) line_limit) before line so_far.short (short_is line clean.short);
   written = not_last is_blank_line before line (written line (form.Header version) has.has_form);
@@ -333,9 +333,9 @@ line_nests known text before line nested some so_far clean has may = record {
   kept = are_more text [] before line so_far.kept (unbroken text before line clean.bytes clean.short
       (λ none. none.1 some has)
       (λ off.
-          let forms = same_forms known text before off.forms (nested_forms nested) off.lines so_far.forms in
-          let one = one_in known text off.some some line off.has_form has in
-          true≢false (sym (ap (λ all. may_stand (and_lines no_lines all) off.some) forms ∙ ap (may_stand (before_next nested)) one ∙ may) ∙ off.misplaced))
+      let forms = same_forms known text before off.forms (nested_forms nested) off.lines so_far.forms in
+      let one = one_in known text off.some some line off.has_form has in
+      true≢false (sym (ap (λ all. may_stand (and_lines no_lines all) off.some) forms ∙ ap (may_stand (before_next nested)) one ∙ may) ∙ off.misplaced))
       (λ lacks. true≢false (sym lacks.before_is_blank ∙ so_far.written)));
   short = all_more (λ line. nat_le (length line) line_limit) before line so_far.short (short_is line clean.short);
   written = not_all_more is_blank_line before (line ∷ []) so_far.written;
@@ -385,14 +385,17 @@ first_place_breaks text before line some so_far clean has off = misplaced text b
 
 pub headless_breaks : FormsAreKnown → (text before : List (List ℕ)) (line : List ℕ) (some : LineForm) → AreBlank text before → IsClean line → HasFormIn text some line → may_stand no_lines some ≡ true → ((version : ℕ) → some ≡ form.Header version → ⊥) → BreaksLeast text before line 7
 headless_breaks known text before line some so_far clean has may other = record {
-  breaks = inr (inr (inr (inr (refl, record {
-    before_is_blank = so_far.blank;
-    is_first = written line some has.has_form;
-    is_other = λ version header. other version (known.one line some (form.Header version) has.has_form header);
-  }))));
+  breaks = inr (inr (inr (inr (
+    refl,
+    record {
+      before_is_blank = so_far.blank;
+      is_first = written line some has.has_form;
+      is_other = λ version header. other version (known.one line some (form.Header version) has.has_form header);
+    },
+  ))));
   is_least = least text 7 before line (omega arith) (λ _. clean.bytes) (λ _. clean.short) (λ _ none. none.1 some has)
       (λ _ off.
-          let forms = same_forms known text before off.forms [] off.lines (blank_have_none text before so_far.blank) in
-          let one = one_in known text off.some some line off.has_form has in
-          true≢false (sym (ap (λ all. may_stand (and_lines no_lines all) off.some) forms ∙ ap (may_stand no_lines) one ∙ may) ∙ off.misplaced));
+      let forms = same_forms known text before off.forms [] off.lines (blank_have_none text before so_far.blank) in
+      let one = one_in known text off.some some line off.has_form has in
+      true≢false (sym (ap (λ all. may_stand (and_lines no_lines all) off.some) forms ∙ ap (may_stand no_lines) one ∙ may) ∙ off.misplaced));
 }

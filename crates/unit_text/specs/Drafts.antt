@@ -1,5 +1,5 @@
 -- A system as far as the lines of its text have come, with one line more.
-use Rattle.std.specs.Prelude.{ℕ, Bool, List, [], ◌∷◌, ◌++◌, length, Option, Some, None, if◌then◌else◌, is_some, nat_lt, option_and_then}
+use Rattle.std.specs.Prelude.{ℕ, List, [], ◌∷◌, ◌++◌, length, Option, Some, None, if◌then◌else◌, nat_lt, option_and_then}
 use Rattle.std.specs.Option.{option_map}
 use Rattle.fixed_words.specs.declared.types.Literal.{Literal}
 use Rattle.unit_tree.specs.Parts.{bare_system, bare_unit}

@@ -4,7 +4,6 @@ pub mod Laws
 pub mod Levels
 pub mod LineReading
 pub mod Nesting
-pub mod Numbering
 pub mod Reading
 pub mod Seen
 pub mod WorkedTexts

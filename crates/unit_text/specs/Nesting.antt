@@ -5,7 +5,6 @@ use Rattle.unit_tree.specs.Blocks as blocks
 use Rattle.unit_tree.specs.Blocks.{Block, InIf, InElse, InRepeat}
 use Rattle.unit_tree.specs.Parts as parts
 use Rattle.unit_tree.specs.Parts.{Part, UnitPart, line_forms, unit_part_forms, text_forms}
-use Rattle.unit_tree.specs.declared.expr.Expr.{Expr}
 use Rattle.unit_tree.specs.declared.line.Line.{Line}
 use Rattle.unit_tree.specs.declared.line.Line as line
 use Rattle.unit_tree.specs.declared.line_form.LineForm.{LineForm}

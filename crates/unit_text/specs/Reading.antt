@@ -1,27 +1,23 @@
 -- Reading of a text along its lines: what each line makes of what was read before it.
-use Rattle.std.specs.Prelude.{◌≡◌, ◌≤◌, ◌+◌, ◌⊎◌, ℕ, suc, nat_lt, Bool, List, [], ◌∷◌, ◌++◌, length, IsTrue, Option, Some, None, Result, Ok, Err, true, false, ⊤, if◌then◌else◌}
+use Rattle.std.specs.Prelude.{◌≡◌, ◌≤◌, ◌+◌, ◌⊎◌, ℕ, suc, nat_lt, List, [], ◌∷◌, ◌++◌, length, IsTrue, Option, Some, None, Result, Ok, Err, true, false, ⊤, if◌then◌else◌}
 use Rattle.std.specs.Borrow.{Bor}
 use Rattle.std.specs.List.{AllByRecursion, list_all}
-use Rattle.std.specs.Option.{option_map}
 use Rattle.unit_tree.specs.Blocks.{no_lines, may_stand}
 use Rattle.unit_tree.specs.LineForms.{HasForm, is_of_version_2}
 use Rattle.unit_tree.specs.Lines.{source_lines, is_blank_line}
-use Rattle.unit_tree.specs.SourceLines.{ReadsFrom}
-use Rattle.unit_tree.specs.Texts.{line_limit, IsRefused}
+use Rattle.unit_tree.specs.Texts.{line_limit, Reads, IsRefused}
 use Rattle.unit_tree.specs.declared.line_form.LineForm.{LineForm}
 use Rattle.unit_tree.specs.declared.line_form.LineForm.TheVariants as form
+use Rattle.unit_tree.specs.declared.system.System.{System}
 use Rattle.unit_tokens.specs.declared.fault.Unread.{Unread}
 use Rattle.unit_tokens.specs.declared.fault.Unread.TheVariants as unread
-use Rattle.unit_text.specs.Drafts.{bare_draft, with_form, whole_system}
+use Rattle.unit_text.specs.Drafts.{with_form}
 use Rattle.unit_text.specs.LineReading.{LineHas}
-use Rattle.unit_text.specs.Numbering.{place_in, bare_numbers, with_line, in_order}
 use Rattle.unit_text.specs.Seen.{IsClean, TellsOf}
 use Rattle.unit_text.specs.declared.draft.Draft.{Draft}
 use Rattle.unit_text.specs.declared.fault.TextFault.{TextFault}
 use Rattle.unit_text.specs.declared.fault.TextFault.TheVariants as fault
 use Rattle.unit_text.specs.declared.lines.Seen.TheVariants as told
-use Rattle.unit_text.specs.declared.numbers.Numbers.{Numbers}
-use Rattle.unit_text.specs.declared.reading.ReadText.{ReadText}
 
 -- The line keeps the rules that look at its bytes alone, and is not blank.
 pub record IsWritten (line : List ℕ) : Type 0 where
@@ -64,48 +60,20 @@ abbrev pub FormIn : ℕ → List ℕ → Option LineForm → Type 0
 FormIn version line (Some some) = HasForm some line × IsFormOf version some
 FormIn version line None = LineHas line None ⊎ IsOfOther version line
 
--- What the lines so far say: the system as far as they have come, and their numbers.
-pub record Reading : Type 0 where
-  pub draft : Draft
-  pub numbers : Numbers
-
-abbrev pub reading : Draft → Numbers → Reading
-reading draft numbers = record { draft = draft; numbers = numbers }
-
--- A draft that is read, with the numbers beside it.
-abbrev pub read_with : Numbers → Result Draft TextFault → Result Reading TextFault
-read_with numbers (Ok draft) = Ok (reading draft numbers)
-read_with numbers (Err why) = Err why
-
--- What is read with a line of the form, which has this number: none where the form may not stand there.
-abbrev pub and_form : Reading → LineForm → ℕ → Option Reading
-and_form reading some number =
-    option_map (λ draft. record { draft = draft; numbers = with_line reading.numbers (place_in reading.draft.block) some number }) (with_form reading.draft some)
-
--- The line has a form of the version, and this is read with it.
-pub record FormGives (reading : Reading) (line : List ℕ) (number : ℕ) (next : Option Reading) : Type 0 where
+-- The line has a form of the version, and the draft becomes this with it: none where the form may not stand there.
+pub record FormGives (draft : Draft) (line : List ℕ) (next : Option Draft) : Type 0 where
   pub is_written : IsWritten line
   pub some : LineForm
-  pub form_in : FormIn reading.draft.system.version line (Some some)
-  pub next_is : and_form reading some number ≡ next
+  pub form_in : FormIn draft.system.version line (Some some)
+  pub next_is : with_form draft some ≡ next
 
--- What the line of this number makes of what the lines before it say: what they say with it, or a rule that it breaks.
-abbrev pub LineGives : Reading → List ℕ → ℕ → Result Reading ℕ → Type 0
-LineGives reading line number (Ok next) = (IsClean line × (is_blank_line line ≡ true) × (next ≡ reading)) ⊎ FormGives reading line number (Some next)
-LineGives reading line number (Err rule) =
+-- What the line makes of the draft of the lines before it: the draft with it, or a rule that it breaks.
+abbrev pub LineGives : Draft → List ℕ → Result Draft ℕ → Type 0
+LineGives draft line (Ok next) = (IsClean line × (is_blank_line line ≡ true) × (next ≡ draft)) ⊎ FormGives draft line (Some next)
+LineGives draft line (Err rule) =
     TellsOf line (told.Broken rule)
-    ⊎ ((rule ≡ 4) × IsWritten line × FormIn reading.draft.system.version line None)
-    ⊎ ((rule ≡ 5) × FormGives reading line number None)
-
--- What the header of a version says, at the line of this number.
-abbrev pub bare_reading : ℕ → ℕ → Reading
-bare_reading version number = reading (bare_draft version) (bare_numbers number)
-
--- What all lines say, of which the last has this number, or that a block is open there.
-abbrev pub WholeGives : Reading → ℕ → Result ReadText TextFault → Type 0
-WholeGives reading number (Ok read) = (whole_system reading.draft ≡ Some read.system) × (read.lines ≡ in_order reading.numbers)
-WholeGives reading number (Err (fault.Line line rule)) = (whole_system reading.draft ≡ None) × (line ≡ number) × (rule ≡ 6)
-WholeGives reading number (Err fault.NoMemory) = ⊤
+    ⊎ ((rule ≡ 4) × IsWritten line × FormIn draft.system.version line None)
+    ⊎ ((rule ≡ 5) × FormGives draft line None)
 
 -- ---- Answers
 
@@ -153,9 +121,8 @@ HeaderGives text (Ok (version, number, rest)) = HeadsText text version number re
 HeaderGives text (Err (fault.Line number rule)) = HeadBreaks text number rule ⊎ IsTrue (list_all is_blank_line (source_lines text))
 HeaderGives text (Err fault.NoMemory) = ⊤
 
--- The answer to a text: the system that it says, with the lines that its canonical lines came from, or the line and the rule
--- by which it is refused.
-abbrev pub AnswersText : List ℕ → Result ReadText TextFault → Type 0
-AnswersText text (Ok read) = ReadsFrom text read.system read.lines
+-- The answer to a text: the system that it says, or the line and the rule by which it is refused.
+abbrev pub AnswersText : List ℕ → Result System TextFault → Type 0
+AnswersText text (Ok system) = Reads text system
 AnswersText text (Err (fault.Line line rule)) = IsRefused text line rule
 AnswersText text (Err fault.NoMemory) = ⊤

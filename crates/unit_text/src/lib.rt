@@ -20,7 +20,6 @@ mod laws;
 mod levels;
 mod line_forms;
 mod lines;
-mod numbers;
 mod reading;
 #[cfg(test)]
 mod tests;
@@ -34,5 +33,5 @@ pub use laws::{
     nesting_is_by_parts, texts_are_answered_once, what_is_read_is_printable,
 };
 pub use line_forms::line_form;
-pub use reading::{LONGEST_TEXT, ReadText, SIZE_RULE, read_system};
+pub use reading::{LONGEST_TEXT, SIZE_RULE, read_system};
 pub use worked::texts_are_worked;

@@ -1,23 +1,19 @@
 //! Reading of a text, along its lines.
-ghost use Rattle.std.specs.Prelude.{◌≡◌, ◌<◌, ◌≤◌, length, true, false, OnOk};
+ghost use Rattle.std.specs.Prelude.{◌≡◌, ◌<◌, ◌≤◌, length, true, false};
 ghost use Rattle.std.specs.List.{list_all};
 ghost use Rattle.unit_tree.specs.Blocks.{no_lines, may_stand};
 ghost use Rattle.unit_tree.specs.Lines.{source_lines, size_of, is_blank_line};
 ghost use Rattle.unit_tree.specs.Texts.{text_limit};
 ghost use Rattle.unit_tokens.specs.Scanning.{ReadsAs};
-ghost use Rattle.unit_text.specs.Numbering.{with_line};
 ghost use Rattle.unit_text.specs.Seen.{TellsOf};
-ghost use Rattle.unit_text.specs.Reading.{IsWritten, headless_rule, FirstGives, IsFormOf, FormIn, reading, read_with, LineGives, fault_at, AnswersAt, WholeGives, blank_rule, HeaderGives, AnswersText};
+ghost use Rattle.unit_text.specs.Reading.{IsWritten, headless_rule, FirstGives, IsFormOf, FormIn, LineGives, fault_at, AnswersAt, blank_rule, HeaderGives, AnswersText};
 
 use crate::draft::Draft;
 use crate::fault::TextFault;
 use crate::line_forms::form_of_line;
 use crate::lines::{LENGTH_RULE, LONGEST_LINE, Seen, is_blank_line, look_at, without_return};
-use crate::numbers::{Numbers, Place};
 use crate::versions::{VERSION_2, is_of_version_2};
-use fixed_words::{List, NoMemory};
 use std::alloc::Global;
-use std::mem;
 use unit_tokens::{Unread, cut_line, size};
 use unit_tree::{LineForm, System};
 
@@ -108,13 +104,6 @@ fn form_in(alloc: Global, line: &[u8], version: u8) -> Result<LineForm, Unread>
     }
 }
 
-/// The system that a text says, and for each of its canonical lines the number of the line of the text that it came from.
-#[derive(Debug, Drop)]
-pub struct ReadText {
-    pub system: System,
-    pub lines: List<u32>,
-}
-
 /// What is told of a line that gives nothing by a rule.
 fn at_line(unread: Unread, line: u32, rule: u8) -> TextFault
     ensures { result ≡ fault_at unread line rule }
@@ -125,78 +114,29 @@ fn at_line(unread: Unread, line: u32, rule: u8) -> TextFault
     }
 }
 
-/// Adds the number of a line of the form, which stands in this place.
-fn add_number(
-    alloc: Global,
-    numbers: &mut Numbers,
-    place: Place,
-    form: &LineForm,
-    number: u32,
-) -> Result<(), NoMemory>
-    ensures { OnOk result (numbers.new ≡ with_line numbers.old place form.now number) }
-{
-    let before = mem::replace(numbers, Numbers::empty(alloc));
-    *numbers = before.with_line(alloc, place, form, number)?;
-    Ok(())
-}
-
-/// The draft with a written line more, whose number is added.
-fn with_written(
-    alloc: Global,
-    draft: Draft,
-    numbers: &mut Numbers,
-    line: &[u8],
-    number: u32,
-) -> Result<Draft, TextFault>
+/// The draft with a written line more.
+fn with_written(alloc: Global, draft: Draft, line: &[u8], number: u32) -> Result<Draft, TextFault>
     requires { IsWritten line.now }
-    ensures { AnswersAt number (LineGives (reading draft numbers.old) line.now number) (read_with numbers.new result) }
+    ensures { AnswersAt number (LineGives draft line.now) result }
 {
     let form = match form_in(alloc, line, draft.system.version) {
         Ok(form) => form,
         Err(unread) => return Err(at_line(unread, number, FORM_RULE)),
     };
-    add_number(alloc, numbers, Place::of(&draft.block), &form, number)?;
     match draft.with_form(alloc, form) {
-        Ok(draft) => Ok(draft),
+        Ok(next) => Ok(next),
         Err(unread) => Err(at_line(unread, number, PLACE_RULE)),
     }
 }
 
-/// The draft with a line more, whatever it is. The number of a line that is not blank is added.
-fn with_line(
-    alloc: Global,
-    draft: Draft,
-    numbers: &mut Numbers,
-    line: &[u8],
-    number: u32,
-) -> Result<Draft, TextFault>
-    ensures { AnswersAt number (LineGives (reading draft numbers.old) line.now number) (read_with numbers.new result) }
+/// The draft with a line more, whatever it is.
+fn with_line(alloc: Global, draft: Draft, line: &[u8], number: u32) -> Result<Draft, TextFault>
+    ensures { AnswersAt number (LineGives draft line.now) result }
 {
     match look_at(line) {
         Seen::Broken(rule) => Err(TextFault::Line { line: number, rule }),
         Seen::Blank => Ok(draft),
-        Seen::Written => with_written(alloc, draft, numbers, line, number),
-    }
-}
-
-/// What the lines of a text say, of which the last has this number.
-fn whole_text(
-    alloc: Global,
-    draft: Draft,
-    numbers: Numbers,
-    number: u32,
-) -> Result<ReadText, TextFault>
-    ensures { WholeGives (reading draft numbers) number result }
-{
-    match draft.whole_system() {
-        Some(system) => {
-            let lines = numbers.in_order(alloc)?;
-            Ok(ReadText { system, lines })
-        }
-        None => Err(TextFault::Line {
-            line: number,
-            rule: END_RULE,
-        }),
+        Seen::Written => with_written(alloc, draft, line, number),
     }
 }
 
@@ -261,31 +201,36 @@ fn header_of(alloc: Global, text: &[u8]) -> Result<(u8, u32, &[u8]), TextFault>
     })
 }
 
-/// What a text says whose lines are not all blank.
+/// The system that a text says whose lines are not all blank.
 #[tactic(auto, using(unit_tokens::proofs::LineLemmas::length_le_size_of))]
-fn read_lines(alloc: Global, text: &[u8]) -> Result<ReadText, TextFault>
+fn read_lines(alloc: Global, text: &[u8]) -> Result<System, TextFault>
     requires short { size_of text.now ≤ text_limit }
     requires written { list_all is_blank_line (source_lines text.now) ≡ false }
     ensures { AnswersText text.now result }
 {
     let (version, mut number, mut rest) = header_of(alloc, text)?;
     let mut draft = Draft::new(alloc, version);
-    let mut numbers = Numbers::new(alloc, number)?;
     while !rest.is_empty() {
         let (line, behind) = cut_line(rest);
         rest = behind;
         number += 1;
-        draft = with_line(alloc, draft, &mut numbers, without_return(line), number)?;
+        draft = with_line(alloc, draft, without_return(line), number)?;
     }
-    whole_text(alloc, draft, numbers, number)
+    match draft.whole_system() {
+        Some(system) => Ok(system),
+        None => Err(TextFault::Line {
+            line: number,
+            rule: END_RULE,
+        }),
+    }
 }
 
-/// The system that a text says, and where its canonical lines came from.
+/// The system that a text says.
 ///
 /// Any other text is refused: one that is too long at line 1 by rule 2, and else at the first line that breaks a rule, by the
 /// least that it breaks; where only the end of a block lacks, at the last line by rule 6.
 #[tactic(auto, using(crate::proofs::ReadingLaws::long_refused, crate::proofs::ReadingLaws::blank_refused))]
-pub fn read_system(alloc: Global, text: &[u8]) -> Result<ReadText, TextFault>
+pub fn read_system(alloc: Global, text: &[u8]) -> Result<System, TextFault>
     ensures { AnswersText text.now result }
 {
     if size(text) > LONGEST_TEXT {

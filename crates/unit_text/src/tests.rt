@@ -1,6 +1,5 @@
-use crate::expression;
 use crate::line_forms::form_of_line;
-use crate::{ReadText, TextFault, read_system};
+use crate::{TextFault, expression, read_system};
 use fixed_words::NoMemory;
 use std::alloc::Global;
 use std::test::Fail;
@@ -204,5 +203,103 @@ fn forms_of_lines_are_read(rt: HostRuntime) -> Result<(), Fail> {
     for (line, found) in lines.iter() {
         assert_eq!(rt; form_text(rt.alloc(), line.as_bytes())?, *found);
     }
+    Ok(())
+}
+
+/// The line and the rule by which a text is refused; zeros where it is read.
+fn answer(alloc: Global, text: &[u8]) -> Result<(u32, u8), Fail> {
+    match read_system(alloc, text) {
+        Ok(_) => Ok((0, 0)),
+        Err(TextFault::Line { line, rule }) => Ok((line, rule)),
+        Err(TextFault::NoMemory) => Err(Fail::from("no memory")),
+    }
+}
+
+#[test]
+fn texts_are_read_or_refused(rt: HostRuntime) -> Result<(), Fail> {
+    let texts: [(&str, u32, u8); 24] = [
+        ("cosim 1\r\nstop 0.5 # end\r\n", 0, 0),
+        ("\n#\u{1}\ncosim 01", 0, 0),
+        ("", 1, 7),
+        (" \t\n#\n", 1, 7),
+        ("\u{1} # no byte of code\n", 1, 1),
+        ("cosim 1\r\r\n", 1, 1),
+        ("hello\n\u{1}", 1, 4),
+        ("end", 1, 5),
+        ("unit A", 1, 7),
+        ("event input u : Bool", 1, 4),
+        ("cosim 1.0", 1, 4),
+        ("cosim 1\ncosim 1", 2, 5),
+        ("cosim 1\ncosim 2", 2, 4),
+        ("cosim 2\ncosim 1", 2, 5),
+        ("cosim 1\n\nhello", 3, 4),
+        ("cosim 1\nstop 1\nstop 2", 3, 5),
+        ("cosim 1\nunit A\nunit B", 3, 5),
+        ("cosim 1\nunit A\n\n", 3, 6),
+        ("cosim 1\nunit A\nevent input u : Bool\nend", 3, 4),
+        ("cosim 2\nunit A\nevent input u : Bool\nend", 0, 0),
+        ("cosim 1\nunit A\nstep\nelse", 4, 5),
+        ("cosim 1\nunit A\nstep\nif true\nelse\nelse", 6, 5),
+        ("cosim 1\nunit A\nmax 1\nmax 2", 4, 5),
+        ("cosim 1\ninstance a : A\np = 1\nend\nunit A\nend", 0, 0),
+    ];
+    for (text, line, rule) in texts.iter() {
+        assert_eq!(rt; answer(rt.alloc(), text.as_bytes())?, (*line, *rule));
+    }
+    Ok(())
+}
+
+/// A step with so many blocks in each other, none of which ends.
+fn blocks(alloc: Global, count: usize) -> Result<String, Fail> {
+    let mut text = String::new(alloc);
+    text.push_str("cosim 1\nunit A\nstep\n")?;
+    for _ in 0..count {
+        text.push_str("repeat 2\n")?;
+    }
+    Ok(text)
+}
+
+#[test]
+fn sixteen_blocks_may_stand_in_each_other(rt: HostRuntime) -> Result<(), Fail> {
+    assert_eq!(rt;
+        answer(rt.alloc(), blocks(rt.alloc(), 16)?.as_bytes())?,
+        (19, 6)
+    );
+    assert_eq!(rt;
+        answer(rt.alloc(), blocks(rt.alloc(), 17)?.as_bytes())?,
+        (20, 5)
+    );
+    Ok(())
+}
+
+/// Spaces, and then this.
+fn behind_spaces(alloc: Global, spaces: usize, text: &str) -> Result<String, Fail> {
+    let mut line = String::new(alloc);
+    for _ in 0..spaces {
+        line.push(' ')?;
+    }
+    line.push_str(text)?;
+    Ok(line)
+}
+
+#[test]
+fn texts_and_lines_have_their_limits(rt: HostRuntime) -> Result<(), Fail> {
+    let alloc = rt.alloc();
+    assert_eq!(rt;
+        answer(alloc, behind_spaces(alloc, 993, "cosim 1\r\n")?.as_bytes())?,
+        (0, 0)
+    );
+    assert_eq!(rt;
+        answer(alloc, behind_spaces(alloc, 994, "cosim 1")?.as_bytes())?,
+        (1, 3)
+    );
+    assert_eq!(rt;
+        answer(alloc, behind_spaces(alloc, 1001, "\ncosim 1")?.as_bytes())?,
+        (1, 3)
+    );
+    assert_eq!(rt;
+        answer(alloc, behind_spaces(alloc, 1_048_576, "")?.as_bytes())?,
+        (1, 2)
+    );
     Ok(())
 }

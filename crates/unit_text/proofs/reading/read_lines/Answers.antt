@@ -1,7 +1,6 @@
 use Rattle.std.proofs.Common.{◌≡◌, ◌+◌, Ok, Err, length, arith, sym, subst}
 use Rattle.std.proofs.lemmas.Bool.Decides.{nat_tests}
-use Rattle.unit_text.specs.Reading.{LineGives, AnswersAt, reading, bare_reading}
-use Rattle.unit_text.specs.Drafts.{bare_draft}
+use Rattle.unit_text.specs.Reading.{LineGives, AnswersAt}
 use Rattle.unit_text.proofs.KnownForms.{known}
 use Rattle.unit_text.proofs.ReadingLaws.{Reached, reached_first, reached_next, header_error, line_error, reads_end, end_refused}
 use Rattle.unit_text.proofs.reading.read_lines.Goals as goal

@@ -5,5 +5,5 @@ use Rattle.unit_text.proofs.reading.with_written.Goals as goal
 
 pub returns-in-Err : goal.returns-in-Err
 returns-in-Err c =
-    subst (AnswersAt c.args.number (LineGives c.args.reading c.args.line.now c.args.number)) (ap Err (sym c.at_line.ensures))
-    (formless_answer c.args.reading c.args.line.now c.args.number c.in-Err.unread c.requires c.in-Err.ensures)
+    subst (AnswersAt c.args.number (LineGives c.args.draft c.args.line.now)) (ap Err (sym c.at_line.ensures))
+    (formless_answer c.args.draft c.args.line.now c.args.number c.in-Err.unread c.requires c.in-Err.ensures)
