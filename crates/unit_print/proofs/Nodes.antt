@@ -1,5 +1,5 @@
 -- What one node of an expression puts behind a text.
-use Rattle.std.proofs.Common.{◌≡◌, ℕ, Bool, true, false, List, [], ◌∷◌, ◌++◌, refl, sym, ap, ◌∙◌, Result, Ok, Err, OnOk}
+use Rattle.std.proofs.Common.{◌≡◌, ℕ, true, List, ◌∷◌, ◌++◌, refl, sym, ap, ◌∙◌, Result, Ok, Err, OnOk}
 use Rattle.std.specs.Prelude.{IsTrue, IsFalse}
 use Rattle.unit_tree.specs.Canonical.{canonical_phrase, node_phrase, placed, expression_tokens}
 use Rattle.unit_tree.specs.Phrases as phrase

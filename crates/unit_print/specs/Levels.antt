@@ -1,8 +1,7 @@
 -- Levels of the grammar, and which operations are calls.
-use Rattle.std.specs.Prelude.{Bool, true, false}
+use Rattle.std.specs.Prelude.{Bool}
 use Rattle.unit_tree.specs.Phrases as phrases
 use Rattle.unit_tree.specs.declared.expr.BinOp.{BinOp}
-use Rattle.unit_tree.specs.declared.expr.BinOp.TheVariants as by
 use Rattle.unit_print.specs.declared.levels.Level.{Level}
 use Rattle.unit_print.specs.declared.levels.Level.TheVariants as level
 
@@ -18,8 +17,6 @@ grammar_level level.Product = phrases.Product
 grammar_level level.Negation = phrases.Negation
 grammar_level level.Primary = phrases.Primary
 
--- Whether an operation on two operands is written as a call.
+-- Whether an operation on two operands is written as a call, which may stand everywhere.
 abbrev pub is_call : BinOp → Bool
-is_call by.Min = true
-is_call by.Max = true
-is_call _ = false
+is_call op = phrases.allows phrases.Primary (phrases.binary_level op)

@@ -112,10 +112,10 @@ fn behind_keyword(text: &mut Vec<u8>, word: Keyword, expr: &Expr) -> Result<(), 
 
 /// Puts a symbol and an expression behind it.
 #[cycle(expression)]
-fn behind_symbol(text: &mut Vec<u8>, sign: Symbol, expr: &Expr) -> Result<(), NoMemory>
-    ensures { OnOk result (text.new.items ≡ with_tokens text.old.items (symbol sign ∷ expression_tokens expr.now)) }
+fn behind_symbol(text: &mut Vec<u8>, spelled: Symbol, expr: &Expr) -> Result<(), NoMemory>
+    ensures { OnOk result (text.new.items ≡ with_tokens text.old.items (symbol spelled ∷ expression_tokens expr.now)) }
 {
-    symbol(text, sign)?;
+    symbol(text, spelled)?;
     expression(text, expr)
 }
 

@@ -94,14 +94,11 @@ pub(crate) fn right_level(level: Level) -> Level
     }
 }
 
-/// Whether the operation is written as a call, `min(a, b)`.
+/// Whether the operation is written as a call, `min(a, b)`, which may stand everywhere.
 pub(crate) fn is_call(op: BinOp) -> bool
     ensures { result ≡ is_call op }
 {
-    match op {
-        BinOp::Min | BinOp::Max => true,
-        _ => false,
-    }
+    allows(Level::Primary, binary_level(op))
 }
 
 /// The level of an expression's outermost production.

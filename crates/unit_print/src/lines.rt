@@ -103,65 +103,65 @@ fn end_line(text: &mut Vec<u8>) -> Result<(), NoMemory>
 
 /// `param p : T = L`
 #[tactic(auto, using(crate::proofs::Growth::tokens_append))]
-pub(crate) fn param(text: &mut Vec<u8>, line: &Param) -> Result<(), NoMemory>
-    ensures { OnOk result (text.new.items ≡ with_lines text.old.items (form.Param line.now ∷ [])) }
+pub(crate) fn param(text: &mut Vec<u8>, param: &Param) -> Result<(), NoMemory>
+    ensures { OnOk result (text.new.items ≡ with_lines text.old.items (form.Param param.now ∷ [])) }
 {
-    declared(text, Keyword::Param, &line.name, line.ty)?;
+    declared(text, Keyword::Param, &param.name, param.ty)?;
     symbol(text, Symbol::Is)?;
-    literal(text, line.start)?;
+    literal(text, param.start)?;
     end_line(text)
 }
 
 /// `state s : T = L`
 #[tactic(auto, using(crate::proofs::Growth::tokens_append))]
-pub(crate) fn state(text: &mut Vec<u8>, line: &State) -> Result<(), NoMemory>
-    ensures { OnOk result (text.new.items ≡ with_lines text.old.items (form.State line.now ∷ [])) }
+pub(crate) fn state(text: &mut Vec<u8>, state: &State) -> Result<(), NoMemory>
+    ensures { OnOk result (text.new.items ≡ with_lines text.old.items (form.State state.now ∷ [])) }
 {
-    declared(text, Keyword::State, &line.name, line.ty)?;
+    declared(text, Keyword::State, &state.name, state.ty)?;
     symbol(text, Symbol::Is)?;
-    literal(text, line.start)?;
+    literal(text, state.start)?;
     end_line(text)
 }
 
 /// `local x : T`
 #[tactic(auto, using(crate::proofs::Growth::tokens_append))]
-pub(crate) fn local(text: &mut Vec<u8>, line: &Local) -> Result<(), NoMemory>
-    ensures { OnOk result (text.new.items ≡ with_lines text.old.items (form.Local line.now ∷ [])) }
+pub(crate) fn local(text: &mut Vec<u8>, local: &Local) -> Result<(), NoMemory>
+    ensures { OnOk result (text.new.items ≡ with_lines text.old.items (form.Local local.now ∷ [])) }
 {
-    declared(text, Keyword::Local, &line.name, line.ty)?;
+    declared(text, Keyword::Local, &local.name, local.ty)?;
     end_line(text)
 }
 
 /// `input u : T = L`
 #[tactic(auto, using(crate::proofs::Growth::tokens_append))]
-pub(crate) fn input(text: &mut Vec<u8>, line: &Input) -> Result<(), NoMemory>
-    ensures { OnOk result (text.new.items ≡ with_lines text.old.items (form.Input line.now ∷ [])) }
+pub(crate) fn input(text: &mut Vec<u8>, input: &Input) -> Result<(), NoMemory>
+    ensures { OnOk result (text.new.items ≡ with_lines text.old.items (form.Input input.now ∷ [])) }
 {
-    declared(text, Keyword::Input, &line.name, line.ty)?;
+    declared(text, Keyword::Input, &input.name, input.ty)?;
     symbol(text, Symbol::Is)?;
-    literal(text, line.start)?;
+    literal(text, input.start)?;
     end_line(text)
 }
 
 /// `event input u : T`
 #[tactic(auto, using(crate::proofs::Growth::tokens_append))]
-pub(crate) fn event_input(text: &mut Vec<u8>, line: &EventIn) -> Result<(), NoMemory>
-    ensures { OnOk result (text.new.items ≡ with_lines text.old.items (form.EventInput line.now ∷ [])) }
+pub(crate) fn event_input(text: &mut Vec<u8>, event: &EventIn) -> Result<(), NoMemory>
+    ensures { OnOk result (text.new.items ≡ with_lines text.old.items (form.EventInput event.now ∷ [])) }
 {
     keyword(text, Keyword::Event)?;
-    declared(text, Keyword::Input, &line.name, line.ty)?;
+    declared(text, Keyword::Input, &event.name, event.ty)?;
     end_line(text)
 }
 
 /// `output y : T needs u, v = e`
 #[tactic(auto, using(crate::proofs::Growth::tokens_append))]
-pub(crate) fn output(text: &mut Vec<u8>, line: &Output) -> Result<(), NoMemory>
-    ensures { OnOk result (text.new.items ≡ with_lines text.old.items (form.Output line.now ∷ [])) }
+pub(crate) fn output(text: &mut Vec<u8>, output: &Output) -> Result<(), NoMemory>
+    ensures { OnOk result (text.new.items ≡ with_lines text.old.items (form.Output output.now ∷ [])) }
 {
-    declared(text, Keyword::Output, &line.name, line.ty)?;
-    needed(text, line.needs.as_slice())?;
+    declared(text, Keyword::Output, &output.name, output.ty)?;
+    needed(text, output.needs.as_slice())?;
     symbol(text, Symbol::Is)?;
-    expression(text, &line.value)?;
+    expression(text, &output.value)?;
     end_line(text)
 }
 
@@ -237,21 +237,21 @@ pub(crate) fn head_of_else(text: &mut Vec<u8>) -> Result<(), NoMemory>
 
 /// `cosim V`
 #[tactic(auto, using(crate::proofs::Growth::tokens_append))]
-pub(crate) fn header(text: &mut Vec<u8>, count: u8) -> Result<(), NoMemory>
-    ensures { OnOk result (text.new.items ≡ with_lines text.old.items (form.Header count ∷ [])) }
+pub(crate) fn header(text: &mut Vec<u8>, version: u8) -> Result<(), NoMemory>
+    ensures { OnOk result (text.new.items ≡ with_lines text.old.items (form.Header version ∷ [])) }
 {
     keyword(text, Keyword::Cosim)?;
-    whole(text, u32::from(count))?;
+    whole(text, u32::from(version))?;
     end_line(text)
 }
 
 /// `resolution E`
 #[tactic(auto, using(crate::proofs::Growth::tokens_append))]
-pub(crate) fn resolution(text: &mut Vec<u8>, count: u8) -> Result<(), NoMemory>
-    ensures { OnOk result (text.new.items ≡ with_lines text.old.items (form.Resolution count ∷ [])) }
+pub(crate) fn resolution(text: &mut Vec<u8>, decimals: u8) -> Result<(), NoMemory>
+    ensures { OnOk result (text.new.items ≡ with_lines text.old.items (form.Resolution decimals ∷ [])) }
 {
     keyword(text, Keyword::Resolution)?;
-    whole(text, u32::from(count))?;
+    whole(text, u32::from(decimals))?;
     end_line(text)
 }
 
@@ -324,12 +324,12 @@ pub(crate) fn instance_head(
 
 /// `p = L`
 #[tactic(auto, using(crate::proofs::Growth::tokens_append))]
-pub(crate) fn setting(text: &mut Vec<u8>, line: &Setting) -> Result<(), NoMemory>
-    ensures { OnOk result (text.new.items ≡ with_lines text.old.items (form.Setting line.now ∷ [])) }
+pub(crate) fn setting(text: &mut Vec<u8>, setting: &Setting) -> Result<(), NoMemory>
+    ensures { OnOk result (text.new.items ≡ with_lines text.old.items (form.Setting setting.now ∷ [])) }
 {
-    name(text, line.name.as_slice())?;
+    name(text, setting.name.as_slice())?;
     symbol(text, Symbol::Is)?;
-    literal(text, line.value)?;
+    literal(text, setting.value)?;
     end_line(text)
 }
 

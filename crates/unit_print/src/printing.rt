@@ -20,8 +20,8 @@ use unit_tree::{
 fn params(text: &mut Vec<u8>, all: &[Param]) -> Result<(), NoMemory>
     ensures { OnOk result (text.new.items ≡ with_unit_parts text.old.items (map parts.HasParam all.now)) }
 {
-    for line in all {
-        param(text, line)?;
+    for declared in all {
+        param(text, declared)?;
     }
     Ok(())
 }
@@ -29,8 +29,8 @@ fn params(text: &mut Vec<u8>, all: &[Param]) -> Result<(), NoMemory>
 fn states(text: &mut Vec<u8>, all: &[State]) -> Result<(), NoMemory>
     ensures { OnOk result (text.new.items ≡ with_unit_parts text.old.items (map parts.HasState all.now)) }
 {
-    for line in all {
-        state(text, line)?;
+    for declared in all {
+        state(text, declared)?;
     }
     Ok(())
 }
@@ -38,8 +38,8 @@ fn states(text: &mut Vec<u8>, all: &[State]) -> Result<(), NoMemory>
 fn locals(text: &mut Vec<u8>, all: &[Local]) -> Result<(), NoMemory>
     ensures { OnOk result (text.new.items ≡ with_unit_parts text.old.items (map parts.HasLocal all.now)) }
 {
-    for line in all {
-        local(text, line)?;
+    for declared in all {
+        local(text, declared)?;
     }
     Ok(())
 }
@@ -47,8 +47,8 @@ fn locals(text: &mut Vec<u8>, all: &[Local]) -> Result<(), NoMemory>
 fn inputs(text: &mut Vec<u8>, all: &[Input]) -> Result<(), NoMemory>
     ensures { OnOk result (text.new.items ≡ with_unit_parts text.old.items (map parts.HasInput all.now)) }
 {
-    for line in all {
-        input(text, line)?;
+    for declared in all {
+        input(text, declared)?;
     }
     Ok(())
 }
@@ -56,8 +56,8 @@ fn inputs(text: &mut Vec<u8>, all: &[Input]) -> Result<(), NoMemory>
 fn events_in(text: &mut Vec<u8>, all: &[EventIn]) -> Result<(), NoMemory>
     ensures { OnOk result (text.new.items ≡ with_unit_parts text.old.items (map parts.HasEventIn all.now)) }
 {
-    for line in all {
-        event_input(text, line)?;
+    for declared in all {
+        event_input(text, declared)?;
     }
     Ok(())
 }
@@ -65,8 +65,8 @@ fn events_in(text: &mut Vec<u8>, all: &[EventIn]) -> Result<(), NoMemory>
 fn outputs(text: &mut Vec<u8>, all: &[Output]) -> Result<(), NoMemory>
     ensures { OnOk result (text.new.items ≡ with_unit_parts text.old.items (map parts.HasOutput all.now)) }
 {
-    for line in all {
-        output(text, line)?;
+    for declared in all {
+        output(text, declared)?;
     }
     Ok(())
 }
@@ -74,8 +74,8 @@ fn outputs(text: &mut Vec<u8>, all: &[Output]) -> Result<(), NoMemory>
 fn events_out(text: &mut Vec<u8>, all: &[EventOut]) -> Result<(), NoMemory>
     ensures { OnOk result (text.new.items ≡ with_unit_parts text.old.items (map parts.HasEventOut all.now)) }
 {
-    for line in all {
-        event_output(text, line)?;
+    for declared in all {
+        event_output(text, declared)?;
     }
     Ok(())
 }
@@ -159,8 +159,8 @@ fn units(text: &mut Vec<u8>, all: &[Unit]) -> Result<(), NoMemory>
 fn settings(text: &mut Vec<u8>, all: &[Setting]) -> Result<(), NoMemory>
     ensures { OnOk result (text.new.items ≡ with_settings text.old.items all.now) }
 {
-    for line in all {
-        setting(text, line)?;
+    for given in all {
+        setting(text, given)?;
     }
     Ok(())
 }
@@ -262,11 +262,21 @@ fn whole_system(text: &mut Vec<u8>, system: &System) -> Result<(), NoMemory>
     samples(text, system.samples.as_slice())
 }
 
-/// Appends the canonical text of a system: the one text that is printed of it, in either version of the language.
-///
-/// It is printed of every system. Where the system is printable, the text keeps the limits of the language. After want
-/// of memory `out` is as before.
-pub fn print_system(alloc: Global, system: &System, out: &mut Vec<u8>) -> Result<(), NoMemory>
+/// Prints into an empty text. After want of memory it is empty again.
+fn print_alone(system: &System, out: &mut Vec<u8>) -> Result<(), NoMemory>
+    requires { out.old.items ≡ [] }
+    ensures ok { OnOk result (out.new.items ≡ canonical_text system.now) }
+    ensures err { OnErr result (out.new.items ≡ []) }
+{
+    let printed = whole_system(out, system);
+    if printed.is_err() {
+        out.clear();
+    }
+    printed
+}
+
+/// Prints behind a text, by way of a text of its own. After want of memory nothing is behind it.
+fn print_behind(alloc: Global, system: &System, out: &mut Vec<u8>) -> Result<(), NoMemory>
     ensures ok { OnOk result (out.new.items ≡ out.old.items ++ canonical_text system.now) }
     ensures err { OnErr result (out.new.items ≡ out.old.items) }
 {
@@ -274,4 +284,20 @@ pub fn print_system(alloc: Global, system: &System, out: &mut Vec<u8>) -> Result
     whole_system(&mut text, system)?;
     out.extend_from_slice(text.as_slice())?;
     Ok(())
+}
+
+/// Appends the canonical text of a system: the one text that is printed of it, in either version of the language.
+///
+/// Every system is printed, but only a printable one is read back as itself, and only its text keeps the limits of the
+/// language. Where `out` is empty, its growth alone takes memory; else the text is made apart and then appended. After
+/// want of memory `out` is as before.
+pub fn print_system(alloc: Global, system: &System, out: &mut Vec<u8>) -> Result<(), NoMemory>
+    ensures ok { OnOk result (out.new.items ≡ out.old.items ++ canonical_text system.now) }
+    ensures err { OnErr result (out.new.items ≡ out.old.items) }
+{
+    if out.is_empty() {
+        print_alone(system, out)
+    } else {
+        print_behind(alloc, system, out)
+    }
 }

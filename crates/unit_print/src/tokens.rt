@@ -56,10 +56,10 @@ pub(crate) fn keyword(text: &mut Vec<u8>, word: Keyword) -> Result<(), NoMemory>
 }
 
 #[tactic(auto, unfolding(crate::specs::Growing::with_token))]
-pub(crate) fn symbol(text: &mut Vec<u8>, sign: Symbol) -> Result<(), NoMemory>
-    ensures { OnOk result (text.new.items ≡ with_token text.old.items (symbol sign)) }
+pub(crate) fn symbol(text: &mut Vec<u8>, spelled: Symbol) -> Result<(), NoMemory>
+    ensures { OnOk result (text.new.items ≡ with_token text.old.items (symbol spelled)) }
 {
-    put(text, symbol_text(sign))
+    put(text, symbol_text(spelled))
 }
 
 #[tactic(auto, unfolding(crate::specs::Growing::with_token))]
@@ -132,16 +132,16 @@ fn space(text: &mut Vec<u8>) -> Result<(), NoMemory>
 
 /// Puts a number by all its digits and how many of them stand behind the point.
 #[tactic(auto, using(crate::proofs::Growth::number_behind), unfolding(crate::specs::Growing::with_token))]
-pub(crate) fn number(text: &mut Vec<u8>, all: u64, decimals: u8) -> Result<(), NoMemory>
-    ensures { OnOk result (text.new.items ≡ with_token text.old.items (token.Number all decimals)) }
+pub(crate) fn number(text: &mut Vec<u8>, number: u64, decimals: u8) -> Result<(), NoMemory>
+    ensures { OnOk result (text.new.items ≡ with_token text.old.items (token.Number number decimals)) }
 {
     space(text)?;
-    digits(text, all, decimals)
+    digits(text, number, decimals)
 }
 
 /// Puts a whole number.
-pub(crate) fn whole(text: &mut Vec<u8>, count: u32) -> Result<(), NoMemory>
-    ensures { OnOk result (text.new.items ≡ with_token text.old.items (whole count)) }
+pub(crate) fn whole(text: &mut Vec<u8>, digits: u32) -> Result<(), NoMemory>
+    ensures { OnOk result (text.new.items ≡ with_token text.old.items (whole digits)) }
 {
-    number(text, u64::from(count), 0)
+    number(text, u64::from(digits), 0)
 }

@@ -1,4 +1,4 @@
-use Rattle.std.proofs.Common.{List, ◌∷◌, ◌++◌, map, Some, None, Option, refl, ap, ◌∙◌}
+use Rattle.std.proofs.Common.{List, ◌∷◌, map, Some, None, Option, refl, ap, ◌∙◌}
 use Rattle.unit_tree.specs.Parts.{joined, line_forms}
 use Rattle.unit_tree.specs.declared.line.Line as line
 use Rattle.unit_tree.specs.declared.line.Line.{Line}
