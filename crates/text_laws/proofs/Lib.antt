@@ -13,6 +13,7 @@ pub mod ReadIsPrintable
 pub mod Refusing
 pub mod ShortestLines
 pub mod ShortestPhrases
+pub mod SourceCounts
 pub mod SpelledBytes
 pub mod TokenTexts
 pub mod TokenWidths

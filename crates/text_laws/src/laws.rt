@@ -1,4 +1,4 @@
-ghost use Rattle.text_laws.specs.Laws.{CanonicalLinesAreShortest, CanonicalTextIsReadBack, WhatIsReadIsPrintable};
+ghost use Rattle.text_laws.specs.Laws.{CanonicalLinesAreShortest, CanonicalTextIsReadBack, SourceLinesAreOneForOne, WhatIsReadIsPrintable};
 
 /// A law: what a text says has a canonical text, and is in range.
 pub fn what_is_read_is_printable()
@@ -13,4 +13,9 @@ pub fn canonical_text_is_read_back()
 /// A law: a canonical line is never longer than a line that it came from.
 pub fn canonical_lines_are_shortest()
     ensures { CanonicalLinesAreShortest }
+{}
+
+/// A law: each canonical line of what a text says has the line of the text that it came from, one for one.
+pub fn source_lines_are_one_for_one()
+    ensures { SourceLinesAreOneForOne }
 {}
