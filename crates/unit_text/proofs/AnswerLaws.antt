@@ -243,7 +243,7 @@ version_is version (part ∷ all) = with_keeps part (system_of version all) ∙ 
     with_keeps (parts.Samples port) system = refl
 
 -- Lines that nest and leave no block open say the system of their parts.
-pub ends_whole : (text : List ℕ) (nested : Nested) → size_of text ≤ text_limit → NestTo (source_lines text) (source_lines text) nested → nested_forms nested ≡ text_forms nested.version nested.parts → Reads text (system_of nested.version nested.parts)
+unfoldable pub ends_whole : (text : List ℕ) (nested : Nested) → size_of text ≤ text_limit → NestTo (source_lines text) (source_lines text) nested → nested_forms nested ≡ text_forms nested.version nested.parts → Reads text (system_of nested.version nested.parts)
 ends_whole text nested fits so_far whole = record {
   parts = nested.parts;
   says = ap (λ version. system_of version nested.parts) (version_is nested.version nested.parts);

@@ -181,30 +181,37 @@ numbers_cut (one ∷ before) line from =
     let same : (from + 1) + length before ≡ from + suc (length before) = omega arith in
     ap (λ rest. (from, one) ∷ rest) (numbers_cut before line (from + 1) ∙ ap (λ number. enumerate_from (from + 1) before ++ ((number, line) ∷ [])) same)
 
-numbers_more_by : (before : List (List ℕ)) (line : List ℕ) → source_numbers.numbers_of (before ++ (line ∷ [])) ≡ source_numbers.numbers_of before ++ map (λ numbered. numbered.0) (filter (λ numbered. not (is_blank_line numbered.1)) ((1 + length before, line) ∷ []))
+-- A line by its number is written; and its number.
+abbrev is_written : ℕ × List ℕ → Bool
+is_written numbered = not (is_blank_line numbered.1)
+
+abbrev number_in : ℕ × List ℕ → ℕ
+number_in numbered = numbered.0
+
+numbers_more_by : (before : List (List ℕ)) (line : List ℕ) → source_numbers.numbers_of (before ++ (line ∷ [])) ≡ source_numbers.numbers_of before ++ map number_in (filter is_written ((1 + length before, line) ∷ []))
 numbers_more_by before line =
-    ap (λ all. map (λ numbered. numbered.0) (filter (λ numbered. not (is_blank_line numbered.1)) all)) (numbers_cut before line 1)
-    ∙ ap (map (λ numbered. numbered.0)) (filter-append (λ numbered. not (is_blank_line numbered.1)) (enumerate_from 1 before) ((1 + length before, line) ∷ []))
-    ∙ map-append (λ numbered. numbered.0) (filter (λ numbered. not (is_blank_line numbered.1)) (enumerate_from 1 before)) (filter (λ numbered. not (is_blank_line numbered.1)) ((1 + length before, line) ∷ []))
+    ap (λ all. map number_in (filter is_written all)) (numbers_cut before line 1)
+    ∙ ap (map number_in) (filter-append is_written (enumerate_from 1 before) ((1 + length before, line) ∷ []))
+    ∙ map-append number_in (filter is_written (enumerate_from 1 before)) (filter is_written ((1 + length before, line) ∷ []))
 
 numbers_written : (before : List (List ℕ)) (line : List ℕ) → is_blank_line line ≡ false → source_numbers.numbers_of (before ++ (line ∷ [])) ≡ source_numbers.numbers_of before ++ (suc (length before) ∷ [])
 numbers_written before line is =
     let same : 1 + length before ≡ suc (length before) = omega arith in
     numbers_more_by before line
-    ∙ ap (λ told. source_numbers.numbers_of before ++ map (λ numbered. numbered.0) (cond (not told) ((1 + length before, line) ∷ []) [])) is
+    ∙ ap (λ told. source_numbers.numbers_of before ++ map number_in (cond (not told) ((1 + length before, line) ∷ []) [])) is
     ∙ ap (λ number. source_numbers.numbers_of before ++ (number ∷ [])) same
 
 numbers_skip : (before : List (List ℕ)) (line : List ℕ) → is_blank_line line ≡ true → source_numbers.numbers_of (before ++ (line ∷ [])) ≡ source_numbers.numbers_of before
 numbers_skip before line is =
     numbers_more_by before line
-    ∙ ap (λ told. source_numbers.numbers_of before ++ map (λ numbered. numbered.0) (cond (not told) ((1 + length before, line) ∷ []) [])) is
+    ∙ ap (λ told. source_numbers.numbers_of before ++ map number_in (cond (not told) ((1 + length before, line) ∷ []) [])) is
     ∙ append-nil (source_numbers.numbers_of before)
 
-none_numbered : (lines : List (List ℕ)) (from : ℕ) → list_all is_blank_line lines ≡ true → map (λ numbered. numbered.0) (filter (λ numbered. not (is_blank_line numbered.1)) (enumerate_from from lines)) ≡ []
+none_numbered : (lines : List (List ℕ)) (from : ℕ) → list_all is_blank_line lines ≡ true → map number_in (filter is_written (enumerate_from from lines)) ≡ []
 none_numbered [] from blank = refl
 none_numbered (line ∷ lines) from blank =
     let both = and_parts (is_blank_line line) (list_all is_blank_line lines) blank in
-    ap (λ told. map (λ numbered. numbered.0) (cond (not told) ((from, line) ∷ filter (λ numbered. not (is_blank_line numbered.1)) (enumerate_from (from + 1) lines)) (filter (λ numbered. not (is_blank_line numbered.1)) (enumerate_from (from + 1) lines)))) both.0
+    ap (λ told. map number_in (cond (not told) ((from, line) ∷ filter is_written (enumerate_from (from + 1) lines)) (filter is_written (enumerate_from (from + 1) lines)))) both.0
     ∙ none_numbered lines (from + 1) both.1
 
 numbers_blank : (lines : List (List ℕ)) → list_all is_blank_line lines ≡ true → source_numbers.numbers_of lines ≡ []
@@ -292,13 +299,16 @@ may_of : (nested : Nested) (some : LineForm) (next : Option Draft) → are_place
 may_of nested some next placed is = sym is ∙ draft_goes nested some placed
 
 -- What comes of a draft with a form, by what the draft becomes.
-with_next : (found : Option Draft) (own : Option Group) (next : Draft) (group : Option Group) → option_map (λ draft. (draft, own)) found ≡ Some (next, group) → (found ≡ Some next) × (group ≡ own)
+abbrev with_own : Option Group → Draft → Draft × Option Group
+with_own own draft = (draft, own)
+
+with_next : (found : Option Draft) (own : Option Group) (next : Draft) (group : Option Group) → option_map (with_own own) found ≡ Some (next, group) → (found ≡ Some next) × (group ≡ own)
 with_next (Some draft) own next group is =
     let same : (draft, own) ≡ (next, group) = some_is (draft, own) (next, group) is in
     (ap (λ (pair : Draft × Option Group). Some (pair.0)) same, sym (ap (λ (pair : Draft × Option Group). pair.1) same))
 with_next None own next group is = absurd (cc)
 
-without_next : (found : Option Draft) (own : Option Group) → option_map (λ draft. (draft, own)) found ≡ None → found ≡ None
+without_next : (found : Option Draft) (own : Option Group) → option_map (with_own own) found ≡ None → found ≡ None
 without_next (Some draft) own is = absurd (cc)
 without_next None own is = refl
 
@@ -437,6 +447,7 @@ open_parts nested is none = by_block nested.block is none
 
 -- The system of a text whose lines nest to whole parts, and where its canonical lines came from.
 reads_from : (text : List ℕ) (nested : Nested) (numbers : Numbers) → size_of text ≤ text_limit → NestTo (source_lines text) (source_lines text) nested → blocks_of nested.block ≡ [] → numbers ≡ numbers_of nested (source_numbers.numbers_of (source_lines text)) → ReadsFrom text (system_of nested.version nested.parts) (in_order numbers)
+unfolding ends_whole
 reads_from text nested numbers fits nests closed is =
     let reads = ends_whole text nested fits nests (whole_forms nested (blocks_are nested ∙ closed)) in
     record { reads = reads; are_lines = ap in_order is ∙ numbers_end nested (source_numbers.numbers_of (source_lines text)) (top_is nested.block closed) }

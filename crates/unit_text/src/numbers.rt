@@ -157,12 +157,22 @@ pub struct Numbers {
     pub unit: UnitNumbers,
 }
 
+/// Appends numbers.
+fn append(numbers: &mut List<u32>, more: &[u32]) -> Result<(), NoMemory>
+    ensures { OnOk result (numbers.new ≡ numbers.old ++ more.now) }
+{
+    for number in more {
+        numbers.push(*number)?;
+    }
+    Ok(())
+}
+
 /// Appends the lists, one after the other.
-fn append_all(numbers: &mut Vec<u32>, lists: &[&[u32]]) -> Result<(), NoMemory>
-    ensures { OnOk result (numbers.new.items ≡ numbers.old.items ++ joined_slices lists.now) }
+fn append_all(numbers: &mut List<u32>, lists: &[&[u32]]) -> Result<(), NoMemory>
+    ensures { OnOk result (numbers.new ≡ numbers.old ++ joined_slices lists.now) }
 {
     for list in lists {
-        numbers.extend_from_slice(list)?;
+        append(numbers, list)?;
     }
     Ok(())
 }
@@ -208,8 +218,8 @@ impl UnitNumbers {
     }
 
     /// Appends the numbers to those of the units before, in canonical order.
-    fn append_to(&self, units: &mut Vec<u32>) -> Result<(), NoMemory>
-        ensures { OnOk result (units.new.items ≡ units.old.items ++ unit_in_order self.now) }
+    fn append_to(&self, units: &mut List<u32>) -> Result<(), NoMemory>
+        ensures { OnOk result (units.new ≡ units.old ++ unit_in_order self.now) }
     {
         append_all(
             units,
@@ -249,43 +259,39 @@ impl Numbers {
         })
     }
 
-    /// Behind the `end` of the unit that is open.
-    fn with_unit_end(mut self, alloc: Global, number: u32) -> Result<Numbers, NoMemory>
-        ensures { IfOk result (λ numbers. numbers ≡ unit_end self number) }
+    /// Adds the `end` of the unit that is open.
+    fn end_unit(&mut self, alloc: Global, number: u32) -> Result<(), NoMemory>
+        ensures { OnOk result (self.new ≡ unit_end self.old number) }
     {
-        let mut units = self.units.into_vec();
-        self.unit.append_to(&mut units)?;
-        units.push(number)?;
-        self.units = List::from_vec(units);
+        self.unit.append_to(&mut self.units)?;
+        self.units.push(number)?;
         self.unit = UnitNumbers::new(alloc);
-        Ok(self)
+        Ok(())
     }
 
-    /// With a line more. New lists take memory from `alloc`.
-    fn with_number(mut self, alloc: Global, group: Group, number: u32) -> Result<Numbers, NoMemory>
-        ensures { IfOk result (λ numbers. numbers ≡ with_number self group number) }
+    /// Adds a line. New lists take memory from `alloc`.
+    fn add(&mut self, alloc: Global, group: Group, number: u32) -> Result<(), NoMemory>
+        ensures { OnOk result (self.new ≡ with_number self.old group number) }
     {
         match group {
-            Group::UnitEnd => return self.with_unit_end(alloc, number),
-            Group::Instances => self.instances.push(number)?,
-            Group::Wires => self.wires.push(number)?,
-            Group::Stop => self.stop.push(number)?,
-            Group::Longest => self.longest.push(number)?,
-            Group::Zero => self.zero.push(number)?,
-            Group::Rows => self.rows.push(number)?,
-            Group::Samples => self.samples.push(number)?,
-            of_unit => self.unit.add(of_unit, number)?,
+            Group::UnitEnd => self.end_unit(alloc, number),
+            Group::Instances => self.instances.push(number),
+            Group::Wires => self.wires.push(number),
+            Group::Stop => self.stop.push(number),
+            Group::Longest => self.longest.push(number),
+            Group::Zero => self.zero.push(number),
+            Group::Rows => self.rows.push(number),
+            Group::Samples => self.samples.push(number),
+            of_unit => self.unit.add(of_unit, number),
         }
-        Ok(self)
     }
 
-    /// All numbers, in canonical order.
-    fn in_order(self, alloc: Global) -> Result<List<u32>, NoMemory>
-        ensures { IfOk result (λ numbers. numbers ≡ in_order self) }
+    /// Appends all numbers, in canonical order.
+    fn append_to(&self, numbers: &mut List<u32>) -> Result<(), NoMemory>
+        ensures { OnOk result (numbers.new ≡ numbers.old ++ in_order self.now) }
     {
-        let mut numbers = Vec::new(alloc);
         append_all(
-            &mut numbers,
+            numbers,
             &[
                 self.header.as_slice(),
                 self.units.as_slice(),
@@ -297,18 +303,26 @@ impl Numbers {
                 self.rows.as_slice(),
                 self.samples.as_slice(),
             ],
-        )?;
-        Ok(List::from_vec(numbers))
+        )
     }
+}
+
+/// The numbers of the header and of the lines behind it, group by group.
+fn numbered(alloc: Global, header: u32, marks: &[Mark]) -> Result<Numbers, NoMemory>
+    ensures { IfOk result (λ numbers. numbers ≡ with_marks (bare_numbers header) marks.now) }
+{
+    let mut numbers = Numbers::new(alloc, header)?;
+    for mark in marks {
+        numbers.add(alloc, mark.group, mark.number)?;
+    }
+    Ok(numbers)
 }
 
 /// The numbers of the header and of the lines behind it, in canonical order.
 pub fn numbers_in_order(alloc: Global, header: u32, marks: &[Mark]) -> Result<List<u32>, NoMemory>
     ensures { IfOk result (λ numbers. numbers ≡ in_order (with_marks (bare_numbers header) marks.now)) }
 {
-    let mut numbers = Numbers::new(alloc, header)?;
-    for mark in marks {
-        numbers = numbers.with_number(alloc, mark.group, mark.number)?;
-    }
-    numbers.in_order(alloc)
+    let mut numbers = List::new(alloc);
+    numbered(alloc, header, marks)?.append_to(&mut numbers)?;
+    Ok(numbers)
 }
