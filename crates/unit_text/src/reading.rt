@@ -1,8 +1,9 @@
 //! Reading of a text, along its lines.
-ghost use Rattle.std.specs.Prelude.{◌≡◌, ◌<◌, ◌≤◌, length, true, false};
+ghost use Rattle.std.specs.Prelude.{◌≡◌, ◌<◌, ◌≤◌, length, true, false, IfOk};
 ghost use Rattle.std.specs.List.{list_all};
 ghost use Rattle.unit_tree.specs.Blocks.{no_lines, may_stand};
 ghost use Rattle.unit_tree.specs.Lines.{source_lines, size_of, is_blank_line};
+ghost use Rattle.unit_tree.specs.Printable.{IsPrintable};
 ghost use Rattle.unit_tree.specs.Texts.{text_limit};
 ghost use Rattle.unit_tokens.specs.Scanning.{Gives, ReadsAs};
 ghost use Rattle.unit_lines.specs.Seen.{TellsOf};
@@ -275,13 +276,14 @@ fn read_lines(alloc: Global, text: &[u8]) -> Result<ReadText, TextFault>
     whole_text(alloc, draft, header, marks.as_slice(), number)
 }
 
-/// The system that a text says, with the lines that its canonical lines came from.
+/// The system that a text says, with the lines that its canonical lines came from. It is in range, and printable.
 ///
 /// Any other text is refused: one that is too long at line 1 by rule 2, and else at the first line that breaks a rule, by the
 /// least that it breaks; where only the end of a block lacks, at the last line by rule 6.
-#[tactic(auto, using(crate::proofs::ReadingLaws::long_refused, crate::proofs::ReadingLaws::blank_refused))]
+#[tactic(auto, using(crate::proofs::ReadingLaws::long_refused, crate::proofs::ReadingLaws::blank_refused, crate::proofs::AnswersPrinted::read_printable))]
 pub fn read_system(alloc: Global, text: &[u8]) -> Result<ReadText, TextFault>
-    ensures { AnswersText text.now result }
+    ensures answer { AnswersText text.now result }
+    ensures printable { IfOk result (λ read. IsPrintable read.system) }
 {
     if size(text) > LONGEST_TEXT {
         return Err(TextFault::Line {
