@@ -1,0 +1,4 @@
+//! The order of a system's outputs.
+#![tactic(auto)]
+
+mod sorting;
