@@ -1,1 +1,4 @@
+pub mod ClosedPlaces
+pub mod PlaceLists
+pub mod RoutePlaces
 pub mod SortingLaws

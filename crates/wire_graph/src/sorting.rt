@@ -1,9 +1,9 @@
-ghost use Rattle.std.specs.Prelude.{◌≡◌, ◌<◌, ℕ, [], false, OnOk, IfOk, length, slice_index_or};
+ghost use Rattle.std.specs.Prelude.{◌≡◌, ◌<◌, ℕ, false, OnOk, IfOk, length, slice_index_or, position, not};
 ghost use Rattle.std.specs.List.{list_all};
 ghost use Rattle.wire_graph.specs.Sorting.{IsSorting, Grows, IsTried, IsClosed};
 
 use fixed_words::NoMemory;
-use std::alloc::Global;
+use std::alloc::{AllocError, Global};
 use unit_tree::Routes;
 
 /// The places that are in order so far, and for each output whether it is among them.
@@ -133,4 +133,58 @@ impl Sorting {
             self.follow(routes, needed_by, before)?;
         }
     }
+}
+
+/// For each output the places of those that need it.
+fn needed_by(alloc: Global, routes: &Routes, count: u32) -> Result<Vec<Vec<u32>>, NoMemory>
+    requires { count ≡ length routes.now.outputs }
+{
+    let mut needed_by = Vec::with_capacity(alloc, count as usize)?;
+    for _ in 0..count {
+        needed_by.push(Vec::new(alloc))?;
+    }
+    for place in 0..count {
+        if let Some(route) = routes.outputs.get(place as usize) {
+            note_needs(&mut needed_by, route.needs.as_slice(), place)?;
+        }
+    }
+    Ok(needed_by)
+}
+
+/// Notes an output at each that it needs.
+fn note_needs(
+    needed_by: &mut [Vec<u32>],
+    needs: &[u32],
+    place: u32,
+) -> Result<(), NoMemory> {
+    for need in needs {
+        if let Some(others) = needed_by.get_mut(*need as usize) {
+            others.push(place)?;
+        }
+    }
+    Ok(())
+}
+
+/// The places of outputs, each behind all that its output needs: as many as there can be.
+///
+/// Nothing rests on the lists of who needs whom: they only say which outputs are worth a try, so that each is tried
+/// once for each of its needs.
+pub(crate) fn sort(alloc: Global, routes: &Routes) -> Result<Sorting, NoMemory>
+    ensures kept { IfOk result (λ sorting. IsSorting routes.now sorting.places.items sorting.placed.items) }
+    ensures closed { IfOk result (λ sorting. IsClosed routes.now sorting.places.items) }
+{
+    let Ok(count) = u32::try_from(routes.outputs.len()) else {
+        return Err(AllocError);
+    };
+    let needed_by = needed_by(alloc, routes, count)?;
+    let mut sorting = Sorting::new(alloc, routes)?;
+    sorting.fill(routes, &needed_by, count)?;
+    Ok(sorting)
+}
+
+/// The place of the first output that is not placed, if there is one.
+pub(crate) fn first_left(placed: &[bool]) -> Option<usize>
+    ensures { result ≡ position (λ told. not told) placed.now }
+{
+    placed.iter().position(|told| !*told)
 }
