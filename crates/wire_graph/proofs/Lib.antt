@@ -1,4 +1,5 @@
 pub mod ClosedPlaces
+pub mod NumberLaws
 pub mod PlaceLists
 pub mod RoutePlaces
 pub mod SortingLaws

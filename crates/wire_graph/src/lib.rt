@@ -1,4 +1,5 @@
 //! The order of a system's outputs.
 #![tactic(auto)]
 
+mod numbering;
 mod sorting;
