@@ -1,5 +1,6 @@
 pub mod ClosedPlaces
 pub mod NumberLaws
+pub mod OriginLaws
 pub mod PlaceLists
 pub mod RoutePlaces
 pub mod SortingLaws

@@ -1,5 +1,7 @@
 //! The order of a system's outputs.
 #![tactic(auto)]
 
+mod components;
 mod numbering;
+mod origins;
 mod sorting;
