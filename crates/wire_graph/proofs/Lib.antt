@@ -3,4 +3,5 @@ pub mod NumberLaws
 pub mod OriginLaws
 pub mod PlaceLists
 pub mod RoutePlaces
+pub mod RoutingLaws
 pub mod SortingLaws

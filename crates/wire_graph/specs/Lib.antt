@@ -1,3 +1,4 @@
 pub mod Sorting
 pub mod Wiring
 pub mod Origins
+pub mod Routing

@@ -18,6 +18,7 @@ use Rattle.wire_graph.specs.declared.origins.Member.{Member}
 use Rattle.wire_graph.specs.declared.origins.Origin.{Origin}
 use Rattle.wire_graph.specs.declared.origins.Origin.TheVariants.{Start, AtPlace}
 use Rattle.wire_graph.specs.declared.origins.Tables.{Tables}
+use Rattle.wire_graph.specs.declared.origins.WiredInput.{WiredInput}
 
 -- A table has for each port its first place among some.
 abbrev pub Finds : {S : Type 0} → List PortName → IndexMap (Bor (List ℕ) × Bor (List ℕ)) ℕ S → Type 0
@@ -40,13 +41,16 @@ abbrev pub origin_of : Origin → Source
 origin_of (Start word) = run.Start word
 origin_of (AtPlace place) = run.AtPlace place
 
--- The sources of the inputs of an instance.
-abbrev pub sources_for : System → List ℕ → List Input → List Source
-sources_for system name inputs = map (λ input. source_from system input (sources_of system (port_named name input.name))) inputs
+-- An input with its source.
+abbrev pub wired_input : WiredInput → Input × Source
+wired_input wired = (wired.input.now, origin_of wired.origin)
+
+abbrev pub input_of : System → List ℕ → Input → Input × Source
+input_of system name input = (input, source_from system input (sources_of system (port_named name input.name)))
 
 -- A component with the sources of its inputs, by what the routes rest on.
-abbrev pub member_behind : Member → Unit × List Source
-member_behind member = (member.unit.now, map origin_of member.origins.items)
+abbrev pub member_behind : Member → Unit × List (Input × Source)
+member_behind member = (member.unit.now, map wired_input member.inputs.items)
 
-abbrev pub member_of : System → Named → Unit × List Source
-member_of system component = (component.1, sources_for system component.0 component.1.inputs)
+abbrev pub member_of : System → Named → Unit × List (Input × Source)
+member_of system component = (component.1, map (input_of system component.0) component.1.inputs)

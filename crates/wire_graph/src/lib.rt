@@ -4,4 +4,5 @@
 mod components;
 mod numbering;
 mod origins;
+mod routing;
 mod sorting;

@@ -8,7 +8,7 @@ ghost use Rattle.unit_tree.specs.Compositions.{place_of, source_from};
 ghost use Rattle.unit_tree.specs.Names.{same_port};
 ghost use Rattle.unit_tree.specs.Orders.{outputs_of, sources_of};
 ghost use Rattle.wire_graph.specs.Wiring.{port_with, port_named, targets_of, named_of};
-ghost use Rattle.wire_graph.specs.Origins.{Finds, AreTables, HaveDecimals, source_behind, origin_of, member_behind, member_of, sources_for};
+ghost use Rattle.wire_graph.specs.Origins.{Finds, AreTables, HaveDecimals, source_behind, origin_of, wired_input, input_of, member_behind, member_of};
 
 use crate::components::{Component, PortKey};
 use crate::numbering::numbered;
@@ -24,11 +24,18 @@ pub(crate) enum Origin {
     AtPlace(u32),
 }
 
-/// A component by its unit and the origin of each of its inputs.
+/// An input with the origin of its word.
+#[derive(Clone, Copy)]
+pub(crate) struct WiredInput<'a> {
+    pub(crate) input: &'a Input,
+    pub(crate) origin: Origin,
+}
+
+/// A component by its unit and its inputs.
 #[derive(Drop)]
 pub(crate) struct Member<'a> {
     pub(crate) unit: &'a Unit,
-    pub(crate) origins: Vec<Origin>,
+    pub(crate) inputs: Vec<WiredInput<'a>>,
 }
 
 /// The places of outputs by their names, how many there are, and which connection leads to an input.
@@ -121,25 +128,26 @@ fn input_origin<'a>(
     }
 }
 
-/// Where the words of a component's inputs come from.
-fn unit_origins<'a>(
+/// A component's inputs with the origins of their words.
+fn wired_inputs<'a>(
     alloc: Global,
     system: &'a System,
     tables: &Tables<'a>,
     component: Component<'a>,
-) -> Result<Vec<Origin>, NoMemory>
+) -> Result<Vec<WiredInput<'a>>, NoMemory>
     requires tables { AreTables system.now tables.now }
     requires decimals { HaveDecimals component.unit.now.inputs }
-    ensures { IfOk result (λ origins. map origin_of origins.items ≡ sources_for system.now component.entry.name.now component.entry.unit.now.inputs) }
+    ensures { IfOk result (λ inputs. map wired_input inputs.items ≡ map (input_of system.now component.entry.name.now) component.entry.unit.now.inputs) }
 {
-    let mut origins = Vec::with_capacity(alloc, component.unit.inputs.len())?;
+    let mut inputs = Vec::with_capacity(alloc, component.unit.inputs.len())?;
     for input in component.unit.inputs.as_slice() {
-        origins.push(input_origin(system, tables, component.name, input)?)?;
+        let origin = input_origin(system, tables, component.name, input)?;
+        inputs.push(WiredInput { input, origin })?;
     }
-    Ok(origins)
+    Ok(inputs)
 }
 
-/// The components with the origins of their inputs.
+/// The components with their inputs.
 pub(crate) fn members<'a>(
     alloc: Global,
     system: &'a System,
@@ -152,10 +160,10 @@ pub(crate) fn members<'a>(
 {
     let mut members = Vec::with_capacity(alloc, components.len())?;
     for component in components {
-        let origins = unit_origins(alloc, system, tables, *component)?;
+        let inputs = wired_inputs(alloc, system, tables, *component)?;
         members.push(Member {
             unit: component.unit,
-            origins,
+            inputs,
         })?;
     }
     Ok(members)
