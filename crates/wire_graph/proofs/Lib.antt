@@ -1,4 +1,7 @@
 pub mod ClosedPlaces
+pub mod ComponentLaws
+pub mod DecimalLaws
+pub mod FaultLaws
 pub mod NumberLaws
 pub mod OriginLaws
 pub mod PlaceLists

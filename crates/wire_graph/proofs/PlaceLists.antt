@@ -66,7 +66,7 @@ place_is (first ∷ ports) (suc k) port apart is =
 
 -- ---- Lists side by side
 
-zip_append : {A B : Type 0} (R : A → B → Type 0) (xs xs' : List A) (ys ys' : List B) → AllZip R xs ys → AllZip R xs' ys' → AllZip R (xs ++ xs') (ys ++ ys')
+pub zip_append : {A B : Type 0} (R : A → B → Type 0) (xs xs' : List A) (ys ys' : List B) → AllZip R xs ys → AllZip R xs' ys' → AllZip R (xs ++ xs') (ys ++ ys')
 zip_append R [] xs' [] ys' one other = other
 zip_append R [] xs' (y ∷ ys) ys' one other = absurd one
 zip_append R (x ∷ xs) xs' [] ys' one other = absurd one
@@ -77,7 +77,7 @@ pub record Beside {A B : Type 0} (R : A → B → Type 0) (x : A) (ys : List B) 
   pub is : slice_get ys k ≡ Some other
   pub related : R x other
 
-zip_at : {A B : Type 0} (R : A → B → Type 0) (xs : List A) (ys : List B) (k : ℕ) (x : A) → AllZip R xs ys → slice_get xs k ≡ Some x → Beside R x ys k
+pub zip_at : {A B : Type 0} (R : A → B → Type 0) (xs : List A) (ys : List B) (k : ℕ) (x : A) → AllZip R xs ys → slice_get xs k ≡ Some x → Beside R x ys k
 zip_at R [] ys k x all is = absurd (cc)
 zip_at R (first ∷ xs) [] k x all is = absurd all
 zip_at R (first ∷ xs) (y ∷ ys) zero x all is = let same : first ≡ x = cc in record { other = y; is = refl; related = subst (λ z. R z y) same all.0 }

@@ -112,7 +112,7 @@ wired_by instance counted = (record { instance = instance; input = counted.0 }, 
 abbrev placed_by : ℕ → ℕ × Source → InputAt × Source
 placed_by instance counted = (record { instance = instance; input = counted.0 }, counted.1)
 
-numbered_same : (from : ℕ) (members : List Member) (wired : List (Unit × List (Input × Source))) → AllZip IsWiredAs members wired → flat_map numbered_in (enumerate_from from wired) ≡ flat_map outputs_in (enumerate_from from members)
+pub numbered_same : (from : ℕ) (members : List Member) (wired : List (Unit × List (Input × Source))) → AllZip IsWiredAs members wired → flat_map numbered_in (enumerate_from from wired) ≡ flat_map outputs_in (enumerate_from from members)
 numbered_same from [] [] all = refl
 numbered_same from [] (one ∷ wired) all = absurd all
 numbered_same from (member ∷ members) [] all = absurd all

@@ -1,9 +1,10 @@
 ghost use Rattle.std.specs.Prelude.{◌≡◌, ◌++◌, IfOk, OnOk, map};
 ghost use Rattle.std.specs.List.{AllByRecursion, enumerate_from, flat_map, filter_map, zip};
+ghost use Rattle.unit_tree.specs.Compositions.{HasNoEvents, composition_of};
 ghost use Rattle.unit_tree.specs.Names.{is_among};
 ghost use Rattle.unit_tree.specs.Orders.{outputs_of};
 ghost use Rattle.unit_tree.specs.Ports.{place_needed};
-ghost use Rattle.unit_tree.specs.Routes.{starts_at};
+ghost use Rattle.unit_tree.specs.Routes.{starts_at, routes_of as composition_routes};
 ghost use Rattle.wire_graph.specs.Wiring.{named_of, components_in, outputs_named};
 ghost use Rattle.wire_graph.specs.Origins.{AreTables, HaveDecimals, wired_input, member_behind, member_of};
 ghost use Rattle.wire_graph.specs.Routing.{needs_in, bare, numbered_in, wired_in, wired_among, fed, routed_by, routes_from};
@@ -164,4 +165,17 @@ fn tables<'a>(
         count: outputs.len(),
         targets,
     })
+}
+
+/// The routes of what is run of a system without event ports: its ports by numbers, in one pass over each of its parts.
+pub(crate) fn system_routes(alloc: Global, system: &System) -> Result<Routes, NoMemory>
+    requires events { HasNoEvents system.now }
+    requires decimals { AllByRecursion (λ unit. HaveDecimals unit.inputs) system.now.units }
+    ensures { IfOk result (λ routes. routes ≡ composition_routes (composition_of system.now)) }
+{
+    let components = components(alloc, system)?;
+    let tables = tables(alloc, system, &components)?;
+    let members = members(alloc, system, &tables, &components)?;
+    let routes = routes_of(alloc, &members)?;
+    Ok(routes)
 }
