@@ -3,6 +3,7 @@ pub mod ComponentLaws
 pub mod DecimalLaws
 pub mod FaultLaws
 pub mod NumberLaws
+pub mod OrderingLaws
 pub mod OriginLaws
 pub mod PlaceLists
 pub mod RoutePlaces

@@ -1,5 +1,5 @@
-ghost use Rattle.std.specs.Prelude.{◌≡◌, ◌<◌, ℕ, false, OnOk, IfOk, length, slice_index_or, position, not};
-ghost use Rattle.std.specs.List.{list_all};
+ghost use Rattle.std.specs.Prelude.{◌≡◌, ◌<◌, ℕ, false, OnOk, IfOk, length, slice_index_or, not};
+ghost use Rattle.std.specs.List.{list_all, position_from};
 ghost use Rattle.wire_graph.specs.Sorting.{IsSorting, Grows, IsTried, IsClosed};
 
 use fixed_words::NoMemory;
@@ -184,7 +184,7 @@ pub(crate) fn sort(alloc: Global, routes: &Routes) -> Result<Sorting, NoMemory>
 
 /// The place of the first output that is not placed, if there is one.
 pub(crate) fn first_left(placed: &[bool]) -> Option<usize>
-    ensures { result ≡ position (λ told. not told) placed.now }
+    ensures { result ≡ position_from not 0 placed.now }
 {
     placed.iter().position(|told| !*told)
 }
