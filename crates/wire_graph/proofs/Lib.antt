@@ -1,5 +1,6 @@
 pub mod ClosedPlaces
 pub mod ComponentLaws
+pub mod CycleLaws
 pub mod DecimalLaws
 pub mod FaultLaws
 pub mod NumberLaws
