@@ -59,11 +59,11 @@ module _ (system : System) (plain : HasNoEvents system) (differ : NamesDiffer sy
     cut = cut_at (outputs_of system) left (port left) (at_is system plain differ wired left is_output);
     has_no_order = λ other other_is stands.
         apart (holds_every run order (places system plain differ other) closed (ordered system plain differ [] other tt other_is) left
-            (subst (IsAmong (places system plain differ other)) (place_back system plain differ wired left is_output) (among_places system plain differ other (port left) stands)));
+        (subst (IsAmong (places system plain differ other)) (place_back system plain differ wired left is_output) (among_places system plain differ other (port left) stands)));
     is_first = all_first (λ other. HasNoOrder system other → ⊥) (outputs_of system) left (λ place other below found none.
-    none (ports_at system plain differ wired order) (orderly system plain differ wired [] order tt is)
-    (subst (IsIn (ports_at system plain differ wired order)) (ap (λ given. unwrap_or given (record { instance = []; port = [] })) found)
-    (among_ports system plain differ wired order place (others place below))));
+        none (ports_at system plain differ wired order) (orderly system plain differ wired [] order tt is)
+        (subst (IsIn (ports_at system plain differ wired order)) (ap (λ given. unwrap_or given (record { instance = []; port = [] })) found)
+        (among_ports system plain differ wired order place (others place below))));
   }
     where
       is_output : left < length (outputs_of system)

@@ -132,7 +132,9 @@ module _ (system : System) where
       (output, subst (λ all. IsIn all last → ⊥) (append-nil before) apart, subst (λ all. AllByRecursion (IsIn all) (needed_by system last)) (append-nil before) needs, tt)
   longer before (first ∷ order) last orderly output apart needs =
       let same : before ++ (first ∷ order) ≡ (before ++ (first ∷ [])) ++ order = sym (append_assoc before (first ∷ []) order) in (
-        orderly.0, orderly.1, orderly.2,
+        orderly.0,
+        orderly.1,
+        orderly.2,
         longer (before ++ (first ∷ [])) order last orderly.3 output (subst (λ all. IsIn all last → ⊥) same apart) (subst (λ all. AllByRecursion (IsIn all) (needed_by system last)) same needs),
       )
 

@@ -3,7 +3,6 @@ use Rattle.std.proofs.Common.{◌≡◌, ℕ, ◌+◌, ◌<◌, ◌≤◌, Bool,
 use Rattle.std.specs.Prelude.{slice_get, unwrap_or, ◌&&◌, replicate}
 use Rattle.std.specs.Option.{option_map}
 use Rattle.std.specs.List.{AllByRecursion, list_all, sum_by}
-
 use Rattle.std.proofs.lemmas.List.{get_or-set_same, get_or-set_other, get_or_past, length-set, length-replicate, get_or-replicate}
 use Rattle.std.proofs.lemmas.List.Sums.{sum_by-set}
 use Rattle.std.proofs.lemmas.List.Folds.{sum_by-replicate}
@@ -61,10 +60,12 @@ routed_more routes before [] place routed within apart needs =
     (within, subst (λ all. IsAmong all place → ⊥) (append-nil before) apart, subst (λ all. AllByRecursion (IsAmong all) (needs_on routes place)) (append-nil before) needs, tt)
 routed_more routes before (first ∷ places) place routed within apart needs =
     let same : before ++ (first ∷ places) ≡ (before ++ (first ∷ [])) ++ places = sym (append_assoc before (first ∷ []) places) in (
-      routed.0, routed.1, routed.2,
+      routed.0,
+      routed.1,
+      routed.2,
       routed_more routes (before ++ (first ∷ [])) places place routed.3 within
-      (subst (λ all. IsAmong all place → ⊥) same apart)
-      (subst (λ all. AllByRecursion (IsAmong all) (needs_on routes place)) same needs),
+          (subst (λ all. IsAmong all place → ⊥) same apart)
+          (subst (λ all. AllByRecursion (IsAmong all) (needs_on routes place)) same needs),
     )
 
 pub all_told : (placed : List Bool) (P : ℕ → Type 0) (needs : List ℕ) → ((place : ℕ) → get_or placed place false ≡ true → P place) → list_all (λ need. get_or placed need false) needs ≡ true → AllByRecursion P needs

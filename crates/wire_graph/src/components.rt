@@ -49,10 +49,7 @@ pub(crate) fn components<'a>(
 }
 
 /// Adds the outputs of one component.
-fn add_outputs<'a>(
-    component: Component<'a>,
-    ports: &mut Vec<PortKey<'a>>,
-) -> Result<(), NoMemory>
+fn add_outputs<'a>(component: Component<'a>, ports: &mut Vec<PortKey<'a>>) -> Result<(), NoMemory>
     ensures { OnOk result (map port_with ports.new.items ≡ map port_with ports.old.items ++ output_ports_of (named_of component.entry)) }
 {
     for output in component.unit.outputs.as_slice() {

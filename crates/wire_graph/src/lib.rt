@@ -21,6 +21,8 @@ mod ordering;
 mod origins;
 mod routing;
 mod sorting;
+#[cfg(test)]
+mod tests;
 
 pub use fault::OrderFault;
 pub use laws::cycles_are_judged_once;

@@ -36,11 +36,7 @@ fn needed_place(output: &Output, wired: WiredInput<'_>) -> Option<u32>
 }
 
 /// The places that an output needs, by the inputs of its component.
-fn needed_places(
-    alloc: Global,
-    member: &Member<'_>,
-    output: &Output,
-) -> Result<List<u32>, NoMemory>
+fn needed_places(alloc: Global, member: &Member<'_>, output: &Output) -> Result<List<u32>, NoMemory>
     ensures { IfOk result (λ needs. needs ≡ needs_in (member_behind member.now).1 output.now) }
 {
     let mut needs = List::new(alloc);
@@ -135,7 +131,7 @@ fn follow_all(
 }
 
 /// The routes of components.
-fn routes_of(alloc: Global, members: &[Member<'_>]) -> Result<Routes, NoMemory>
+pub(crate) fn routes_of(alloc: Global, members: &[Member<'_>]) -> Result<Routes, NoMemory>
     ensures { IfOk result (λ routes. routes ≡ routes_from (map member_behind members.now)) }
 {
     let mut outputs = bare_routes(alloc, members)?;

@@ -113,12 +113,7 @@ impl Sorting {
 
     /// Adds all that can be added. A round tries each output, and then those that need what was added: the first round
     /// adds all there is, and one that adds nothing shows it.
-    fn fill(
-        &mut self,
-        routes: &Routes,
-        needed_by: &[Vec<u32>],
-        count: u32,
-    ) -> Result<(), NoMemory>
+    fn fill(&mut self, routes: &Routes, needed_by: &[Vec<u32>], count: u32) -> Result<(), NoMemory>
         requires kept { IsSorting routes.now self.old.places.items self.old.placed.items }
         requires count { count ≡ length routes.now.outputs }
         ensures kept { OnOk result (IsSorting routes.now self.new.places.items self.new.placed.items) }
@@ -152,11 +147,7 @@ fn needed_by(alloc: Global, routes: &Routes, count: u32) -> Result<Vec<Vec<u32>>
 }
 
 /// Notes an output at each that it needs.
-fn note_needs(
-    needed_by: &mut [Vec<u32>],
-    needs: &[u32],
-    place: u32,
-) -> Result<(), NoMemory> {
+fn note_needs(needed_by: &mut [Vec<u32>], needs: &[u32], place: u32) -> Result<(), NoMemory> {
     for need in needs {
         if let Some(others) = needed_by.get_mut(*need as usize) {
             others.push(place)?;
