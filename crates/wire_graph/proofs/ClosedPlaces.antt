@@ -1,9 +1,9 @@
 -- Closed places in order hold every place that stands in some order, and the first place that they leave out is that of the
 -- first output without an order.
-use Rattle.std.proofs.Common.{◌≡◌, ℕ, zero, suc, ◌+◌, ◌<◌, List, [], ◌∷◌, ◌++◌, map, length, take, drop, Option, Some, None, inl, inr, refl, ap, sym, subst, ◌∙◌, ◌⊎◌, arith}
+use Rattle.std.proofs.Common.{◌≡◌, ℕ, zero, suc, ◌<◌, List, [], ◌∷◌, ◌++◌, length, take, drop, Some, inl, inr, refl, ap, subst, ◌⊎◌, arith}
 use Rattle.std.specs.Prelude.{slice_get, unwrap_or}
 use Rattle.std.specs.List.{AllByRecursion}
-use Rattle.unit_tree.specs.Compositions.{Composition, HasNoEvents, composition_of, place_of}
+use Rattle.unit_tree.specs.Compositions.{Composition, HasNoEvents, composition_of}
 use Rattle.unit_tree.specs.Orders.{IsIn, HasNoOrder, IsFirstWithoutOrder, outputs_of}
 use Rattle.unit_tree.specs.Ports.{IsAmong, IsOrderedAfter, needs_of_places, needs_at}
 use Rattle.unit_tree.specs.declared.system.PortName.{PortName}

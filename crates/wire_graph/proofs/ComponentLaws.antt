@@ -1,10 +1,10 @@
 -- The components of a system without event ports: their outputs are those of the system, and with the sources of their inputs
 -- they are its members.
-use Rattle.std.proofs.Common.{◌≡◌, ℕ, Bool, true, false, cond, List, [], ◌∷◌, ◌++◌, map, Option, Some, None, refl, ap, sym, subst, ◌∙◌, append-nil}
+use Rattle.std.proofs.Common.{◌≡◌, true, false, List, [], ◌∷◌, ◌++◌, map, Option, Some, None, refl, ap, sym, subst, ◌∙◌, append-nil}
 use Rattle.std.specs.Prelude.{zip}
 use Rattle.std.specs.List.{AllByRecursion, AllZip, flat_map, filter_map, cons_option}
-use Rattle.unit_tree.specs.Compositions.{Source, HasNoEvents, source_of, member_with, members_of, composition_of}
-use Rattle.unit_tree.specs.Names.{Port, output_ports, unit_named, unit_of_instance}
+use Rattle.unit_tree.specs.Compositions.{Source, HasNoEvents, source_of, member_with, members_of}
+use Rattle.unit_tree.specs.Names.{Port, output_ports, unit_of_instance}
 use Rattle.unit_tree.specs.Orders.{port_of, outputs_in, outputs_of}
 use Rattle.unit_tree.specs.declared.system.Instance.{Instance}
 use Rattle.unit_tree.specs.declared.system.PortName.{PortName}
@@ -17,10 +17,9 @@ use Rattle.unit_tree.proofs.NameLaws.{Has}
 use Rattle.unit_tree.proofs.PlainNames.{each_has}
 use Rattle.unit_tree.proofs.PlainOrders.{named_has}
 use Rattle.wire_graph.specs.Origins.{HaveDecimals, input_of, member_of}
-use Rattle.wire_graph.specs.Routing.{routes_from}
 use Rattle.wire_graph.specs.Wiring.{Named, named_of, named_with, components_in, port_named, output_ports_of, outputs_named}
 use Rattle.wire_graph.specs.declared.components.Component.{Component}
-use Rattle.wire_graph.proofs.RoutingLaws.{IsWiredAs, routes_are}
+use Rattle.wire_graph.proofs.RoutingLaws.{IsWiredAs}
 
 module _ (system : System) where
   abbrev component_of : Instance → Option Named

@@ -9,7 +9,7 @@ use Rattle.unit_tree.specs.declared.system.PortName.{PortName}
 use Rattle.unit_tree.specs.declared.system.System.{System}
 use Rattle.unit_tree.proofs.NameLaws.{same_port_of, has_behind}
 use Rattle.unit_tree.proofs.OrderLaws.{each_in}
-use Rattle.unit_tree.proofs.PlaceOrders.{in_has, has_in, same_port_is}
+use Rattle.unit_tree.proofs.PlaceOrders.{has_in, same_port_is}
 use Rattle.unit_tree.proofs.PlainOrders.{in_longer}
 use Rattle.unit_tree.proofs.PortLaws.{or_true, or_right}
 

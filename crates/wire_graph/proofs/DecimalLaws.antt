@@ -1,5 +1,5 @@
 -- The types of inputs in the plain form of a system in range have decimals that the language allows.
-use Rattle.std.proofs.Common.{◌≡◌, ℕ, ◌==◌, Bool, true, false, cond, List, [], ◌∷◌, ◌++◌, map, inl, inr, refl}
+use Rattle.std.proofs.Common.{◌==◌, Bool, true, false, cond, List, [], ◌∷◌, ◌++◌, map, inl, inr, refl}
 use Rattle.std.specs.List.{AllByRecursion, flat_map}
 use Rattle.fixed_words.specs.Types.{AreDecimals}
 use Rattle.unit_tree.specs.Canonical.{optional, unit_parts, canonical_parts, canonical_forms}

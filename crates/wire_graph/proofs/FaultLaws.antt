@@ -1,8 +1,8 @@
 -- The place that is left names the first output without an order.
-use Rattle.std.proofs.Common.{◌≡◌, ℕ, zero, suc, ◌+◌, ◌<◌, List, [], ◌∷◌, ◌++◌, map, length, Option, Some, None, refl, ap, sym, subst, ◌∙◌, arith, append_assoc, length-append}
+use Rattle.std.proofs.Common.{◌≡◌, ℕ, zero, suc, ◌+◌, List, [], ◌∷◌, ◌++◌, map, length, Some, refl, ap, sym, ◌∙◌, arith, append_assoc, length-append}
 use Rattle.std.specs.Prelude.{slice_get}
 use Rattle.std.specs.List.{AllZip, enumerate_from, flat_map}
-use Rattle.unit_tree.specs.Compositions.{Source, Composition, HasNoEvents, composition_of}
+use Rattle.unit_tree.specs.Compositions.{Composition, HasNoEvents, composition_of}
 use Rattle.unit_tree.specs.Orders.{outputs_of}
 use Rattle.unit_tree.specs.Routes.{Numbered, outputs_in, route_at, routes_of}
 use Rattle.unit_tree.specs.declared.order.Route.{Route}
@@ -14,7 +14,7 @@ use Rattle.wire_graph.specs.Origins.{member_of}
 use Rattle.wire_graph.specs.Routing.{needs_in, numbered_in}
 use Rattle.wire_graph.specs.Wiring.{Named, components_in, port_named, output_ports_of, outputs_named}
 use Rattle.wire_graph.proofs.ComponentLaws.{outputs_are, wired_members}
-use Rattle.wire_graph.proofs.PlaceLists.{zip_append, Beside, zip_at}
+use Rattle.wire_graph.proofs.PlaceLists.{zip_append, zip_at}
 use Rattle.wire_graph.proofs.RoutingLaws.{numbered_same}
 
 -- An output by its numbers, and its port.

@@ -1,11 +1,11 @@
 -- Sorted places are an order of the system, or tell its first output without one.
-use Rattle.std.proofs.Common.{◌≡◌, ℕ, zero, suc, ◌+◌, ◌<◌, ◌==◌, Bool, true, false, cond, List, [], ◌∷◌, length, get_or, Option, Some, None, inl, inr, ◌⊎◌, refl, ap, sym, subst, ◌∙◌, arith}
+use Rattle.std.proofs.Common.{◌≡◌, ℕ, zero, suc, ◌+◌, ◌<◌, ◌==◌, Bool, true, false, cond, List, [], ◌∷◌, length, get_or, Some, None, inl, inr, ◌⊎◌, refl, ap, sym, subst, ◌∙◌, arith}
 use Rattle.std.specs.Prelude.{not, slice_get}
 use Rattle.std.specs.List.{AllByRecursion, position_from}
-use Rattle.unit_tree.specs.Compositions.{Composition, HasNoEvents, composition_of, run_of}
+use Rattle.unit_tree.specs.Compositions.{Composition, composition_of, run_of}
 use Rattle.unit_tree.specs.Orders.{outputs_of}
 use Rattle.unit_tree.specs.Plain.{plain_form}
-use Rattle.unit_tree.specs.Ports.{IsAmong, IsPlaceOrder, needs_of_places}
+use Rattle.unit_tree.specs.Ports.{IsAmong, needs_of_places}
 use Rattle.unit_tree.specs.Printable.{IsRanged}
 use Rattle.unit_tree.specs.Routes.{IsRoutedAfter, IsOrderOf, routes_of}
 use Rattle.unit_tree.specs.WellFormed.{IsWellFormed}

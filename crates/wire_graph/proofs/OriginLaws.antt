@@ -1,14 +1,14 @@
 -- What the tables of names find.
-use Rattle.std.proofs.Common.{◌≡◌, ℕ, zero, suc, ◌+◌, ◌<◌, Bool, true, false, cond, List, [], ◌∷◌, map, length, Option, Some, None, refl, ap, sym, subst, ◌∙◌, arith}
+use Rattle.std.proofs.Common.{◌≡◌, ℕ, suc, ◌+◌, Bool, true, false, cond, List, [], ◌∷◌, map, length, Option, Some, None, refl, ap, sym, subst, ◌∙◌, arith}
 use Rattle.std.specs.Prelude.{slice_get, not, unwrap_or, ◌&&◌}
 use Rattle.std.specs.List.{position_from, position_or_len, filter_map, cons_option}
 use Rattle.std.specs.Borrow.{Bor}
 use Rattle.std.specs.Option.{option_map, option_and_then, option_copied}
 use Rattle.std.specs.Str.{bytes_eq}
 use Rattle.std.specs.Cmp.Lexicographic.{nat_list_eq_equiv}
-use Rattle.unit_tree.specs.Compositions.{Source, source_from}
+use Rattle.unit_tree.specs.Compositions.{source_from}
 use Rattle.unit_tree.specs.Names.{same_port}
-use Rattle.unit_tree.specs.Orders.{source_if, sources_of}
+use Rattle.unit_tree.specs.Orders.{source_if}
 use Rattle.unit_tree.specs.declared.system.PortName.{PortName}
 use Rattle.unit_tree.specs.declared.system.System.{System}
 use Rattle.unit_tree.specs.declared.system.Wire.{Wire}

@@ -1,7 +1,6 @@
 -- Orderly lists of outputs are lists of places in order, and the other way round. The whole orders stand in `PlaceOrders`
 -- of unit_tree; here it is told of lists that need not hold all outputs.
 use Rattle.std.proofs.Common.{◌≡◌, ℕ, zero, suc, ◌+◌, ◌<◌, Bool, true, false, cond, List, [], ◌∷◌, ◌++◌, map, length, Option, Some, None, inl, inr, refl, ap, sym, subst, ◌∙◌, ◌⊎◌, arith, append-nil}
-use Rattle.std.proofs.lemmas.Bool.{and_parts}
 use Rattle.std.proofs.lemmas.List.{map-append}
 use Rattle.std.proofs.lemmas.Option.{slice_get_within}
 use Rattle.std.specs.Prelude.{not, is_none, slice_get, zip, unwrap_or}
@@ -10,8 +9,8 @@ use Rattle.std.specs.Option.{option_and_then}
 use Rattle.std.specs.Str.{bytes_eq}
 use Rattle.unit_tree.specs.Compositions.{Member, HasNoEvents, component_with, factor_of, place_of, source_from, source_of, member_with, composition_of}
 use Rattle.unit_tree.specs.Names.{Port, output_ports, input_names, port_names, is_among, are_among, instance_named, unit_named, unit_of_instance, port_named, output_at, same_port}
-use Rattle.unit_tree.specs.Orders.{IsIn, IsOrderlyAfter, HasNoCycle, port_of, outputs_in, outputs_of, source_if, sources_of, needs_of, needed_by}
-use Rattle.unit_tree.specs.Ports.{IsAmong, IsOrderedAfter, IsPlaceOrder, place_in, place_needed, places_needed, needs_of_places, needs_at}
+use Rattle.unit_tree.specs.Orders.{IsIn, IsOrderlyAfter, port_of, outputs_in, outputs_of, source_if, sources_of, needs_of, needed_by}
+use Rattle.unit_tree.specs.Ports.{IsAmong, IsOrderedAfter, place_in, place_needed, places_needed, needs_of_places, needs_at}
 use Rattle.unit_tree.specs.declared.system.Instance.{Instance}
 use Rattle.unit_tree.specs.declared.system.PortName.{PortName}
 use Rattle.unit_tree.specs.declared.system.System.{System}
@@ -21,7 +20,7 @@ use Rattle.unit_tree.specs.declared.unit.EventOut.{EventOut}
 use Rattle.unit_tree.specs.declared.unit.Input.{Input}
 use Rattle.unit_tree.specs.declared.unit.Output.{Output}
 use Rattle.unit_tree.specs.declared.unit.Unit.{Unit}
-use Rattle.unit_tree.proofs.NameLaws.{Has, Distinct, NamesDiffer, Wired, same_port_of, has_either, has_map, has_front, has_behind, same_bytes, found}
+use Rattle.unit_tree.proofs.NameLaws.{Has, Distinct, NamesDiffer, Wired, same_port_of, has_either, has_map, has_front, has_behind, found}
 use Rattle.unit_tree.proofs.OrderLaws.{each_in}
 use Rattle.unit_tree.proofs.PortLaws.{among, has_among, each_among, ports_in, output_has}
 use Rattle.unit_tree.proofs.PlaceOrders.{in_has, has_in, same_port_is, all_has, distinct_append}

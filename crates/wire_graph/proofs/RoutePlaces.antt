@@ -1,5 +1,5 @@
 -- Places in order along the routes of a composition are in order by what its outputs need.
-use Rattle.std.proofs.Common.{◌≡◌, ℕ, ◌+◌, ◌<◌, List, [], ◌∷◌, ◌++◌, map, length, refl, ap, sym, subst, ◌∙◌, arith}
+use Rattle.std.proofs.Common.{◌≡◌, ℕ, ◌+◌, List, [], ◌∷◌, ◌++◌, map, length, refl, ap, sym, subst, ◌∙◌, arith}
 use Rattle.std.proofs.lemmas.List.{length-map, map-append}
 use Rattle.std.proofs.lemmas.Option.{slice_get-map}
 use Rattle.std.specs.Prelude.{slice_get, unwrap_or}
@@ -8,7 +8,6 @@ use Rattle.unit_tree.specs.Compositions.{Member, Composition}
 use Rattle.unit_tree.specs.Ports.{IsAmong, IsOrderedAfter, places_needed, needs_of_places, needs_at}
 use Rattle.unit_tree.specs.Routes.{Numbered, IsRoutedAfter, outputs_in, route_at, routes_of, needs_on}
 use Rattle.unit_tree.specs.declared.order.Route.{Route}
-use Rattle.unit_tree.specs.declared.order.Routes.{Routes}
 use Rattle.unit_tree.specs.declared.unit.Output.{Output}
 
 routed_needs : (run : Composition) (from : ℕ) (all : List Numbered) → map (λ (route : Route). route.needs) (map (route_at run) (enumerate_from from all)) ≡ map (λ (numbered : Numbered). numbered.needs) all

@@ -1,16 +1,15 @@
 -- Routes made of components are those of their composition.
-use Rattle.std.proofs.Common.{◌≡◌, ℕ, zero, suc, ◌+◌, ◌<◌, ◌≤◌, Bool, true, false, cond, List, [], ◌∷◌, ◌++◌, map, length, get_or, set, drop, Option, Some, None, refl, ap, sym, subst, ◌∙◌, arith, append-nil, append_assoc}
+use Rattle.std.proofs.Common.{◌≡◌, ℕ, zero, suc, ◌+◌, ◌<◌, ◌≤◌, true, false, cond, List, [], ◌∷◌, ◌++◌, map, length, get_or, set, drop, Some, None, refl, ap, sym, subst, ◌∙◌, arith, append-nil, append_assoc}
 use Rattle.std.specs.Prelude.{◌==◌, ℤ}
 use Rattle.std.specs.List.{AllZip, enumerate_from, flat_map, filter_map, zip, cons_option}
 use Rattle.std.proofs.lemmas.Bool.{eq-eqb, ne_eqb}
 use Rattle.std.proofs.lemmas.List.Elements.{filter_map-append}
 use Rattle.unit_tree.specs.Compositions.{Source, Start, AtPlace, Member, Composition}
-use Rattle.unit_tree.specs.Routes.{Numbered, outputs_in, route_at, routes_of, inputs_in, inputs_of, fed_from, feeds_of, starts_at}
+use Rattle.unit_tree.specs.Routes.{Numbered, outputs_in, routes_of, inputs_in, inputs_of, fed_from, starts_at}
 use Rattle.unit_tree.specs.declared.order.InputAt.{InputAt}
 use Rattle.unit_tree.specs.declared.order.Route.{Route}
-use Rattle.unit_tree.specs.declared.order.Routes.{Routes}
 use Rattle.unit_tree.specs.declared.order.StartWord.{StartWord}
-use Rattle.unit_tree.specs.Ports.{place_needed, places_needed}
+use Rattle.unit_tree.specs.Ports.{place_needed}
 use Rattle.unit_tree.specs.declared.unit.Input.{Input}
 use Rattle.unit_tree.specs.declared.unit.Output.{Output}
 use Rattle.unit_tree.specs.declared.unit.Unit.{Unit}

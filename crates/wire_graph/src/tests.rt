@@ -150,28 +150,38 @@ fn ports_have_their_places(rt: HostRuntime) -> Result<(), Fail> {
     Ok(())
 }
 
+/// A component of a unit, all inputs of which have one origin.
+fn member<'a>(alloc: Global, unit: &'a Unit, origin: Origin) -> Result<Member<'a>, AllocError> {
+    let mut inputs = Vec::new(alloc);
+    for input in unit.inputs.as_slice() {
+        inputs.push(WiredInput { input, origin })?;
+    }
+    Ok(Member { unit, inputs })
+}
+
+/// How many inputs each output feeds, and how many outputs it needs.
+fn feeds_and_needs(alloc: Global, routes: &[Route]) -> Result<Vec<(usize, usize)>, AllocError> {
+    let mut counts = Vec::new(alloc);
+    for route in routes {
+        counts.push((route.feeds.len(), route.needs.len()))?;
+    }
+    Ok(counts)
+}
+
+/// The routes of two components of a unit: the inputs of the second are connected to the output of the first.
+fn two_components(alloc: Global, unit: &Unit) -> Result<Routes, AllocError> {
+    let mut members = Vec::new(alloc);
+    members.push(member(alloc, unit, Origin::Start(5))?)?;
+    members.push(member(alloc, unit, Origin::AtPlace(0))?)?;
+    routes_of(alloc, &members)
+}
+
 #[test]
 fn routes_tell_needs_feeds_and_starts(rt: HostRuntime) -> Result<(), Fail> {
     let alloc = rt.alloc();
-    let unit = relay(alloc)?;
-    let mut members = Vec::new(alloc);
-    for v in [Origin::Start(5), Origin::AtPlace(0)] {
-        let mut inputs = Vec::new(alloc);
-        for (input, origin) in unit.inputs.as_slice().iter().zip([Origin::Start(5), v]) {
-            inputs.push(WiredInput { input, origin })?;
-        }
-        members.push(Member {
-            unit: &unit,
-            inputs,
-        })?;
-    }
-    let routes = routes_of(alloc, &members)?;
-    let outputs = routes.outputs.as_slice();
-    assert_eq!(rt; outputs.len(), 2);
-    assert_eq!(rt; routes.starts.len(), 3);
-    for (route, (feeds, needs)) in outputs.iter().zip([(1, 0), (0, 1)]) {
-        assert_eq!(rt; route.feeds.len(), feeds);
-        assert_eq!(rt; route.needs.len(), needs);
-    }
+    let routes = two_components(alloc, &relay(alloc)?)?;
+    assert_eq!(rt; routes.starts.len(), 2);
+    let counts = feeds_and_needs(alloc, routes.outputs.as_slice())?;
+    assert_eq!(rt; counts.as_slice(), [(2, 0), (0, 1)].as_slice());
     Ok(())
 }

@@ -1,6 +1,5 @@
 use Rattle.std.proofs.Common.{◌≡◌, ◌++◌, drop, map}
-use Rattle.std.specs.List.{flat_map}
-use Rattle.wire_graph.specs.Wiring.{port_with, outputs_named, output_ports_of, named_of}
+use Rattle.wire_graph.specs.Wiring.{port_with, outputs_named, named_of}
 use Rattle.wire_graph.proofs.components.output_keys.Given as goal
 
 abbrev pub invariant-loop-component : goal.invariant-loop-component

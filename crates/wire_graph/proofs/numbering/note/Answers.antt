@@ -1,4 +1,4 @@
-use Rattle.std.proofs.Common.{◌≡◌, Bool, true, false, ◌∙◌}
+use Rattle.std.proofs.Common.{◌∙◌}
 use Rattle.wire_graph.proofs.NumberLaws.{noted_new, noted_before, copied_some, none_of}
 use Rattle.wire_graph.proofs.numbering.note.Goals as goal
 

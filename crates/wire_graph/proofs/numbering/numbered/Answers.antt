@@ -1,4 +1,4 @@
-use Rattle.std.proofs.Common.{◌≡◌, ◌∙◌, arith}
+use Rattle.std.proofs.Common.{◌∙◌, arith}
 use Rattle.wire_graph.proofs.NumberLaws.{place_noted, place_all}
 use Rattle.wire_graph.proofs.numbering.numbered.Goals as goal
 

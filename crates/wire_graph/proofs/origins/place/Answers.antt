@@ -1,6 +1,5 @@
-use Rattle.std.proofs.Common.{◌≡◌, ℕ, ap, sym, ◌∙◌}
+use Rattle.std.proofs.Common.{ap, sym, ◌∙◌}
 use Rattle.std.specs.Prelude.{unwrap_or}
-use Rattle.unit_tree.specs.Compositions.{place_of}
 use Rattle.unit_tree.specs.Names.{same_port}
 use Rattle.unit_tree.specs.Orders.{outputs_of}
 use Rattle.wire_graph.specs.Wiring.{port_with}

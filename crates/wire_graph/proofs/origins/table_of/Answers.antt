@@ -1,4 +1,4 @@
-use Rattle.std.proofs.Common.{◌≡◌, ◌∙◌}
+use Rattle.std.proofs.Common.{◌∙◌}
 use Rattle.unit_tree.specs.Names.{same_port}
 use Rattle.wire_graph.specs.Wiring.{port_with}
 use Rattle.wire_graph.proofs.OriginLaws.{position_map}

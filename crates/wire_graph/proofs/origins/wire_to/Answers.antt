@@ -1,4 +1,4 @@
-use Rattle.std.proofs.Common.{◌≡◌, ◌∙◌}
+use Rattle.std.proofs.Common.{◌∙◌}
 use Rattle.wire_graph.specs.Wiring.{port_with}
 use Rattle.wire_graph.proofs.OriginLaws.{wire_found, no_wire}
 use Rattle.wire_graph.proofs.origins.wire_to.Goals as goal

@@ -1,6 +1,3 @@
-use Rattle.std.proofs.Common.{◌≡◌, List, ap, ◌∙◌, arith, set, get_or}
-use Rattle.unit_tree.specs.declared.order.InputAt.{InputAt}
-use Rattle.unit_tree.specs.declared.order.Route.{Route}
 use Rattle.wire_graph.proofs.RoutingLaws.{fed_at, fed_past}
 use Rattle.wire_graph.proofs.routing.feed.Goals as goal
 

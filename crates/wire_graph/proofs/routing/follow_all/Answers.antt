@@ -1,4 +1,4 @@
-use Rattle.std.proofs.Common.{◌≡◌, ap, map, arith}
+use Rattle.std.proofs.Common.{ap, map}
 use Rattle.wire_graph.specs.Origins.{wired_input, member_behind}
 use Rattle.wire_graph.proofs.RoutingLaws.{routes_step, starts_step}
 use Rattle.wire_graph.proofs.routing.follow_all.Goals as goal

@@ -1,4 +1,4 @@
-use Rattle.std.proofs.Common.{◌≡◌, List, ◌∙◌, ap, map}
+use Rattle.std.proofs.Common.{List, ◌∙◌, ap, map}
 use Rattle.unit_tree.specs.Compositions.{composition_of}
 use Rattle.wire_graph.specs.Origins.{member_behind, member_of}
 use Rattle.wire_graph.specs.Routing.{routes_from}

@@ -1,4 +1,4 @@
-use Rattle.std.proofs.Common.{◌≡◌, List, ap, sym, subst, ◌∙◌, map, length}
+use Rattle.std.proofs.Common.{List, ap, sym, subst, ◌∙◌, map, length}
 use Rattle.std.proofs.lemmas.List.{length-map}
 use Rattle.unit_tree.specs.declared.system.PortName.{PortName}
 use Rattle.wire_graph.specs.Origins.{Finds}

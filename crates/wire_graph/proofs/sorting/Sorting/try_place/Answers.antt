@@ -1,4 +1,4 @@
-use Rattle.std.proofs.Common.{◌≡◌, Bool, true, false, get_or, set, ap, sym, ◌∙◌, subst}
+use Rattle.std.proofs.Common.{◌≡◌, true, false, get_or, set, sym, ◌∙◌, subst}
 use Rattle.std.specs.List.{list_all}
 use Rattle.wire_graph.specs.Sorting.{IsSorting}
 use Rattle.unit_tree.specs.Ports.{IsAmong}
