@@ -34,9 +34,11 @@ pub record AreTables (system : System) (tables : Tables) : Type 0 where
 abbrev pub HaveDecimals : List Input → Type 0
 HaveDecimals inputs = AllByRecursion (λ input. AreDecimals input.ty) inputs
 
+-- The output from which a connection comes.
 abbrev pub source_behind : Bor Wire → PortName
 source_behind wire = wire.now.from
 
+-- The source that an origin tells.
 abbrev pub origin_of : Origin → Source
 origin_of (Start word) = run.Start word
 origin_of (AtPlace place) = run.AtPlace place
@@ -45,6 +47,7 @@ origin_of (AtPlace place) = run.AtPlace place
 abbrev pub wired_input : WiredInput → Input × Source
 wired_input wired = (wired.input.now, origin_of wired.origin)
 
+-- The same of an instance by its name.
 abbrev pub input_of : System → List ℕ → Input → Input × Source
 input_of system name input = (input, source_from system input (sources_of system (port_named name input.name)))
 
@@ -52,5 +55,6 @@ input_of system name input = (input, source_from system input (sources_of system
 abbrev pub member_behind : Member → Unit × List (Input × Source)
 member_behind member = (member.unit.now, map wired_input member.inputs.items)
 
+-- The same of a component of the system.
 abbrev pub member_of : System → Named → Unit × List (Input × Source)
 member_of system component = (component.1, map (input_of system component.0) component.1.inputs)

@@ -5,11 +5,12 @@ use Rattle.unit_tree.specs.Ports.{IsAmong}
 use Rattle.unit_tree.specs.Routes.{IsRoutedAfter, needs_on}
 use Rattle.unit_tree.specs.declared.order.Routes.{Routes}
 
--- How many outputs are not placed yet.
+-- One for an output that is not placed yet, and none for one that is.
 abbrev pub not_yet : Bool → ℕ
 not_yet true = 0
 not_yet false = 1
 
+-- How many outputs are not placed yet.
 abbrev pub left_of : List Bool → ℕ
 left_of placed = sum_by not_yet placed
 

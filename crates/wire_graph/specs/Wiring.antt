@@ -16,6 +16,7 @@ the_first (Some x) other = Some x
 
 -- ---- Components and their ports
 
+-- The unit that is lent.
 abbrev pub unit_behind : Bor Unit → Unit
 unit_behind unit = unit.now
 
@@ -23,9 +24,11 @@ unit_behind unit = unit.now
 abbrev pub Named : Type 0
 Named = List ℕ × Unit
 
+-- The component that is lent.
 abbrev pub named_of : Component → Named
 named_of component = (component.name.now, component.unit.now)
 
+-- The name with the unit, where there is one.
 abbrev pub named_with : List ℕ → Option Unit → Option Named
 named_with name None = None
 named_with name (Some unit) = Some (name, unit)
@@ -34,6 +37,7 @@ named_with name (Some unit) = Some (name, unit)
 abbrev pub components_in : System → List Named
 components_in system = filter_map (λ instance. named_with instance.name (unit_of_instance system instance)) system.instances
 
+-- The port of two names.
 abbrev pub port_named : List ℕ → List ℕ → PortName
 port_named instance port = record { instance = instance; port = port }
 
@@ -41,6 +45,7 @@ port_named instance port = record { instance = instance; port = port }
 abbrev pub port_with : Bor (List ℕ) × Bor (List ℕ) → PortName
 port_with names = port_named names.0.now names.1.now
 
+-- The outputs of a component, as they are declared.
 abbrev pub output_ports_of : Named → List PortName
 output_ports_of component = map (λ output. port_named component.0 output.name) component.1.outputs
 
