@@ -163,7 +163,7 @@ fn tables<'a>(
     })
 }
 
-/// The routes of what is run of a system without event ports: its ports by numbers, in one pass over each of its parts.
+/// The routes of what is run of a system without event ports: its ports by numbers.
 pub(crate) fn system_routes(alloc: Global, system: &System) -> Result<Routes, NoMemory>
     requires events { HasNoEvents system.now }
     requires decimals { AllByRecursion (λ unit. HaveDecimals unit.inputs) system.now.units }
