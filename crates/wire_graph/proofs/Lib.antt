@@ -1,0 +1,12 @@
+pub mod ClosedPlaces
+pub mod ComponentLaws
+pub mod CycleLaws
+pub mod DecimalLaws
+pub mod FaultLaws
+pub mod NumberLaws
+pub mod OrderingLaws
+pub mod OriginLaws
+pub mod PlaceLists
+pub mod RoutePlaces
+pub mod RoutingLaws
+pub mod SortingLaws

@@ -1,0 +1,43 @@
+ghost use Rattle.std.specs.Prelude.{◌≡◌, ◌<◌, IfOk, IfErr, length};
+ghost use Rattle.unit_tree.specs.Compositions.{run_of};
+ghost use Rattle.unit_tree.specs.Routes.{IsOrderOf};
+ghost use Rattle.wire_graph.specs.Faults.{IsAtPlace, IsRightFault};
+
+use crate::fault::OrderFault;
+use crate::routing::system_routes;
+use crate::sorting::{Sorting, first_left, sort};
+use fixed_words::List;
+use std::alloc::Global;
+use unit_tree::{Checked, Order, Routes};
+
+/// The fault of the output at a place.
+fn loop_at(routes: &Routes, place: usize) -> OrderFault
+    requires { place < length routes.now.outputs }
+    ensures { IsAtPlace routes.now place result }
+{
+    let route = &routes.outputs.as_slice()[place];
+    OrderFault::Loop {
+        instance: route.instance,
+        output: route.output,
+    }
+}
+
+/// An order of the outputs of a checked system, with the routes of all its ports as numbers, or the first output that
+/// has none.
+///
+/// [`OrderFault::Loop`] where some output lies on a cycle of needs, or needs one that does: it names the first of
+/// them. [`OrderFault::NoMemory`] is a free answer.
+///
+/// Each port is looked up in a table, and connections are gone through once: the work grows with the connections, and
+/// with the outputs times the inputs and needs of one component, of which there are few.
+pub fn order(alloc: Global, checked: &Checked) -> Result<Order, OrderFault>
+    ensures ordered { IfOk result (IsOrderOf (run_of checked.now)) }
+    ensures fault { IfErr result (IsRightFault checked.now) }
+{
+    let routes = system_routes(alloc, checked.system())?;
+    let Sorting { places, placed } = sort(alloc, &routes)?;
+    match first_left(&placed) {
+        None => Ok(Order::new(List::from_vec(places), routes, checked)),
+        Some(place) => Err(loop_at(&routes, place)),
+    }
+}
