@@ -21,7 +21,13 @@ impl<'a> Model for UnitNames<'a> {
     ghost use Rattle.unit_tree.specs.Names.{is_among, param_names};
     ghost use Rattle.unit_tree.specs.declared.unit.Unit.{Unit};
 
+    ghost use Rattle.unit_tree.specs.contracts.expr.Expr as expr;
+    ghost use Rattle.unit_tree.specs.contracts.line.Line as line;
+    ghost use Rattle.std.specs.Coded.{codes};
+
     ghost Value = { Unit };
+
+    ghost coded = { Prim.hlevel (codes, expr.the_row.coded, line.the_row.coded) };
 
     ghost view = { λ s. s.unit.now };
 
