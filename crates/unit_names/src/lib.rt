@@ -1,8 +1,9 @@
 //! Tables of a system's names, and what the rules ask of expressions.
 #![tactic(auto)]
 
+mod entries;
 mod expressions;
-mod names;
+mod tables;
 
 pub use expressions::{cost, is_within, line_cost, lines_cost};
-pub use names::UnitNames;
+pub use tables::Declared;
