@@ -1,7 +1,9 @@
 -- How a name is found among those that are declared: by its first declaration.
-use Rattle.std.specs.Prelude.{ℕ, ◌+◌, ◌++◌, List, [], ◌∷◌, map, Option, Some, None, if◌then◌else◌}
+use Rattle.std.specs.Prelude.{◌≡◌, ℕ, ◌+◌, ◌++◌, List, [], ◌∷◌, map, Option, Some, None, if◌then◌else◌}
 use Rattle.std.specs.List.{position_from}
+use Rattle.std.specs.Borrow.{Bor}
 use Rattle.std.specs.Str.{bytes_eq}
+use Rattle.indexmap.specs.IndexMap.{IndexMap, get_by}
 use Rattle.unit_names.specs.Entries.{Named}
 use Rattle.unit_names.specs.declared.tables.Declared.{Declared}
 use Rattle.unit_names.specs.declared.tables.Entry.{Entry}
@@ -48,3 +50,11 @@ the_first (Some one) other = Some one
 -- An entry of a table's list, as it is named.
 abbrev pub as_named : Entry → Named
 as_named entry = record { name = entry.name.now; ty = entry.ty; is_event = entry.is_event }
+
+-- What a table finds by the bytes of a name.
+abbrev pub found_in : {V S : Type 0} → IndexMap (Bor (List ℕ)) V S → List ℕ → Option V
+found_in table name = get_by (λ key. bytes_eq name key.now) table
+
+-- The table finds each name's first declaration among these.
+abbrev pub Finds : {S : Type 0} → List Named → IndexMap (Bor (List ℕ)) Declared S → Type 0
+Finds all table = (name : List ℕ) → found_in table name ≡ declared_among all name

@@ -4,6 +4,8 @@
 mod entries;
 mod expressions;
 mod tables;
+mod units;
 
 pub use expressions::{cost, is_within, line_cost, lines_cost};
 pub use tables::Declared;
+pub use units::UnitNames;

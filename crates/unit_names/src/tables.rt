@@ -1,8 +1,6 @@
 //! Tables of names: the first declaration of each name, found without going through a list.
-ghost use Rattle.std.specs.Prelude.{◌≡◌, [], ◌∷◌, ℕ, List, Bool, Option, Some, None, OnOk, IfOk, map, bytes_eq, if◌then◌else◌};
-ghost use Rattle.std.specs.List.{position_from};
-ghost use Rattle.indexmap.specs.IndexMap.{get_by};
-ghost use Rattle.unit_names.specs.Found.{the_first, declared_among, as_named, first_place};
+ghost use Rattle.std.specs.Prelude.{◌≡◌, ℕ, List, Some, None, IfOk, map, bytes_eq, if◌then◌else◌};
+ghost use Rattle.unit_names.specs.Found.{the_first, as_named, found_in, Finds};
 
 use fixed_words::{NoMemory, Ty};
 use indexmap::IndexMap;
@@ -31,6 +29,13 @@ pub(crate) type Table<'a> = IndexMap<&'a [u8], Declared>;
 /// Places by name.
 pub(crate) type Places<'a> = IndexMap<&'a [u8], usize>;
 
+/// What is noted under a name.
+pub(crate) fn find<V: Copy>(table: &IndexMap<&[u8], V>, name: &[u8]) -> Option<V>
+    ensures { result ≡ found_in table.now name.now }
+{
+    table.get(name).copied()
+}
+
 /// Notes a name, where it was not noted before.
 pub(crate) fn note<'a, V: Drop>(
     table: &mut IndexMap<&'a [u8], V>,
@@ -38,7 +43,7 @@ pub(crate) fn note<'a, V: Drop>(
     value: V,
 ) -> Result<(), NoMemory>
     ensures { IfOk result (λ _. (q : List ℕ) →
-        get_by (λ k. bytes_eq q k.now) table.new ≡ the_first (get_by (λ k. bytes_eq q k.now) table.old) (if bytes_eq q name.now then Some value else None)) }
+        found_in table.new q ≡ the_first (found_in table.old q) (if bytes_eq q name.now then Some value else None)) }
 {
     if table.get(name).is_none() {
         table.insert(name, value)?;
@@ -48,8 +53,7 @@ pub(crate) fn note<'a, V: Drop>(
 
 /// The table of some declarations.
 pub(crate) fn table_of<'a>(alloc: Global, entries: &[Entry<'a>]) -> Result<Table<'a>, NoMemory>
-    ensures { IfOk result (λ table. (q : List ℕ) →
-        get_by (λ k. bytes_eq q k.now) table ≡ declared_among (map as_named entries.now) q) }
+    ensures { IfOk result (Finds (map as_named entries.now)) }
 {
     let mut table = IndexMap::new(alloc);
     for (place, entry) in entries.iter().enumerate() {
