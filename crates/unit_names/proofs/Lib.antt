@@ -1,3 +1,4 @@
 pub mod Costs
 pub mod Finding
 pub mod Naming
+pub mod Choices

@@ -3,9 +3,11 @@
 
 mod entries;
 mod expressions;
+mod kinds;
 mod tables;
 mod units;
 
 pub use expressions::{cost, is_within, line_cost, lines_cost};
+pub use kinds::{is_same_kind, kind_of};
 pub use tables::Declared;
 pub use units::UnitNames;
