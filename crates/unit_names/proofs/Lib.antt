@@ -2,3 +2,4 @@ pub mod Costs
 pub mod Finding
 pub mod Naming
 pub mod Choices
+pub mod Keeping
