@@ -4,3 +4,4 @@ pub mod Naming
 pub mod EventOutputs
 pub mod Keeping
 pub mod Places
+pub mod SamePorts
