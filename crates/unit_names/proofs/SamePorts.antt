@@ -104,7 +104,7 @@ resolved ports system one other i j a b at_i at_j at_a at_b =
         let unit : first.one ≡ second.one = cc in
         let here : port_among (ports second.one) one.port ≡ Some a = ap (λ u. port_among (ports u) one.port) (sym unit) ∙ first.stands in
         by_places 0 (map (λ (n : Named). n.name) (map port_as_named (ports second.one))) one.port other.port a.place b.place
-            (port_place (ports second.one) one.port a here) (port_place (ports second.one) other.port b second.stands)
+        (port_place (ports second.one) one.port a here) (port_place (ports second.one) other.port b second.stands)
     step false false is also = refl
     step true false is also = absurd (cc)
     step false true is also = absurd (cc)
