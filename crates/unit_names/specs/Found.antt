@@ -4,11 +4,10 @@ use Rattle.std.specs.List.{position_from}
 use Rattle.std.specs.Borrow.{Bor}
 use Rattle.std.specs.Str.{bytes_eq}
 use Rattle.indexmap.specs.IndexMap.{IndexMap, get_by}
-use Rattle.unit_names.specs.Entries.{Named}
+use Rattle.unit_names.specs.Entries.{Named, port_as_named}
 use Rattle.unit_names.specs.declared.tables.Declared.{Declared}
 use Rattle.unit_names.specs.declared.tables.Entry.{Entry}
 use Rattle.unit_tree.specs.Names.{Port}
-use Rattle.unit_names.specs.Entries.{port_as_named}
 use Rattle.unit_tree.specs.declared.unit.Unit.{Unit}
 
 -- The first place of a name in a list, from 0.
@@ -33,7 +32,8 @@ declared_at place one = record { place = place; ty = one.ty; is_event = one.is_e
 -- The first declaration of a name, where the list starts at a place.
 abbrev pub declared_from : ℕ → List Named → List ℕ → Option Declared
 declared_from place [] name = None
-declared_from place (first ∷ others) name = if bytes_eq name first.name then Some (declared_at place first) else declared_from (place + 1) others name
+declared_from place (first ∷ others) name =
+    if bytes_eq name first.name then Some (declared_at place first) else declared_from (place + 1) others name
 
 abbrev pub declared_among : List Named → List ℕ → Option Declared
 declared_among all name = declared_from 0 all name

@@ -24,7 +24,10 @@ struct Declarations<'a> {
 }
 
 fn declarations_of<'a>(alloc: Global, unit: &'a Unit) -> Result<Declarations<'a>, NoMemory>
-    ensures { IfOk result (λ all. Finds (lines_named unit.now) all.lines × Finds (types_named unit.now) all.types × Finds (params_named unit.now.params) all.params) }
+    ensures { IfOk result (λ all.
+        Finds (lines_named unit.now) all.lines
+        × Finds (types_named unit.now) all.types
+        × Finds (params_named unit.now.params) all.params) }
 {
     let lines = lines_table(alloc, unit)?;
     let types = types_table(alloc, unit)?;
@@ -45,7 +48,10 @@ struct Usable<'a> {
 }
 
 fn usable_of<'a>(alloc: Global, unit: &'a Unit) -> Result<Usable<'a>, NoMemory>
-    ensures { IfOk result (λ all. Finds (shared_named unit.now) all.shared × Finds (locals_named unit.now.locals) all.locals × Finds (events_in_named unit.now.events_in) all.events) }
+    ensures { IfOk result (λ all.
+        Finds (shared_named unit.now) all.shared
+        × Finds (locals_named unit.now.locals) all.locals
+        × Finds (events_in_named unit.now.events_in) all.events) }
 {
     let shared = shared_table(alloc, unit)?;
     let locals = locals_table(alloc, unit)?;
@@ -65,7 +71,9 @@ struct Ports<'a> {
 }
 
 fn ports_of<'a>(alloc: Global, unit: &'a Unit) -> Result<Ports<'a>, NoMemory>
-    ensures { IfOk result (λ all. Finds (all_inputs_named unit.now) all.inputs × Finds (all_outputs_named unit.now) all.outputs) }
+    ensures { IfOk result (λ all.
+        Finds (all_inputs_named unit.now) all.inputs
+        × Finds (all_outputs_named unit.now) all.outputs) }
 {
     let inputs = inputs_table(alloc, unit)?;
     let outputs = outputs_table(alloc, unit)?;
