@@ -1,24 +1,21 @@
 -- An event output by the choices of its expression: the kind of its word, and how deep and dear its two plain outputs are.
-use Rattle.std.proofs.Common.{◌≡◌, ℕ, zero, suc, ◌+◌, ℤ, pos, Bool, true, false, ◌&&◌, List, Option, Some, None, max, min, nat_le, refl, ap, sym, subst, ◌∙◌, arith}
+use Rattle.std.proofs.Common.{◌≡◌, ℕ, zero, suc, ◌+◌, pos, Bool, false, ◌&&◌, Some, max, min, nat_le, refl, ap, sym, subst, ◌∙◌, arith}
 use Rattle.fixed_words.specs.Types.{kind_of}
-use Rattle.fixed_words.specs.declared.types.Kind.{Kind}
 use Rattle.fixed_words.specs.declared.types.Ty.{Ty}
 use Rattle.fixed_words.specs.declared.types.Ty.TheVariants as types
 use Rattle.unit_names.specs.Choices.{choice_kind}
 use Rattle.unit_tree.specs.Costs.{node_cost, cost_of}
 use Rattle.unit_tree.specs.Kinds.{KindsOfNames, Kinding, node_kind, kind_of_expression}
 use Rattle.unit_tree.specs.Names.{node_depth, depth_of}
-use Rattle.unit_tree.specs.Plain.{word_expression_of, presence_of, zero_of, with_choices}
-use Rattle.unit_tree.specs.declared.expr.BinOp.{BinOp}
+use Rattle.unit_tree.specs.Plain.{word_expression_of, zero_of, with_choices}
 use Rattle.unit_tree.specs.declared.expr.Expr as expr
 use Rattle.unit_tree.specs.declared.expr.Expr.{Expr}
 use Rattle.unit_tree.specs.declared.expr.Expr.TheFolds.{ind-Expr, map-Expr}
 use Rattle.unit_tree.specs.declared.expr.Expr.TheOpen.{Expr-F}
 use Rattle.unit_tree.specs.declared.expr.Expr.TheVariants.{rolls-Number, rolls-Truth, rolls-Var, rolls-Time, rolls-Step, rolls-Unary, rolls-Binary, rolls-Clamp, rolls-Choose, rolls-Absent, rolls-Present}
 use Rattle.unit_tree.specs.declared.expr.Expr.TheViews.{roll-Expr}
-use Rattle.unit_tree.specs.declared.expr.UnOp.{UnOp}
 use Rattle.unit_tree.specs.declared.expr.UnOp.TheVariants as of
-use Rattle.unit_tree.proofs.FoldLemmas.{fold-Number, fold-Truth, fold-Unary, fold-Choose}
+use Rattle.unit_tree.proofs.FoldLemmas.{fold-Number, fold-Choose}
 use Rattle.unit_tree.proofs.KindLemmas.{kind-Number, kind-Truth, kind-Unary, kind-Choose}
 use Rattle.unit_tree.proofs.PlainLemmas.{choices-Number, choices-Truth, choices-Var, choices-Time, choices-Step, choices-Unary, choices-Binary, choices-Clamp, choices-Choose, choices-Absent, choices-Present}
 

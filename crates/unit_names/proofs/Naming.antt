@@ -1,5 +1,5 @@
 -- What tables say of a unit, in the words of its definitions.
-use Rattle.std.proofs.Common.{◌≡◌, ℕ, ◌+◌, Bool, true, false, ◌||◌, List, [], ◌∷◌, ◌++◌, map, Option, Some, None, is_some, bytes_eq, refl, ap, sym, ◌∙◌, append_assoc}
+use Rattle.std.proofs.Common.{◌≡◌, ℕ, ◌+◌, Bool, true, false, ◌||◌, List, [], ◌∷◌, ◌++◌, map, Some, is_some, bytes_eq, refl, ap, ◌∙◌, append_assoc}
 use Rattle.std.proofs.lemmas.List.{map-append}
 use Rattle.std.proofs.lemmas.List.Folds.{list_any-append}
 use Rattle.std.proofs.lemmas.Simd.{map-map}
@@ -12,7 +12,7 @@ use Rattle.unit_tree.specs.Components.{variable}
 use Rattle.unit_tree.specs.Names.{is_among, declared_in, type_among, type_in, input_ports, output_ports, input_names, output_names, param_names, shared_names, param_named, event_input_names}
 use Rattle.unit_tree.specs.declared.environment.Variable.{Variable}
 use Rattle.unit_tree.specs.declared.unit.Unit.{Unit}
-use Rattle.unit_names.specs.Entries.{Named, port_as_named, params_named, states_named, locals_named, inputs_named, events_in_named, outputs_named, events_out_named, lines_named, types_named, shared_named, all_inputs_named, all_outputs_named}
+use Rattle.unit_names.specs.Entries.{Named, port_as_named, params_named, locals_named, events_in_named, lines_named, types_named, shared_named, all_inputs_named, all_outputs_named}
 use Rattle.unit_names.specs.Found.{declared_from, declared_among, declared_names, first_place, port_among}
 use Rattle.unit_names.specs.declared.tables.Declared.{Declared}
 

@@ -1,7 +1,7 @@
 -- Ports are the same exactly where their numbers are: the first place of the instance, and the place of the port.
 use Rattle.std.proofs.Common.{◌≡◌, ℕ, ◌+◌, ◌≤◌, nat_eq, Bool, true, false, ◌&&◌, List, [], ◌∷◌, map, Option, Some, None, bytes_eq, refl, ap, sym, ◌∙◌, arith}
 use mathlib.Core.Bool.{cond}
-use Rattle.std.specs.List.{find, position_from}
+use Rattle.std.specs.List.{position_from}
 use Rattle.std.specs.Option.{option_map, option_and_then}
 use Rattle.unit_tree.specs.Names.{Port, instance_named, unit_at, unit_of_instance, input_ports, output_ports, same_port}
 use Rattle.unit_tree.specs.declared.system.PortName.{PortName}
@@ -10,7 +10,7 @@ use Rattle.unit_tree.specs.declared.unit.Unit.{Unit}
 use Rattle.unit_tree.proofs.NameLaws.{same_bytes, bytes_of}
 use Rattle.unit_names.proofs.Naming.{stands_at}
 use Rattle.unit_names.specs.Entries.{Named, port_as_named}
-use Rattle.unit_names.specs.Found.{first_place, port_among, declared_among}
+use Rattle.unit_names.specs.Found.{first_place, port_among}
 use Rattle.unit_names.specs.Systems.{instance_names, input_found, output_found}
 use Rattle.unit_names.specs.declared.tables.Declared.{Declared}
 

@@ -4,7 +4,7 @@ use Rattle.std.specs.Option.{option_and_then}
 use Rattle.unit_tree.specs.Names.{unit_at, input_ports, output_ports}
 use Rattle.unit_tree.specs.declared.system.PortName.{PortName}
 use Rattle.unit_tree.specs.declared.system.System.{System}
-use Rattle.unit_names.specs.Found.{first_place, port_among}
+use Rattle.unit_names.specs.Found.{port_among}
 use Rattle.unit_names.specs.declared.tables.Declared.{Declared}
 
 abbrev pub unit_names : System → List (List ℕ)

@@ -3,9 +3,7 @@ ghost use Rattle.std.specs.Prelude.{◌≡◌, map, min, nat_le};
 ghost use Rattle.std.specs.List.{sum};
 ghost use Rattle.unit_tree.specs.Costs.{cost_of, line_cost as line_cost_of};
 ghost use Rattle.unit_tree.specs.Names.{depth_of};
-ghost use Rattle.unit_tree.specs.Plain.{presence_of, word_expression_of};
 
-use fixed_words::Ty;
 use unit_tree::{Expr, Line};
 
 /// Costs are counted up to here: one more than a call may cost.

@@ -1,5 +1,5 @@
 //! A unit with tables of its names.
-ghost use Rattle.std.specs.Prelude.{◌≡◌, ◌++◌, IfOk, is_some, map};
+ghost use Rattle.std.specs.Prelude.{◌≡◌, ◌++◌, IfOk, map};
 ghost use Rattle.std.specs.Option.{option_map};
 ghost use Rattle.unit_tree.specs.Names.{is_among, are_among, param_names, input_names, output_names, input_ports, output_ports, event_input_names, shared_names, type_in, param_named};
 ghost use Rattle.unit_names.specs.Entries.{lines_named, types_named, shared_named, locals_named, events_in_named, params_named, all_inputs_named, all_outputs_named};

@@ -1,5 +1,5 @@
 //! Which names expressions use.
-ghost use Rattle.std.specs.Prelude.{◌≡◌, ◌&&◌, not};
+ghost use Rattle.std.specs.Prelude.{◌≡◌};
 ghost use Rattle.unit_tree.specs.Names.{is_among, keeps_to};
 ghost use Rattle.unit_tree.specs.WellFormed.{uses_other_input, has_equals};
 ghost use Rattle.unit_names.specs.Uses.{uses_of, nodes_keep, nodes_have, is_other_input};

@@ -1,8 +1,8 @@
-use Rattle.std.proofs.Common.{◌≡◌, true, false, min, ap, sym, ◌∙◌}
+use Rattle.std.proofs.Common.{◌≡◌, true, false, min, ap, ◌∙◌}
 use Rattle.unit_tree.specs.Costs.{cost_of}
-use Rattle.unit_tree.specs.Plain.{with_choices, zero_of}
+use Rattle.unit_tree.specs.Plain.{with_choices}
 use Rattle.unit_tree.specs.declared.expr.Expr as expr
-use Rattle.unit_names.proofs.EventOutputs.{choice_costs, word_other}
+use Rattle.unit_names.proofs.EventOutputs.{choice_costs}
 use Rattle.unit_names.proofs.choices.+presence_cost.Goals as goal
 
 pub returns-in-Choose : goal.returns-in-Choose

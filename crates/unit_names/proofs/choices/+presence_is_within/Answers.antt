@@ -1,8 +1,8 @@
-use Rattle.std.proofs.Common.{◌≡◌, ◌+◌, true, false, nat_le, ap, sym, ◌∙◌, arith}
+use Rattle.std.proofs.Common.{◌≡◌, ◌+◌, true, false, nat_le, ap, ◌∙◌, arith}
 use Rattle.unit_tree.specs.Names.{depth_of}
-use Rattle.unit_tree.specs.Plain.{with_choices, zero_of}
+use Rattle.unit_tree.specs.Plain.{with_choices}
 use Rattle.unit_tree.specs.declared.expr.Expr as expr
-use Rattle.unit_names.proofs.EventOutputs.{choice_is_within, word_other}
+use Rattle.unit_names.proofs.EventOutputs.{choice_is_within}
 use Rattle.unit_names.proofs.choices.+presence_is_within.Goals as goal
 
 pub returns-in-Some : goal.returns-in-Some

@@ -1,7 +1,6 @@
-use Rattle.std.proofs.Common.{◌≡◌, true, false, min, ap, sym, ◌∙◌}
+use Rattle.std.proofs.Common.{◌≡◌, min, ap, sym, ◌∙◌}
 use Rattle.unit_tree.specs.Costs.{cost_of}
 use Rattle.unit_tree.specs.Plain.{with_choices, zero_of}
-use Rattle.unit_tree.specs.declared.expr.Expr as expr
 use Rattle.unit_names.proofs.EventOutputs.{choice_costs, word_other}
 use Rattle.unit_names.proofs.choices.+word_cost.Goals as goal
 

@@ -1,7 +1,6 @@
-use Rattle.std.proofs.Common.{◌≡◌, ◌+◌, true, false, nat_le, ap, sym, ◌∙◌, arith}
+use Rattle.std.proofs.Common.{◌≡◌, ◌+◌, nat_le, ap, sym, ◌∙◌, arith}
 use Rattle.unit_tree.specs.Names.{depth_of}
 use Rattle.unit_tree.specs.Plain.{with_choices, zero_of}
-use Rattle.unit_tree.specs.declared.expr.Expr as expr
 use Rattle.unit_names.proofs.EventOutputs.{choice_is_within, word_other}
 use Rattle.unit_names.proofs.choices.+word_is_within.Goals as goal
 

@@ -1,4 +1,4 @@
-use Rattle.std.proofs.Common.{◌≡◌, ap, sym, ◌∙◌, rules}
+use Rattle.std.proofs.Common.{◌≡◌, ap, sym, ◌∙◌}
 use Rattle.unit_tree.specs.Kinds.{kind_of_expression}
 use Rattle.unit_tree.specs.Names.{kinds_in}
 use Rattle.unit_tree.specs.Plain.{word_expression_of}
