@@ -1,6 +1,5 @@
 use crate::{
-    Asker, Declared, SystemNames, UnitNames, has_equals, presence_cost, presence_is_within,
-    word_cost, word_is_within,
+    Declared, SystemNames, has_equals, presence_cost, presence_is_within, word_cost, word_is_within,
 };
 use fixed_words::{Boxed, List, Literal, NoMemory, Ty};
 use std::alloc::Global;
@@ -9,21 +8,6 @@ use unit_tree::{
     EventIn, EventOut, Expr, Input, Instance, Local, Name, Output, Param, PortName, State, System,
     Unit,
 };
-
-/// A name, its first place among all that the relay declares, its type, and whether an output, `max` and a step may
-/// use it.
-type Row = (&'static str, Option<usize>, Option<Ty>, bool, bool);
-
-const NAMES: [Row; 8] = [
-    ("k", Some(0), Some(Ty::Int8), true, true),
-    ("x", Some(1), Some(Ty::Int16), true, true),
-    ("m", Some(2), Some(Ty::Int32), false, true),
-    ("u", Some(3), Some(Ty::Fixed(2)), true, true),
-    ("e", Some(4), Some(Ty::Bool), true, true),
-    ("y", Some(5), Some(Ty::UInt8), false, false),
-    ("z", Some(6), Some(Ty::Int8), false, false),
-    ("other", None, None, false, false),
-];
 
 fn name(alloc: Global, text: &str) -> Result<Name, NoMemory> {
     List::from_slice(alloc, text.as_bytes())
@@ -160,34 +144,6 @@ fn answer(alloc: Global) -> Result<Expr, NoMemory> {
 }
 
 #[test]
-fn names_are_found_by_sort_and_place(rt: HostRuntime) -> Result<(), Fail> {
-    let unit = relay(rt.alloc())?;
-    let names = UnitNames::new(rt.alloc(), &unit)?;
-    for (called, place, ty, output_may, step_may) in NAMES {
-        let used = variable(rt.alloc(), called)?;
-        assert!(rt; names.first_place(called.as_bytes()) == place);
-        assert!(rt; names.type_in(called.as_bytes()) == ty);
-        assert!(rt; names.keeps_to(Asker::Output, &used) == output_may);
-        assert!(rt; names.keeps_to(Asker::Step, &used) == step_may);
-    }
-    assert!(rt; names.keeps_to(Asker::Max, &Expr::Time));
-    assert!(rt; !names.keeps_to(Asker::Max, &Expr::Step));
-    Ok(())
-}
-
-#[test]
-fn event_outputs_have_the_kind_of_their_choices(rt: HostRuntime) -> Result<(), Fail> {
-    let unit = relay(rt.alloc())?;
-    let names = UnitNames::new(rt.alloc(), &unit)?;
-    let value = answer(rt.alloc())?;
-    assert!(rt; names.kind(&value) == None);
-    assert!(rt; names.has_word_kind(Ty::Int16, &value));
-    assert!(rt; !names.has_word_kind(Ty::Bool, &value));
-    assert!(rt; names.uses_other_input(&[], &value));
-    Ok(())
-}
-
-#[test]
 fn event_outputs_are_two_plain_outputs(rt: HostRuntime) -> Result<(), Fail> {
     let value = answer(rt.alloc())?;
     assert!(rt; presence_is_within(&value, 2));
@@ -199,20 +155,24 @@ fn event_outputs_are_two_plain_outputs(rt: HostRuntime) -> Result<(), Fail> {
     Ok(())
 }
 
+/// The input that a port of the relays names.
+fn input(alloc: Global, instance: &str, called: &str) -> Result<Option<Declared>, NoMemory> {
+    let system = relays(alloc)?;
+    let asked = port(alloc, instance, called)?;
+    let names = SystemNames::new(alloc, &system)?;
+    Ok(names.input_at(&asked))
+}
+
 #[test]
 fn ports_are_found_through_instances(rt: HostRuntime) -> Result<(), Fail> {
-    let system = relays(rt.alloc())?;
-    let names = SystemNames::new(rt.alloc(), &system)?;
-    assert!(rt; names.first_instance(b"b") == Some(1));
-    assert!(rt; names.first_unit(b"Lost") == None);
     let event = Declared {
         place: 1,
         ty: Ty::Bool,
         is_event: true,
     };
-    assert!(rt; names.input_at(&port(rt.alloc(), "b", "e")?) == Some(event));
-    assert!(rt; names.input_at(&port(rt.alloc(), "a", "e")?) == None);
-    assert!(rt; names.output_at(&port(rt.alloc(), "b", "e")?) == None);
+    assert!(rt; input(rt.alloc(), "b", "e")? == Some(event));
+    assert!(rt; input(rt.alloc(), "a", "e")? == None);
+    assert!(rt; input(rt.alloc(), "b", "y")? == None);
     Ok(())
 }
 
