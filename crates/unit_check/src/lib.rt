@@ -1,0 +1,10 @@
+//! Whether a system is well-formed, or which rule it breaks, and at which line.
+//!
+//! The layers above use [`check`]. The rules are defined in `unit_tree`, in its `WellFormed`; how they are judged
+//! along a walk stands in `specs/Walks.antt` (the walk by the parts of a system) and `specs/Rules.antt` (the tests).
+#![tactic(auto)]
+
+mod rules;
+mod walk;
+
+pub use rules::Rule;
