@@ -1,3 +1,4 @@
 pub mod Breaking
+pub mod Bridge
 pub mod Counted
 pub mod Sited
