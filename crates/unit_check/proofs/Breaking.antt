@@ -3,6 +3,7 @@ use Rattle.std.proofs.Common.{◌≡◌, ℕ, suc, ◌+◌, Bool, true, false, L
 use Rattle.std.specs.Prelude.{if◌then◌else◌, nat_eq}
 use Rattle.std.specs.List.{AllByRecursion, filter_map, enumerate_from}
 use Rattle.unit_check.proofs.Sited.{walk}
+use Rattle.unit_check.specs.Rules.{Says}
 use Rattle.unit_check.specs.Walks.{onward, past}
 use Rattle.unit_check.specs.declared.walk.Stop.{Stop}
 use Rattle.unit_check.specs.declared.walk.Stop.TheVariants as stop
@@ -11,12 +12,6 @@ use Rattle.unit_tree.specs.WellFormed.{number_where}
 
 abbrev pub broken_in : (Site → Bool) → ℕ → List Site → List ℕ
 broken_in test number sites = filter_map (number_where test) (enumerate_from number sites)
-
--- What a walk says of the lines that break a rule.
-abbrev pub Says : Result ℕ Stop → List ℕ → Type 0
-Says (Ok behind) lines = lines ≡ []
-Says (Err (stop.At line)) lines = (others : List ℕ) × (lines ≡ line ∷ others)
-Says (Err stop.Full) lines = Unit {0}
 
 pub says : (test : Site → Bool) (number : ℕ) (sites : List Site) → Says (walk test number sites) (broken_in test number sites)
 says test number [] = refl

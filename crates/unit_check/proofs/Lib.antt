@@ -1,4 +1,6 @@
+pub mod Agreeing
 pub mod Breaking
 pub mod Bridge
 pub mod Counted
 pub mod Sited
+pub mod Judging

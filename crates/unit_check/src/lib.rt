@@ -4,7 +4,8 @@
 //! along a walk stands in `specs/Walks.antt` (the walk by the parts of a system) and `specs/Rules.antt` (the tests).
 #![tactic(auto)]
 
+mod checking;
 mod rules;
 mod walk;
 
-pub use rules::Rule;
+pub use checking::CheckFault;

@@ -1,7 +1,9 @@
 //! A walk along the canonical lines of a system, up to the first line that breaks a rule.
 ghost use Rattle.std.specs.Prelude.{◌≡◌, ◌-◌};
 ghost use Rattle.unit_tree.specs.declared.line_form.LineForm.TheVariants as form;
-ghost use Rattle.unit_check.specs.Rules.{test_of};
+ghost use Rattle.unit_check.specs.Rules.{Says, defined, test_of};
+ghost use Rattle.unit_tree.specs.Printable.{IsRanged};
+ghost use Rattle.unit_tree.specs.WellFormed.{lines_breaking};
 ghost use Rattle.unit_check.specs.Walks.{
     scope_of, form_of, past, past_from, each, if_given, line_walk, step_walk, plain_names_walk, ports_walk, names_walk, behaviour_walk,
     unit_walk, units_walk, instance_walk, instances_walk, limits_walk, parts_walk, system_walk,
@@ -399,13 +401,22 @@ fn past_limits(walker: &Walker<'_>, system: &System, number: u32) -> Result<u32,
     past_rows(walker, system.rows, number)
 }
 
-/// The first line that breaks a rule; else how many lines there are, and one more.
+/// The number behind the last line.
+fn past_system(walker: &Walker<'_>, system: &System) -> Result<u32, Stop>
+    ensures { result ≡ system_walk (test_of walker.now.rule walker.now.system.now) system.now 1 }
+{
+    let number = walker.past(ScopeRef::Top, 0, FormRef::Header(system.version), 1)?;
+    let number = past_parts(walker, system, number)?;
+    let number = past_limits(walker, system, number)?;
+    past_samples(walker, system, number)
+}
+
+/// The first line that breaks a rule; else one more than there are lines.
+#[tactic(auto, using(crate::proofs::Agreeing::says_rule))]
 pub(crate) fn first_line(rule: Rule, system: &System) -> Result<u32, Stop>
-    ensures { result ≡ system_walk (test_of rule system.now) system.now 1 }
+    requires ranged { IsRanged system.now }
+    ensures { Says result (lines_breaking (defined rule) system.now) }
 {
     let walker = Walker { rule, system };
-    let number = walker.past(ScopeRef::Top, 0, FormRef::Header(system.version), 1)?;
-    let number = past_parts(&walker, system, number)?;
-    let number = past_limits(&walker, system, number)?;
-    past_samples(&walker, system, number)
+    past_system(&walker, system)
 }
