@@ -3,4 +3,5 @@ pub mod Breaking
 pub mod Bridge
 pub mod Counted
 pub mod Sited
+pub mod SystemLines
 pub mod Judging
