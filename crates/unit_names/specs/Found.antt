@@ -1,0 +1,60 @@
+-- How a name is found among those that are declared: by its first declaration.
+use Rattle.std.specs.Prelude.{◌≡◌, ℕ, ◌+◌, ◌++◌, List, [], ◌∷◌, map, Option, Some, None, if◌then◌else◌}
+use Rattle.std.specs.List.{position_from}
+use Rattle.std.specs.Borrow.{Bor}
+use Rattle.std.specs.Str.{bytes_eq}
+use Rattle.indexmap.specs.IndexMap.{IndexMap, get_by}
+use Rattle.unit_names.specs.Entries.{Named}
+use Rattle.unit_names.specs.declared.tables.Declared.{Declared}
+use Rattle.unit_names.specs.declared.tables.Entry.{Entry}
+use Rattle.unit_tree.specs.Names.{Port}
+use Rattle.unit_names.specs.Entries.{port_as_named}
+use Rattle.unit_tree.specs.declared.unit.Unit.{Unit}
+
+-- The first place of a name in a list, from 0.
+abbrev pub first_place : List (List ℕ) → List ℕ → Option ℕ
+first_place names name = position_from (bytes_eq name) 0 names
+
+-- All names that a unit declares, in canonical order of its lines.
+abbrev pub declared_names : Unit → List (List ℕ)
+declared_names unit =
+    map (λ param. param.name) unit.params
+    ++ map (λ state. state.name) unit.states
+    ++ map (λ local. local.name) unit.locals
+    ++ map (λ input. input.name) unit.inputs
+    ++ map (λ event. event.name) unit.events_in
+    ++ map (λ output. output.name) unit.outputs
+    ++ map (λ event. event.name) unit.events_out
+
+-- How a name is declared at a place.
+abbrev pub declared_at : ℕ → Named → Declared
+declared_at place one = record { place = place; ty = one.ty; is_event = one.is_event }
+
+-- The first declaration of a name, where the list starts at a place.
+abbrev pub declared_from : ℕ → List Named → List ℕ → Option Declared
+declared_from place [] name = None
+declared_from place (first ∷ others) name = if bytes_eq name first.name then Some (declared_at place first) else declared_from (place + 1) others name
+
+abbrev pub declared_among : List Named → List ℕ → Option Declared
+declared_among all name = declared_from 0 all name
+
+-- The first port of a name, with its place among the ports.
+abbrev pub port_among : List Port → List ℕ → Option Declared
+port_among ports name = declared_among (map port_as_named ports) name
+
+-- The first of two, where there is one.
+abbrev pub the_first : {A : Type 0} → Option A → Option A → Option A
+the_first None other = other
+the_first (Some one) other = Some one
+
+-- An entry of a table's list, as it is named.
+abbrev pub as_named : Entry → Named
+as_named entry = record { name = entry.name.now; ty = entry.ty; is_event = entry.is_event }
+
+-- What a table finds by the bytes of a name.
+abbrev pub found_in : {V S : Type 0} → IndexMap (Bor (List ℕ)) V S → List ℕ → Option V
+found_in table name = get_by (λ key. bytes_eq name key.now) table
+
+-- The table finds each name's first declaration among these.
+abbrev pub Finds : {S : Type 0} → List Named → IndexMap (Bor (List ℕ)) Declared S → Type 0
+Finds all table = (name : List ℕ) → found_in table name ≡ declared_among all name

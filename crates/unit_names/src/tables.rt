@@ -1,0 +1,71 @@
+//! Tables of names: the first declaration of each name, found without going through a list.
+ghost use Rattle.std.specs.Prelude.{◌≡◌, ℕ, List, Some, None, IfOk, map, bytes_eq, if◌then◌else◌};
+ghost use Rattle.unit_names.specs.Found.{the_first, as_named, found_in, Finds};
+
+use fixed_words::{NoMemory, Ty};
+use indexmap::IndexMap;
+use std::alloc::Global;
+
+/// How a name is declared first among some: at which place, counted from 0, with which type, and whether as an
+/// event port.
+#[derive(Clone, Copy, Debug, PartialEq, Eq)]
+pub struct Declared {
+    pub place: usize,
+    pub ty: Ty,
+    pub is_event: bool,
+}
+
+/// A declaration of which a table is made.
+#[derive(Clone, Copy)]
+pub(crate) struct Entry<'a> {
+    pub name: &'a [u8],
+    pub ty: Ty,
+    pub is_event: bool,
+}
+
+/// Declarations by name.
+pub(crate) type Table<'a> = IndexMap<&'a [u8], Declared>;
+
+/// Places by name.
+pub(crate) type Places<'a> = IndexMap<&'a [u8], usize>;
+
+/// What is noted under a name.
+pub(crate) fn find<V: Copy>(table: &IndexMap<&[u8], V>, name: &[u8]) -> Option<V>
+    ensures { result ≡ found_in table.now name.now }
+{
+    table.get(name).copied()
+}
+
+/// Notes a name, where it was not noted before.
+pub(crate) fn note<'a, V: Drop>(
+    table: &mut IndexMap<&'a [u8], V>,
+    name: &'a [u8],
+    value: V,
+) -> Result<(), NoMemory>
+    ensures { IfOk result (λ _. (q : List ℕ) →
+        found_in table.new q ≡ the_first (found_in table.old q) (if bytes_eq q name.now then Some value else None)) }
+{
+    if table.get(name).is_none() {
+        table.insert(name, value)?;
+    }
+    Ok(())
+}
+
+/// The table of some declarations.
+pub(crate) fn table_of<'a>(alloc: Global, entries: &[Entry<'a>]) -> Result<Table<'a>, NoMemory>
+    ensures { IfOk result (Finds (map as_named entries.now)) }
+{
+    let mut table = IndexMap::new(alloc);
+    for (place, entry) in entries.iter().enumerate() {
+        note(
+            &mut table,
+            entry.name,
+            Declared {
+                place,
+                ty: entry.ty,
+                is_event: entry.is_event,
+            },
+        )?;
+    }
+    Ok(table)
+}

@@ -1,0 +1,159 @@
+//! A unit with tables of its names.
+ghost use Rattle.std.specs.Prelude.{◌≡◌, ◌++◌, IfOk, is_some, map};
+ghost use Rattle.std.specs.Option.{option_map};
+ghost use Rattle.unit_tree.specs.Names.{is_among, are_among, param_names, input_names, output_names, input_ports, output_ports, event_input_names, type_in, param_named};
+ghost use Rattle.unit_names.specs.Entries.{lines_named, types_named, shared_named, locals_named, events_in_named, params_named, all_inputs_named, all_outputs_named};
+ghost use Rattle.unit_names.specs.Found.{first_place, declared_names, port_among, Finds};
+
+use crate::entries::{
+    events_table, inputs_table, lines_table, locals_table, outputs_table, params_table,
+    shared_table, types_table,
+};
+use crate::tables::{Declared, Table, find};
+use fixed_words::{NoMemory, Ty};
+use std::alloc::Global;
+use std::marker::Model;
+use unit_tree::{Name, Unit};
+
+/// What a unit declares.
+#[derive(Drop)]
+struct Declarations<'a> {
+    lines: Table<'a>,
+    types: Table<'a>,
+    params: Table<'a>,
+}
+
+fn declarations_of<'a>(alloc: Global, unit: &'a Unit) -> Result<Declarations<'a>, NoMemory>
+    ensures { IfOk result (λ all. Finds (lines_named unit.now) all.lines × Finds (types_named unit.now) all.types × Finds (params_named unit.now.params) all.params) }
+{
+    let lines = lines_table(alloc, unit)?;
+    let types = types_table(alloc, unit)?;
+    let params = params_table(alloc, unit)?;
+    Ok(Declarations {
+        lines,
+        types,
+        params,
+    })
+}
+
+/// What the expressions of a unit may name.
+#[derive(Drop)]
+struct Usable<'a> {
+    shared: Table<'a>,
+    locals: Table<'a>,
+    events: Table<'a>,
+}
+
+fn usable_of<'a>(alloc: Global, unit: &'a Unit) -> Result<Usable<'a>, NoMemory>
+    ensures { IfOk result (λ all. Finds (shared_named unit.now) all.shared × Finds (locals_named unit.now.locals) all.locals × Finds (events_in_named unit.now.events_in) all.events) }
+{
+    let shared = shared_table(alloc, unit)?;
+    let locals = locals_table(alloc, unit)?;
+    let events = events_table(alloc, unit)?;
+    Ok(Usable {
+        shared,
+        locals,
+        events,
+    })
+}
+
+/// The ports of a unit.
+#[derive(Drop)]
+struct Ports<'a> {
+    inputs: Table<'a>,
+    outputs: Table<'a>,
+}
+
+fn ports_of<'a>(alloc: Global, unit: &'a Unit) -> Result<Ports<'a>, NoMemory>
+    ensures { IfOk result (λ all. Finds (all_inputs_named unit.now) all.inputs × Finds (all_outputs_named unit.now) all.outputs) }
+{
+    let inputs = inputs_table(alloc, unit)?;
+    let outputs = outputs_table(alloc, unit)?;
+    Ok(Ports { inputs, outputs })
+}
+
+/// A unit, with tables of all that it declares. Contracts see it as the unit.
+///
+/// Equal names are allowed everywhere: each question is answered by the first declaration of a name among those that
+/// it is about.
+#[derive(Drop)]
+pub struct UnitNames<'a> {
+    unit: &'a Unit,
+    declared: Declarations<'a>,
+    usable: Usable<'a>,
+    ports: Ports<'a>,
+}
+
+impl<'a> Model for UnitNames<'a> {
+    ghost use Rattle.std.specs.Coded.{codes};
+    ghost use Rattle.unit_tree.specs.contracts.expr.Expr as expr;
+    ghost use Rattle.unit_tree.specs.contracts.line.Line as line;
+    ghost use Rattle.unit_tree.specs.declared.unit.Unit.{Unit};
+    ghost use Rattle.unit_names.specs.Entries.{lines_named, types_named, shared_named, locals_named, events_in_named, params_named, all_inputs_named, all_outputs_named};
+    ghost use Rattle.unit_names.specs.Found.{Finds};
+
+    ghost Value = { Unit };
+
+    ghost coded = { Prim.hlevel (codes, expr.the_row.coded, line.the_row.coded) };
+
+    ghost view = { λ names. names.unit.now };
+
+    ghost invariant = { λ names.
+        Finds (lines_named names.unit.now) names.declared.lines
+        × Finds (types_named names.unit.now) names.declared.types
+        × Finds (shared_named names.unit.now) names.usable.shared
+        × Finds (locals_named names.unit.now.locals) names.usable.locals
+        × Finds (events_in_named names.unit.now.events_in) names.usable.events
+        × Finds (params_named names.unit.now.params) names.declared.params
+        × Finds (all_inputs_named names.unit.now) names.ports.inputs
+        × Finds (all_outputs_named names.unit.now) names.ports.outputs };
+}
+
+impl<'a> UnitNames<'a> {
+    /// The tables of a unit.
+    pub fn new(alloc: Global, unit: &'a Unit) -> Result<UnitNames<'a>, NoMemory>
+        ensures { IfOk result (λ names. names ≡ unit.now) }
+    {
+        let declared = declarations_of(alloc, unit)?;
+        let usable = usable_of(alloc, unit)?;
+        let ports = ports_of(alloc, unit)?;
+        Ok(UnitNames {
+            unit,
+            declared,
+            usable,
+            ports,
+        })
+    }
+
+    /// The unit itself.
+    pub fn unit(&self) -> &'a Unit
+        ensures { result.now ≡ self.now }
+    {
+        self.unit
+    }
+
+    /// The first place of a name among all that the unit declares, in canonical order of its lines: parameters,
+    /// states, locals, inputs, event inputs, outputs, event outputs.
+    #[tactic(auto, using(crate::proofs::Naming::place_found))]
+    pub fn first_place(&self, name: &[u8]) -> Option<usize>
+        ensures { result ≡ first_place (declared_names self.now) name.now }
+    {
+        Some(find(&self.declared.lines, name)?.place)
+    }
+
+    /// The type that a name is declared with.
+    #[tactic(auto, using(crate::proofs::Naming::type_found))]
+    pub fn type_in(&self, name: &[u8]) -> Option<Ty>
+        ensures { result ≡ type_in self.now name.now }
+    {
+        Some(find(&self.declared.types, name)?.ty)
+    }
+
+    /// The type of a parameter.
+    #[tactic(auto, using(crate::proofs::Naming::param_found))]
+    pub fn param_type(&self, name: &[u8]) -> Option<Ty>
+        ensures { result ≡ option_map (λ param. param.ty) (param_named name.now self.now) }
+    {
+        Some(find(&self.declared.params, name)?.ty)
+    }
+}
