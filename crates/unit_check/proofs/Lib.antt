@@ -1,3 +1,4 @@
+pub mod Again
 pub mod Agreeing
 pub mod Breaking
 pub mod Bridge
@@ -5,4 +6,5 @@ pub mod Counted
 pub mod Sited
 pub mod Standing
 pub mod SystemLines
+pub mod Told
 pub mod Judging
