@@ -1,6 +1,7 @@
 -- What tables say of a unit, in the words of its definitions.
 use Rattle.std.proofs.Common.{◌≡◌, ℕ, ◌+◌, Bool, true, false, ◌||◌, List, [], ◌∷◌, ◌++◌, map, Option, Some, None, is_some, bytes_eq, refl, ap, sym, ◌∙◌, append_assoc}
 use Rattle.std.proofs.lemmas.List.{map-append}
+use Rattle.std.proofs.lemmas.List.Folds.{list_any-append}
 use Rattle.std.proofs.lemmas.Simd.{map-map}
 use mathlib.Core.Bool.{cond}
 use Rattle.std.specs.List.{find, list_any, position_from}
@@ -12,7 +13,7 @@ use Rattle.unit_tree.specs.Names.{is_among, declared_in, type_among, type_in, in
 use Rattle.unit_tree.specs.declared.environment.Variable.{Variable}
 use Rattle.unit_tree.specs.declared.unit.Unit.{Unit}
 use Rattle.unit_names.specs.Entries.{Named, port_as_named, params_named, states_named, locals_named, inputs_named, events_in_named, outputs_named, events_out_named, lines_named, types_named, shared_named, all_inputs_named, all_outputs_named}
-use Rattle.unit_names.specs.Found.{declared_from, declared_among, declared_names, first_place}
+use Rattle.unit_names.specs.Found.{declared_from, declared_among, declared_names, first_place, port_among}
 use Rattle.unit_names.specs.declared.tables.Declared.{Declared}
 
 abbrev name_of : Named → List ℕ
@@ -114,3 +115,38 @@ inputs_are unit = simp (map-append, map-map)
 
 pub outputs_are : (unit : Unit) → map port_as_named (output_ports unit) ≡ all_outputs_named unit
 outputs_are unit = simp (map-append, map-map)
+
+-- ---- As the questions are asked
+
+names_of_each : {D : Type 0} (name : D → List ℕ) (ty : D → Ty) (event : Bool) (all : List D) (q : List ℕ)
+    → is_some (declared_among (map (λ d. record { name = name d; ty = ty d; is_event = event }) all) q) ≡ is_among (map name all) q
+names_of_each name ty event all q =
+    stands (map (λ d. record { name = name d; ty = ty d; is_event = event }) all) q
+    ∙ ap (λ names. is_among names q) (map-map name_of (λ d. record { name = name d; ty = ty d; is_event = event }) all)
+
+pub param_stands : (unit : Unit) (q : List ℕ) → is_some (declared_among (params_named unit.params) q) ≡ is_among (param_names unit) q
+param_stands unit q = names_of_each (λ param. param.name) (λ param. param.ty) false unit.params q
+
+pub local_stands : (unit : Unit) (q : List ℕ) → is_some (declared_among (locals_named unit.locals) q) ≡ is_among (map (λ local. local.name) unit.locals) q
+local_stands unit q = names_of_each (λ local. local.name) (λ local. local.ty) false unit.locals q
+
+pub event_stands : (unit : Unit) (q : List ℕ) → is_some (declared_among (events_in_named unit.events_in) q) ≡ is_among (event_input_names unit) q
+event_stands unit q = names_of_each (λ event. event.name) (λ event. event.ty) true unit.events_in q
+
+pub input_stands : (unit : Unit) (q : List ℕ) → is_some (declared_among (all_inputs_named unit) q) ≡ is_among (input_names unit) q
+input_stands unit q = stands (all_inputs_named unit) q ∙ ap (λ names. is_among names q) (input_names_are unit)
+
+pub output_stands : (unit : Unit) (q : List ℕ) → is_some (declared_among (all_outputs_named unit) q) ≡ is_among (output_names unit) q
+output_stands unit q = stands (all_outputs_named unit) q ∙ ap (λ names. is_among names q) (output_names_are unit)
+
+pub shared_stands : (unit : Unit) (q : List ℕ) → is_some (declared_among (shared_named unit) q) ≡ is_among (shared_names unit) q
+shared_stands unit q = stands (shared_named unit) q ∙ ap (λ names. is_among names q) (shared_names_are unit)
+
+pub input_found : (unit : Unit) (q : List ℕ) → port_among (input_ports unit) q ≡ declared_among (all_inputs_named unit) q
+input_found unit q = ap (λ all. declared_among all q) (inputs_are unit)
+
+pub output_found : (unit : Unit) (q : List ℕ) → port_among (output_ports unit) q ≡ declared_among (all_outputs_named unit) q
+output_found unit q = ap (λ all. declared_among all q) (outputs_are unit)
+
+pub among_three : (one other third : List (List ℕ)) (q : List ℕ) → is_among (one ++ other ++ third) q ≡ ((is_among one q || is_among other q) || is_among third q)
+among_three one other third q = list_any-append (bytes_eq q) (one ++ other) third ∙ ap (λ b. b || is_among third q) (list_any-append (bytes_eq q) one other)

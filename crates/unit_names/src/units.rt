@@ -1,7 +1,7 @@
 //! A unit with tables of its names.
 ghost use Rattle.std.specs.Prelude.{◌≡◌, ◌++◌, IfOk, is_some, map};
 ghost use Rattle.std.specs.Option.{option_map};
-ghost use Rattle.unit_tree.specs.Names.{is_among, are_among, param_names, input_names, output_names, input_ports, output_ports, event_input_names, type_in, param_named};
+ghost use Rattle.unit_tree.specs.Names.{is_among, are_among, param_names, input_names, output_names, input_ports, output_ports, event_input_names, shared_names, type_in, param_named};
 ghost use Rattle.unit_names.specs.Entries.{lines_named, types_named, shared_named, locals_named, events_in_named, params_named, all_inputs_named, all_outputs_named};
 ghost use Rattle.unit_names.specs.Found.{first_place, declared_names, port_among, Finds};
 
@@ -72,6 +72,12 @@ fn ports_of<'a>(alloc: Global, unit: &'a Unit) -> Result<Ports<'a>, NoMemory>
     Ok(Ports { inputs, outputs })
 }
 
+fn place_of(found: Option<Declared>) -> Option<usize>
+    ensures { result ≡ option_map (λ declared. declared.place) found }
+{
+    Some(found?.place)
+}
+
 /// A unit, with tables of all that it declares. Contracts see it as the unit.
 ///
 /// Equal names are allowed everywhere: each question is answered by the first declaration of a name among those that
@@ -138,7 +144,7 @@ impl<'a> UnitNames<'a> {
     pub fn first_place(&self, name: &[u8]) -> Option<usize>
         ensures { result ≡ first_place (declared_names self.now) name.now }
     {
-        Some(find(&self.declared.lines, name)?.place)
+        place_of(find(&self.declared.lines, name))
     }
 
     /// The type that a name is declared with.
@@ -155,5 +161,89 @@ impl<'a> UnitNames<'a> {
         ensures { result ≡ option_map (λ param. param.ty) (param_named name.now self.now) }
     {
         Some(find(&self.declared.params, name)?.ty)
+    }
+
+    /// Whether a name is a parameter.
+    #[tactic(auto, using(crate::proofs::Naming::param_stands))]
+    pub fn is_param(&self, name: &[u8]) -> bool
+        ensures { result ≡ is_among (param_names self.now) name.now }
+    {
+        find(&self.declared.params, name).is_some()
+    }
+
+    /// Whether a name is an input, be it an event input.
+    #[tactic(auto, using(crate::proofs::Naming::input_stands))]
+    pub fn is_input(&self, name: &[u8]) -> bool
+        ensures { result ≡ is_among (input_names self.now) name.now }
+    {
+        find(&self.ports.inputs, name).is_some()
+    }
+
+    /// Whether a name is an output, be it an event output.
+    #[tactic(auto, using(crate::proofs::Naming::output_stands))]
+    pub fn is_output(&self, name: &[u8]) -> bool
+        ensures { result ≡ is_among (output_names self.now) name.now }
+    {
+        find(&self.ports.outputs, name).is_some()
+    }
+
+    /// Whether a name may not be assigned: it is a parameter, an input or an output.
+    #[tactic(auto, using(crate::proofs::Naming::among_three))]
+    pub fn is_read_only(&self, name: &[u8]) -> bool
+        ensures { result ≡ is_among (param_names self.now ++ input_names self.now ++ output_names self.now) name.now }
+    {
+        self.is_param(name) || self.is_input(name) || self.is_output(name)
+    }
+
+    /// Whether all names are inputs.
+    pub fn has_inputs(&self, names: &[Name]) -> bool
+        ensures { result ≡ are_among (input_names self.now) names.now }
+    {
+        for name in names {
+            if !self.is_input(name.as_slice()) {
+                return false;
+            }
+        }
+        true
+    }
+
+    /// The first input of a name, with its place among the inputs; event inputs come after the plain ones.
+    #[tactic(auto, using(crate::proofs::Naming::input_found))]
+    pub fn input(&self, name: &[u8]) -> Option<Declared>
+        ensures { result ≡ port_among (input_ports self.now) name.now }
+    {
+        find(&self.ports.inputs, name)
+    }
+
+    /// The first output of a name, with its place among the outputs; event outputs come after the plain ones.
+    #[tactic(auto, using(crate::proofs::Naming::output_found))]
+    pub fn output(&self, name: &[u8]) -> Option<Declared>
+        ensures { result ≡ port_among (output_ports self.now) name.now }
+    {
+        find(&self.ports.outputs, name)
+    }
+
+    /// Whether every expression may use a name.
+    #[tactic(auto, using(crate::proofs::Naming::shared_stands))]
+    pub(crate) fn is_shared(&self, name: &[u8]) -> bool
+        ensures { result ≡ is_among (shared_names self.now) name.now }
+    {
+        find(&self.usable.shared, name).is_some()
+    }
+
+    /// Whether a name is a local.
+    #[tactic(auto, using(crate::proofs::Naming::local_stands))]
+    pub(crate) fn is_local(&self, name: &[u8]) -> bool
+        ensures { result ≡ is_among (map (λ local. local.name) self.now.locals) name.now }
+    {
+        find(&self.usable.locals, name).is_some()
+    }
+
+    /// Whether a name is an event input.
+    #[tactic(auto, using(crate::proofs::Naming::event_stands))]
+    pub(crate) fn is_event(&self, name: &[u8]) -> bool
+        ensures { result ≡ is_among (event_input_names self.now) name.now }
+    {
+        find(&self.usable.events, name).is_some()
     }
 }
