@@ -3,6 +3,7 @@ pub mod Agreeing
 pub mod Breaking
 pub mod Bridge
 pub mod Counted
+pub mod Counting
 pub mod Sited
 pub mod Standing
 pub mod SystemLines
