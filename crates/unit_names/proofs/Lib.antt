@@ -1,3 +1,5 @@
 pub mod Costs
 pub mod Finding
 pub mod Naming
+pub mod Choices
+pub mod Keeping

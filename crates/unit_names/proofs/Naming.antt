@@ -150,3 +150,6 @@ output_found unit q = ap (λ all. declared_among all q) (outputs_are unit)
 
 pub among_three : (one other third : List (List ℕ)) (q : List ℕ) → is_among (one ++ other ++ third) q ≡ ((is_among one q || is_among other q) || is_among third q)
 among_three one other third q = list_any-append (bytes_eq q) (one ++ other) third ∙ ap (λ b. b || is_among third q) (list_any-append (bytes_eq q) one other)
+
+pub among_two : (one other : List (List ℕ)) (q : List ℕ) → is_among (one ++ other) q ≡ (is_among one q || is_among other q)
+among_two one other q = list_any-append (bytes_eq q) one other

@@ -1,2 +1,4 @@
 pub mod Entries
 pub mod Found
+pub mod Choices
+pub mod Uses

@@ -3,9 +3,13 @@
 
 mod entries;
 mod expressions;
+mod kinds;
 mod tables;
 mod units;
+mod uses;
 
 pub use expressions::{cost, is_within, line_cost, lines_cost};
+pub use kinds::{is_same_kind, kind_of};
 pub use tables::Declared;
 pub use units::UnitNames;
+pub use uses::{Asker, has_equals, is_among};
