@@ -4,6 +4,7 @@ pub mod Breaking
 pub mod Bridge
 pub mod Counted
 pub mod Counting
+pub mod Ranged
 pub mod Sited
 pub mod Standing
 pub mod SystemLines

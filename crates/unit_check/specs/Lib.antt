@@ -1,4 +1,5 @@
 pub mod Counts
 pub mod Places
+pub mod Ranges
 pub mod Rules
 pub mod Walks
