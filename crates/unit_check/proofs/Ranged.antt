@@ -1,7 +1,7 @@
 -- What a system in range keeps: decimals and resolutions are at most nine.
 use Rattle.std.proofs.Common.{◌≡◌, ℕ, ◌≤◌, Bool, true, false, nat_le, List, [], ◌∷◌, ◌++◌, map, Option, Some, None, append_assoc, refl, ap, sym, subst, ◌∙◌, arith}
 use mathlib.Core.Bool.{cond}
-use Rattle.std.specs.Prelude.{max, ⊤, not, ◌&&◌, if◌then◌else◌, Result, Ok}
+use Rattle.std.specs.Prelude.{max, pos, ⊤, not, ◌&&◌, if◌then◌else◌, Result, Ok}
 use Rattle.std.specs.List.{AllByRecursion, find, flat_map, fold}
 use Rattle.std.specs.Option.{option_map, option_and_then, unwrap_or}
 use Rattle.std.specs.Str.{bytes_eq}
@@ -20,7 +20,7 @@ use Rattle.unit_tree.specs.LineForms.{tail_of, tail_speaks_of_events}
 use Rattle.unit_tree.specs.Names.{unit_named, unit_of_instance, param_named}
 use Rattle.unit_tree.specs.Parts as parts
 use Rattle.unit_tree.specs.Parts.{Part, UnitPart, part_forms, unit_part_forms}
-use Rattle.unit_tree.specs.Printable.{IsRanged, IsInRange}
+use Rattle.unit_tree.specs.Printable.{IsRanged, IsInRange, IsLiteralInRange}
 use Rattle.unit_tree.specs.Sites.{Scope, TopScope, UnitScope, StepScope, InstanceScope, Site, sites_of}
 use Rattle.unit_tree.specs.WellFormed.{literal_on, setting_word, on_literal, is_misformed, is_beyond, is_of_wrong_kind, is_out_of_range, mistakes_kind, is_length, mistimes, resolution_of, unit_resolution}
 use Rattle.unit_tree.specs.declared.line_form.LineForm.{LineForm}
@@ -105,3 +105,62 @@ unit_in_range (unit ∷ units) name all = step (bytes_eq unit.name name) (unit_i
     step : (met : Bool) → OfSome UnitInRange (unit_named units name) → OfSome UnitInRange (if met then Some unit else unit_named units name)
     step true rest = all.0
     step false rest = rest
+
+-- ---- Literals
+
+few_decimals : (ty : Ty) → AreDecimals ty → has_few_decimals ty ≡ true
+few_decimals (types.Fixed decimals) few = grind (arith)
+few_decimals _ few = refl
+
+word_is : (ty : Ty) (value : Literal) → AreDecimals ty → word_read ty value ≡ word_of_literal ty value
+word_is ty value few = ap (λ met. if met then word_of_literal ty value else Ok (pos 0)) (few_decimals ty few)
+
+setting_is : (name : List ℕ) (value : Literal) (found : Option Unit) → OfSome UnitInRange found → option_map (λ ty. word_read ty value) (option_map (λ (param : Param). param.ty) (option_and_then (param_named name) found)) ≡ option_map (λ (param : Param). word_of_literal param.ty value) (option_and_then (param_named name) found)
+setting_is name value None ranged = refl
+setting_is name value (Some unit) ranged = step (param_named name unit) (found_has (λ (param : Param). AreDecimals param.ty) (λ param. bytes_eq param.name name) unit.params ranged.params)
+  where
+    step : (param : Option Param) → OfSome (λ (given : Param). AreDecimals given.ty) param → option_map (λ ty. word_read ty value) (option_map (λ (given : Param). given.ty) param) ≡ option_map (λ (given : Param). word_of_literal given.ty value) param
+    step None few = refl
+    step (Some param) few = ap (λ r. Some r) (word_is param.ty value few)
+
+pub literal_is : (system : System) → AllByRecursion UnitInRange system.units → (scope : Scope) (line : LineForm) → IsInRange line → literal_read system scope line ≡ literal_on system scope line
+literal_is system units scope (form.Param param) ranged = ap (λ r. Some r) (word_is param.ty param.start ranged.0)
+literal_is system units scope (form.State state) ranged = ap (λ r. Some r) (word_is state.ty state.start ranged.0)
+literal_is system units scope (form.Input input) ranged = ap (λ r. Some r) (word_is input.ty input.start ranged.0)
+literal_is system units (InstanceScope instance) (form.Setting setting) ranged = setting_is setting.name setting.value (unit_of_instance system instance) (unit_in_range system.units instance.unit units)
+literal_is system units TopScope (form.Setting setting) ranged = refl
+literal_is system units (UnitScope unit) (form.Setting setting) ranged = refl
+literal_is system units (StepScope unit) (form.Setting setting) ranged = refl
+literal_is system units scope _ ranged = refl
+
+-- ---- Times
+
+resolution_at_most : (found : Option Unit) → OfSome UnitInRange found → unit_resolution found ≤ 9
+resolution_at_most None ranged = omega arith
+resolution_at_most (Some unit) ranged = ranged.resolution
+
+greatest_at_most : (least : ℕ) (system : System) (instances : List Instance) → least ≤ 9 → AllByRecursion UnitInRange system.units → fold max least (map (λ instance. unit_resolution (unit_of_instance system instance)) instances) ≤ 9
+greatest_at_most least system [] few units = few
+greatest_at_most least system (instance ∷ instances) few units =
+    let here = resolution_at_most (unit_of_instance system instance) (unit_in_range system.units instance.unit units) in
+    greatest_at_most (max least (unit_resolution (unit_of_instance system instance))) system instances (omega arith) units
+
+pub resolution_is : (system : System) → AllByRecursion UnitInRange system.units → nat_le (resolution_of system) 9 ≡ true
+resolution_is system units = let few : resolution_of system ≤ 9 = greatest_at_most 0 system system.instances (omega arith) units in grind (arith)
+
+places_are_few : (seconds : Literal) → IsLiteralInRange seconds → has_few_places seconds ≡ true
+places_are_few (literal.Truth told) few = refl
+places_are_few (literal.Number number decimals) few = grind (arith)
+
+length_is : (least : ℕ) (system : System) (seconds : Literal) → AllByRecursion UnitInRange system.units → IsLiteralInRange seconds → is_length_read least (resolution_of system) seconds ≡ is_length least (seconds_of (resolution_of system) seconds)
+length_is least system seconds units few = rw (resolution_is system units, places_are_few seconds few) refl
+
+pub times_are : (system : System) → AllByRecursion UnitInRange system.units → (line : LineForm) → IsInRange line → mistimes_at system line ≡ mistimes system line
+times_are system units (form.Stop seconds) ranged = ap not (length_is 0 system seconds units ranged.1)
+times_are system units (form.Longest seconds) ranged = ap not (length_is 1 system seconds units ranged.1)
+times_are system units _ ranged = refl
+
+-- ---- Lines
+
+pub lines_in_range : (system : System) → IsRanged system → AllByRecursion (λ site. IsInRange site.line) (sites_of system)
+lines_in_range system ranged = all_from_map IsInRange site_laws.line_at (sites_of system) (subst (AllByRecursion IsInRange) (sym (site_laws.sites_are system)) ranged.numbers)
