@@ -3,3 +3,4 @@ pub mod Finding
 pub mod Naming
 pub mod Choices
 pub mod Keeping
+pub mod Places

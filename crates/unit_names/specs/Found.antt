@@ -58,3 +58,7 @@ found_in table name = get_by (λ key. bytes_eq name key.now) table
 -- The table finds each name's first declaration among these.
 abbrev pub Finds : {S : Type 0} → List Named → IndexMap (Bor (List ℕ)) Declared S → Type 0
 Finds all table = (name : List ℕ) → found_in table name ≡ declared_among all name
+
+-- The table finds each name's first place in a list.
+abbrev pub FindsPlaces : {S : Type 0} → List (List ℕ) → IndexMap (Bor (List ℕ)) ℕ S → Type 0
+FindsPlaces names table = (name : List ℕ) → found_in table name ≡ first_place names name
