@@ -4,9 +4,13 @@ pub mod Breaking
 pub mod Bridge
 pub mod Counted
 pub mod Counting
+pub mod Judging
+pub mod Measures
+pub mod Ports
 pub mod Ranged
 pub mod Sited
 pub mod Standing
 pub mod SystemLines
 pub mod Told
-pub mod Judging
+pub mod Units
+pub mod Wires

@@ -1,5 +1,5 @@
 -- How many of a kind there may be, by the place of a line alone.
-use Rattle.std.specs.Prelude.{ℕ, ◌+◌, ◌-◌, ◌*◌, nat_lt, Bool, false, List, length, take}
+use Rattle.std.specs.Prelude.{ℕ, ◌+◌, ◌-◌, ◌*◌, nat_lt, nat_le, Bool, false, List, length, take, Option, Some, None}
 use Rattle.std.specs.List.{flat_map}
 use Rattle.unit_tree.specs.Plain.{plain_wires}
 use Rattle.unit_tree.specs.Sites.{Scope, TopScope, UnitScope, StepScope, InstanceScope}
@@ -11,6 +11,11 @@ use Rattle.unit_tree.specs.declared.unit.Unit.{Unit}
 -- How many connections of the plain form the first connections of a system become.
 abbrev pub plain_wire_count : System → ℕ → ℕ
 plain_wire_count system count = length (flat_map (plain_wires system) (take count system.wires))
+
+-- A place is the first of some or lies behind it.
+abbrev pub is_from : ℕ → Option ℕ → Bool
+is_from place None = false
+is_from place (Some first) = nat_le first place
 
 -- Too many in a unit, by the place of a line among those that declare names: these are in the order of the lists, and an
 -- event port counts as two.

@@ -1,4 +1,6 @@
 pub mod Counts
+pub mod Joins
+pub mod Measures
 pub mod Places
 pub mod Ranges
 pub mod Rules

@@ -1,5 +1,9 @@
 -- The rules that are judged, each with its test by the place of a line.
 use Rattle.std.specs.Prelude.{◌≡◌, ℕ, Bool, List, [], ◌∷◌, map, Option, Some, None, Result, Ok, Err, ⊤}
+use Rattle.unit_check.specs.Counts.{exceeds_at}
+use Rattle.unit_check.specs.Measures.{is_deep_at, is_dear_at}
+use Rattle.unit_check.specs.Places.{redeclares_at, connects_again_at, repeats_at}
+use Rattle.unit_check.specs.Ranges.{is_of_wrong_kind_at, is_out_of_range_at, mistimes_at}
 use Rattle.unit_check.specs.Walks.{Test}
 use Rattle.unit_check.specs.declared.checking.CheckFault.{CheckFault}
 use Rattle.unit_check.specs.declared.checking.CheckFault.TheVariants as fault
@@ -9,31 +13,72 @@ use Rattle.unit_check.specs.declared.walk.Stop.{Stop}
 use Rattle.unit_check.specs.declared.walk.Stop.TheVariants as stop
 use Rattle.unit_tree.specs.Sites.{Site}
 use Rattle.unit_tree.specs.WellFormed as well_formed
-use Rattle.unit_tree.specs.WellFormed.{Refusal, rule, lacks_stop, lacks_instance, refusal_of}
+use Rattle.unit_tree.specs.WellFormed.{Refusal, rule, redeclares, misnames, is_of_wrong_kind, is_out_of_range, hides_need, connects_again, joins_other_types, exceeds, has_deep_expression, costs_too_much, lacks_stop, mistimes, has_too_many_rows, assigns_read_only, lacks_instance, repeats_itself, refusal_of}
 use Rattle.unit_tree.specs.declared.system.System.{System}
 
 -- The number of a rule.
 abbrev pub number_of : Rule → ℕ
+number_of by.NamesDiffer = 8
+number_of by.NamesAreDeclared = 9
+number_of by.KindsFit = 10
+number_of by.LiteralsFit = 11
+number_of by.NeedsAreNamed = 12
+number_of by.InputsConnectOnce = 13
+number_of by.EndsMatch = 14
+number_of by.CountsFit = 16
 number_of by.StopIsThere = 19
+number_of by.TimesAreTicks = 20
+number_of by.RowsFit = 21
+number_of by.TargetsMayChange = 22
 number_of by.InstanceIsThere = 23
+number_of by.NothingRepeats = 24
 
 -- The test of a line that breaks the rule.
-abbrev pub breaks_of : Rule → System → Site → Bool
-breaks_of by.StopIsThere system site = lacks_stop system site.line
-breaks_of by.InstanceIsThere system site = lacks_instance system site.line
+unfoldable pub breaks_of : Rule → System → Site → Bool
+breaks_of by.NamesDiffer = redeclares
+breaks_of by.NamesAreDeclared = λ system site. misnames system site.scope site.line
+breaks_of by.KindsFit = is_of_wrong_kind
+breaks_of by.LiteralsFit = is_out_of_range
+breaks_of by.NeedsAreNamed = λ system site. hides_need site.scope site.line
+breaks_of by.InputsConnectOnce = connects_again
+breaks_of by.EndsMatch = λ system site. joins_other_types system site.line
+breaks_of by.CountsFit = λ system site. exceeds system site.scope site.earlier site.line
+breaks_of by.StopIsThere = λ system site. lacks_stop system site.line
+breaks_of by.TimesAreTicks = λ system site. mistimes system site.line
+breaks_of by.RowsFit = λ system site. has_too_many_rows system site.line
+breaks_of by.TargetsMayChange = λ system site. assigns_read_only site.scope site.line
+breaks_of by.InstanceIsThere = λ system site. lacks_instance system site.line
+breaks_of by.NothingRepeats = repeats_itself
 
 -- The rule as the definitions have it.
 abbrev pub defined : Rule → well_formed.Rule
 defined some = rule (number_of some) (breaks_of some)
 
 -- The same test, by the place of the line.
-abbrev pub test_of : Rule → System → Test
+unfoldable pub test_of : Rule → System → Test
+test_of by.NamesDiffer system scope place line = redeclares_at system scope place line
+test_of by.NamesAreDeclared system scope place line = misnames system scope line
+test_of by.KindsFit system scope place line = is_of_wrong_kind_at system scope line
+test_of by.LiteralsFit system scope place line = is_out_of_range_at system scope line
+test_of by.NeedsAreNamed system scope place line = hides_need scope line
+test_of by.InputsConnectOnce system scope place line = connects_again_at system place line
+test_of by.EndsMatch system scope place line = joins_other_types system line
+test_of by.CountsFit system scope place line = exceeds_at system scope place line
 test_of by.StopIsThere system scope place line = lacks_stop system line
+test_of by.TimesAreTicks system scope place line = mistimes_at system line
+test_of by.RowsFit system scope place line = has_too_many_rows system line
+test_of by.TargetsMayChange system scope place line = assigns_read_only scope line
 test_of by.InstanceIsThere system scope place line = lacks_instance system line
+test_of by.NothingRepeats system scope place line = repeats_at system scope place line
 
 -- The rules, in the order in which they are judged.
 abbrev pub all_rules : List Rule
-all_rules = by.StopIsThere ∷ by.InstanceIsThere ∷ []
+all_rules =
+    by.NamesDiffer ∷ by.NamesAreDeclared ∷ by.KindsFit ∷ by.LiteralsFit
+    ∷ by.NeedsAreNamed ∷ by.InputsConnectOnce ∷ by.EndsMatch ∷ by.CountsFit
+    ∷ by.StopIsThere ∷ by.TimesAreTicks
+    ∷ by.RowsFit ∷ by.TargetsMayChange ∷ by.InstanceIsThere ∷ by.NothingRepeats
+    ∷ []
 
 abbrev pub judged : List well_formed.Rule
 judged = map defined all_rules

@@ -142,6 +142,11 @@ units_walk test place [] number = Ok number
 units_walk test place (unit ∷ units) number =
     (past (test TopScope place (form.Unit unit.name)) >=> unit_walk test unit >=> units_walk test (suc place) units) number
 
+-- Along the unit of a place, where there is one.
+abbrev pub numbered_walk : Test → ℕ → Option Unit → Walk
+numbered_walk test place None number = Ok number
+numbered_walk test place (Some unit) number = (past (test TopScope place (form.Unit unit.name)) >=> unit_walk test unit) number
+
 -- Along the block of an instance.
 abbrev pub instance_walk : Test → Instance → Walk
 instance_walk test instance =

@@ -7,7 +7,7 @@ ghost use Rattle.unit_tree.specs.WellFormed.{lines_breaking, refusal_by};
 use crate::rules::Rule;
 use crate::walk::{Stop, first_line};
 use thiserror::Error;
-use unit_tree::System;
+use crate::tables::Tables;
 
 /// Why a system is refused, or was not judged.
 #[derive(Debug, Drop, Error, PartialEq, Eq)]
@@ -21,12 +21,12 @@ pub enum CheckFault {
 }
 
 /// Judges a system by one rule.
-fn judge_by(rule: Rule, system: &System) -> Result<(), CheckFault>
-    requires ranged { IsRanged system.now }
-    ensures ok { OnOk result (lines_breaking (defined rule) system.now ≡ []) }
-    ensures err { IfErr result (TellsRule (number_of rule) (lines_breaking (defined rule) system.now)) }
+fn judge_by(rule: Rule, tables: &Tables<'_>) -> Result<(), CheckFault>
+    requires ranged { IsRanged tables.now }
+    ensures ok { OnOk result (lines_breaking (defined rule) tables.now ≡ []) }
+    ensures err { IfErr result (TellsRule (number_of rule) (lines_breaking (defined rule) tables.now)) }
 {
-    match first_line(rule, system) {
+    match first_line(rule, tables) {
         Ok(_) => Ok(()),
         Err(Stop::At(item)) => Err(CheckFault::Line {
             item,
@@ -37,22 +37,40 @@ fn judge_by(rule: Rule, system: &System) -> Result<(), CheckFault>
 }
 
 /// Judges a system by rules, in their order.
-fn judge_by_all(rules: &[Rule], system: &System) -> Result<(), CheckFault>
-    requires ranged { IsRanged system.now }
-    ensures ok { OnOk result (refusal_by (map defined rules.now) system.now ≡ None) }
-    ensures err { IfErr result (λ why. Tells why (refusal_by (map defined rules.now) system.now)) }
+fn judge_by_all(rules: &[Rule], tables: &Tables<'_>) -> Result<(), CheckFault>
+    requires ranged { IsRanged tables.now }
+    ensures ok { OnOk result (refusal_by (map defined rules.now) tables.now ≡ None) }
+    ensures err { IfErr result (λ why. Tells why (refusal_by (map defined rules.now) tables.now)) }
 {
     for rule in rules {
-        judge_by(*rule, system)?;
+        judge_by(*rule, tables)?;
     }
     Ok(())
 }
 
 /// Judges a system by all rules.
-fn judge(system: &System) -> Result<(), CheckFault>
-    requires ranged { IsRanged system.now }
-    ensures ok { OnOk result (refusal_by judged system.now ≡ None) }
-    ensures err { IfErr result (λ why. Tells why (refusal_by judged system.now)) }
+fn judge(tables: &Tables<'_>) -> Result<(), CheckFault>
+    requires ranged { IsRanged tables.now }
+    ensures ok { OnOk result (refusal_by judged tables.now ≡ None) }
+    ensures err { IfErr result (λ why. Tells why (refusal_by judged tables.now)) }
 {
-    judge_by_all(&[Rule::StopIsThere, Rule::InstanceIsThere], system)
+    judge_by_all(
+        &[
+            Rule::NamesDiffer,
+            Rule::NamesAreDeclared,
+            Rule::KindsFit,
+            Rule::LiteralsFit,
+            Rule::NeedsAreNamed,
+            Rule::InputsConnectOnce,
+            Rule::EndsMatch,
+            Rule::CountsFit,
+            Rule::StopIsThere,
+            Rule::TimesAreTicks,
+            Rule::RowsFit,
+            Rule::TargetsMayChange,
+            Rule::InstanceIsThere,
+            Rule::NothingRepeats,
+        ],
+        tables,
+    )
 }

@@ -5,7 +5,13 @@
 #![tactic(auto)]
 
 mod checking;
+mod counts;
+mod kind_lines;
+mod name_lines;
+mod ports;
 mod rules;
+mod run_lines;
+mod tables;
 mod walk;
 
 pub use checking::CheckFault;

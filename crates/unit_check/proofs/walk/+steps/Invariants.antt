@@ -6,5 +6,5 @@ use Rattle.unit_check.proofs.walk.+steps.Given as goal
 
 abbrev pub invariant-past_lines-loop-line : goal.invariant-past_lines-loop-line
 invariant-past_lines-loop-line l =
-    each (line_walk (past_from (test_of l.walker.rule l.walker.system.now (StepScope l.unit)) l.first)) l.lines l.number
-    ≡ each (line_walk (past_from (test_of l.walker.rule l.walker.system.now (StepScope l.unit)) l.first)) (drop l.line-index l.lines) l.next
+    each (line_walk (past_from (test_of l.walker.rule l.walker.tables.now (StepScope l.unit)) l.first)) l.lines l.number
+    ≡ each (line_walk (past_from (test_of l.walker.rule l.walker.tables.now (StepScope l.unit)) l.first)) (drop l.line-index l.lines) l.next

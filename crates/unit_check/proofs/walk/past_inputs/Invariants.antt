@@ -6,4 +6,4 @@ use Rattle.unit_check.specs.Walks.{each, past_from, units_walk, instances_walk}
 use Rattle.unit_check.proofs.walk.past_inputs.Given as goal
 
 abbrev pub invariant-loop-input : goal.invariant-loop-input
-invariant-loop-input l = each (λ input. past_from (test_of l.walker.rule l.walker.system.now (UnitScope l.unit)) l.first (form.Input input)) l.unit.inputs l.number ≡ each (λ input. past_from (test_of l.walker.rule l.walker.system.now (UnitScope l.unit)) l.first (form.Input input)) (drop l.input-index l.unit.inputs) l.next
+invariant-loop-input l = each (λ input. past_from (test_of l.walker.rule l.walker.tables.now (UnitScope l.unit)) l.first (form.Input input)) l.unit.inputs l.number ≡ each (λ input. past_from (test_of l.walker.rule l.walker.tables.now (UnitScope l.unit)) l.first (form.Input input)) (drop l.input-index l.unit.inputs) l.next

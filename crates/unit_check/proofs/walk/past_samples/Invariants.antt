@@ -6,4 +6,4 @@ use Rattle.unit_check.specs.Walks.{each, past_from, units_walk, instances_walk}
 use Rattle.unit_check.proofs.walk.past_samples.Given as goal
 
 abbrev pub invariant-loop-port : goal.invariant-loop-port
-invariant-loop-port l = each (λ port. past_from (test_of l.walker.rule l.walker.system.now (TopScope)) l.number (form.Sample port)) l.system.samples l.number ≡ each (λ port. past_from (test_of l.walker.rule l.walker.system.now (TopScope)) l.number (form.Sample port)) (drop l.port-index l.system.samples) l.next
+invariant-loop-port l = each (λ port. past_from (test_of l.walker.rule l.walker.tables.now (TopScope)) l.number (form.Sample port)) l.walker.tables.now.samples l.number ≡ each (λ port. past_from (test_of l.walker.rule l.walker.tables.now (TopScope)) l.number (form.Sample port)) (drop l.port-index l.walker.tables.now.samples) l.next

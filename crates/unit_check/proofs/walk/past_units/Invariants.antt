@@ -6,4 +6,4 @@ use Rattle.unit_check.specs.Walks.{each, past_from, units_walk, instances_walk}
 use Rattle.unit_check.proofs.walk.past_units.Given as goal
 
 abbrev pub invariant-loop-place : goal.invariant-loop-place
-invariant-loop-place l = units_walk (test_of l.walker.rule l.walker.system.now) 0 l.system.units l.number ≡ units_walk (test_of l.walker.rule l.walker.system.now) l.place (drop l.place l.system.units) l.next
+invariant-loop-place l = units_walk (test_of l.walker.rule l.walker.tables.now) 0 l.walker.tables.now.units l.number ≡ units_walk (test_of l.walker.rule l.walker.tables.now) l.place (drop l.place l.walker.tables.now.units) l.next

@@ -6,4 +6,4 @@ use Rattle.unit_check.specs.Walks.{each, past_from, units_walk, instances_walk}
 use Rattle.unit_check.proofs.walk.past_wires.Given as goal
 
 abbrev pub invariant-loop-wire : goal.invariant-loop-wire
-invariant-loop-wire l = each (λ wire. past_from (test_of l.walker.rule l.walker.system.now (TopScope)) l.number (form.Connect wire)) l.system.wires l.number ≡ each (λ wire. past_from (test_of l.walker.rule l.walker.system.now (TopScope)) l.number (form.Connect wire)) (drop l.wire-index l.system.wires) l.next
+invariant-loop-wire l = each (λ wire. past_from (test_of l.walker.rule l.walker.tables.now (TopScope)) l.number (form.Connect wire)) l.walker.tables.now.wires l.number ≡ each (λ wire. past_from (test_of l.walker.rule l.walker.tables.now (TopScope)) l.number (form.Connect wire)) (drop l.wire-index l.walker.tables.now.wires) l.next

@@ -1,0 +1,91 @@
+//! What the rules look up, made once for a system.
+ghost use Rattle.std.specs.Prelude.{◌≡◌, ◌+◌, ℕ, nat_lt, length, IfOk};
+ghost use Rattle.unit_check.specs.Counts.{plain_wire_count, is_from};
+ghost use Rattle.unit_tree.specs.Plain.{plain_wires};
+
+use fixed_words::NoMemory;
+use std::alloc::Global;
+use std::marker::Model;
+use unit_names::SystemNames;
+use unit_tree::{System, Wire};
+
+/// How many connections of the plain form a connection becomes.
+#[tactic(auto, using(crate::proofs::Wires::width_is))]
+fn width(names: &SystemNames<'_>, wire: &Wire) -> u32
+    ensures { result ≡ length (plain_wires names.now wire.now) }
+{
+    match names.output_at(&wire.from) {
+        Some(output) => if output.is_event { 2 } else { 1 },
+        None => 1,
+    }
+}
+
+/// The first connection that is one too many in the plain form.
+#[tactic(auto, using(crate::proofs::Wires::first_exceeds, crate::proofs::Wires::none_exceeds))]
+fn first_wire_too_many(names: &SystemNames<'_>) -> Option<usize>
+    ensures { (place : ℕ) → nat_lt 2048 (plain_wire_count names.now (place + 1)) ≡ is_from place result }
+{
+    let mut count = 0;
+    for (place, wire) in names.system().wires.as_slice().iter().enumerate() {
+        count += width(names, wire);
+        if count > 2048 {
+            return Some(place);
+        }
+    }
+    None
+}
+
+/// What is known of a system. Contracts see it as the system.
+#[derive(Drop)]
+pub(crate) struct Tables<'a> {
+    names: SystemNames<'a>,
+    wire_too_many: Option<usize>,
+}
+
+impl<'a> Model for Tables<'a> {
+    ghost use Rattle.std.specs.Coded.{codes};
+    ghost use Rattle.std.specs.Prelude.{◌≡◌, ◌+◌, ℕ, nat_lt};
+    ghost use Rattle.unit_check.specs.Counts.{plain_wire_count, is_from};
+    ghost use Rattle.unit_tree.specs.contracts.expr.Expr as expr;
+    ghost use Rattle.unit_tree.specs.contracts.line.Line as line;
+    ghost use Rattle.unit_tree.specs.declared.system.System.{System};
+
+    ghost Value = { System };
+
+    ghost coded = { Prim.hlevel (codes, expr.the_row.coded, line.the_row.coded) };
+
+    ghost view = { λ tables. tables.names };
+
+    ghost invariant = { λ tables. (place : ℕ) → nat_lt 2048 (plain_wire_count tables.names (place + 1)) ≡ is_from place tables.wire_too_many };
+}
+
+impl<'a> Tables<'a> {
+    /// Of a system.
+    pub(crate) fn new(alloc: Global, system: &'a System) -> Result<Tables<'a>, NoMemory>
+        ensures { IfOk result (λ tables. tables ≡ system.now) }
+    {
+        let names = SystemNames::new(alloc, system)?;
+        let wire_too_many = first_wire_too_many(&names);
+        Ok(Tables {
+            names,
+            wire_too_many,
+        })
+    }
+
+    /// The names of the system.
+    pub(crate) fn names(&self) -> &SystemNames<'a>
+        ensures { result.now ≡ self.now }
+    {
+        &self.names
+    }
+
+    /// Whether there are too many connections up to one of them, in the plain form.
+    pub(crate) fn has_too_many_wires(&self, place: usize) -> bool
+        ensures { result ≡ nat_lt 2048 (plain_wire_count self.now (place + 1)) }
+    {
+        match self.wire_too_many {
+            Some(first) => first <= place,
+            None => false,
+        }
+    }
+}
