@@ -54,10 +54,6 @@ nodes_have_names unit needs value = has_names (is_other_input unit needs) value
 
 -- ---- All keep to what may be used
 
-and_false : (b : Bool) → (b && false) ≡ false
-and_false true = refl
-and_false false = refl
-
 and_true : (b : Bool) → (b && true) ≡ b
 and_true true = refl
 and_true false = refl
@@ -153,7 +149,7 @@ module _ (uses : Uses) where
       ≡ kept (node_names (map-Expr Expr (List (List ℕ)) names_in (map-Expr Proved Expr bare y))) (node_events (map-Expr Expr (List (List ℕ)) events_asked_in (map-Expr Proved Expr bare y))) (node_clocks (map-Expr Expr Clocks clocks_in (map-Expr Proved Expr bare y)))
   layer (Expr-F.Number number decimals) = sym no_clock_kept
   layer (Expr-F.Truth told) = sym no_clock_kept
-  layer (Expr-F.Var name) = ap (λ b. b) (sym (ap (λ c. (is_among uses.names name && true) && c) no_clock_kept ∙ and_true (is_among uses.names name && true) ∙ and_true (is_among uses.names name)))
+  layer (Expr-F.Var name) = name_kept (is_among uses.names name)
   layer Expr-F.Time = sym time_kept
   layer Expr-F.Step = sym step_kept
   layer (Expr-F.Unary op arg) = arg.1

@@ -1,6 +1,7 @@
 pub mod Costs
 pub mod Finding
 pub mod Naming
-pub mod Choices
+pub mod EventOutputs
 pub mod Keeping
 pub mod Places
+pub mod SamePorts

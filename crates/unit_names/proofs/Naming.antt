@@ -60,9 +60,6 @@ typed_from name ty event place [] q = refl
 typed_from name ty event place (first ∷ others) q =
     step (bytes_eq q (name first)) (bytes_eq (name first) q) (nat_list_eq_equiv.symm q (name first)) (typed_from name ty event (place + 1) others q)
   where
-    behind : Option Declared
-    behind = declared_from (place + 1) (map (λ d. record { name = name d; ty = ty d; is_event = event }) others) q
-
     step : (asked stored : Bool) → asked ≡ stored → option_map type_of (declared_from (place + 1) (map (λ d. record { name = name d; ty = ty d; is_event = event }) others) q) ≡ option_map ty (find (λ d. bytes_eq (name d) q) others)
         → option_map type_of (cond asked (Some (record { place = place; ty = ty first; is_event = event })) (declared_from (place + 1) (map (λ d. record { name = name d; ty = ty d; is_event = event }) others) q)) ≡ option_map ty (cond stored (Some first) (find (λ d. bytes_eq (name d) q) others))
     step true true same rest = refl

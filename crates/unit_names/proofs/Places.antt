@@ -30,7 +30,7 @@ pub at_first : {D : Type 0} (name : D → List ℕ) (all : List D) (q : List ℕ
 at_first name [] q = refl
 at_first name (first ∷ others) q =
     step (bytes_eq q (name first)) (bytes_eq (name first) q) (nat_list_eq_equiv.symm q (name first))
-      (ap (option_and_then (slice_get (first ∷ others))) (later (bytes_eq q) 0 (map name others)) ∙ behind first others (first_place (map name others) q) ∙ at_first name others q)
+    (ap (option_and_then (slice_get (first ∷ others))) (later (bytes_eq q) 0 (map name others)) ∙ behind first others (first_place (map name others) q) ∙ at_first name others q)
   where
     step : (asked stored : Bool) → asked ≡ stored → option_and_then (slice_get (first ∷ others)) (position_from (bytes_eq q) 1 (map name others)) ≡ find (λ one. bytes_eq (name one) q) others
         → option_and_then (slice_get (first ∷ others)) (cond asked (Some 0) (position_from (bytes_eq q) 1 (map name others))) ≡ cond stored (Some first) (find (λ one. bytes_eq (name one) q) others)

@@ -93,7 +93,10 @@ fn put_outputs<'a>(entries: &mut Vec<Entry<'a>>, outputs: &'a [Output]) -> Resul
 }
 
 /// Adds its event outputs.
-fn put_events_out<'a>(entries: &mut Vec<Entry<'a>>, events_out: &'a [EventOut]) -> Result<(), NoMemory>
+fn put_events_out<'a>(
+    entries: &mut Vec<Entry<'a>>,
+    events_out: &'a [EventOut],
+) -> Result<(), NoMemory>
     ensures { OnOk result (map as_named entries.new.items ≡ map as_named entries.old.items ++ events_out_named events_out.now) }
 {
     for event in events_out {

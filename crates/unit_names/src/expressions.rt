@@ -9,7 +9,7 @@ use fixed_words::Ty;
 use unit_tree::{Expr, Line};
 
 /// Costs are counted up to here: one more than a call may cost.
-const MOST: u32 = 100_001;
+pub(crate) const MOST: u32 = 100_001;
 
 /// Whether an expression is at most so deep. A leaf is 1 deep.
 pub fn is_within(expr: &Expr, depth: u32) -> bool

@@ -1,5 +1,5 @@
 -- An event output by the choices of its expression: the kind of its word, and how deep and dear its two plain outputs are.
-use Rattle.std.proofs.Common.{◌≡◌, ℕ, zero, suc, ◌+◌, ℤ, pos, Bool, true, false, List, Option, Some, None, max, refl, ap, sym, subst, ◌∙◌}
+use Rattle.std.proofs.Common.{◌≡◌, ℕ, zero, suc, ◌+◌, ℤ, pos, Bool, true, false, ◌&&◌, List, Option, Some, None, max, min, nat_le, refl, ap, sym, subst, ◌∙◌, arith}
 use Rattle.fixed_words.specs.Types.{kind_of}
 use Rattle.fixed_words.specs.declared.types.Kind.{Kind}
 use Rattle.fixed_words.specs.declared.types.Ty.{Ty}
@@ -94,3 +94,44 @@ pub word_kind-Choose : (ty : Ty) (cond chosen other : Expr) (names : KindsOfName
 word_kind-Choose ty cond chosen other names =
     ap (λ value. kind_of_expression value names) (word-Choose ty cond chosen other)
     ∙ kind-Choose cond (word_expression_of ty chosen) (word_expression_of ty other) names
+
+-- ---- How deep it is, and what it costs
+
+pub choice_depth : (gap : Expr) (change : Expr → Expr) (cond chosen other : Expr)
+    → depth_of (with_choices gap change (expr.Choose cond chosen other)) ≡ suc (max (depth_of cond) (max (depth_of (with_choices gap change chosen)) (depth_of (with_choices gap change other))))
+choice_depth gap change cond chosen other =
+    ap depth_of (choices-Choose gap change cond chosen other) ∙ fold-Choose ℕ node_depth cond (with_choices gap change chosen) (with_choices gap change other)
+
+pub choice_cost : (gap : Expr) (change : Expr → Expr) (cond chosen other : Expr)
+    → cost_of (with_choices gap change (expr.Choose cond chosen other)) ≡ cost_of cond + 1 + cost_of (with_choices gap change chosen) + 1 + cost_of (with_choices gap change other)
+choice_cost gap change cond chosen other =
+    ap cost_of (choices-Choose gap change cond chosen other) ∙ fold-Choose ℕ node_cost cond (with_choices gap change chosen) (with_choices gap change other)
+
+-- ---- An `if`, from its parts
+
+capped : (x y z : ℕ) → min (min x 100001 + 1 + min y 100001 + 1 + min z 100001) 100001 ≡ min (x + 1 + y + 1 + z) 100001
+capped x y z = omega arith
+
+pub choice_costs : (gap : Expr) (change : Expr → Expr) (value cond chosen other : Expr) (all first second third : ℕ) → value ≡ expr.Choose cond chosen other
+    → all ≡ min (first + 1 + second + 1 + third) 100001
+    → first ≡ min (cost_of cond) 100001 → second ≡ min (cost_of (with_choices gap change chosen)) 100001 → third ≡ min (cost_of (with_choices gap change other)) 100001
+    → all ≡ min (cost_of (with_choices gap change value)) 100001
+choice_costs gap change value cond chosen other all first second third is total one two three =
+    total
+    ∙ rw (one, two, three) (capped (cost_of cond) (cost_of (with_choices gap change chosen)) (cost_of (with_choices gap change other)))
+    ∙ ap (λ cost. min cost 100001) (sym (ap (λ v. cost_of (with_choices gap change v)) is ∙ choice_cost gap change cond chosen other))
+
+within : (x y z less : ℕ) → (nat_le x less && nat_le y less && nat_le z less) ≡ nat_le (suc (max x (max y z))) (suc less)
+within x y z less = grind (arith)
+
+pub choice_is_within : (gap : Expr) (change : Expr → Expr) (value cond chosen other : Expr) (depth less : ℕ) (all first second third : Bool) → value ≡ expr.Choose cond chosen other
+    → less + 1 ≡ depth
+    → all ≡ (first && second && third)
+    → first ≡ nat_le (depth_of cond) less → second ≡ nat_le (depth_of (with_choices gap change chosen)) less → third ≡ nat_le (depth_of (with_choices gap change other)) less
+    → all ≡ nat_le (depth_of (with_choices gap change value)) depth
+choice_is_within gap change value cond chosen other depth less all first second third is one_less every one two three =
+    let deep : suc less ≡ depth = omega arith in
+    every
+    ∙ rw (one, two, three) (within (depth_of cond) (depth_of (with_choices gap change chosen)) (depth_of (with_choices gap change other)) less)
+    ∙ ap (λ d. nat_le d (suc less)) (sym (ap (λ v. depth_of (with_choices gap change v)) is ∙ choice_depth gap change cond chosen other))
+    ∙ ap (nat_le (depth_of (with_choices gap change value))) deep
