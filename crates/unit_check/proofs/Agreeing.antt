@@ -6,7 +6,7 @@ use Rattle.unit_check.proofs.Again.{redeclares_is, connects_is, repeats_is}
 use Rattle.unit_check.proofs.Breaking.{broken_in, says, broken_same}
 use Rattle.unit_check.proofs.Bridge.{system_goes}
 use Rattle.unit_check.proofs.Counting.{InUnit, unit_agrees, exceeds_is}
-use Rattle.unit_check.proofs.Measures.{depth_is, cost_is}
+use Rattle.unit_check.proofs.PlainMeasures.{depth_is, cost_is}
 use Rattle.unit_check.proofs.Ranged.{UnitInRange, units_in_range, literal_is, times_are, lines_in_range}
 use Rattle.unit_check.proofs.Sited.{walk}
 use Rattle.unit_check.proofs.Standing.{all_both, all_leads, all_two, Inside, inside_system, inside_instance, Stands, all_stand}
@@ -90,6 +90,8 @@ agree_at by.NeedsAreNamed system units site known = refl
 agree_at by.InputsConnectOnce system units site known = connects_is system site.scope site.earlier site.line known.stands.rest known.stands.cut known.held
 agree_at by.EndsMatch system units site known = refl
 agree_at by.CountsFit system units site known = exceeds_is system site.scope site.earlier site.line known.stands.rest known.stands.cut known.held known.in_unit
+agree_at by.DepthFits system units site known = depth_is system site.scope site.line
+agree_at by.CostFits system units site known = cost_is system site.scope site.line
 agree_at by.StopIsThere system units site known = refl
 agree_at by.TimesAreTicks system units site known = times_are system units site.line known.ranged
 agree_at by.RowsFit system units site known = refl

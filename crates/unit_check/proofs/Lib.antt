@@ -5,8 +5,9 @@ pub mod Bridge
 pub mod Counted
 pub mod Counting
 pub mod Judging
-pub mod Measures
-pub mod Ports
+pub mod PlainMeasures
+pub mod PortPuts
+pub mod FoundPorts
 pub mod Ranged
 pub mod Sited
 pub mod Standing

@@ -4,7 +4,7 @@ use Rattle.std.specs.Prelude.{if◌then◌else◌}
 use Rattle.std.specs.List.{flat_map}
 use Rattle.std.specs.Option.{option_map, unwrap_or}
 use Rattle.std.proofs.lemmas.List.{length-append}
-use Rattle.unit_check.proofs.Ports.{Same, output_is}
+use Rattle.unit_check.proofs.FoundPorts.{Same, output_is}
 use Rattle.unit_check.specs.Counts.{plain_wire_count, is_from}
 use Rattle.unit_names.specs.Systems.{output_found}
 use Rattle.unit_names.specs.declared.tables.Declared.{Declared}

@@ -26,6 +26,8 @@ number_of by.NeedsAreNamed = 12
 number_of by.InputsConnectOnce = 13
 number_of by.EndsMatch = 14
 number_of by.CountsFit = 16
+number_of by.DepthFits = 17
+number_of by.CostFits = 18
 number_of by.StopIsThere = 19
 number_of by.TimesAreTicks = 20
 number_of by.RowsFit = 21
@@ -43,6 +45,8 @@ breaks_of by.NeedsAreNamed = λ system site. hides_need site.scope site.line
 breaks_of by.InputsConnectOnce = connects_again
 breaks_of by.EndsMatch = λ system site. joins_other_types system site.line
 breaks_of by.CountsFit = λ system site. exceeds system site.scope site.earlier site.line
+breaks_of by.DepthFits = λ system site. has_deep_expression system site.scope site.line
+breaks_of by.CostFits = λ system site. costs_too_much system site.scope site.line
 breaks_of by.StopIsThere = λ system site. lacks_stop system site.line
 breaks_of by.TimesAreTicks = λ system site. mistimes system site.line
 breaks_of by.RowsFit = λ system site. has_too_many_rows system site.line
@@ -64,6 +68,8 @@ test_of by.NeedsAreNamed system scope place line = hides_need scope line
 test_of by.InputsConnectOnce system scope place line = connects_again_at system place line
 test_of by.EndsMatch system scope place line = joins_other_types system line
 test_of by.CountsFit system scope place line = exceeds_at system scope place line
+test_of by.DepthFits system scope place line = is_deep_at scope line
+test_of by.CostFits system scope place line = is_dear_at scope line
 test_of by.StopIsThere system scope place line = lacks_stop system line
 test_of by.TimesAreTicks system scope place line = mistimes_at system line
 test_of by.RowsFit system scope place line = has_too_many_rows system line
@@ -76,7 +82,7 @@ abbrev pub all_rules : List Rule
 all_rules =
     by.NamesDiffer ∷ by.NamesAreDeclared ∷ by.KindsFit ∷ by.LiteralsFit
     ∷ by.NeedsAreNamed ∷ by.InputsConnectOnce ∷ by.EndsMatch ∷ by.CountsFit
-    ∷ by.StopIsThere ∷ by.TimesAreTicks
+    ∷ by.DepthFits ∷ by.CostFits ∷ by.StopIsThere ∷ by.TimesAreTicks
     ∷ by.RowsFit ∷ by.TargetsMayChange ∷ by.InstanceIsThere ∷ by.NothingRepeats
     ∷ []
 

@@ -1,12 +1,14 @@
 //! The rules, one after the other.
 ghost use Rattle.std.specs.Prelude.{◌≡◌, [], map, OnOk, IfErr, None};
-ghost use Rattle.unit_check.specs.Rules.{TellsRule, Tells, defined, judged, number_of};
+ghost use Rattle.unit_check.specs.Rules.{TellsRule, Tells, IsFaultOf, defined, judged, number_of};
 ghost use Rattle.unit_tree.specs.Printable.{IsRanged};
-ghost use Rattle.unit_tree.specs.WellFormed.{lines_breaking, refusal_by};
+ghost use Rattle.unit_tree.specs.WellFormed.{lines_breaking, refusal_by, IsWellFormed};
 
 use crate::rules::Rule;
 use crate::walk::{Stop, first_line};
+use std::alloc::Global;
 use thiserror::Error;
+use unit_tree::System;
 use crate::tables::Tables;
 
 /// Why a system is refused, or was not judged.
@@ -49,7 +51,7 @@ fn judge_by_all(rules: &[Rule], tables: &Tables<'_>) -> Result<(), CheckFault>
 }
 
 /// Judges a system by all rules.
-fn judge(tables: &Tables<'_>) -> Result<(), CheckFault>
+fn judge_tables(tables: &Tables<'_>) -> Result<(), CheckFault>
     requires ranged { IsRanged tables.now }
     ensures ok { OnOk result (refusal_by judged tables.now ≡ None) }
     ensures err { IfErr result (λ why. Tells why (refusal_by judged tables.now)) }
@@ -64,6 +66,8 @@ fn judge(tables: &Tables<'_>) -> Result<(), CheckFault>
             Rule::InputsConnectOnce,
             Rule::EndsMatch,
             Rule::CountsFit,
+            Rule::DepthFits,
+            Rule::CostFits,
             Rule::StopIsThere,
             Rule::TimesAreTicks,
             Rule::RowsFit,
@@ -73,4 +77,20 @@ fn judge(tables: &Tables<'_>) -> Result<(), CheckFault>
         ],
         tables,
     )
+}
+
+/// Whether a system in range is well-formed, in either version of the language.
+///
+/// A system that isn't is refused by the least rule that it breaks, at the first canonical line that breaks it. The rules
+/// are those from 8 on, but for that of cycles.
+#[tactic(auto, using(crate::proofs::Judging::kept, crate::proofs::Judging::refused))]
+pub fn judge(alloc: Global, system: &System) -> Result<(), CheckFault>
+    requires ranged { IsRanged system.now }
+    ensures ok { OnOk result (IsWellFormed system.now) }
+    ensures refused { IfErr result (IsFaultOf system.now) }
+{
+    match Tables::new(alloc, system) {
+        Ok(tables) => judge_tables(&tables),
+        Err(_) => Err(CheckFault::NoMemory),
+    }
 }

@@ -7,11 +7,13 @@
 mod checking;
 mod counts;
 mod kind_lines;
+mod measures;
 mod name_lines;
+mod port_tables;
 mod ports;
 mod rules;
 mod run_lines;
 mod tables;
 mod walk;
 
-pub use checking::CheckFault;
+pub use checking::{CheckFault, judge};

@@ -1,52 +1,20 @@
 //! Rules on connections, samples and what is said twice.
 ghost use Rattle.std.specs.Prelude.{◌≡◌, map};
 ghost use Rattle.unit_check.specs.Joins.{differ_found};
-ghost use Rattle.unit_check.specs.Places.{first_port, connects_again_at, repeats_at};
+ghost use Rattle.unit_check.specs.Places.{connects_again_at, repeats_at};
 ghost use Rattle.unit_check.specs.Walks.{scope_of, form_of};
 ghost use Rattle.unit_names.specs.Found.{first_place};
-ghost use Rattle.unit_tree.specs.Names.{same_port};
 ghost use Rattle.fixed_words.specs.declared.types.Ty.TheVariants as form_ty;
 ghost use Rattle.unit_tree.specs.declared.system.System.{System};
 ghost use Rattle.unit_tree.specs.WellFormed.{same_type, joins_other_types};
 ghost use Rattle.unit_tree.specs.declared.line_form.LineForm.TheVariants as form;
 
 use crate::name_lines::is_before;
+use crate::tables::Tables;
 use crate::walk::{FormRef, ScopeRef};
 use fixed_words::Ty;
 use unit_names::{Declared, SystemNames, has_equals};
-use unit_tree::{Name, PortName, Setting, Wire};
-
-/// Whether two ports have the same names.
-fn is_same_port(one: &PortName, other: &PortName) -> bool
-    ensures { result ≡ same_port one.now other.now }
-{
-    one.instance.as_slice() == other.instance.as_slice()
-        && one.port.as_slice() == other.port.as_slice()
-}
-
-/// The first place of a port among those that are sampled.
-fn first_sample(samples: &[PortName], port: &PortName) -> Option<usize>
-    ensures { result ≡ first_port samples.now port.now }
-{
-    for (place, other) in samples.iter().enumerate() {
-        if is_same_port(port, other) {
-            return Some(place);
-        }
-    }
-    None
-}
-
-/// The first place of an input among those that are connected.
-fn first_connection(wires: &[Wire], port: &PortName) -> Option<usize>
-    ensures { result ≡ first_port (map (λ wire. wire.to) wires.now) port.now }
-{
-    for (place, wire) in wires.iter().enumerate() {
-        if is_same_port(port, &wire.to) {
-            return Some(place);
-        }
-    }
-    None
-}
+use unit_tree::{Name, Setting, Wire};
 
 /// The first place of a parameter among those that are set.
 fn first_setting(settings: &[Setting], name: &Name) -> Option<usize>
@@ -61,14 +29,11 @@ fn first_setting(settings: &[Setting], name: &Name) -> Option<usize>
 }
 
 /// Rule 13.
-pub(crate) fn connects_again(names: &SystemNames<'_>, place: usize, line: FormRef<'_>) -> bool
-    ensures { result ≡ connects_again_at names.now place (form_of line.entry) }
+pub(crate) fn connects_again(tables: &Tables<'_>, place: usize, line: FormRef<'_>) -> bool
+    ensures { result ≡ connects_again_at tables.now place (form_of line.entry) }
 {
     match line {
-        FormRef::Connect(wire) => is_before(
-            place,
-            first_connection(names.system().wires.as_slice(), &wire.to),
-        ),
+        FormRef::Connect(wire) => is_before(place, tables.first_connection(&wire.to)),
         _ => false,
     }
 }
@@ -112,7 +77,7 @@ fn differ(one: Option<Declared>, other: Option<Declared>) -> bool
 }
 
 /// Whether the ends of a connection differ.
-#[tactic(auto, using(crate::proofs::Ports::ends_differ))]
+#[tactic(auto, using(crate::proofs::FoundPorts::ends_differ))]
 fn joins_other_ports(names: &SystemNames<'_>, wire: &Wire) -> bool
     ensures { result ≡ joins_other_types names.now (form.Connect wire.now) }
 {
@@ -144,19 +109,16 @@ fn sets_again(scope: ScopeRef<'_, '_>, place: usize, setting: &Setting) -> bool
 
 /// Rule 24.
 pub(crate) fn repeats(
-    names: &SystemNames<'_>,
+    tables: &Tables<'_>,
     scope: ScopeRef<'_, '_>,
     place: usize,
     line: FormRef<'_>,
 ) -> bool
-    ensures { result ≡ repeats_at names.now (scope_of scope.entry) place (form_of line.entry) }
+    ensures { result ≡ repeats_at tables.now (scope_of scope.entry) place (form_of line.entry) }
 {
     match line {
         FormRef::Setting(setting) => sets_again(scope, place, setting),
-        FormRef::Sample(port) => is_before(
-            place,
-            first_sample(names.system().samples.as_slice(), port),
-        ),
+        FormRef::Sample(port) => is_before(place, tables.first_sample(port)),
         FormRef::Output(output) => has_equals(output.needs.as_slice()),
         FormRef::EventOutput(event) => has_equals(event.needs.as_slice()),
         _ => false,

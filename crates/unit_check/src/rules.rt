@@ -5,6 +5,7 @@ ghost use Rattle.unit_check.specs.Walks.{scope_of, form_of};
 
 use crate::counts::exceeds;
 use crate::kind_lines::{is_of_wrong_kind, is_out_of_range};
+use crate::measures::{costs_too_much, has_deep_expression};
 use crate::name_lines::{assigns_read_only, hides_need, misnames, redeclares};
 use crate::ports::{connects_again, joins_other_types, repeats};
 use crate::run_lines::{has_too_many_rows, lacks_instance, lacks_stop, mistimes};
@@ -30,6 +31,10 @@ pub(crate) enum Rule {
     EndsMatch,
     /// There are not too many of a kind.
     CountsFit,
+    /// No expression is too deep.
+    DepthFits,
+    /// No call costs too much.
+    CostFits,
     /// There is a `stop`.
     StopIsThere,
     /// `stop` and `longest` are whole numbers of ticks.
@@ -58,6 +63,8 @@ impl Rule {
             Rule::InputsConnectOnce => 13,
             Rule::EndsMatch => 14,
             Rule::CountsFit => 16,
+            Rule::DepthFits => 17,
+            Rule::CostFits => 18,
             Rule::StopIsThere => 19,
             Rule::TimesAreTicks => 20,
             Rule::RowsFit => 21,
@@ -85,14 +92,16 @@ pub(crate) fn breaks(
         Rule::KindsFit => is_of_wrong_kind(tables.names(), scope, line),
         Rule::LiteralsFit => is_out_of_range(tables.names(), scope, line),
         Rule::NeedsAreNamed => hides_need(scope, line),
-        Rule::InputsConnectOnce => connects_again(tables.names(), place, line),
+        Rule::InputsConnectOnce => connects_again(tables, place, line),
         Rule::EndsMatch => joins_other_types(tables.names(), line),
         Rule::CountsFit => exceeds(tables, scope, place, line),
+        Rule::DepthFits => has_deep_expression(scope, line),
+        Rule::CostFits => costs_too_much(scope, line),
         Rule::StopIsThere => lacks_stop(tables.names(), line),
         Rule::TimesAreTicks => mistimes(tables.names(), line),
         Rule::RowsFit => has_too_many_rows(tables.names(), line),
         Rule::TargetsMayChange => assigns_read_only(scope, line),
         Rule::InstanceIsThere => lacks_instance(tables.names(), line),
-        Rule::NothingRepeats => repeats(tables.names(), scope, place, line),
+        Rule::NothingRepeats => repeats(tables, scope, place, line),
     }
 }

@@ -1,13 +1,15 @@
 //! What the rules look up, made once for a system.
-ghost use Rattle.std.specs.Prelude.{◌≡◌, ◌+◌, ℕ, nat_lt, length, IfOk};
+ghost use Rattle.std.specs.Prelude.{◌≡◌, ◌+◌, ℕ, nat_lt, length, map, IfOk};
+ghost use Rattle.unit_check.specs.Places.{first_port};
 ghost use Rattle.unit_check.specs.Counts.{plain_wire_count, is_from};
 ghost use Rattle.unit_tree.specs.Plain.{plain_wires};
 
+use crate::port_tables::{PortPlaces, find_port, places_of_connections, places_of_samples};
 use fixed_words::NoMemory;
 use std::alloc::Global;
 use std::marker::Model;
 use unit_names::SystemNames;
-use unit_tree::{System, Wire};
+use unit_tree::{PortName, System, Wire};
 
 /// How many connections of the plain form a connection becomes.
 #[tactic(auto, using(crate::proofs::Wires::width_is))]
@@ -39,13 +41,16 @@ fn first_wire_too_many(names: &SystemNames<'_>) -> Option<usize>
 #[derive(Drop)]
 pub(crate) struct Tables<'a> {
     names: SystemNames<'a>,
+    connected: PortPlaces<'a>,
+    sampled: PortPlaces<'a>,
     wire_too_many: Option<usize>,
 }
 
 impl<'a> Model for Tables<'a> {
     ghost use Rattle.std.specs.Coded.{codes};
-    ghost use Rattle.std.specs.Prelude.{◌≡◌, ◌+◌, ℕ, nat_lt};
+    ghost use Rattle.std.specs.Prelude.{◌≡◌, ◌+◌, ℕ, nat_lt, map};
     ghost use Rattle.unit_check.specs.Counts.{plain_wire_count, is_from};
+    ghost use Rattle.unit_check.specs.PortTables.{FindsPorts};
     ghost use Rattle.unit_tree.specs.contracts.expr.Expr as expr;
     ghost use Rattle.unit_tree.specs.contracts.line.Line as line;
     ghost use Rattle.unit_tree.specs.declared.system.System.{System};
@@ -56,7 +61,10 @@ impl<'a> Model for Tables<'a> {
 
     ghost view = { λ tables. tables.names };
 
-    ghost invariant = { λ tables. (place : ℕ) → nat_lt 2048 (plain_wire_count tables.names (place + 1)) ≡ is_from place tables.wire_too_many };
+    ghost invariant = { λ tables.
+        FindsPorts (map (λ wire. wire.to) tables.names.wires) tables.connected
+        × FindsPorts tables.names.samples tables.sampled
+        × ((place : ℕ) → nat_lt 2048 (plain_wire_count tables.names (place + 1)) ≡ is_from place tables.wire_too_many) };
 }
 
 impl<'a> Tables<'a> {
@@ -65,9 +73,13 @@ impl<'a> Tables<'a> {
         ensures { IfOk result (λ tables. tables ≡ system.now) }
     {
         let names = SystemNames::new(alloc, system)?;
+        let connected = places_of_connections(alloc, system.wires.as_slice())?;
+        let sampled = places_of_samples(alloc, system.samples.as_slice())?;
         let wire_too_many = first_wire_too_many(&names);
         Ok(Tables {
             names,
+            connected,
+            sampled,
             wire_too_many,
         })
     }
@@ -87,5 +99,19 @@ impl<'a> Tables<'a> {
             Some(first) => first <= place,
             None => false,
         }
+    }
+
+    /// The first connection of an input, by its number from 0.
+    pub(crate) fn first_connection(&self, input: &PortName) -> Option<usize>
+        ensures { result ≡ first_port (map (λ wire. wire.to) self.now.wires) input.now }
+    {
+        find_port(&self.connected, input)
+    }
+
+    /// The first sample of a port, by its number from 0.
+    pub(crate) fn first_sample(&self, port: &PortName) -> Option<usize>
+        ensures { result ≡ first_port self.now.samples port.now }
+    {
+        find_port(&self.sampled, port)
     }
 }
