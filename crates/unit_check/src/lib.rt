@@ -14,6 +14,8 @@ mod ports;
 mod rules;
 mod run_lines;
 mod tables;
+#[cfg(test)]
+mod tests;
 mod walk;
 
 pub use checking::{CheckFault, judge};

@@ -435,11 +435,18 @@ fn past_system(walker: &Walker<'_>) -> Result<u32, Stop>
     past_samples(walker, number)
 }
 
+/// One more than there are lines, or why a walk by a rule stops.
+pub(crate) fn past_all(rule: Rule, tables: &Tables<'_>) -> Result<u32, Stop>
+    ensures { result ≡ system_walk (test_of rule tables.now) tables.now 1 }
+{
+    let walker = Walker { rule, tables };
+    past_system(&walker)
+}
+
 /// The first line that breaks a rule; else one more than there are lines.
 pub(crate) fn first_line(rule: Rule, tables: &Tables<'_>) -> Result<u32, Stop>
     requires ranged { IsRanged tables.now }
     ensures { Says result (lines_breaking (defined rule) tables.now) }
 {
-    let walker = Walker { rule, tables };
-    past_system(&walker)
+    past_all(rule, tables)
 }

@@ -7,5 +7,5 @@ use Rattle.unit_check.proofs.walk.first_line.Goals as goal
 
 pub returns : goal.returns
 returns c =
-    subst (λ (met : Result ℕ Stop). Says met (lines_breaking (defined c.args.rule) c.args.tables.now)) (sym c.past_system.ensures)
+    subst (λ (met : Result ℕ Stop). Says met (lines_breaking (defined c.args.rule) c.args.tables.now)) (sym c.past_all.ensures)
     (says_rule c.args.rule c.args.tables.now c.requires.ranged)
