@@ -46,7 +46,10 @@ wires_are_flat wire true = refl
 wires_are_flat wire false = refl
 
 pub depth_is : (system : System) (scope : Scope) (line : LineForm) → is_deep_at scope line ≡ has_deep_expression system scope line
-depth_is system scope (form.Connect wire) = sym (wires_are_flat wire (is_event_output system wire.from))
+depth_is system TopScope (form.Connect wire) = sym (wires_are_flat wire (is_event_output system wire.from))
+depth_is system (UnitScope unit) (form.Connect wire) = sym (wires_are_flat wire (is_event_output system wire.from))
+depth_is system (StepScope unit) (form.Connect wire) = sym (wires_are_flat wire (is_event_output system wire.from))
+depth_is system (InstanceScope instance) (form.Connect wire) = sym (wires_are_flat wire (is_event_output system wire.from))
 depth_is system (UnitScope unit) (form.Output output) = sym (plain_is output.value)
 depth_is system TopScope (form.Output output) = sym (one_is output.value)
 depth_is system (StepScope unit) (form.Output output) = sym (one_is output.value)
@@ -55,11 +58,26 @@ depth_is system (UnitScope unit) (form.EventOutput event) = sym (two_are (presen
 depth_is system TopScope (form.EventOutput event) = sym (one_is event.value)
 depth_is system (StepScope unit) (form.EventOutput event) = sym (one_is event.value)
 depth_is system (InstanceScope instance) (form.EventOutput event) = sym (one_is event.value)
-depth_is system scope (form.Max value) = sym (plain_is value)
-depth_is system scope (form.Assign target value) = sym (plain_is value)
-depth_is system scope (form.If cond) = sym (plain_is cond)
-depth_is system scope (form.Accept value) = sym (plain_is value)
-depth_is system scope _ = refl
+depth_is system TopScope (form.Max value) = sym (plain_is value)
+depth_is system (UnitScope unit) (form.Max value) = sym (plain_is value)
+depth_is system (StepScope unit) (form.Max value) = sym (plain_is value)
+depth_is system (InstanceScope instance) (form.Max value) = sym (plain_is value)
+depth_is system TopScope (form.Assign target value) = sym (plain_is value)
+depth_is system (UnitScope unit) (form.Assign target value) = sym (plain_is value)
+depth_is system (StepScope unit) (form.Assign target value) = sym (plain_is value)
+depth_is system (InstanceScope instance) (form.Assign target value) = sym (plain_is value)
+depth_is system TopScope (form.If cond) = sym (plain_is cond)
+depth_is system (UnitScope unit) (form.If cond) = sym (plain_is cond)
+depth_is system (StepScope unit) (form.If cond) = sym (plain_is cond)
+depth_is system (InstanceScope instance) (form.If cond) = sym (plain_is cond)
+depth_is system TopScope (form.Accept value) = sym (plain_is value)
+depth_is system (UnitScope unit) (form.Accept value) = sym (plain_is value)
+depth_is system (StepScope unit) (form.Accept value) = sym (plain_is value)
+depth_is system (InstanceScope instance) (form.Accept value) = sym (plain_is value)
+depth_is system TopScope _ = refl
+depth_is system (UnitScope unit) _ = refl
+depth_is system (StepScope unit) _ = refl
+depth_is system (InstanceScope instance) _ = refl
 
 -- ---- Cost
 
@@ -82,7 +100,8 @@ two_dear one other =
 
 same_costs : (lines : List Line) → sum (map line_cost (map plain_line lines)) ≡ sum (map line_cost lines)
 same_costs [] = refl
-same_costs (line ∷ lines) = rw (plain_line_cost line, same_costs lines) refl
+same_costs (line ∷ lines) =
+    ap (λ cost. cost + sum (map line_cost (map plain_line lines))) (plain_line_cost line) ∙ ap (λ rest. line_cost line + rest) (same_costs lines)
 
 step_is : (step : Option (List Line)) → (nat_lt 100000 (step_cost (option_map (map plain_line) step)) || false) ≡ nat_lt 100000 (step_cost step)
 step_is None = refl

@@ -8,3 +8,7 @@ use Rattle.unit_tree.specs.WellFormed.{same_type}
 abbrev pub differ_found : Option Declared → Option Declared → Bool
 differ_found (Some one) (Some other) = not (same_type one.ty other.ty) || not (beq one.is_event other.is_event)
 differ_found _ _ = false
+
+abbrev pub is_event_found : Option Declared → Bool
+is_event_found (Some one) = one.is_event
+is_event_found None = false

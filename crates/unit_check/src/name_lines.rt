@@ -1,16 +1,16 @@
 //! Rules on names: how they are declared and used.
-ghost use Rattle.std.specs.Prelude.{◌≡◌};
+ghost use Rattle.std.specs.Prelude.{◌≡◌, is_none};
 ghost use Rattle.unit_check.specs.Places.{is_before, declares_again, redeclares_at};
 ghost use Rattle.unit_check.specs.Walks.{scope_of, form_of};
 ghost use Rattle.unit_tree.specs.Sites.{TopScope, UnitScope, StepScope, InstanceScope};
 ghost use Rattle.unit_names.specs.Found.{first_place, declared_names};
-ghost use Rattle.unit_tree.specs.Names.{unit_of_instance};
+ghost use Rattle.unit_tree.specs.Names.{unit_of_instance, input_at, output_at};
 ghost use Rattle.unit_tree.specs.declared.line_form.LineForm.TheVariants as form;
 ghost use Rattle.unit_tree.specs.WellFormed.{name_declared, misuses, misnames, is_param_of, assigns_read_only, hides_need};
 
 use crate::walk::{FormRef, ScopeRef};
 use unit_names::{Asker, SystemNames, UnitNames};
-use unit_tree::{Expr, Instance, Name, Setting, Wire};
+use unit_tree::{Expr, Instance, Name, PortName, Setting, Wire};
 
 /// Whether a first place lies before another place.
 pub(crate) fn is_before(place: usize, first: Option<usize>) -> bool
@@ -135,7 +135,23 @@ fn misnames_in_instance(
 fn misconnects(names: &SystemNames<'_>, wire: &Wire) -> bool
     ensures { result ≡ misnames names.now TopScope (form.Connect wire.now) }
 {
-    names.output_at(&wire.from).is_none() || names.input_at(&wire.to).is_none()
+    is_no_output(names, &wire.from) || is_no_input(names, &wire.to)
+}
+
+/// Whether a port is no output.
+#[tactic(auto, using(crate::proofs::FoundPorts::no_output))]
+fn is_no_output(names: &SystemNames<'_>, port: &PortName) -> bool
+    ensures { result ≡ is_none (output_at names.now port.now) }
+{
+    names.output_at(port).is_none()
+}
+
+/// Whether a port is no input.
+#[tactic(auto, using(crate::proofs::FoundPorts::no_input))]
+fn is_no_input(names: &SystemNames<'_>, port: &PortName) -> bool
+    ensures { result ≡ is_none (input_at names.now port.now) }
+{
+    names.input_at(port).is_none()
 }
 
 /// Rule 9, outside of blocks.
@@ -145,7 +161,7 @@ fn misnames_on_top(names: &SystemNames<'_>, line: FormRef<'_>) -> bool
     match line {
         FormRef::Instance(instance) => names.unit_of(instance).is_none(),
         FormRef::Connect(wire) => misconnects(names, wire),
-        FormRef::Sample(port) => names.output_at(port).is_none(),
+        FormRef::Sample(port) => is_no_output(names, port),
         _ => false,
     }
 }

@@ -1,29 +1,45 @@
 //! What the rules look up, made once for a system.
-ghost use Rattle.std.specs.Prelude.{◌≡◌, ◌+◌, ℕ, nat_lt, length, map, IfOk};
+ghost use Rattle.std.specs.Prelude.{◌≡◌, ◌+◌, ◌≤◌, ℕ, nat_lt, length, map, IfOk};
 ghost use Rattle.unit_check.specs.Places.{first_port};
 ghost use Rattle.unit_check.specs.Counts.{plain_wire_count, is_from};
-ghost use Rattle.unit_tree.specs.Plain.{plain_wires};
+ghost use Rattle.unit_tree.specs.Plain.{plain_wires, is_event_output};
+ghost use Rattle.unit_check.specs.Joins.{is_event_found};
 
 use crate::port_tables::{PortPlaces, find_port, places_of_connections, places_of_samples};
 use fixed_words::NoMemory;
 use std::alloc::Global;
 use std::marker::Model;
-use unit_names::SystemNames;
+use unit_names::{Declared, SystemNames};
 use unit_tree::{PortName, System, Wire};
 
-/// How many connections of the plain form a connection becomes.
-#[tactic(auto, using(crate::proofs::Wires::width_is))]
-fn width(names: &SystemNames<'_>, wire: &Wire) -> u32
-    ensures { result ≡ length (plain_wires names.now wire.now) }
+fn is_event(found: Option<Declared>) -> bool
+    ensures { result ≡ is_event_found found }
 {
-    match names.output_at(&wire.from) {
-        Some(output) => if output.is_event { 2 } else { 1 },
-        None => 1,
+    match found {
+        Some(port) => port.is_event,
+        None => false,
     }
 }
 
+/// Whether a port is an event output.
+#[tactic(auto, using(crate::proofs::Wires::event_is))]
+fn is_event_output(names: &SystemNames<'_>, port: &PortName) -> bool
+    ensures { result ≡ is_event_output names.now port.now }
+{
+    is_event(names.output_at(port))
+}
+
+/// How many connections of the plain form a connection becomes.
+#[tactic(auto, using(crate::proofs::Wires::two_or_one))]
+fn width(names: &SystemNames<'_>, wire: &Wire) -> u32
+    ensures count { result ≡ length (plain_wires names.now wire.now) }
+    ensures most { result ≤ 2 }
+{
+    if is_event_output(names, &wire.from) { 2 } else { 1 }
+}
+
 /// The first connection that is one too many in the plain form.
-#[tactic(auto, using(crate::proofs::Wires::first_exceeds, crate::proofs::Wires::none_exceeds))]
+#[tactic(auto, using(crate::proofs::Wires::first_exceeds, crate::proofs::Wires::none_exceeds, crate::proofs::Wires::next_count))]
 fn first_wire_too_many(names: &SystemNames<'_>) -> Option<usize>
     ensures { (place : ℕ) → nat_lt 2048 (plain_wire_count names.now (place + 1)) ≡ is_from place result }
 {
