@@ -98,10 +98,12 @@ two_dear one other =
     ap (λ met. nat_lt 100000 (expression_call_cost (plain_expression one)) || met) (plain_dear other)
     ∙ ap (λ cost. nat_lt 100000 (cost + 1) || is_dearer other) (plain_cost one)
 
+same_list : (lines : List Line) → map line_cost (map plain_line lines) ≡ map line_cost lines
+same_list [] = refl
+same_list (line ∷ lines) = ap (λ cost. cost ∷ map line_cost (map plain_line lines)) (plain_line_cost line) ∙ ap (λ rest. line_cost line ∷ rest) (same_list lines)
+
 same_costs : (lines : List Line) → sum (map line_cost (map plain_line lines)) ≡ sum (map line_cost lines)
-same_costs [] = refl
-same_costs (line ∷ lines) =
-    ap (λ cost. cost + sum (map line_cost (map plain_line lines))) (plain_line_cost line) ∙ ap (λ rest. line_cost line + rest) (same_costs lines)
+same_costs lines = ap sum (same_list lines)
 
 step_is : (step : Option (List Line)) → (nat_lt 100000 (step_cost (option_map (map plain_line) step)) || false) ≡ nat_lt 100000 (step_cost step)
 step_is None = refl
