@@ -51,7 +51,7 @@ module _ (system : System) where
   in_instance instance earlier (first ∷ others) inside = (
     _,
     all_both (InUnit system) first.block (sites (InstanceScope instance) (earlier ++ (first.head ∷ [])) others) inside.0
-    (in_instance instance (earlier ++ (first.head ∷ [])) others inside.1),
+        (in_instance instance (earlier ++ (first.head ∷ [])) others inside.1),
   )
 
   all_in_units : AllByRecursion (InUnit system) (sites_of system)

@@ -26,10 +26,10 @@ module _ (test : Test) (scope : Scope) (count : List LineForm → ℕ) (adds : (
       let met = walk t number (line_sites scope earlier front) in
       let further : (n : ℕ) → met ≡ Ok n → next n ≡ walk t n (line_sites scope (earlier ++ front) behind) =
       λ n is.
-          let behind_is = counted t number n (line_sites scope earlier front) is in
-          let many = line_sites_count scope earlier front in
-          let all = adds earlier front in
-          on n (omega arith) in
+      let behind_is = counted t number n (line_sites scope earlier front) is in
+      let many = line_sites_count scope earlier front in
+      let all = adds earlier front in
+      on n (omega arith) in
       ap (λ r. onward r next) (goes number at)
       ∙ onward_same met next (λ n. walk t n (line_sites scope (earlier ++ front) behind)) further
       ∙ sym (walk_on t number (line_sites scope earlier front) (line_sites scope (earlier ++ front) behind))

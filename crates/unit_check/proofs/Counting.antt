@@ -83,7 +83,7 @@ module _ (system : System) (scope : Scope) where
   each_behind P said before holds front (x ∷ xs) = (
     holds front x,
     subst (λ earlier. AllByRecursion P (line_sites scope earlier (map said xs))) (ap (λ lines. before ++ lines) (map-append said front (x ∷ [])) ∙ sym (append_assoc before (map said front) (said x ∷ [])))
-    (each_behind P said before holds (front ++ (x ∷ [])) xs),
+        (each_behind P said before holds (front ++ (x ∷ [])) xs),
   )
 
   -- How many are alike to a line of a form, with it, and which place it has.

@@ -108,7 +108,7 @@ module _ (system : System) where
   each_stands scope earlier (first ∷ others) cut inside = (
     record { rest = heads others; cut = cut },
     all_both (Stands system) first.block (sites scope (earlier ++ (first.head ∷ [])) others) inside.0
-    (each_stands scope (earlier ++ (first.head ∷ [])) others (cut ∙ sym (append_assoc earlier (first.head ∷ []) (heads others))) inside.1),
+        (each_stands scope (earlier ++ (first.head ∷ [])) others (cut ∙ sym (append_assoc earlier (first.head ∷ []) (heads others))) inside.1),
   )
 
   in_instance : (instance : Instance) → AllByRecursion (Stands system) (sites (InstanceScope instance) [] (instance_block instance))

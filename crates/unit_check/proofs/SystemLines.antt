@@ -153,6 +153,5 @@ module _ (system : System) where
       ∙ rw (u, i, w, s, l, z, r, sa) (regroup_parts header units instances wires
       (map alone (optional form.Stop system.stop)) (map alone (optional form.Longest system.longest)) (map alone (optional form.Zero system.zero)) (map alone (optional form.Rows system.rows)) samples)
 
-
   pub sites_are : sites_of system ≡ sites TopScope [] whole
   sites_are = ap (sites TopScope []) whole_is

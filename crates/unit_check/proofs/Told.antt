@@ -98,9 +98,9 @@ module _ (system : System) where
         let r : List Headed = map alone (optional form.Rows system.rows) in
         told_both asked (s ++ l ++ z) r
         ∙ ap (λ front. front ++ told asked r)
-            (told_both asked (s ++ l) z
-            ∙ ap (λ front. front ++ told asked z) (told_both asked s l ∙ ap (λ front. front ++ told asked l) (none_given asked form.Stop stop_tells system.stop) ∙ none_given asked form.Longest longest_tells system.longest)
-            ∙ none_given asked form.Zero zero_tells system.zero)
+        (told_both asked (s ++ l) z
+        ∙ ap (λ front. front ++ told asked z) (told_both asked s l ∙ ap (λ front. front ++ told asked l) (none_given asked form.Stop stop_tells system.stop) ∙ none_given asked form.Longest longest_tells system.longest)
+        ∙ none_given asked form.Zero zero_tells system.zero)
         ∙ none_given asked form.Rows rows_tells system.rows
 
     pub whole_tells : told asked (whole system) ≡ ((told asked (units system) ++ told asked (instances system)) ++ told asked (wires system)) ++ told asked (samples system)
@@ -108,13 +108,13 @@ module _ (system : System) where
         let made : List Headed = (units system ++ instances system) ++ wires system in
         told_both asked ((header system ++ made) ++ limits system) (samples system)
         ∙ ap (λ front. front ++ told asked (samples system))
-            (told_both asked (header system ++ made) (limits system)
-            ∙ ap (λ behind. told asked (header system ++ made) ++ behind) limits_tell
-            ∙ append-nil (told asked (header system ++ made))
-            ∙ told_both asked (header system) made
-            ∙ ap (λ here. cons_option here [] ++ told asked made) header_tells
-            ∙ told_both asked (units system ++ instances system) (wires system)
-            ∙ ap (λ front. front ++ told asked (wires system)) (told_both asked (units system) (instances system)))
+        (told_both asked (header system ++ made) (limits system)
+        ∙ ap (λ behind. told asked (header system ++ made) ++ behind) limits_tell
+        ∙ append-nil (told asked (header system ++ made))
+        ∙ told_both asked (header system) made
+        ∙ ap (λ here. cons_option here [] ++ told asked made) header_tells
+        ∙ told_both asked (units system ++ instances system) (wires system)
+        ∙ ap (λ front. front ++ told asked (wires system)) (told_both asked (units system) (instances system)))
 
   pub units_tell : told unit_declared (whole system) ≡ map (λ unit. unit.name) system.units
   units_tell =

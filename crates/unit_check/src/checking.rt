@@ -5,11 +5,11 @@ ghost use Rattle.unit_tree.specs.Printable.{IsRanged};
 ghost use Rattle.unit_tree.specs.WellFormed.{lines_breaking, refusal_by, IsWellFormed};
 
 use crate::rules::Rule;
+use crate::tables::Tables;
 use crate::walk::{Stop, first_line};
 use std::alloc::Global;
 use thiserror::Error;
 use unit_tree::System;
-use crate::tables::Tables;
 
 /// Why a system is refused, or was not judged.
 #[derive(Debug, Drop, Error, PartialEq, Eq)]

@@ -39,8 +39,7 @@ fn expression_on<'a>(line: FormRef<'a>) -> Option<&'a Expr>
 fn is_deep_event(event: &EventOut) -> bool
     ensures { result ≡ (is_deeper (presence_of event.now.value) || is_deeper (word_expression_of event.now.ty event.now.value)) }
 {
-    !presence_is_within(&event.value, DEEPEST)
-        || !word_is_within(event.ty, &event.value, DEEPEST)
+    !presence_is_within(&event.value, DEEPEST) || !word_is_within(event.ty, &event.value, DEEPEST)
 }
 
 /// Whether the expression on a line is too deep.
@@ -76,8 +75,7 @@ fn is_dear(value: &Expr) -> bool
 fn is_dear_event(event: &EventOut) -> bool
     ensures { result ≡ (is_dearer (presence_of event.now.value) || is_dearer (word_expression_of event.now.ty event.now.value)) }
 {
-    presence_cost(&event.value) + 1 > DEAREST
-        || word_cost(event.ty, &event.value) + 1 > DEAREST
+    presence_cost(&event.value) + 1 > DEAREST || word_cost(event.ty, &event.value) + 1 > DEAREST
 }
 
 /// Whether a step costs too much.

@@ -118,11 +118,7 @@ fn is_param_of(names: &SystemNames<'_>, instance: &Instance, setting: &Setting) 
 }
 
 /// Rule 9, in an instance.
-fn misnames_in_instance(
-    names: &SystemNames<'_>,
-    instance: &Instance,
-    line: FormRef<'_>,
-) -> bool
+fn misnames_in_instance(names: &SystemNames<'_>, instance: &Instance, line: FormRef<'_>) -> bool
     ensures { result ≡ misnames names.now (InstanceScope instance.now) (form_of line.entry) }
 {
     match line {
@@ -167,11 +163,7 @@ fn misnames_on_top(names: &SystemNames<'_>, line: FormRef<'_>) -> bool
 }
 
 /// Rule 9.
-pub(crate) fn misnames(
-    names: &SystemNames<'_>,
-    scope: ScopeRef<'_, '_>,
-    line: FormRef<'_>,
-) -> bool
+pub(crate) fn misnames(names: &SystemNames<'_>, scope: ScopeRef<'_, '_>, line: FormRef<'_>) -> bool
     ensures { result ≡ misnames names.now (scope_of scope.entry) (form_of line.entry) }
 {
     match scope {

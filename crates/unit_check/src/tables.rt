@@ -35,7 +35,11 @@ fn width(names: &SystemNames<'_>, wire: &Wire) -> u32
     ensures count { result ≡ length (plain_wires names.now wire.now) }
     ensures most { result ≤ 2 }
 {
-    if is_event_output(names, &wire.from) { 2 } else { 1 }
+    if is_event_output(names, &wire.from) {
+        2
+    } else {
+        1
+    }
 }
 
 /// The first connection that is one too many in the plain form.

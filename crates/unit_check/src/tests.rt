@@ -167,20 +167,29 @@ fn broken_unit(alloc: Global, rule: Rule) -> Result<Unit, NoMemory> {
         Rule::CountsFit => add_params(alloc, &mut unit, 33)?,
         Rule::DepthFits => unit.outputs = with_value(alloc, Ty::Int64, negated(alloc, 32)?)?,
         Rule::CostFits => {
-            let inner = lines(alloc, Line::Repeat {
-                count: 1000,
-                body: List::new(alloc),
-            })?;
-            unit.step = Some(lines(alloc, Line::Repeat {
-                count: 1000,
-                body: inner,
-            })?);
+            let inner = lines(
+                alloc,
+                Line::Repeat {
+                    count: 1000,
+                    body: List::new(alloc),
+                },
+            )?;
+            unit.step = Some(lines(
+                alloc,
+                Line::Repeat {
+                    count: 1000,
+                    body: inner,
+                },
+            )?);
         }
         Rule::TargetsMayChange => {
-            unit.step = Some(lines(alloc, Line::Assign {
-                target: name(alloc, "y")?,
-                value: one(),
-            })?);
+            unit.step = Some(lines(
+                alloc,
+                Line::Assign {
+                    target: name(alloc, "y")?,
+                    value: one(),
+                },
+            )?);
         }
         _ => {}
     }

@@ -6,17 +6,36 @@ ghost use Rattle.unit_check.specs.Rules.{Says, defined, test_of};
 ghost use Rattle.unit_tree.specs.Printable.{IsRanged};
 ghost use Rattle.unit_tree.specs.WellFormed.{lines_breaking};
 ghost use Rattle.unit_check.specs.Walks.{
-    scope_of, form_of, past, past_from, each, if_given, line_walk, step_walk, plain_names_walk, ports_walk, names_walk, behaviour_walk,
-    unit_walk, units_walk, numbered_walk, instance_walk, instances_walk, limits_walk, parts_walk, system_walk,
+  scope_of,
+  form_of,
+  past,
+  past_from,
+  each,
+  if_given,
+  line_walk,
+  step_walk,
+  plain_names_walk,
+  ports_walk,
+  names_walk,
+  behaviour_walk,
+  unit_walk,
+  units_walk,
+  numbered_walk,
+  instance_walk,
+  instances_walk,
+  limits_walk,
+  parts_walk,
+  system_walk,
 };
 
 use crate::rules::{Rule, breaks};
 use crate::tables::Tables;
 use fixed_words::{List, Literal};
-use unit_tree::{
-    EventIn, EventOut, Expr, Input, Instance, Line, Local, Name, Output, Param, PortName, Setting, State, System, Wire,
-};
 use unit_names::UnitNames;
+use unit_tree::{
+    EventIn, EventOut, Expr, Input, Instance, Line, Local, Name, Output, Param, PortName, Setting,
+    State, System, Wire,
+};
 
 /// What a line stands in.
 #[derive(Clone, Copy)]
@@ -83,7 +102,13 @@ impl Walker<'_> {
     }
 
     /// The number behind a line, unless it breaks the rule.
-    fn past(&self, scope: ScopeRef<'_, '_>, place: usize, line: FormRef<'_>, number: u32) -> Result<u32, Stop>
+    fn past(
+        &self,
+        scope: ScopeRef<'_, '_>,
+        place: usize,
+        line: FormRef<'_>,
+        number: u32,
+    ) -> Result<u32, Stop>
         ensures { result ≡ past (test_of self.now.rule self.now.tables.now (scope_of scope.entry) place (form_of line.entry)) number }
     {
         if breaks(self.rule, self.tables, scope, place, line) {
@@ -96,7 +121,13 @@ impl Walker<'_> {
     }
 
     /// The number behind a line whose place is counted from a first number.
-    fn past_from(&self, scope: ScopeRef<'_, '_>, first: u32, line: FormRef<'_>, number: u32) -> Result<u32, Stop>
+    fn past_from(
+        &self,
+        scope: ScopeRef<'_, '_>,
+        first: u32,
+        line: FormRef<'_>,
+        number: u32,
+    ) -> Result<u32, Stop>
         ensures { result ≡ past_from (test_of self.now.rule self.now.tables.now (scope_of scope.entry)) first (form_of line.entry) number }
     {
         self.past(scope, number.saturating_sub(first) as usize, line, number)
@@ -105,12 +136,23 @@ impl Walker<'_> {
 
 /// The number behind a line of a step and its block.
 #[cycle(steps)]
-fn past_line(walker: &Walker<'_>, unit: &UnitNames<'_>, first: u32, line: &Line, number: u32) -> Result<u32, Stop>
+fn past_line(
+    walker: &Walker<'_>,
+    unit: &UnitNames<'_>,
+    first: u32,
+    line: &Line,
+    number: u32,
+) -> Result<u32, Stop>
     ensures { result ≡ line_walk (past_from (test_of walker.now.rule walker.now.tables.now (StepScope unit.now)) first) line.now number }
 {
     let scope = ScopeRef::Step(unit);
     match line {
-        Line::Assign { target, value } => walker.past_from(scope, first, FormRef::Assign { target, value }, number),
+        Line::Assign { target, value } => walker.past_from(
+            scope,
+            first,
+            FormRef::Assign { target, value },
+            number,
+        ),
         Line::If { cond, yes, no } => {
             let number = walker.past_from(scope, first, FormRef::If(cond), number)?;
             let number = past_lines(walker, unit, first, yes.as_slice(), number)?;
@@ -134,7 +176,13 @@ fn past_line(walker: &Walker<'_>, unit: &UnitNames<'_>, first: u32, line: &Line,
 
 /// The number behind lines of a step and their blocks.
 #[cycle(steps)]
-fn past_lines(walker: &Walker<'_>, unit: &UnitNames<'_>, first: u32, lines: &[Line], number: u32) -> Result<u32, Stop>
+fn past_lines(
+    walker: &Walker<'_>,
+    unit: &UnitNames<'_>,
+    first: u32,
+    lines: &[Line],
+    number: u32,
+) -> Result<u32, Stop>
     ensures { result ≡ each (line_walk (past_from (test_of walker.now.rule walker.now.tables.now (StepScope unit.now)) first)) lines.now number }
 {
     let mut next = number;
@@ -147,7 +195,12 @@ fn past_lines(walker: &Walker<'_>, unit: &UnitNames<'_>, first: u32, lines: &[Li
 ghost use Rattle.unit_tree.specs.Sites.{TopScope, UnitScope, StepScope, InstanceScope};
 
 /// The number behind a step, with its own `step` and `end`.
-fn past_step(walker: &Walker<'_>, unit: &UnitNames<'_>, lines: &[Line], number: u32) -> Result<u32, Stop>
+fn past_step(
+    walker: &Walker<'_>,
+    unit: &UnitNames<'_>,
+    lines: &[Line],
+    number: u32,
+) -> Result<u32, Stop>
     ensures { result ≡ step_walk (test_of walker.now.rule walker.now.tables.now) unit.now lines.now number }
 {
     let first = walker.past(ScopeRef::Unit(unit), 0, FormRef::Step, number)?;
@@ -155,7 +208,12 @@ fn past_step(walker: &Walker<'_>, unit: &UnitNames<'_>, lines: &[Line], number: 
     walker.past(ScopeRef::Unit(unit), 0, FormRef::End, number)
 }
 
-fn past_params(walker: &Walker<'_>, unit: &UnitNames<'_>, first: u32, number: u32) -> Result<u32, Stop>
+fn past_params(
+    walker: &Walker<'_>,
+    unit: &UnitNames<'_>,
+    first: u32,
+    number: u32,
+) -> Result<u32, Stop>
     ensures { result ≡ each (λ param. past_from (test_of walker.now.rule walker.now.tables.now (UnitScope unit.now)) first (form.Param param)) unit.now.params number }
 {
     let mut next = number;
@@ -165,7 +223,12 @@ fn past_params(walker: &Walker<'_>, unit: &UnitNames<'_>, first: u32, number: u3
     Ok(next)
 }
 
-fn past_states(walker: &Walker<'_>, unit: &UnitNames<'_>, first: u32, number: u32) -> Result<u32, Stop>
+fn past_states(
+    walker: &Walker<'_>,
+    unit: &UnitNames<'_>,
+    first: u32,
+    number: u32,
+) -> Result<u32, Stop>
     ensures { result ≡ each (λ state. past_from (test_of walker.now.rule walker.now.tables.now (UnitScope unit.now)) first (form.State state)) unit.now.states number }
 {
     let mut next = number;
@@ -175,7 +238,12 @@ fn past_states(walker: &Walker<'_>, unit: &UnitNames<'_>, first: u32, number: u3
     Ok(next)
 }
 
-fn past_locals(walker: &Walker<'_>, unit: &UnitNames<'_>, first: u32, number: u32) -> Result<u32, Stop>
+fn past_locals(
+    walker: &Walker<'_>,
+    unit: &UnitNames<'_>,
+    first: u32,
+    number: u32,
+) -> Result<u32, Stop>
     ensures { result ≡ each (λ local. past_from (test_of walker.now.rule walker.now.tables.now (UnitScope unit.now)) first (form.Local local)) unit.now.locals number }
 {
     let mut next = number;
@@ -185,7 +253,12 @@ fn past_locals(walker: &Walker<'_>, unit: &UnitNames<'_>, first: u32, number: u3
     Ok(next)
 }
 
-fn past_inputs(walker: &Walker<'_>, unit: &UnitNames<'_>, first: u32, number: u32) -> Result<u32, Stop>
+fn past_inputs(
+    walker: &Walker<'_>,
+    unit: &UnitNames<'_>,
+    first: u32,
+    number: u32,
+) -> Result<u32, Stop>
     ensures { result ≡ each (λ input. past_from (test_of walker.now.rule walker.now.tables.now (UnitScope unit.now)) first (form.Input input)) unit.now.inputs number }
 {
     let mut next = number;
@@ -195,17 +268,32 @@ fn past_inputs(walker: &Walker<'_>, unit: &UnitNames<'_>, first: u32, number: u3
     Ok(next)
 }
 
-fn past_events_in(walker: &Walker<'_>, unit: &UnitNames<'_>, first: u32, number: u32) -> Result<u32, Stop>
+fn past_events_in(
+    walker: &Walker<'_>,
+    unit: &UnitNames<'_>,
+    first: u32,
+    number: u32,
+) -> Result<u32, Stop>
     ensures { result ≡ each (λ event. past_from (test_of walker.now.rule walker.now.tables.now (UnitScope unit.now)) first (form.EventInput event)) unit.now.events_in number }
 {
     let mut next = number;
     for event in unit.unit().events_in.as_slice() {
-        next = walker.past_from(ScopeRef::Unit(unit), first, FormRef::EventInput(event), next)?;
+        next = walker.past_from(
+            ScopeRef::Unit(unit),
+            first,
+            FormRef::EventInput(event),
+            next,
+        )?;
     }
     Ok(next)
 }
 
-fn past_outputs(walker: &Walker<'_>, unit: &UnitNames<'_>, first: u32, number: u32) -> Result<u32, Stop>
+fn past_outputs(
+    walker: &Walker<'_>,
+    unit: &UnitNames<'_>,
+    first: u32,
+    number: u32,
+) -> Result<u32, Stop>
     ensures { result ≡ each (λ output. past_from (test_of walker.now.rule walker.now.tables.now (UnitScope unit.now)) first (form.Output output)) unit.now.outputs number }
 {
     let mut next = number;
@@ -215,17 +303,32 @@ fn past_outputs(walker: &Walker<'_>, unit: &UnitNames<'_>, first: u32, number: u
     Ok(next)
 }
 
-fn past_events_out(walker: &Walker<'_>, unit: &UnitNames<'_>, first: u32, number: u32) -> Result<u32, Stop>
+fn past_events_out(
+    walker: &Walker<'_>,
+    unit: &UnitNames<'_>,
+    first: u32,
+    number: u32,
+) -> Result<u32, Stop>
     ensures { result ≡ each (λ event. past_from (test_of walker.now.rule walker.now.tables.now (UnitScope unit.now)) first (form.EventOutput event)) unit.now.events_out number }
 {
     let mut next = number;
     for event in unit.unit().events_out.as_slice() {
-        next = walker.past_from(ScopeRef::Unit(unit), first, FormRef::EventOutput(event), next)?;
+        next = walker.past_from(
+            ScopeRef::Unit(unit),
+            first,
+            FormRef::EventOutput(event),
+            next,
+        )?;
     }
     Ok(next)
 }
 
-fn past_plain_names(walker: &Walker<'_>, unit: &UnitNames<'_>, first: u32, number: u32) -> Result<u32, Stop>
+fn past_plain_names(
+    walker: &Walker<'_>,
+    unit: &UnitNames<'_>,
+    first: u32,
+    number: u32,
+) -> Result<u32, Stop>
     ensures { result ≡ plain_names_walk (past_from (test_of walker.now.rule walker.now.tables.now (UnitScope unit.now)) first) unit.now number }
 {
     let number = past_params(walker, unit, first, number)?;
@@ -233,7 +336,12 @@ fn past_plain_names(walker: &Walker<'_>, unit: &UnitNames<'_>, first: u32, numbe
     past_locals(walker, unit, first, number)
 }
 
-fn past_ports(walker: &Walker<'_>, unit: &UnitNames<'_>, first: u32, number: u32) -> Result<u32, Stop>
+fn past_ports(
+    walker: &Walker<'_>,
+    unit: &UnitNames<'_>,
+    first: u32,
+    number: u32,
+) -> Result<u32, Stop>
     ensures { result ≡ ports_walk (past_from (test_of walker.now.rule walker.now.tables.now (UnitScope unit.now)) first) unit.now number }
 {
     let number = past_inputs(walker, unit, first, number)?;
@@ -255,7 +363,12 @@ fn past_resolution(walker: &Walker<'_>, unit: &UnitNames<'_>, number: u32) -> Re
     ensures { result ≡ if_given (λ decimals. past (test_of walker.now.rule walker.now.tables.now (UnitScope unit.now) 0 (form.Resolution decimals))) unit.now.resolution number }
 {
     match unit.unit().resolution {
-        Some(decimals) => walker.past(ScopeRef::Unit(unit), 0, FormRef::Resolution(decimals), number),
+        Some(decimals) => walker.past(
+            ScopeRef::Unit(unit),
+            0,
+            FormRef::Resolution(decimals),
+            number,
+        ),
         None => Ok(number),
     }
 }
@@ -326,7 +439,12 @@ fn past_settings(walker: &Walker<'_>, instance: &Instance, number: u32) -> Resul
 {
     let mut next = number;
     for setting in instance.settings.as_slice() {
-        next = walker.past_from(ScopeRef::Instance(instance), number, FormRef::Setting(setting), next)?;
+        next = walker.past_from(
+            ScopeRef::Instance(instance),
+            number,
+            FormRef::Setting(setting),
+            next,
+        )?;
     }
     Ok(next)
 }
@@ -429,7 +547,12 @@ fn past_limits(walker: &Walker<'_>, number: u32) -> Result<u32, Stop>
 fn past_system(walker: &Walker<'_>) -> Result<u32, Stop>
     ensures { result ≡ system_walk (test_of walker.now.rule walker.now.tables.now) walker.now.tables.now 1 }
 {
-    let number = walker.past(ScopeRef::Top, 0, FormRef::Header(walker.system().version), 1)?;
+    let number = walker.past(
+        ScopeRef::Top,
+        0,
+        FormRef::Header(walker.system().version),
+        1,
+    )?;
     let number = past_parts(walker, number)?;
     let number = past_limits(walker, number)?;
     past_samples(walker, number)
