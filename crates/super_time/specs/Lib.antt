@@ -1,3 +1,4 @@
 pub mod Laws
 pub mod LocalTime
+pub mod Reading
 pub mod Seconds

@@ -1,0 +1,82 @@
+//! Literals as ticks.
+ghost use Rattle.std.specs.Prelude.{◌≡◌, ◌≤◌, ◌<◌, ◌*◌, ◌/◌, ◌%◌, ◌^◌, ◌==◌, Some, None, if◌then◌else◌};
+ghost use Rattle.super_time.specs.Reading.{AreDecimalsOf};
+ghost use Rattle.super_time.specs.Seconds.{seconds_of, within_run};
+
+use crate::seconds::SecondsFault;
+use fixed_words::Literal;
+
+/// The power of ten, for at most 9 decimals.
+fn ten_to_the(decimals: u8) -> u128
+    requires { decimals ≤ 9 }
+    ensures power { result ≡ 10 ^ decimals }
+    ensures least { 1 ≤ result }
+    ensures greatest { result ≤ 10 ^ 9 }
+{
+    match decimals {
+        0 => 1,
+        1 => 10,
+        2 => 100,
+        3 => 1_000,
+        4 => 10_000,
+        5 => 100_000,
+        6 => 1_000_000,
+        7 => 10_000_000,
+        8 => 100_000_000,
+        _ => 1_000_000_000,
+    }
+}
+
+/// So many units of a power of ten.
+fn product(number: u64, unit: u128) -> u128
+    requires { unit ≤ 10 ^ 9 }
+    ensures { result ≡ number * unit }
+{
+    u128::from(number) * unit
+}
+
+/// Ticks as those of a run, which has at most 10^15.
+fn of_run(ticks: u128) -> Result<u64, SecondsFault>
+    ensures { result ≡ within_run (Some ticks) }
+{
+    if ticks > 1_000_000_000_000_000 {
+        Err(SecondsFault::TooLarge)
+    } else {
+        Ok(ticks as u64)
+    }
+}
+
+/// The ticks in so many units of ten to the power of minus `decimals` seconds.
+fn ticks(resolution: u8, number: u64, decimals: u8) -> Result<u64, SecondsFault>
+    requires resolution { resolution ≤ 9 }
+    requires decimals { decimals ≤ 9 }
+    ensures { result
+        ≡ within_run (if (number * 10 ^ resolution) % 10 ^ decimals == 0 then Some (number * 10 ^ resolution / 10 ^ decimals) else None) }
+{
+    let parts = product(number, ten_to_the(resolution));
+    let unit = ten_to_the(decimals);
+    if parts % unit == 0 {
+        of_run(parts / unit)
+    } else {
+        Err(SecondsFault::NotMultiple)
+    }
+}
+
+/// The ticks that a literal is as a number of seconds, where a tick is ten to the power of minus `resolution` seconds; or
+/// why it is none that a run may have: first by its form, then by its value.
+pub fn read_seconds(resolution: u8, literal: Literal) -> Result<u64, SecondsFault>
+    requires resolution { resolution ≤ 9 }
+    requires decimals { AreDecimalsOf literal }
+    ensures { result ≡ seconds_of resolution literal }
+{
+    match literal {
+        Literal::Truth(_) => Err(SecondsFault::NotDecimal),
+        Literal::Number { word, decimals } => {
+            if word < 0 {
+                Err(SecondsFault::NotDecimal)
+            } else {
+                ticks(resolution, word.unsigned_abs(), decimals)
+            }
+        }
+    }
+}

@@ -1,0 +1,17 @@
+pub mod Again
+pub mod Agreeing
+pub mod Breaking
+pub mod Bridge
+pub mod Counted
+pub mod Counting
+pub mod Judging
+pub mod PlainMeasures
+pub mod PortPuts
+pub mod FoundPorts
+pub mod Ranged
+pub mod Sited
+pub mod Standing
+pub mod SystemLines
+pub mod Told
+pub mod Units
+pub mod Wires

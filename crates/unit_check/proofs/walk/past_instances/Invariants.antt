@@ -1,0 +1,9 @@
+use Rattle.std.proofs.Common.{◌≡◌, drop}
+use Rattle.unit_tree.specs.Sites.{UnitScope, InstanceScope, TopScope}
+use Rattle.unit_tree.specs.declared.line_form.LineForm.TheVariants as form
+use Rattle.unit_check.specs.Rules.{test_of}
+use Rattle.unit_check.specs.Walks.{each, past_from, units_walk, instances_walk}
+use Rattle.unit_check.proofs.walk.past_instances.Given as goal
+
+abbrev pub invariant-loop-place : goal.invariant-loop-place
+invariant-loop-place l = instances_walk (test_of l.walker.rule l.walker.tables.now) 0 l.walker.tables.now.instances l.number ≡ instances_walk (test_of l.walker.rule l.walker.tables.now) l.place (drop l.place l.walker.tables.now.instances) l.next

@@ -1,0 +1,96 @@
+//! The rules, one after the other.
+ghost use Rattle.std.specs.Prelude.{◌≡◌, [], map, OnOk, IfErr, None};
+ghost use Rattle.unit_check.specs.Rules.{TellsRule, Tells, IsFaultOf, defined, judged, number_of};
+ghost use Rattle.unit_tree.specs.Printable.{IsRanged};
+ghost use Rattle.unit_tree.specs.WellFormed.{lines_breaking, refusal_by, IsWellFormed};
+
+use crate::rules::Rule;
+use crate::tables::Tables;
+use crate::walk::{Stop, first_line};
+use std::alloc::Global;
+use thiserror::Error;
+use unit_tree::System;
+
+/// Why a system is refused, or was not judged.
+#[derive(Debug, Drop, Error, PartialEq, Eq)]
+pub enum CheckFault {
+    /// The canonical line `item`, counted from 1, is the first that breaks the rule, and no line breaks an earlier one.
+    #[error("line {item} breaks rule {rule}")]
+    Line { item: u32, rule: u8 },
+    /// There was not enough memory, or there are more lines than numbers.
+    #[error("no memory")]
+    NoMemory,
+}
+
+/// Judges a system by one rule.
+fn judge_by(rule: Rule, tables: &Tables<'_>) -> Result<(), CheckFault>
+    requires ranged { IsRanged tables.now }
+    ensures ok { OnOk result (lines_breaking (defined rule) tables.now ≡ []) }
+    ensures err { IfErr result (TellsRule (number_of rule) (lines_breaking (defined rule) tables.now)) }
+{
+    match first_line(rule, tables) {
+        Ok(_) => Ok(()),
+        Err(Stop::At(item)) => Err(CheckFault::Line {
+            item,
+            rule: rule.number(),
+        }),
+        Err(Stop::Full) => Err(CheckFault::NoMemory),
+    }
+}
+
+/// Judges a system by rules, in their order.
+fn judge_by_all(rules: &[Rule], tables: &Tables<'_>) -> Result<(), CheckFault>
+    requires ranged { IsRanged tables.now }
+    ensures ok { OnOk result (refusal_by (map defined rules.now) tables.now ≡ None) }
+    ensures err { IfErr result (λ why. Tells why (refusal_by (map defined rules.now) tables.now)) }
+{
+    for rule in rules {
+        judge_by(*rule, tables)?;
+    }
+    Ok(())
+}
+
+/// Judges a system by all rules.
+fn judge_tables(tables: &Tables<'_>) -> Result<(), CheckFault>
+    requires ranged { IsRanged tables.now }
+    ensures ok { OnOk result (refusal_by judged tables.now ≡ None) }
+    ensures err { IfErr result (λ why. Tells why (refusal_by judged tables.now)) }
+{
+    judge_by_all(
+        &[
+            Rule::NamesDiffer,
+            Rule::NamesAreDeclared,
+            Rule::KindsFit,
+            Rule::LiteralsFit,
+            Rule::NeedsAreNamed,
+            Rule::InputsConnectOnce,
+            Rule::EndsMatch,
+            Rule::CountsFit,
+            Rule::DepthFits,
+            Rule::CostFits,
+            Rule::StopIsThere,
+            Rule::TimesAreTicks,
+            Rule::RowsFit,
+            Rule::TargetsMayChange,
+            Rule::InstanceIsThere,
+            Rule::NothingRepeats,
+        ],
+        tables,
+    )
+}
+
+/// Whether a system in range is well-formed, in either version of the language.
+///
+/// A system that isn't is refused by the least rule that it breaks, at the first canonical line that breaks it. The rules
+/// are those from 8 on, but for that of cycles.
+#[tactic(auto, using(crate::proofs::Judging::kept, crate::proofs::Judging::refused))]
+pub fn judge(alloc: Global, system: &System) -> Result<(), CheckFault>
+    requires ranged { IsRanged system.now }
+    ensures ok { OnOk result (IsWellFormed system.now) }
+    ensures refused { IfErr result (IsFaultOf system.now) }
+{
+    match Tables::new(alloc, system) {
+        Ok(tables) => judge_tables(&tables),
+        Err(_) => Err(CheckFault::NoMemory),
+    }
+}

@@ -1,0 +1,91 @@
+//! The rule on how many of a kind there may be.
+ghost use Rattle.std.specs.Prelude.{◌≡◌, ◌+◌, ◌-◌, ◌*◌, nat_lt, length};
+ghost use Rattle.unit_check.specs.Counts.{exceeds_in_unit, exceeds_on_top, exceeds_at};
+ghost use Rattle.unit_check.specs.Walks.{scope_of, form_of};
+
+use crate::tables::Tables;
+use crate::walk::{FormRef, ScopeRef};
+use unit_tree::Unit;
+
+/// The place among the inputs and what comes behind them.
+fn behind_locals(unit: &Unit, place: usize) -> usize
+    ensures { result ≡ place - length unit.now.params - length unit.now.states - length unit.now.locals }
+{
+    place
+        .saturating_sub(unit.params.len())
+        .saturating_sub(unit.states.len())
+        .saturating_sub(unit.locals.len())
+}
+
+/// The place among the outputs and what comes behind them.
+fn behind_inputs(unit: &Unit, place: usize) -> usize
+    ensures { result
+        ≡ place - length unit.now.params - length unit.now.states - length unit.now.locals - length unit.now.inputs - length unit.now.events_in }
+{
+    behind_locals(unit, place)
+        .saturating_sub(unit.inputs.len())
+        .saturating_sub(unit.events_in.len())
+}
+
+/// Whether so many plain ports, and event ports up to a place, are more than 32.
+fn are_too_many_ports(plain: usize, place: usize) -> bool
+    ensures { result ≡ nat_lt 32 (plain + 2 * (place + 1)) }
+{
+    plain as u128 + 2 * (place as u128 + 1) > 32
+}
+
+/// Rule 16, in a unit.
+fn exceeds_in_unit(unit: &Unit, place: usize, line: FormRef<'_>) -> bool
+    ensures { result ≡ exceeds_in_unit unit.now place (form_of line.entry) }
+{
+    match line {
+        FormRef::Param(_) => place >= 32,
+        FormRef::State(_) => place.saturating_sub(unit.params.len()) >= 64,
+        FormRef::Local(_) => {
+            place
+                .saturating_sub(unit.params.len())
+                .saturating_sub(unit.states.len())
+                >= 64
+        }
+        FormRef::Input(_) => behind_locals(unit, place) >= 32,
+        FormRef::EventInput(_) => are_too_many_ports(
+            unit.inputs.len(),
+            behind_locals(unit, place).saturating_sub(unit.inputs.len()),
+        ),
+        FormRef::Output(_) => behind_inputs(unit, place) >= 32,
+        FormRef::EventOutput(_) => are_too_many_ports(
+            unit.outputs.len(),
+            behind_inputs(unit, place).saturating_sub(unit.outputs.len()),
+        ),
+        _ => false,
+    }
+}
+
+/// Rule 16, outside of blocks.
+fn exceeds_on_top(tables: &Tables<'_>, place: usize, line: FormRef<'_>) -> bool
+    ensures { result ≡ exceeds_on_top tables.now place (form_of line.entry) }
+{
+    match line {
+        FormRef::Unit(_) | FormRef::Instance(_) => place >= 64,
+        FormRef::Connect(_) => tables.has_too_many_wires(place),
+        FormRef::Sample(_) => place >= 2048,
+        _ => false,
+    }
+}
+
+/// Rule 16.
+pub(crate) fn exceeds(
+    tables: &Tables<'_>,
+    scope: ScopeRef<'_, '_>,
+    place: usize,
+    line: FormRef<'_>,
+) -> bool
+    ensures { result ≡ exceeds_at tables.now (scope_of scope.entry) place (form_of line.entry) }
+{
+    match scope {
+        ScopeRef::Top => exceeds_on_top(tables, place, line),
+        ScopeRef::Unit(unit) => exceeds_in_unit(unit.unit(), place, line),
+        ScopeRef::Step(_) => place >= 500,
+        ScopeRef::Instance(_) => false,
+    }
+}
