@@ -1,4 +1,3 @@
 pub mod Laws
 pub mod LocalTime
-pub mod Reading
 pub mod Seconds

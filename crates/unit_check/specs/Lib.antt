@@ -5,4 +5,5 @@ pub mod Places
 pub mod PortTables
 pub mod Ranges
 pub mod Rules
+pub mod Seconds
 pub mod Walks

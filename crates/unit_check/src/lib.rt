@@ -13,6 +13,7 @@ mod port_tables;
 mod ports;
 mod rules;
 mod run_lines;
+mod seconds;
 mod tables;
 #[cfg(test)]
 mod tests;

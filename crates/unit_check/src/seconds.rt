@@ -1,10 +1,10 @@
-//! Literals as ticks.
+//! Seconds of a literal as ticks.
 ghost use Rattle.std.specs.Prelude.{◌≡◌, ◌≤◌, ◌<◌, ◌*◌, ◌/◌, ◌%◌, ◌^◌, ◌==◌, Some, None, if◌then◌else◌};
-ghost use Rattle.super_time.specs.Reading.{AreDecimalsOf};
+ghost use Rattle.unit_check.specs.Seconds.{AreDecimalsOf};
 ghost use Rattle.super_time.specs.Seconds.{seconds_of, within_run};
 
-use crate::seconds::SecondsFault;
 use fixed_words::Literal;
+use super_time::SecondsFault;
 
 /// The power of ten, for at most 9 decimals.
 fn ten_to_the(decimals: u8) -> u128
@@ -64,7 +64,7 @@ fn ticks(resolution: u8, number: u64, decimals: u8) -> Result<u64, SecondsFault>
 
 /// The ticks that a literal is as a number of seconds, where a tick is ten to the power of minus `resolution` seconds; or
 /// why it is none that a run may have: first by its form, then by its value.
-pub fn read_seconds(resolution: u8, literal: Literal) -> Result<u64, SecondsFault>
+pub(crate) fn read_seconds(resolution: u8, literal: Literal) -> Result<u64, SecondsFault>
     requires resolution { resolution ≤ 9 }
     requires decimals { AreDecimalsOf literal }
     ensures { result ≡ seconds_of resolution literal }
