@@ -1,5 +1,5 @@
 -- What a text says has as many canonical lines as the text has lines that are not blank.
-use Rattle.std.proofs.Common.{◌≡◌, ℕ, zero, suc, ◌+◌, Bool, true, false, cond, List, [], ◌∷◌, ◌++◌, length, take, drop, map, refl, ap, sym, ◌∙◌, arith}
+use Rattle.std.proofs.Common.{◌≡◌, ℕ, suc, ◌+◌, Bool, true, false, List, [], ◌∷◌, ◌++◌, length, take, drop, refl, ap, sym, ◌∙◌, arith}
 use Rattle.std.specs.Prelude.{◌==◌, not, ⊤}
 use Rattle.std.specs.List.{filter, flat_map, enumerate_from}
 use Rattle.std.proofs.lemmas.List.{length-append, length-take, length-drop, length-map}
@@ -8,9 +8,8 @@ use Rattle.unit_tree.specs.Canonical.{canonical_forms}
 use Rattle.unit_tree.specs.Lines.{source_lines, is_blank_line}
 use Rattle.unit_tree.specs.Parts as parts
 use Rattle.unit_tree.specs.Parts.{Part, UnitPart, unit_part_forms, part_forms, text_forms, system_of}
-use Rattle.unit_tree.specs.SourceLines.{unit_part_rank, part_rank, of_rank, by_rank, each_ranked, unit_lines_in_order, part_lines_in_order, in_canonical_order, numbers_of, ReadsFrom}
+use Rattle.unit_tree.specs.SourceLines.{unit_part_rank, part_rank, of_rank, by_rank, each_ranked, unit_lines_in_order, part_lines_in_order, in_canonical_order, numbers_of}
 use Rattle.unit_tree.specs.Texts.{HasFormIn}
-use Rattle.unit_tree.specs.declared.system.System.{System}
 use Rattle.unit_tree.proofs.SourceLaws.{forms_are}
 use Rattle.text_laws.specs.Laws.{SourceLinesAreOneForOne}
 

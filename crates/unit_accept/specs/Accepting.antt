@@ -1,0 +1,56 @@
+-- Which texts are accepted by the rules of the language, and at which line and by which rule any other is refused. The rules are
+-- judged in stages: those on the text and its lines, those on the system that it says, and at last that its outputs have an order.
+use Rattle.std.specs.Prelude.{◌≡◌, ℕ, ◌-◌, List, Option, Some, slice_get, ◌⊎◌}
+use Rattle.unit_tree.specs.Orders.{HasNoCycle, IsFirstWithoutOrder, line_of_output}
+use Rattle.unit_tree.specs.SourceLines.{ReadsFrom}
+use Rattle.unit_tree.specs.Texts.{IsRefused}
+use Rattle.unit_tree.specs.WellFormed.{Refusal, IsWellFormed, refusal_of}
+use Rattle.unit_tree.specs.declared.system.PortName.{PortName}
+use Rattle.unit_tree.specs.declared.system.System.{System}
+
+-- The text says the system, whose canonical lines came from these lines of the text; no rule is broken, and its outputs have
+-- an order.
+pub record IsAcceptedAs (text : List ℕ) (system : System) (lines : List ℕ) : Type 0 where
+  pub reads : ReadsFrom text system lines
+  pub well_formed : IsWellFormed system
+  pub ordered : HasNoCycle system
+
+-- The line of the text that a canonical line came from, which counts from 1.
+abbrev pub source_line : List ℕ → ℕ → Option ℕ
+source_line lines item = slice_get lines (item - 1)
+
+-- The system that the text says breaks a rule: the least one, at the first canonical line that breaks it.
+pub record BreaksRule (text : List ℕ) (line rule : ℕ) : Type 0 where
+  pub system : System
+  pub lines : List ℕ
+  pub reads : ReadsFrom text system lines
+  pub refusal : Refusal
+  pub found : refusal_of system ≡ Some refusal
+  pub at : source_line lines refusal.at ≡ Some line
+  pub by : rule ≡ refusal.by
+
+-- The system keeps these rules, and some output has no order: the line is that of the first such output in its unit.
+pub record HasCycle (text : List ℕ) (line rule : ℕ) : Type 0 where
+  pub system : System
+  pub lines : List ℕ
+  pub reads : ReadsFrom text system lines
+  pub well_formed : IsWellFormed system
+  pub port : PortName
+  pub first : IsFirstWithoutOrder system port
+  pub item : ℕ
+  pub declared : line_of_output system port ≡ Some item
+  pub at : source_line lines item ≡ Some line
+  pub by : rule ≡ 15
+
+-- The text is refused at the line by the rule.
+abbrev pub IsRefusedAt : List ℕ → ℕ → ℕ → Type 0
+IsRefusedAt text line rule = IsRefused text line rule ⊎ (BreaksRule text line rule ⊎ HasCycle text line rule)
+
+-- The text is accepted in a version of the language whose systems are not run yet, which is said of its header.
+pub record IsOfUnservedVersion (text : List ℕ) (line rule : ℕ) : Type 0 where
+  pub system : System
+  pub lines : List ℕ
+  pub accepted : IsAcceptedAs text system lines
+  pub version : system.version ≡ 2
+  pub at : source_line lines 1 ≡ Some line
+  pub by : rule ≡ 25

@@ -1,0 +1,9 @@
+//! Which texts are accepted by all rules of the language.
+//!
+//! Definitions: `specs/Accepting.antt` (which text is accepted as which system, and at which line and by which rule any other is
+//! refused). [`texts_are_judged_once`] is the law that each text is judged in one way.
+#![tactic(auto)]
+
+mod laws;
+
+pub use laws::texts_are_judged_once;
