@@ -87,14 +87,6 @@ fn add_input(alloc: Global, unit: &mut Unit, ty: Ty) -> Result<(), NoMemory> {
     })
 }
 
-fn add_param(unit: &mut Unit, name: Name, ty: Ty, start: i64) -> Result<(), NoMemory> {
-    unit.params.push(Param {
-        name,
-        ty,
-        start: number(start),
-    })
-}
-
 fn port(alloc: Global, named: &str) -> Result<PortName, NoMemory> {
     Ok(PortName {
         instance: name(alloc, "a")?,
@@ -110,16 +102,22 @@ fn connect(alloc: Global, system: &mut System) -> Result<(), NoMemory> {
     })
 }
 
-/// An output with this value in place of 1.
-fn with_value(alloc: Global, ty: Ty, value: Expr) -> Result<List<Output>, NoMemory> {
-    let mut outputs = List::new(alloc);
-    outputs.push(Output {
+/// Gives the output this type and value.
+fn set_output(alloc: Global, unit: &mut Unit, ty: Ty, value: Expr) -> Result<(), NoMemory> {
+    unit.outputs = List::new(alloc);
+    unit.outputs.push(Output {
         name: name(alloc, "y")?,
         ty,
         needs: List::new(alloc),
         value,
-    })?;
-    Ok(outputs)
+    })
+}
+
+/// `output y : Int64 = u`, without a need.
+fn use_input(alloc: Global, unit: &mut Unit) -> Result<(), NoMemory> {
+    add_input(alloc, unit, Ty::Int64)?;
+    let used = Expr::Var(name(alloc, "u")?);
+    set_output(alloc, unit, Ty::Int64, used)
 }
 
 /// `-` in front of 1, so often.
@@ -134,95 +132,136 @@ fn negated(alloc: Global, times: u8) -> Result<Expr, NoMemory> {
     Ok(value)
 }
 
-/// One line.
-fn lines(alloc: Global, line: Line) -> Result<List<Line>, NoMemory> {
-    let mut lines = List::new(alloc);
-    lines.push(line)?;
-    Ok(lines)
+/// An expression that is one too deep.
+fn nest(alloc: Global, unit: &mut Unit) -> Result<(), NoMemory> {
+    let value = negated(alloc, 32)?;
+    set_output(alloc, unit, Ty::Int64, value)
 }
 
-/// Parameters with names of two bytes.
-fn add_params(alloc: Global, unit: &mut Unit, count: u8) -> Result<(), NoMemory>
-    requires { count < 64 }
-{
-    for letter in 0..count {
-        let called = List::from_slice(alloc, &[b'p', b'0' + letter])?;
+/// A step of one line.
+fn set_step(alloc: Global, unit: &mut Unit, line: Line) -> Result<(), NoMemory> {
+    let mut lines = List::new(alloc);
+    lines.push(line)?;
+    unit.step = Some(lines);
+    Ok(())
+}
+
+/// `repeat 1000` of `repeat 1000` of nothing.
+fn repeat_often(alloc: Global, unit: &mut Unit) -> Result<(), NoMemory> {
+    let mut body = List::new(alloc);
+    body.push(Line::Repeat {
+        count: 1000,
+        body: List::new(alloc),
+    })?;
+    set_step(alloc, unit, Line::Repeat { count: 1000, body })
+}
+
+/// `y := 1`
+fn assign_output(alloc: Global, unit: &mut Unit) -> Result<(), NoMemory> {
+    let target = name(alloc, "y")?;
+    set_step(
+        alloc,
+        unit,
+        Line::Assign {
+            target,
+            value: one(),
+        },
+    )
+}
+
+fn add_param(unit: &mut Unit, name: Name, ty: Ty, start: i64) -> Result<(), NoMemory> {
+    unit.params.push(Param {
+        name,
+        ty,
+        start: number(start),
+    })
+}
+
+/// `param k : Int8 = 128`
+fn add_wide_param(alloc: Global, unit: &mut Unit) -> Result<(), NoMemory> {
+    let called = name(alloc, "k")?;
+    add_param(unit, called, Ty::Int8, 128)
+}
+
+/// One parameter too many, with names of two bytes.
+fn add_params(alloc: Global, unit: &mut Unit) -> Result<(), NoMemory> {
+    for letter in b'A'..b'b' {
+        let called = List::from_slice(alloc, &[b'p', letter])?;
         add_param(unit, called, Ty::Int64, 0)?;
     }
     Ok(())
 }
 
-/// A unit that breaks the rule, where a unit can.
-fn broken_unit(alloc: Global, rule: Rule) -> Result<Unit, NoMemory> {
-    let mut unit = unit(alloc)?;
+/// Lets a unit break the rule, where a unit can.
+fn spoil_unit(alloc: Global, unit: &mut Unit, rule: Rule) -> Result<(), NoMemory> {
     match rule {
-        Rule::KindsFit => unit.outputs = with_value(alloc, Ty::Bool, one())?,
-        Rule::LiteralsFit => add_param(&mut unit, name(alloc, "k")?, Ty::Int8, 128)?,
-        Rule::NeedsAreNamed => {
-            add_input(alloc, &mut unit, Ty::Int64)?;
-            unit.outputs = with_value(alloc, Ty::Int64, Expr::Var(name(alloc, "u")?))?;
-        }
-        Rule::InputsConnectOnce => add_input(alloc, &mut unit, Ty::Int64)?,
-        Rule::EndsMatch => add_input(alloc, &mut unit, Ty::Int32)?,
-        Rule::CountsFit => add_params(alloc, &mut unit, 33)?,
-        Rule::DepthFits => unit.outputs = with_value(alloc, Ty::Int64, negated(alloc, 32)?)?,
-        Rule::CostFits => {
-            let inner = lines(
-                alloc,
-                Line::Repeat {
-                    count: 1000,
-                    body: List::new(alloc),
-                },
-            )?;
-            unit.step = Some(lines(
-                alloc,
-                Line::Repeat {
-                    count: 1000,
-                    body: inner,
-                },
-            )?);
-        }
-        Rule::TargetsMayChange => {
-            unit.step = Some(lines(
-                alloc,
-                Line::Assign {
-                    target: name(alloc, "y")?,
-                    value: one(),
-                },
-            )?);
-        }
+        Rule::KindsFit => set_output(alloc, unit, Ty::Bool, one()),
+        Rule::LiteralsFit => add_wide_param(alloc, unit),
+        Rule::NeedsAreNamed => use_input(alloc, unit),
+        Rule::InputsConnectOnce => add_input(alloc, unit, Ty::Int64),
+        Rule::EndsMatch => add_input(alloc, unit, Ty::Int32),
+        Rule::CountsFit => add_params(alloc, unit),
+        Rule::DepthFits => nest(alloc, unit),
+        Rule::CostFits => repeat_often(alloc, unit),
+        Rule::TargetsMayChange => assign_output(alloc, unit),
+        _ => Ok(()),
+    }
+}
+
+fn add_unit(alloc: Global, system: &mut System) -> Result<(), NoMemory> {
+    let again = unit(alloc)?;
+    system.units.push(again)
+}
+
+fn add_lost_instance(alloc: Global, system: &mut System) -> Result<(), NoMemory> {
+    let lost = instance(alloc, "b", "B")?;
+    system.instances.push(lost)
+}
+
+fn connect_twice(alloc: Global, system: &mut System) -> Result<(), NoMemory> {
+    connect(alloc, system)?;
+    connect(alloc, system)
+}
+
+fn sample_twice(alloc: Global, system: &mut System) -> Result<(), NoMemory> {
+    system.samples.push(port(alloc, "y")?)?;
+    system.samples.push(port(alloc, "y")?)
+}
+
+fn stop_at(system: &mut System, stop: Option<Literal>) {
+    system.stop = stop;
+}
+
+/// Lets a system break the rule, where its units do not.
+fn spoil(alloc: Global, system: &mut System, rule: Rule) -> Result<(), NoMemory> {
+    match rule {
+        Rule::NamesDiffer => add_unit(alloc, system)?,
+        Rule::NamesAreDeclared => add_lost_instance(alloc, system)?,
+        Rule::InputsConnectOnce => connect_twice(alloc, system)?,
+        Rule::EndsMatch => connect(alloc, system)?,
+        Rule::StopIsThere => stop_at(system, None),
+        Rule::TimesAreTicks => stop_at(
+            system,
+            Some(Literal::Number {
+                word: 5,
+                decimals: 1,
+            }),
+        ),
+        Rule::RowsFit => system.rows = Some(1_000_001),
+        Rule::InstanceIsThere => system.instances = List::new(alloc),
+        Rule::NothingRepeats => sample_twice(alloc, system)?,
         _ => {}
     }
-    Ok(unit)
+    Ok(())
 }
 
 /// A system that breaks the rule alone.
 fn broken(alloc: Global, rule: Rule) -> Result<System, NoMemory> {
-    let mut system = system(alloc, broken_unit(alloc, rule)?)?;
-    match rule {
-        Rule::NamesDiffer => system.units.push(unit(alloc)?)?,
-        Rule::NamesAreDeclared => system.instances.push(instance(alloc, "b", "B")?)?,
-        Rule::InputsConnectOnce => {
-            connect(alloc, &mut system)?;
-            connect(alloc, &mut system)?;
-        }
-        Rule::EndsMatch => connect(alloc, &mut system)?,
-        Rule::StopIsThere => system.stop = None,
-        Rule::TimesAreTicks => {
-            system.stop = Some(Literal::Number {
-                word: 5,
-                decimals: 1,
-            });
-        }
-        Rule::RowsFit => system.rows = Some(1_000_001),
-        Rule::InstanceIsThere => system.instances = List::new(alloc),
-        Rule::NothingRepeats => {
-            system.samples.push(port(alloc, "y")?)?;
-            system.samples.push(port(alloc, "y")?)?;
-        }
-        _ => {}
-    }
-    Ok(system)
+    let mut broken_unit = unit(alloc)?;
+    spoil_unit(alloc, &mut broken_unit, rule)?;
+    let mut broken = system(alloc, broken_unit)?;
+    spoil(alloc, &mut broken, rule)?;
+    Ok(broken)
 }
 
 /// The first rule that a line breaks, by its number, and the first line that breaks it.
