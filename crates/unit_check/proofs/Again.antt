@@ -1,22 +1,21 @@
 -- A thing is said again where its first place is before its own.
-use Rattle.std.proofs.Common.{◌≡◌, ℕ, suc, ◌+◌, ◌≤◌, nat_lt, Bool, true, false, ◌||◌, IsTrue, List, [], ◌∷◌, ◌++◌, map, length, Option, Some, None, refl, ap, sym, ◌∙◌, arith}
+use Rattle.std.proofs.Common.{◌≡◌, ℕ, suc, ◌+◌, ◌≤◌, Bool, true, false, ◌||◌, List, [], ◌∷◌, ◌++◌, map, length, Option, Some, refl, ap, sym, ◌∙◌, arith}
 use mathlib.Core.Bool.{cond}
-use Rattle.std.specs.List.{AllByRecursion, list_any, filter_map, position_from}
+use Rattle.std.specs.List.{list_any, filter_map, position_from}
 use Rattle.std.specs.Str.{bytes_eq}
 use Rattle.std.proofs.lemmas.List.Elements.{filter_map-append}
 use Rattle.unit_check.proofs.Sited.{heads}
-use Rattle.unit_check.proofs.Standing.{Stands, lines_of}
+use Rattle.unit_check.proofs.Standing.{lines_of}
 use Rattle.unit_check.proofs.SystemLines.{block}
 use Rattle.unit_check.proofs.Told.{unit_tells, instance_tells, units_tell, instances_tell, wires_tell, samples_tell}
-use Rattle.unit_check.specs.Places.{is_before, declares_again, redeclares_at, connects_again_at, repeats_at}
+use Rattle.unit_check.specs.Places.{is_before, redeclares_at, connects_again_at, repeats_at}
 use Rattle.unit_check.specs.Walks.{place_of}
 use Rattle.unit_names.specs.Found.{declared_names, first_place}
 use Rattle.unit_tree.specs.Names.{same_port}
-use Rattle.unit_tree.specs.Sites.{Scope, TopScope, UnitScope, StepScope, InstanceScope, Site, holds}
-use Rattle.unit_tree.specs.WellFormed.{redeclares, connects_again, repeats_itself, repeats_need, unit_declared, instance_declared, name_declared, input_connected, param_set, port_sampled}
+use Rattle.unit_tree.specs.Sites.{Scope, TopScope, UnitScope, StepScope, InstanceScope, holds}
+use Rattle.unit_tree.specs.WellFormed.{redeclares, connects_again, repeats_itself, unit_declared, instance_declared, name_declared, input_connected, param_set, port_sampled}
 use Rattle.unit_tree.specs.declared.line_form.LineForm.{LineForm}
 use Rattle.unit_tree.specs.declared.line_form.LineForm.TheVariants as form
-use Rattle.unit_tree.specs.declared.system.Instance.{Instance}
 use Rattle.unit_tree.specs.declared.system.System.{System}
 use Rattle.unit_tree.specs.declared.unit.Unit.{Unit}
 

@@ -1,28 +1,24 @@
 -- Each rule's test by the place of a line is the one of the definitions, at every line of a system in range.
-use Rattle.std.proofs.Common.{◌≡◌, ℕ, Bool, true, ◌||◌, List, [], ◌∷◌, ◌++◌, map, refl, ap, sym, ◌∙◌, subst, append_assoc}
-use Rattle.std.specs.Prelude.{⊤}
+use Rattle.std.proofs.Common.{◌≡◌, true, ◌||◌, List, [], ◌∷◌, ◌++◌, refl, ap, sym, ◌∙◌, subst, append_assoc}
 use Rattle.std.specs.List.{AllByRecursion}
 use Rattle.unit_check.proofs.Again.{redeclares_is, connects_is, repeats_is}
-use Rattle.unit_check.proofs.Breaking.{broken_in, says, broken_same}
+use Rattle.unit_check.proofs.Breaking.{says, broken_same}
 use Rattle.unit_check.proofs.Bridge.{system_goes}
 use Rattle.unit_check.proofs.Counting.{InUnit, unit_agrees, exceeds_is}
 use Rattle.unit_check.proofs.PlainMeasures.{depth_is, cost_is}
 use Rattle.unit_check.proofs.Ranged.{UnitInRange, units_in_range, literal_is, times_are, lines_in_range}
-use Rattle.unit_check.proofs.Sited.{walk}
 use Rattle.unit_check.proofs.Standing.{all_both, all_leads, all_two, Inside, inside_system, inside_instance, Stands, all_stand}
 use Rattle.unit_check.proofs.SystemLines.{instance_block, whole, sites_are}
-use Rattle.unit_check.specs.Ranges.{is_of_wrong_kind_at, is_out_of_range_at}
 use Rattle.unit_check.specs.Rules.{Says, breaks_of, defined, test_of}
-use Rattle.unit_check.specs.Walks.{Test, test_at, system_walk}
+use Rattle.unit_check.specs.Walks.{test_at, system_walk}
 use Rattle.unit_check.specs.declared.rules.Rule.{Rule}
 use Rattle.unit_check.specs.declared.rules.Rule.TheVariants as by
 use Rattle.unit_tree.specs.LineForms.{tail_of, tail_speaks_of_events}
 use Rattle.unit_tree.specs.Printable.{IsRanged, IsInRange}
-use Rattle.unit_tree.specs.Sites.{Scope, TopScope, InstanceScope, Site, Headed, alone, sites, sites_of, holds}
+use Rattle.unit_tree.specs.Sites.{TopScope, InstanceScope, Site, Headed, sites, sites_of, holds}
 use Rattle.unit_tree.specs.WellFormed.{lines_breaking, mistakes_kind, on_literal, is_misformed, is_beyond}
 use Rattle.std.specs.Prelude.{◌==◌, ◌&&◌}
 use Rattle.unit_tree.specs.declared.line_form.LineForm.{LineForm}
-use Rattle.unit_tree.specs.declared.line_form.LineForm.TheVariants as form
 use Rattle.unit_tree.specs.declared.system.Instance.{Instance}
 use Rattle.unit_tree.specs.declared.system.System.{System}
 use Rattle.unit_tree.proofs.BlockLaws.{stands_behind}

@@ -1,11 +1,10 @@
 -- The lines that break a rule, by a walk.
-use Rattle.std.proofs.Common.{◌≡◌, ℕ, suc, ◌+◌, Bool, true, false, List, [], ◌∷◌, Result, Ok, Err, Option, Some, None, refl, ap, sym, subst, add-one, rules}
+use Rattle.std.proofs.Common.{◌≡◌, ℕ, suc, ◌+◌, Bool, true, false, List, [], ◌∷◌, Ok, Err, refl, subst, add-one}
 use Rattle.std.specs.Prelude.{if◌then◌else◌, nat_eq}
 use Rattle.std.specs.List.{AllByRecursion, filter_map, enumerate_from}
 use Rattle.unit_check.proofs.Sited.{walk}
 use Rattle.unit_check.specs.Rules.{Says}
-use Rattle.unit_check.specs.Walks.{onward, past}
-use Rattle.unit_check.specs.declared.walk.Stop.{Stop}
+use Rattle.unit_check.specs.Walks.{onward}
 use Rattle.unit_check.specs.declared.walk.Stop.TheVariants as stop
 use Rattle.unit_tree.specs.Sites.{Site}
 use Rattle.unit_tree.specs.WellFormed.{number_where}

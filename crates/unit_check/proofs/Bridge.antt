@@ -1,16 +1,14 @@
 -- The walk by the parts of a system is the walk along its canonical lines.
-use Rattle.std.proofs.Common.{◌≡◌, ℕ, suc, ◌+◌, Bool, List, [], ◌∷◌, ◌++◌, map, length, Result, Ok, Err, Option, Some, None, append_assoc, refl, ap, sym, ◌∙◌, subst, arith}
+use Rattle.std.proofs.Common.{◌≡◌, ℕ, suc, ◌+◌, List, [], ◌∷◌, ◌++◌, map, length, Option, Some, None, refl, ap, sym, ◌∙◌, arith}
 use Rattle.std.specs.List.{flat_map, filter_map, cons_option}
-use Rattle.std.proofs.lemmas.Grind.{flat_map-append}
 use Rattle.std.proofs.lemmas.List.{append-nil, length-append, map-append}
 use Rattle.std.proofs.lemmas.List.Elements.{filter_map-append}
 use Rattle.unit_check.proofs.Counted.{Counts, both, one, all_of, all_count, all_along}
-use Rattle.unit_check.proofs.Sited.{heads, heads_alone, sites_on, line_sites, onward_same, onward_none, walk, walk_on}
-use Rattle.unit_check.specs.Walks.{Test, Walk, test_at, place_of, onward, past, past_from, ◌>=>◌, each, if_given, line_walk, step_walk, plain_names_walk, ports_walk, names_walk, behaviour_walk, unit_walk, units_walk, instance_walk, instances_walk, limits_walk, parts_walk, system_walk}
-use Rattle.unit_tree.specs.Canonical.{optional, unit_parts, canonical_parts}
-use Rattle.unit_tree.specs.Parts as parts
-use Rattle.unit_tree.specs.Parts.{Part, UnitPart, line_forms, unit_of}
-use Rattle.unit_tree.specs.Sites.{Scope, TopScope, UnitScope, StepScope, InstanceScope, Site, Headed, alone, sites, headed_unit_part, headed_part, sites_of}
+use Rattle.unit_check.proofs.Sited.{heads, sites_on, line_sites, onward_same, onward_none, walk, walk_on}
+use Rattle.unit_check.specs.Walks.{Test, Walk, test_at, place_of, onward, past, past_from, ◌>=>◌, each, if_given, line_walk, step_walk, plain_names_walk, ports_walk, names_walk, unit_walk, units_walk, instance_walk, instances_walk, limits_walk, parts_walk, system_walk}
+use Rattle.unit_tree.specs.Canonical.{optional}
+use Rattle.unit_tree.specs.Parts.{line_forms}
+use Rattle.unit_tree.specs.Sites.{Scope, TopScope, UnitScope, StepScope, InstanceScope, Headed, alone, sites, sites_of}
 use Rattle.unit_tree.specs.WellFormed.{unit_declared, instance_declared, name_declared, input_connected, param_set, port_sampled}
 use Rattle.unit_tree.specs.declared.line.Line.{Line}
 use Rattle.unit_tree.specs.declared.line_form.LineForm.{LineForm}

@@ -1,12 +1,11 @@
 -- Walks along lines whose places are counted from a first number.
-use Rattle.std.proofs.Common.{◌≡◌, ℕ, suc, ◌+◌, ◌-◌, Bool, List, [], ◌∷◌, ◌++◌, map, length, Result, Ok, Err, Option, Some, None, append_assoc, refl, ap, sym, ◌∙◌, subst, arith}
+use Rattle.std.proofs.Common.{◌≡◌, ℕ, ◌+◌, ◌-◌, List, [], ◌∷◌, ◌++◌, map, length, Ok, Some, None, append_assoc, refl, ap, sym, ◌∙◌, subst, arith}
 use Rattle.std.specs.List.{flat_map}
 use Rattle.std.proofs.lemmas.List.{append-nil, length-append}
-use Rattle.unit_check.proofs.Sited.{heads, line_sites, line_sites_on, line_sites_count, onward_onward, onward_same, onward_none, walk, walk_on, counted}
+use Rattle.unit_check.proofs.Sited.{line_sites, line_sites_on, line_sites_count, onward_same, onward_none, walk, walk_on, counted}
 use Rattle.unit_check.specs.Walks.{Test, Walk, test_at, place_of, onward, past, past_from, ◌>=>◌, in_turn, each, else_walk, node_walk, line_walk}
-use Rattle.unit_check.specs.declared.walk.Stop.{Stop}
 use Rattle.unit_tree.specs.Parts.{joined, block_forms, line_forms}
-use Rattle.unit_tree.specs.Sites.{Scope, Site, StepScope, alone, sites}
+use Rattle.unit_tree.specs.Sites.{Scope, StepScope}
 use Rattle.unit_tree.specs.declared.line.Line.{Line, roll-Line}
 use Rattle.unit_tree.specs.declared.line.Line.TheFolds.{ind-Line, map-Line, fold-roll-Line}
 use Rattle.unit_tree.specs.declared.line.Line.TheOpen.{Line-F}

@@ -1,7 +1,7 @@
 -- Rule 16 by the place of a line.
 use Rattle.std.proofs.Common.{◌≡◌, ℕ, suc, ◌+◌, ◌-◌, ◌*◌, nat_lt, Bool, true, false, ◌||◌, ◌&&◌, List, [], ◌∷◌, ◌++◌, map, length, take, Option, Some, None, append_assoc, refl, ap, sym, subst, ◌∙◌, arith}
 use Rattle.std.specs.Prelude.{if◌then◌else◌, ⊤}
-use Rattle.std.specs.List.{AllByRecursion, count_by, flat_map, filter_map, cons_option, list_all, list_any}
+use Rattle.std.specs.List.{AllByRecursion, count_by, flat_map, filter_map, list_all, list_any}
 use Rattle.std.proofs.lemmas.Grind.{flat_map-append}
 use Rattle.std.proofs.lemmas.List.{append-nil, length-append, map-append}
 use Rattle.std.proofs.lemmas.List.Elements.{filter_map-append}
@@ -9,16 +9,16 @@ use Rattle.std.proofs.Math.Seq.{take-append_seam}
 use Rattle.std.proofs.lemmas.List.Sums.{sum_by-append}
 use Rattle.fixed_words.specs.declared.types.Literal.TheVariants as literal
 use Rattle.unit_check.proofs.Bridge as bridge
-use Rattle.unit_check.proofs.Sited.{heads, heads_alone, sites_on, line_sites, line_sites_on}
-use Rattle.unit_check.proofs.Standing.{all_both, all_each, lines_of, lines_in_step, inside_alone}
+use Rattle.unit_check.proofs.Sited.{heads, sites_on, line_sites, line_sites_on}
+use Rattle.unit_check.proofs.Standing.{all_both, lines_of, lines_in_step}
 use Rattle.unit_check.proofs.SystemLines.{plain_names, port_lines, step_heads, block, unit_head, instance_head, whole}
 use Rattle.unit_check.proofs.Told.{none_tell, alone_tell, none_alone, whole_tells}
-use Rattle.unit_check.specs.Counts.{plain_wire_count, exceeds_in_unit, exceeds_on_top, exceeds_at}
+use Rattle.unit_check.specs.Counts.{plain_wire_count, exceeds_at}
 use Rattle.unit_check.specs.Walks.{place_of}
 use Rattle.unit_tree.specs.Canonical.{optional}
 use Rattle.unit_tree.specs.LineForms.{are_alike}
 use Rattle.unit_tree.specs.Parts.{line_forms}
-use Rattle.unit_tree.specs.Plain.{plain_forms, plain_wires, plain_inputs, plain_outputs, is_event_output, presence_port}
+use Rattle.unit_tree.specs.Plain.{plain_forms, plain_wires, is_event_output, presence_port}
 use Rattle.unit_tree.specs.Sites.{Scope, TopScope, UnitScope, StepScope, InstanceScope, Site, Headed, alone, sites, is_step_line, holds}
 use Rattle.unit_tree.specs.WellFormed.{exceeds, is_one_too_many, name_declared, unit_declared, instance_declared, input_connected, port_sampled}
 use Rattle.unit_tree.specs.declared.line.Line.{Line}

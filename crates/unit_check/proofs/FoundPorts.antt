@@ -1,9 +1,7 @@
 -- The port that tables find is the one of the definitions.
-use Rattle.std.proofs.Common.{◌≡◌, ℕ, ◌+◌, Bool, true, false, List, [], ◌∷◌, map, Option, Some, None, bytes_eq, refl, ap, sym, ◌∙◌}
+use Rattle.std.proofs.Common.{◌≡◌, ℕ, ◌+◌, Bool, true, false, List, [], ◌∷◌, map, Option, Some, None, bytes_eq, refl}
 use mathlib.Core.Bool.{cond}
 use Rattle.std.specs.Prelude.{⊤, is_none}
-use Rattle.std.specs.Bool.{beq}
-use Rattle.std.specs.List.{find}
 use Rattle.std.specs.Option.{option_and_then}
 use Rattle.std.specs.Cmp.Lexicographic.{nat_list_eq_equiv}
 use Rattle.unit_check.specs.Joins.{differ_found}

@@ -1,10 +1,10 @@
 -- Rules one after the other.
-use Rattle.std.proofs.Common.{◌≡◌, ℕ, List, [], ◌∷◌, map, Option, Some, None, refl, ap, sym, subst, ◌∙◌}
+use Rattle.std.proofs.Common.{◌≡◌, List, [], ◌∷◌, map, Some, None, refl, ap, sym, subst, ◌∙◌}
 use Rattle.unit_check.specs.Rules.{Tells, TellsRule, IsFaultOf, breaks_of, defined, judged, number_of}
 use Rattle.unit_check.specs.declared.checking.CheckFault.{CheckFault}
 use Rattle.unit_check.specs.declared.checking.CheckFault.TheVariants as fault
 use Rattle.unit_check.specs.declared.rules.Rule.{Rule}
-use Rattle.unit_tree.specs.WellFormed.{Refusal, IsWellFormed, lines_breaking, or_later, refusal_by, rules}
+use Rattle.unit_tree.specs.WellFormed.{IsWellFormed, lines_breaking, or_later, refusal_by, rules}
 use Rattle.unit_tree.specs.declared.system.System.{System}
 use Rattle.unit_tree.proofs.JudgementLaws.{well_formed}
 

@@ -1,12 +1,12 @@
 -- Depth and cost in the plain form are those of the source.
-use Rattle.std.proofs.Common.{◌≡◌, ℕ, ◌+◌, Bool, true, false, ◌||◌, nat_le, nat_lt, List, [], ◌∷◌, ◌++◌, map, min, Option, Some, None, refl, ap, sym, ◌∙◌, arith}
+use Rattle.std.proofs.Common.{◌≡◌, ℕ, ◌+◌, Bool, true, false, ◌||◌, nat_le, nat_lt, List, [], ◌∷◌, map, min, Option, Some, None, refl, ap, sym, ◌∙◌, arith}
 use Rattle.std.specs.Prelude.{not, if◌then◌else◌}
 use Rattle.std.specs.List.{list_any, sum}
 use Rattle.std.specs.Option.{option_map}
-use Rattle.unit_check.specs.Measures.{is_deeper, is_given_deeper, is_deep_at, is_dearer, is_dear_at}
+use Rattle.unit_check.specs.Measures.{is_deeper, is_deep_at, is_dearer, is_dear_at}
 use Rattle.unit_tree.specs.Costs.{cost_of, line_cost, expression_call_cost, step_call_cost}
 use Rattle.unit_tree.specs.Names.{depth_of, expression_on}
-use Rattle.unit_tree.specs.Plain.{plain_expression, plain_line, plain_unit, plain_forms, plain_wires, presence_of, word_expression_of, presence_port, is_event_output}
+use Rattle.unit_tree.specs.Plain.{plain_expression, plain_line, plain_forms, presence_of, word_expression_of, presence_port, is_event_output}
 use Rattle.unit_tree.specs.Sites.{Scope, TopScope, UnitScope, StepScope, InstanceScope}
 use Rattle.unit_tree.specs.WellFormed.{has_deep_expression, costs_too_much, is_deep, is_dear, step_cost}
 use Rattle.unit_tree.specs.declared.expr.Expr.{Expr}

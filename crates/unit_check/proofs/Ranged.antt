@@ -1,7 +1,7 @@
 -- What a system in range keeps: decimals and resolutions are at most nine.
-use Rattle.std.proofs.Common.{◌≡◌, ℕ, ◌≤◌, Bool, true, false, nat_le, List, [], ◌∷◌, ◌++◌, map, Option, Some, None, append_assoc, refl, ap, sym, subst, ◌∙◌, arith}
+use Rattle.std.proofs.Common.{◌≡◌, ℕ, ◌≤◌, Bool, true, false, nat_le, List, [], ◌∷◌, ◌++◌, map, Option, Some, None, refl, ap, sym, subst, ◌∙◌, arith}
 use mathlib.Core.Bool.{cond}
-use Rattle.std.specs.Prelude.{max, pos, ⊤, not, ◌&&◌, if◌then◌else◌, Result, Ok}
+use Rattle.std.specs.Prelude.{max, pos, ⊤, not, if◌then◌else◌, Ok}
 use Rattle.std.specs.List.{AllByRecursion, find, flat_map, fold}
 use Rattle.std.specs.Option.{option_map, option_and_then, unwrap_or}
 use Rattle.std.specs.Str.{bytes_eq}
@@ -13,16 +13,14 @@ use Rattle.fixed_words.specs.declared.types.Literal.TheVariants as literal
 use Rattle.fixed_words.specs.declared.types.Ty.{Ty}
 use Rattle.fixed_words.specs.declared.types.Ty.TheVariants as types
 use Rattle.super_time.specs.Seconds.{seconds_of}
-use Rattle.unit_check.proofs.Standing.{all_both, all_each, all_map}
-use Rattle.unit_check.specs.Ranges.{has_few_decimals, has_few_places, word_read, setting_type, literal_read, is_length_read, mistimes_at, is_of_wrong_kind_at, is_out_of_range_at}
-use Rattle.unit_tree.specs.Canonical.{optional, unit_parts, canonical_parts, canonical_forms}
-use Rattle.unit_tree.specs.LineForms.{tail_of, tail_speaks_of_events}
+use Rattle.unit_check.specs.Ranges.{has_few_decimals, has_few_places, word_read, literal_read, is_length_read, mistimes_at}
+use Rattle.unit_tree.specs.Canonical.{optional, unit_parts}
 use Rattle.unit_tree.specs.Names.{unit_named, unit_of_instance, param_named}
 use Rattle.unit_tree.specs.Parts as parts
 use Rattle.unit_tree.specs.Parts.{Part, UnitPart, part_forms, unit_part_forms}
 use Rattle.unit_tree.specs.Printable.{IsRanged, IsInRange, IsLiteralInRange}
-use Rattle.unit_tree.specs.Sites.{Scope, TopScope, UnitScope, StepScope, InstanceScope, Site, sites_of}
-use Rattle.unit_tree.specs.WellFormed.{literal_on, setting_word, on_literal, is_misformed, is_beyond, is_of_wrong_kind, is_out_of_range, mistakes_kind, is_length, mistimes, resolution_of, unit_resolution}
+use Rattle.unit_tree.specs.Sites.{Scope, TopScope, UnitScope, StepScope, InstanceScope, sites_of}
+use Rattle.unit_tree.specs.WellFormed.{literal_on, is_length, mistimes, resolution_of, unit_resolution}
 use Rattle.unit_tree.specs.declared.line_form.LineForm.{LineForm}
 use Rattle.unit_tree.specs.declared.line_form.LineForm.TheVariants as form
 use Rattle.unit_tree.specs.declared.system.Instance.{Instance}

@@ -1,8 +1,8 @@
 -- Walks along sites.
-use Rattle.std.proofs.Common.{◌≡◌, ℕ, suc, ◌+◌, Bool, true, false, List, [], ◌∷◌, ◌++◌, map, length, Result, Ok, Err, append_assoc, refl, ap, sym, ◌∙◌, subst, arith}
+use Rattle.std.proofs.Common.{◌≡◌, ℕ, suc, ◌+◌, Bool, true, false, List, [], ◌∷◌, ◌++◌, map, length, Result, Ok, Err, append_assoc, refl, ap, sym, ◌∙◌, arith}
 use Rattle.std.specs.Prelude.{if◌then◌else◌, nat_eq}
 use Rattle.std.proofs.lemmas.List.{append-nil, map-append}
-use Rattle.unit_check.specs.Walks.{Walk, onward, past, ◌>=>◌}
+use Rattle.unit_check.specs.Walks.{Walk, onward, past}
 use Rattle.unit_check.specs.declared.walk.Stop.{Stop}
 use Rattle.unit_check.specs.declared.walk.Stop.TheVariants as stop
 use Rattle.unit_tree.specs.Sites.{Scope, Site, Headed, alone, sites}

@@ -1,5 +1,5 @@
 -- Where each site of a system stands: among the lines of its own block, behind those that count as earlier.
-use Rattle.std.proofs.Common.{◌≡◌, ℕ, List, [], ◌∷◌, ◌++◌, map, Option, Some, None, append_assoc, refl, ap, sym, subst, ◌∙◌}
+use Rattle.std.proofs.Common.{◌≡◌, List, [], ◌∷◌, ◌++◌, map, Option, Some, None, append_assoc, refl, ap, sym, subst, ◌∙◌}
 use Rattle.std.specs.List.{AllByRecursion, flat_map}
 use Rattle.unit_check.proofs.Sited.{heads, heads_alone, line_sites}
 use Rattle.unit_check.proofs.SystemLines.{plain_names, port_lines, step_heads, block, unit_head, instance_block, instance_head, header, units, instances, wires, limits, samples, whole, sites_are}

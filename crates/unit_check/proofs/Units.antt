@@ -1,7 +1,7 @@
 -- A walk along units or ports by their numbers.
-use Rattle.std.proofs.Common.{◌≡◌, ℕ, zero, suc, ◌+◌, List, [], ◌∷◌, drop, Option, Some, None, Result, Ok, Err, refl, ap, sym, ◌∙◌, add-one}
+use Rattle.std.proofs.Common.{◌≡◌, ℕ, zero, suc, ◌+◌, List, [], ◌∷◌, drop, Result, Ok, refl, ap, sym, ◌∙◌, add-one}
 use Rattle.std.specs.List.{slice_get}
-use Rattle.unit_check.specs.Walks.{Test, Walk, onward, units_walk, numbered_walk}
+use Rattle.unit_check.specs.Walks.{Test, onward, units_walk, numbered_walk}
 use Rattle.unit_check.specs.declared.walk.Stop.{Stop}
 use Rattle.unit_tree.specs.declared.unit.Unit.{Unit}
 

@@ -1,12 +1,12 @@
 -- How many connections the first connections of a system become in the plain form.
-use Rattle.std.proofs.Common.{◌≡◌, ℕ, zero, suc, ◌+◌, ◌≤◌, ◌<◌, nat_lt, nat_le, Bool, true, false, List, [], ◌∷◌, ◌++◌, take, length, get_or, add-one, Option, Some, None, refl, ap, sym, ◌∙◌, arith}
+use Rattle.std.proofs.Common.{◌≡◌, ℕ, zero, suc, ◌+◌, ◌≤◌, ◌<◌, nat_lt, nat_le, Bool, true, false, List, [], ◌∷◌, take, length, get_or, add-one, Option, Some, None, refl, arith}
 use Rattle.std.specs.Prelude.{if◌then◌else◌}
 use Rattle.std.specs.List.{flat_map}
 use Rattle.std.specs.Option.{option_map, unwrap_or}
 use Rattle.std.proofs.lemmas.List.{append-nil, length-append}
 use Rattle.unit_check.proofs.FoundPorts.{Same, output_is}
 use Rattle.unit_check.specs.Joins.{is_event_found}
-use Rattle.unit_check.specs.Counts.{plain_wire_count, is_from}
+use Rattle.unit_check.specs.Counts.{plain_wire_count}
 use Rattle.unit_names.specs.Systems.{output_found}
 use Rattle.unit_names.specs.declared.tables.Declared.{Declared}
 use Rattle.unit_tree.specs.Names.{Port, output_at}

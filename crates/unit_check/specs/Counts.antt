@@ -1,5 +1,5 @@
 -- How many of a kind there may be, by the place of a line alone.
-use Rattle.std.specs.Prelude.{ℕ, ◌+◌, ◌-◌, ◌*◌, nat_lt, nat_le, Bool, false, List, length, take, Option, Some, None}
+use Rattle.std.specs.Prelude.{ℕ, ◌+◌, ◌-◌, ◌*◌, nat_lt, nat_le, Bool, false, length, take, Option, Some, None}
 use Rattle.std.specs.List.{flat_map}
 use Rattle.unit_tree.specs.Plain.{plain_wires}
 use Rattle.unit_tree.specs.Sites.{Scope, TopScope, UnitScope, StepScope, InstanceScope}

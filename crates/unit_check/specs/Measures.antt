@@ -1,6 +1,6 @@
 -- The rules on depth and cost, by the lines of the source.
-use Rattle.std.specs.Prelude.{ℕ, ◌+◌, Bool, false, not, ◌||◌, nat_le, nat_lt, Option, Some, None}
-use Rattle.unit_tree.specs.Costs.{cost_of, expression_call_cost}
+use Rattle.std.specs.Prelude.{Bool, false, not, ◌||◌, nat_le, nat_lt, Option, Some, None}
+use Rattle.unit_tree.specs.Costs.{expression_call_cost}
 use Rattle.unit_tree.specs.Names.{depth_of, expression_on}
 use Rattle.unit_tree.specs.Plain.{presence_of, word_expression_of}
 use Rattle.unit_tree.specs.Sites.{Scope, UnitScope}
@@ -8,7 +8,6 @@ use Rattle.unit_tree.specs.WellFormed.{step_cost}
 use Rattle.unit_tree.specs.declared.expr.Expr.{Expr}
 use Rattle.unit_tree.specs.declared.line_form.LineForm.{LineForm}
 use Rattle.unit_tree.specs.declared.line_form.LineForm.TheVariants as form
-use Rattle.unit_tree.specs.declared.unit.Unit.{Unit}
 
 -- An expression is deeper than 32.
 abbrev pub is_deeper : Expr → Bool

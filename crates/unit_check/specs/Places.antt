@@ -2,14 +2,12 @@
 -- it is said lies before the line's own.
 use Rattle.std.specs.Prelude.{ℕ, nat_lt, Bool, false, List, map, Option, Some, None}
 use Rattle.std.specs.List.{position_from}
-use Rattle.std.specs.Str.{bytes_eq}
 use Rattle.unit_names.specs.Found.{first_place, declared_names}
 use Rattle.unit_tree.specs.Names.{same_port}
-use Rattle.unit_tree.specs.Sites.{Scope, TopScope, UnitScope, StepScope, InstanceScope}
+use Rattle.unit_tree.specs.Sites.{Scope, TopScope, UnitScope, InstanceScope}
 use Rattle.unit_tree.specs.WellFormed.{name_declared, repeats_need}
 use Rattle.unit_tree.specs.declared.line_form.LineForm.{LineForm}
 use Rattle.unit_tree.specs.declared.line_form.LineForm.TheVariants as form
-use Rattle.unit_tree.specs.declared.system.Instance.{Instance}
 use Rattle.unit_tree.specs.declared.system.PortName.{PortName}
 use Rattle.unit_tree.specs.declared.system.System.{System}
 use Rattle.unit_tree.specs.declared.unit.Unit.{Unit}

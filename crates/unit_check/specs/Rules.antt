@@ -1,5 +1,5 @@
 -- The rules that are judged, each with its test by the place of a line.
-use Rattle.std.specs.Prelude.{◌≡◌, ℕ, Bool, List, [], ◌∷◌, map, Option, Some, None, Result, Ok, Err, ⊤}
+use Rattle.std.specs.Prelude.{◌≡◌, ℕ, Bool, List, [], ◌∷◌, map, Option, Some, Result, Ok, Err, ⊤}
 use Rattle.unit_check.specs.Counts.{exceeds_at}
 use Rattle.unit_check.specs.Measures.{is_deep_at, is_dear_at}
 use Rattle.unit_check.specs.Places.{redeclares_at, connects_again_at, repeats_at}

@@ -1,7 +1,6 @@
 use Rattle.std.proofs.Common.{◌≡◌, drop, map}
 use Rattle.std.specs.List.{position_from}
 use Rattle.std.specs.Str.{bytes_eq}
-use Rattle.unit_tree.specs.Names.{same_port}
 use Rattle.unit_check.proofs.ports.first_setting.Given as goal
 
 abbrev pub invariant-loop-place : goal.invariant-loop-place

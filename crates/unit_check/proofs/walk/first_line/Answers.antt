@@ -1,4 +1,4 @@
-use Rattle.std.proofs.Common.{◌≡◌, sym, subst, Result, ℕ}
+use Rattle.std.proofs.Common.{sym, subst, Result, ℕ}
 use Rattle.unit_check.specs.Rules.{Says, defined}
 use Rattle.unit_check.specs.declared.walk.Stop.{Stop}
 use Rattle.unit_tree.specs.WellFormed.{lines_breaking}

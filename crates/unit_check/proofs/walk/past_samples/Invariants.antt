@@ -1,8 +1,8 @@
 use Rattle.std.proofs.Common.{◌≡◌, drop}
-use Rattle.unit_tree.specs.Sites.{UnitScope, InstanceScope, TopScope}
+use Rattle.unit_tree.specs.Sites.{TopScope}
 use Rattle.unit_tree.specs.declared.line_form.LineForm.TheVariants as form
 use Rattle.unit_check.specs.Rules.{test_of}
-use Rattle.unit_check.specs.Walks.{each, past_from, units_walk, instances_walk}
+use Rattle.unit_check.specs.Walks.{each, past_from}
 use Rattle.unit_check.proofs.walk.past_samples.Given as goal
 
 abbrev pub invariant-loop-port : goal.invariant-loop-port
