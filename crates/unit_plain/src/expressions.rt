@@ -121,15 +121,15 @@ fn boxed_presence(alloc: Global, value: &Expr) -> Result<Boxed<Expr>, NoMemory>
 pub(crate) fn plain_presence(alloc: Global, value: &Expr) -> Result<Expr, NoMemory>
     ensures { IfOk result (λ plain. plain ≡ plain_expression (presence_of value.now)) }
 {
-    Ok(match value {
-        Expr::Absent => Expr::Truth(false),
-        Expr::Choose { cond, yes, no } => Expr::Choose {
+    match value {
+        Expr::Absent => Ok(Expr::Truth(false)),
+        Expr::Choose { cond, yes, no } => Ok(Expr::Choose {
             cond: boxed_plain(alloc, cond.get())?,
             yes: boxed_presence(alloc, yes.get())?,
             no: boxed_presence(alloc, no.get())?,
-        },
-        _ => Expr::Truth(true),
-    })
+        }),
+        _ => Ok(Expr::Truth(true)),
+    }
 }
 
 /// The zero of a type's kind.

@@ -7,3 +7,4 @@
 mod copies;
 mod expressions;
 mod lines;
+mod units;
