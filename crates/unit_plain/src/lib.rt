@@ -8,3 +8,6 @@ mod copies;
 mod expressions;
 mod lines;
 mod units;
+mod systems;
+
+pub use systems::plain_form;
