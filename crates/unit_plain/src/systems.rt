@@ -1,5 +1,5 @@
 //! Systems: copies, and the plain form.
-ghost use Rattle.std.specs.Prelude.{◌≡◌, ◌++◌, map, IfOk, OnOk};
+ghost use Rattle.std.specs.Prelude.{◌≡◌, ◌++◌, map, false, IfOk, OnOk};
 ghost use Rattle.std.specs.List.{find, flat_map, list_any};
 ghost use Rattle.std.specs.Option.{option_copied, option_map, unwrap_or};
 ghost use Rattle.std.specs.Str.{bytes_eq};
@@ -92,7 +92,6 @@ fn has_event_output(events: &[EventOut], name: &[u8]) -> bool
 }
 
 /// Whether the unit's output of the name is one of events.
-#[tactic(auto, using(crate::proofs::EventPorts::event_port))]
 fn is_event_port(unit: &Unit, name: &[u8]) -> bool
     ensures { result ≡ unwrap_or (option_map (λ output. output.is_event) (port_named (output_ports unit.now) name.now)) false }
 {
@@ -190,7 +189,6 @@ fn put_event_outputs(
 }
 
 /// Puts the outputs of an instance of a unit, those of events after all others.
-#[tactic(auto, using(crate::proofs::EventPorts::ports_of_unit))]
 fn put_ports_of_unit(
     alloc: Global,
     ports: &mut List<PortName>,
