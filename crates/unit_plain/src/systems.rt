@@ -253,9 +253,9 @@ fn plain_units(alloc: Global, units: &[Unit]) -> Result<List<Unit>, NoMemory>
 /// The system with plain ports in place of those of events.
 fn with_plain_ports(alloc: Global, system: &System) -> Result<System, NoMemory>
     ensures { IfOk result (λ plain. plain ≡ record system.now {
-        units = map plain_unit system.now.units;
-        wires = flat_map (plain_wires system.now) system.now.wires;
-        samples = samples_or_all system.now;
+      units = map plain_unit system.now.units;
+      wires = flat_map (plain_wires system.now) system.now.wires;
+      samples = samples_or_all system.now;
     }) }
 {
     Ok(System {

@@ -88,23 +88,21 @@ fn no_event(ty: Ty) -> Literal
 }
 
 /// Puts the two inputs that an event input becomes: whether an event occurs, and its word.
-fn put_event_input(
-    alloc: Global,
-    inputs: &mut List<Input>,
-    event: &EventIn,
-) -> Result<(), NoMemory>
+fn put_event_input(alloc: Global, inputs: &mut List<Input>, event: &EventIn) -> Result<(), NoMemory>
     ensures { OnOk result (inputs.new ≡ inputs.old ++ plain_inputs event.now) }
 {
-    inputs.push(Input {
+    let presence = Input {
         name: presence_name(alloc, &event.name)?,
         ty: Ty::Bool,
         start: Literal::Truth(false),
-    })?;
-    inputs.push(Input {
+    };
+    let word = Input {
         name: event.name.copied(alloc)?,
         ty: event.ty,
         start: no_event(event.ty),
-    })
+    };
+    inputs.push(presence)?;
+    inputs.push(word)
 }
 
 /// The inputs of the plain form: those of events after all others.
@@ -133,12 +131,7 @@ fn is_event_input(events: &[EventIn], name: &[u8]) -> bool
 }
 
 /// Puts what a need becomes: that of an event input is two.
-fn put_need(
-    alloc: Global,
-    needs: &mut List<Name>,
-    unit: &Unit,
-    name: &Name,
-) -> Result<(), NoMemory>
+fn put_need(alloc: Global, needs: &mut List<Name>, unit: &Unit, name: &Name) -> Result<(), NoMemory>
     ensures { OnOk result (needs.new ≡ needs.old ++ plain_need unit.now name.now) }
 {
     if is_event_input(unit.events_in.as_slice(), name.as_slice()) {
@@ -181,18 +174,20 @@ fn put_event_output(
 ) -> Result<(), NoMemory>
     ensures { OnOk result (outputs.new ≡ outputs.old ++ plain_outputs unit.now event.now) }
 {
-    outputs.push(Output {
+    let presence = Output {
         name: presence_name(alloc, &event.name)?,
         ty: Ty::Bool,
         needs: plain_needs(alloc, unit, event.needs.as_slice())?,
         value: plain_presence(alloc, &event.value)?,
-    })?;
-    outputs.push(Output {
+    };
+    let word = Output {
         name: event.name.copied(alloc)?,
         ty: event.ty,
         needs: plain_needs(alloc, unit, event.needs.as_slice())?,
         value: plain_word(alloc, event.ty, &event.value)?,
-    })
+    };
+    outputs.push(presence)?;
+    outputs.push(word)
 }
 
 /// The plain forms of the plain outputs.
@@ -207,11 +202,7 @@ fn plain_outputs(alloc: Global, unit: &Unit) -> Result<List<Output>, NoMemory>
 }
 
 /// Puts what the event outputs become.
-fn put_event_outputs(
-    alloc: Global,
-    outputs: &mut List<Output>,
-    unit: &Unit,
-) -> Result<(), NoMemory>
+fn put_event_outputs(alloc: Global, outputs: &mut List<Output>, unit: &Unit) -> Result<(), NoMemory>
     ensures { OnOk result (outputs.new ≡ outputs.old ++ flat_map (plain_outputs unit.now) unit.now.events_out) }
 {
     for event in unit.events_out.as_slice() {

@@ -1,4 +1,4 @@
-use Rattle.std.proofs.Common.{◌≡◌, ◌∙◌, ap, sym, subst, true, false}
+use Rattle.std.proofs.Common.{◌∙◌, ap, sym, true, false}
 use Rattle.unit_tree.proofs.PlainLemmas.{plain-Truth}
 use Rattle.unit_tree.specs.Plain.{plain_expression, presence_of}
 use Rattle.unit_tree.specs.declared.expr.Expr as expr
@@ -14,6 +14,6 @@ pub plain_presence-returns-in_ok-boxed_presence-in-Choose-2 :
     goal.plain_presence-returns-in_ok-boxed_presence-in-Choose-2
 plain_presence-returns-in_ok-boxed_presence-in-Choose-2 t c =
     choice_plain (expr.Truth false) (λ other. expr.Truth true) c.args.value.now c.in-Choose.cond c.in-Choose.yes c.in-Choose.no _ _ _ c.in-Choose.is
-        (c.in_ok-boxed_plain-in-Choose.ensures ∙ ap plain_expression c.get.ensures)
-        (c.in_ok-boxed_presence-in-Choose.ensures ∙ ap (λ e. plain_expression (presence_of e)) c.get-in-Choose.ensures)
-        (c.in_ok-boxed_presence-in-Choose-2.ensures ∙ ap (λ e. plain_expression (presence_of e)) c.get-in-Choose-2.ensures)
+    (c.in_ok-boxed_plain-in-Choose.ensures ∙ ap plain_expression c.get.ensures)
+    (c.in_ok-boxed_presence-in-Choose.ensures ∙ ap (λ e. plain_expression (presence_of e)) c.get-in-Choose.ensures)
+    (c.in_ok-boxed_presence-in-Choose-2.ensures ∙ ap (λ e. plain_expression (presence_of e)) c.get-in-Choose-2.ensures)

@@ -13,6 +13,6 @@ pub plain_word-returns-in_ok-boxed_word-in-Choose-2 :
     goal.plain_word-returns-in_ok-boxed_word-in-Choose-2
 plain_word-returns-in_ok-boxed_word-in-Choose-2 t c =
     choice_plain (zero_of c.args.ty) (λ other. other) c.args.value.now c.in-Choose.cond c.in-Choose.yes c.in-Choose.no _ _ _ c.in-Choose.is
-        (c.in_ok-boxed_plain-in-Choose.ensures ∙ ap plain_expression c.get.ensures)
-        (c.in_ok-boxed_word-in-Choose.ensures ∙ ap (λ e. plain_expression (word_expression_of c.args.ty e)) c.get-in-Choose.ensures)
-        (c.in_ok-boxed_word-in-Choose-2.ensures ∙ ap (λ e. plain_expression (word_expression_of c.args.ty e)) c.get-in-Choose-2.ensures)
+    (c.in_ok-boxed_plain-in-Choose.ensures ∙ ap plain_expression c.get.ensures)
+    (c.in_ok-boxed_word-in-Choose.ensures ∙ ap (λ e. plain_expression (word_expression_of c.args.ty e)) c.get-in-Choose.ensures)
+    (c.in_ok-boxed_word-in-Choose-2.ensures ∙ ap (λ e. plain_expression (word_expression_of c.args.ty e)) c.get-in-Choose-2.ensures)

@@ -1,4 +1,4 @@
-use Rattle.std.proofs.Common.{◌≡◌, ◌++◌, map, drop}
+use Rattle.std.proofs.Common.{◌≡◌, ◌++◌, drop}
 use Rattle.std.specs.List.{flat_map}
 use Rattle.unit_tree.specs.Plain.{plain_wires}
 use Rattle.unit_plain.proofs.systems.plain_wires.Given as goal

@@ -1,4 +1,4 @@
-use Rattle.std.proofs.Common.{◌≡◌, ◌++◌, map, drop}
+use Rattle.std.proofs.Common.{◌≡◌, drop}
 use Rattle.unit_tree.specs.Names.{unit_named}
 use Rattle.unit_plain.proofs.systems.unit_named.Given as goal
 
