@@ -1,5 +1,5 @@
 //! The rules, one after the other.
-ghost use Rattle.std.specs.Prelude.{◌≡◌, [], map, OnOk, IfErr, None};
+ghost use Rattle.std.specs.Prelude.{◌≡◌, [], map, IfOk, OnOk, IfErr, None};
 ghost use Rattle.unit_check.specs.Rules.{TellsRule, Tells, IsFaultOf, defined, judged, number_of};
 ghost use Rattle.unit_tree.specs.Printable.{IsRanged};
 ghost use Rattle.unit_tree.specs.WellFormed.{lines_breaking, refusal_by, IsWellFormed};
@@ -20,6 +20,16 @@ pub enum CheckFault {
     /// There was not enough memory, or there are more lines than numbers.
     #[error("no memory")]
     NoMemory,
+}
+
+impl From<NoMemory> for CheckFault {
+    ghost use Rattle.unit_check.specs.declared.checking.CheckFault.TheVariants as faults;
+
+    ghost from_gives = { λ _ fault. fault ≡ faults.NoMemory };
+
+    fn from(_: NoMemory) -> CheckFault {
+        CheckFault::NoMemory
+    }
 }
 
 /// Judges a system by one rule.
@@ -93,4 +103,18 @@ pub fn judge(alloc: Global, system: &System) -> Result<(), CheckFault>
         Ok(tables) => judge_tables(&tables),
         Err(_) => Err(CheckFault::NoMemory),
     }
+}
+
+/// A system in range, judged, with its plain form at hand.
+///
+/// A system that isn't well-formed is refused as [`judge`] refuses it.
+pub fn check(alloc: Global, system: System) -> Result<Checked, CheckFault>
+    requires ranged { IsRanged system }
+    ensures ok { IfOk result (λ checked. checked ≡ system) }
+    ensures well_formed { OnOk result (IsWellFormed system) }
+    ensures refused { IfErr result (IsFaultOf system) }
+{
+    judge(alloc, &system)?;
+    let plain = plain_form(alloc, &system)?;
+    Ok(Checked::new(system, plain))
 }

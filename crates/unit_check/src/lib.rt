@@ -1,6 +1,6 @@
 //! Whether a system is well-formed, or which rule it breaks, and at which line.
 //!
-//! The layers above use [`check`]. The rules are defined in `unit_tree`, in its `WellFormed`; how they are judged
+//! The layers above use [`check`], or [`judge`] where a system is only looked at. The rules are defined in `unit_tree`, in its `WellFormed`; how they are judged
 //! along a walk stands in `specs/Walks.antt` (the walk by the parts of a system) and `specs/Rules.antt` (the tests).
 #![tactic(auto)]
 
@@ -19,4 +19,4 @@ mod tables;
 mod tests;
 mod walk;
 
-pub use checking::{CheckFault, judge};
+pub use checking::{CheckFault, check, judge};

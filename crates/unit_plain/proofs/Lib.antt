@@ -1,0 +1,3 @@
+pub mod ChoiceLaws
+pub mod LoopLaws
+pub mod EventPorts

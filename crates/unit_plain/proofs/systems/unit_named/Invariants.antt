@@ -1,0 +1,6 @@
+use Rattle.std.proofs.Common.{◌≡◌, drop}
+use Rattle.unit_tree.specs.Names.{unit_named}
+use Rattle.unit_plain.proofs.systems.unit_named.Given as goal
+
+abbrev pub invariant-loop-unit : goal.invariant-loop-unit
+invariant-loop-unit l = unit_named l.units l.name ≡ unit_named (drop l.unit-index l.units) l.name
