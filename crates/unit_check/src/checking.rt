@@ -7,9 +7,11 @@ ghost use Rattle.unit_tree.specs.WellFormed.{lines_breaking, refusal_by, IsWellF
 use crate::rules::Rule;
 use crate::tables::Tables;
 use crate::walk::{Stop, first_line};
+use fixed_words::NoMemory;
 use std::alloc::Global;
 use thiserror::Error;
-use unit_tree::System;
+use unit_plain::plain_form;
+use unit_tree::{Checked, System};
 
 /// Why a system is refused, or was not judged.
 #[derive(Debug, Drop, Error, PartialEq, Eq)]
