@@ -529,22 +529,21 @@ fn add_whole_ports(alloc: Global, unit: &mut Unit) -> Result<(), NoMemory> {
     })
 }
 
-/// Three units, of which the first has every kind of line.
-fn blocks(alloc: Global) -> Result<System, NoMemory> {
-    let mut whole = bare_unit(alloc, b"Whole")?;
-    add_whole_values(alloc, &mut whole)?;
-    add_whole_ports(alloc, &mut whole)?;
-    whole.max = Some(coded(alloc, "n")?);
+/// The unit with every kind of line.
+fn whole_unit(alloc: Global) -> Result<Unit, NoMemory> {
+    let mut unit = bare_unit(alloc, b"Whole")?;
+    add_whole_values(alloc, &mut unit)?;
+    add_whole_ports(alloc, &mut unit)?;
+    unit.max = Some(coded(alloc, "n")?);
     let mut lines = List::new(alloc);
     lines.push(choice(alloc)?)?;
     lines.push(accept(alloc, "n")?)?;
-    whole.step = Some(lines);
-    let mut still = bare_unit(alloc, b"Still")?;
-    still.step = Some(List::new(alloc));
-    let mut system = bare_system(alloc, 1);
-    system.units.push(whole)?;
-    system.units.push(still)?;
-    system.units.push(bare_unit(alloc, b"Bare")?)?;
+    unit.step = Some(lines);
+    Ok(unit)
+}
+
+/// An instance with two settings.
+fn placed(alloc: Global) -> Result<Instance, NoMemory> {
     let mut placed = instance(alloc, b"a", b"Whole")?;
     placed.settings.push(Setting {
         name: name(alloc, b"p")?,
@@ -554,7 +553,23 @@ fn blocks(alloc: Global) -> Result<System, NoMemory> {
         name: name(alloc, b"q")?,
         value: literal(9),
     })?;
-    system.instances.push(placed)?;
+    Ok(placed)
+}
+
+/// A unit with an empty step.
+fn still_unit(alloc: Global) -> Result<Unit, NoMemory> {
+    let mut unit = bare_unit(alloc, b"Still")?;
+    unit.step = Some(List::new(alloc));
+    Ok(unit)
+}
+
+/// Three units, of which the first has every kind of line.
+fn blocks(alloc: Global) -> Result<System, NoMemory> {
+    let mut system = bare_system(alloc, 1);
+    system.units.push(whole_unit(alloc)?)?;
+    system.units.push(still_unit(alloc)?)?;
+    system.units.push(bare_unit(alloc, b"Bare")?)?;
+    system.instances.push(placed(alloc)?)?;
     system.longest = Some(Literal::Number {
         word: 25,
         decimals: 2,
