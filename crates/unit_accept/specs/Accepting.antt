@@ -1,12 +1,15 @@
 -- Which texts are accepted by the rules of the language, and at which line and by which rule any other is refused. The rules are
 -- judged in stages: those on the text and its lines, those on the system that it says, and at last that its outputs have an order.
-use Rattle.std.specs.Prelude.{◌≡◌, ℕ, ◌-◌, List, Option, Some, slice_get, ◌⊎◌}
+use Rattle.std.specs.Prelude.{◌≡◌, ℕ, ◌-◌, List, Option, Some, Result, Ok, Err, slice_get, ◌⊎◌, ⊤}
 use Rattle.unit_tree.specs.Orders.{HasNoCycle, IsFirstWithoutOrder, line_of_output}
 use Rattle.unit_tree.specs.SourceLines.{ReadsFrom}
 use Rattle.unit_tree.specs.Texts.{IsRefused}
 use Rattle.unit_tree.specs.WellFormed.{Refusal, IsWellFormed, refusal_of}
 use Rattle.unit_tree.specs.declared.system.PortName.{PortName}
 use Rattle.unit_tree.specs.declared.system.System.{System}
+use Rattle.unit_text.specs.declared.fault.TextFault.{TextFault}
+use Rattle.unit_text.specs.declared.fault.TextFault.TheVariants as fault
+use Rattle.unit_accept.specs.declared.checking.CheckedText.{CheckedText}
 
 -- The text says the system, whose canonical lines came from these lines of the text; no rule is broken, and its outputs have
 -- an order.
@@ -28,6 +31,15 @@ pub record BreaksRule (text : List ℕ) (line rule : ℕ) : Type 0 where
   pub found : refusal_of system ≡ Some refusal
   pub at : source_line lines refusal.at ≡ Some line
   pub by : rule ≡ refusal.by
+
+-- The text says the system, and no line of this breaks a rule; whether its outputs have an order is not asked.
+pub record IsCheckedAs (text : List ℕ) (system : System) (lines : List ℕ) : Type 0 where
+  pub reads : ReadsFrom text system lines
+  pub well_formed : IsWellFormed system
+
+-- The text is refused by a rule on the text and its lines, or on the system that it says.
+abbrev pub IsRefusedBeforeOrder : List ℕ → ℕ → ℕ → Type 0
+IsRefusedBeforeOrder text line rule = IsRefused text line rule ⊎ BreaksRule text line rule
 
 -- The system keeps these rules, and some output has no order: the line is that of the first such output in its unit.
 pub record HasCycle (text : List ℕ) (line rule : ℕ) : Type 0 where
@@ -54,3 +66,16 @@ pub record IsOfUnservedVersion (text : List ℕ) (line rule : ℕ) : Type 0 wher
   pub version : system.version ≡ 2
   pub at : source_line lines 1 ≡ Some line
   pub by : rule ≡ 25
+
+-- ---- Answers
+
+-- A refusal at the line that a canonical line came from.
+abbrev pub IsAtSource : List ℕ → ℕ → ℕ → TextFault → Type 0
+IsAtSource lines item rule (fault.Line line by) = (source_line lines item ≡ Some line) × (by ≡ rule)
+IsAtSource lines item rule fault.NoMemory = ⊥
+
+-- The answer to a text up to the order of outputs; want of memory says nothing.
+abbrev pub ChecksText : List ℕ → Result CheckedText TextFault → Type 0
+ChecksText text (Ok read) = IsCheckedAs text read.checked read.lines
+ChecksText text (Err (fault.Line line rule)) = IsRefusedBeforeOrder text line rule
+ChecksText text (Err fault.NoMemory) = ⊤

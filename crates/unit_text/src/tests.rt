@@ -11,47 +11,91 @@ fn answer(alloc: Global, text: &[u8]) -> Result<(u32, u8), Fail> {
     }
 }
 
+/// Texts, and the line and the rule by which each is refused; zeros where it is read.
+const TEXTS: [(&str, u32, u8); 31] = [
+    ("cosim 1\r\nstop 0.5 # end\r\n", 0, 0),
+    ("\n#\u{1}\ncosim 01", 0, 0),
+    ("\r\ncosim 1 # \r\r\n\r", 0, 0),
+    ("", 1, 7),
+    ("\r", 1, 7),
+    (" \t\n#\n", 1, 7),
+    ("\u{1} # no byte of code\n", 1, 1),
+    ("cosim 1\r\r\n", 1, 1),
+    ("\n\u{1}\n\u{1}", 2, 1),
+    ("hello\n\u{1}", 1, 4),
+    ("end", 1, 5),
+    ("unit A", 1, 7),
+    ("event input u : Bool", 1, 4),
+    ("cosim 1.0", 1, 4),
+    ("cosim 1\ncosim 1", 2, 5),
+    ("cosim 1\ncosim 2", 2, 4),
+    ("cosim 2\ncosim 1", 2, 5),
+    ("cosim 1\n\nhello", 3, 4),
+    ("cosim 1\nstop 1\nstop 2", 3, 5),
+    ("cosim 1\nunit A\nunit B", 3, 5),
+    ("cosim 1\nunit A\n\n", 3, 6),
+    (
+        "cosim 1\nunit A\nstate n : Int64 = 0\noutput y : Int64 = n\nstep\nn := n + 1\n",
+        6,
+        6,
+    ),
+    ("cosim 1\nunit A\nend\nend", 4, 5),
+    ("cosim 1\nunit A\nx := 1\nend", 3, 5),
+    ("cosim 1\nunit A\noutput y : Int8 = absent\nend", 3, 4),
+    ("cosim 1\nunit A\nevent input u : Bool\nend", 3, 4),
+    ("cosim 2\nunit A\nevent input u : Bool\nend", 0, 0),
+    ("cosim 1\nunit A\nstep\nelse", 4, 5),
+    ("cosim 1\nunit A\nstep\nif true\nelse\nelse", 6, 5),
+    ("cosim 1\nunit A\nmax 1\nmax 2", 4, 5),
+    ("cosim 1\ninstance a : A\np = 1\nend\nunit A\nend", 0, 0),
+];
+
+/// Lines of which one may not stand where it does, or may just so.
+const PLACES: [(&str, u32, u8); 22] = [
+    ("unit A\nresolution 1\nresolution 1\nend", 4, 5),
+    ("unit A\nstep\nend\nstep\nend\nend", 5, 5),
+    ("longest 1\nlongest 1", 3, 5),
+    ("zero 1\nstop 1\nzero 1", 4, 5),
+    ("rows 1\n\nrows 1", 4, 5),
+    ("x := 1", 2, 5),
+    ("p = 1", 2, 5),
+    ("else", 2, 5),
+    ("unit A\nstop 1\nend", 3, 5),
+    ("unit A\nstep\nstop 1\nend\nend", 4, 5),
+    ("unit A\nstep\nmax 1\nend\nend", 4, 5),
+    ("unit A\nstep\nrepeat 2\nelse\nend\nend\nend", 5, 5),
+    (
+        "unit A\nstep\nrepeat 2\nif true\nelse\nend\nend\nend\nend",
+        0,
+        0,
+    ),
+    ("instance a : A\nconnect a.y -> a.u\nend", 3, 5),
+    ("instance a : A\nx := 1\nend", 3, 5),
+    ("unit A\nstep\naccept h\nend\nend", 0, 0),
+    ("unit A\nstep\nx := min(1, max(h, t))\nend\nend", 0, 0),
+    ("unit A\nstep\nx := 1 2\nend\nend", 4, 4),
+    ("unit A\nresolution 1.0\nend", 3, 4),
+    ("unit A\nparam p : Fixed 1.0 = 1\nend", 3, 4),
+    ("rows 1.0", 2, 4),
+    ("stop 1 # 20 °C\r\n\r\n", 0, 0),
+];
+
 #[test]
 fn texts_are_read_or_refused(rt: HostRuntime) -> Result<(), Fail> {
-    let texts: [(&str, u32, u8); 31] = [
-        ("cosim 1\r\nstop 0.5 # end\r\n", 0, 0),
-        ("\n#\u{1}\ncosim 01", 0, 0),
-        ("\r\ncosim 1 # \r\r\n\r", 0, 0),
-        ("", 1, 7),
-        ("\r", 1, 7),
-        (" \t\n#\n", 1, 7),
-        ("\u{1} # no byte of code\n", 1, 1),
-        ("cosim 1\r\r\n", 1, 1),
-        ("\n\u{1}\n\u{1}", 2, 1),
-        ("hello\n\u{1}", 1, 4),
-        ("end", 1, 5),
-        ("unit A", 1, 7),
-        ("event input u : Bool", 1, 4),
-        ("cosim 1.0", 1, 4),
-        ("cosim 1\ncosim 1", 2, 5),
-        ("cosim 1\ncosim 2", 2, 4),
-        ("cosim 2\ncosim 1", 2, 5),
-        ("cosim 1\n\nhello", 3, 4),
-        ("cosim 1\nstop 1\nstop 2", 3, 5),
-        ("cosim 1\nunit A\nunit B", 3, 5),
-        ("cosim 1\nunit A\n\n", 3, 6),
-        (
-            "cosim 1\nunit A\nstate n : Int64 = 0\noutput y : Int64 = n\nstep\nn := n + 1\n",
-            6,
-            6,
-        ),
-        ("cosim 1\nunit A\nend\nend", 4, 5),
-        ("cosim 1\nunit A\nx := 1\nend", 3, 5),
-        ("cosim 1\nunit A\noutput y : Int8 = absent\nend", 3, 4),
-        ("cosim 1\nunit A\nevent input u : Bool\nend", 3, 4),
-        ("cosim 2\nunit A\nevent input u : Bool\nend", 0, 0),
-        ("cosim 1\nunit A\nstep\nelse", 4, 5),
-        ("cosim 1\nunit A\nstep\nif true\nelse\nelse", 6, 5),
-        ("cosim 1\nunit A\nmax 1\nmax 2", 4, 5),
-        ("cosim 1\ninstance a : A\np = 1\nend\nunit A\nend", 0, 0),
-    ];
-    for (text, line, rule) in texts.iter() {
+    for (text, line, rule) in TEXTS.iter() {
         assert_eq!(rt; answer(rt.alloc(), text.as_bytes())?, (*line, *rule));
+    }
+    Ok(())
+}
+
+#[test]
+fn lines_stand_where_they_may(rt: HostRuntime) -> Result<(), Fail> {
+    let alloc = rt.alloc();
+    for (lines, line, rule) in PLACES.iter() {
+        let mut text = String::new(alloc);
+        text.push_str("cosim 1\n")?;
+        text.push_str(lines)?;
+        assert_eq!(rt; answer(alloc, text.as_bytes())?, (*line, *rule));
     }
     Ok(())
 }
