@@ -5,8 +5,8 @@ use fixed_words::{Boxed, List, Literal, NoMemory, Ty};
 use std::alloc::Global;
 use std::test::Fail;
 use unit_tree::{
-    BinOp, EventIn, EventOut, Expr, Input, Instance, Line, Name, Output, PortName, Setting, State,
-    System, UnOp, Unit, Wire,
+    BinOp, EventIn, EventOut, Expr, Input, Instance, Line, Local, Name, Output, Param, PortName,
+    Setting, State, System, UnOp, Unit, Wire,
 };
 
 /// An expression by its code, and its text. The code has one byte for each node, with the operands in front of what
@@ -99,6 +99,49 @@ const OTHERS: [Row; 24] = [
     ("THY?", "if t then h else true"),
 ];
 
+/// Each other infix operation: beside one of its class on either side, and beside a weaker and a stronger one.
+const INFIX: [Row; 39] = [
+    ("ab#c#", "(a!=b)!=c"),
+    ("abc##", "a!=(b!=c)"),
+    ("ab|c#", "(a or b)!=c"),
+    ("abc-#", "a!=b-c"),
+    ("ab<c<", "(a<b)<c"),
+    ("abc<<", "a<(b<c)"),
+    ("abc&<", "a<(b and c)"),
+    ("ab*c<", "a*b<c"),
+    ("ab[c=", "(a<=b)==c"),
+    ("abc=[", "a<=(b==c)"),
+    ("ab|c[", "(a or b)<=c"),
+    ("ab[!", "not a<=b"),
+    ("ab>c<", "(a>b)<c"),
+    ("abc<>", "a>(b<c)"),
+    ("ab>c&", "a>b and c"),
+    ("ab>c-", "(a>b)-c"),
+    ("ab]c]", "(a>=b)>=c"),
+    ("abc#]", "a>=(b!=c)"),
+    ("abc]|", "a or b>=c"),
+    ("abc]*", "a*(b>=c)"),
+    ("ab+c-", "a+b-c"),
+    ("abc-+", "a+(b-c)"),
+    ("abc++", "a+(b+c)"),
+    ("ab=c+", "(a==b)+c"),
+    ("abc*+", "a+b*c"),
+    ("ab/c*", "a/b*c"),
+    ("abc*/", "a/(b*c)"),
+    ("abc//", "a/(b/c)"),
+    ("ab+c/", "(a+b)/c"),
+    ("abc/-", "a-b/c"),
+    ("ab:c/", "a div b/c"),
+    ("abc/:", "a div(b/c)"),
+    ("abc::", "a div(b div c)"),
+    ("ab-c:", "(a-b)div c"),
+    ("abc:+", "a+b div c"),
+    ("ab%c:", "a mod b div c"),
+    ("abc%%", "a mod(b mod c)"),
+    ("abc|%", "a mod(b or c)"),
+    ("ab%c>", "a mod b>c"),
+];
+
 /// A number by its word and its decimals, and its text.
 const NUMBERS: [(i64, u8, &str); 7] = [
     (0, 0, "p=0\n"),
@@ -123,6 +166,54 @@ const COUNTER: [&str; 12] = [
     "end",
     "stop 3",
     "longest 1",
+];
+
+/// Every line of version 1: all declarations of a unit, and its blocks in each other; a unit with an empty step, and one
+/// without; settings, and all limits.
+const BLOCKS: [&str; 43] = [
+    "cosim 1",
+    "unit Whole",
+    "resolution 2",
+    "param p:Bool=true",
+    "param q:UInt8=255",
+    "state s:Fixed 1=0.5",
+    "state n:Int32=-7",
+    "local x:Int16",
+    "local z:UInt16",
+    "input u:UInt32=1",
+    "input v:Int64=2",
+    "output y:Fixed 0=s",
+    "output w:Bool needs u=p",
+    "max n",
+    "step",
+    "if p",
+    "repeat 3",
+    "x:=n",
+    "repeat 1000",
+    "end",
+    "end",
+    "else",
+    "if q",
+    "else",
+    "accept h",
+    "end",
+    "end",
+    "accept n",
+    "end",
+    "end",
+    "unit Still",
+    "step",
+    "end",
+    "end",
+    "unit Bare",
+    "end",
+    "instance a:Whole",
+    "p=false",
+    "q=9",
+    "end",
+    "longest 0.25",
+    "zero 10000",
+    "rows 100000",
 ];
 
 const RELAYS: [&str; 15] = [
@@ -156,9 +247,16 @@ fn infix(byte: u8) -> Option<BinOp> {
         b'|' => Some(BinOp::Or),
         b'&' => Some(BinOp::And),
         b'=' => Some(BinOp::Eq),
+        b'#' => Some(BinOp::Ne),
+        b'<' => Some(BinOp::Lt),
+        b'[' => Some(BinOp::Le),
+        b'>' => Some(BinOp::Gt),
+        b']' => Some(BinOp::Ge),
         b'+' => Some(BinOp::Add),
         b'-' => Some(BinOp::Sub),
         b'*' => Some(BinOp::Mul),
+        b'/' => Some(BinOp::Slash),
+        b':' => Some(BinOp::Div),
         b'%' => Some(BinOp::Mod),
         b'm' => Some(BinOp::Min),
         b'M' => Some(BinOp::Max),
@@ -329,6 +427,158 @@ fn counter(alloc: Global) -> Result<System, NoMemory> {
     Ok(system)
 }
 
+fn assign(alloc: Global, target: &[u8], code: &str) -> Result<Line, NoMemory> {
+    Ok(Line::Assign {
+        target: name(alloc, target)?,
+        value: coded(alloc, code)?,
+    })
+}
+
+fn accept(alloc: Global, code: &str) -> Result<Line, NoMemory> {
+    Ok(Line::Accept {
+        value: coded(alloc, code)?,
+    })
+}
+
+/// `if p`, with a `repeat` in a `repeat`, and behind `else` an empty block with an `else` of its own.
+fn choice(alloc: Global) -> Result<Line, NoMemory> {
+    let mut body = List::new(alloc);
+    body.push(assign(alloc, b"x", "n")?)?;
+    body.push(Line::Repeat {
+        count: 1000,
+        body: List::new(alloc),
+    })?;
+    let mut yes = List::new(alloc);
+    yes.push(Line::Repeat { count: 3, body })?;
+    let mut accepting = List::new(alloc);
+    accepting.push(accept(alloc, "H")?)?;
+    let mut no = List::new(alloc);
+    no.push(Line::If {
+        cond: coded(alloc, "q")?,
+        yes: List::new(alloc),
+        no: Some(accepting),
+    })?;
+    Ok(Line::If {
+        cond: coded(alloc, "p")?,
+        yes,
+        no: Some(no),
+    })
+}
+
+/// What the unit of every kind of line declares before its ports.
+fn add_whole_values(alloc: Global, unit: &mut Unit) -> Result<(), NoMemory> {
+    unit.resolution = Some(2);
+    unit.params.push(Param {
+        name: name(alloc, b"p")?,
+        ty: Ty::Bool,
+        start: Literal::Truth(true),
+    })?;
+    unit.params.push(Param {
+        name: name(alloc, b"q")?,
+        ty: Ty::UInt8,
+        start: literal(255),
+    })?;
+    unit.states.push(State {
+        name: name(alloc, b"s")?,
+        ty: Ty::Fixed(1),
+        start: Literal::Number {
+            word: 5,
+            decimals: 1,
+        },
+    })?;
+    unit.states.push(State {
+        name: name(alloc, b"n")?,
+        ty: Ty::Int32,
+        start: literal(-7),
+    })?;
+    unit.locals.push(Local {
+        name: name(alloc, b"x")?,
+        ty: Ty::Int16,
+    })?;
+    unit.locals.push(Local {
+        name: name(alloc, b"z")?,
+        ty: Ty::UInt16,
+    })
+}
+
+/// Its ports.
+fn add_whole_ports(alloc: Global, unit: &mut Unit) -> Result<(), NoMemory> {
+    unit.inputs.push(Input {
+        name: name(alloc, b"u")?,
+        ty: Ty::UInt32,
+        start: literal(1),
+    })?;
+    unit.inputs.push(Input {
+        name: name(alloc, b"v")?,
+        ty: Ty::Int64,
+        start: literal(2),
+    })?;
+    unit.outputs.push(Output {
+        name: name(alloc, b"y")?,
+        ty: Ty::Fixed(0),
+        needs: List::new(alloc),
+        value: coded(alloc, "s")?,
+    })?;
+    let mut needs = List::new(alloc);
+    needs.push(name(alloc, b"u")?)?;
+    unit.outputs.push(Output {
+        name: name(alloc, b"w")?,
+        ty: Ty::Bool,
+        needs,
+        value: coded(alloc, "p")?,
+    })
+}
+
+/// The unit with every kind of line.
+fn whole_unit(alloc: Global) -> Result<Unit, NoMemory> {
+    let mut unit = bare_unit(alloc, b"Whole")?;
+    add_whole_values(alloc, &mut unit)?;
+    add_whole_ports(alloc, &mut unit)?;
+    unit.max = Some(coded(alloc, "n")?);
+    let mut lines = List::new(alloc);
+    lines.push(choice(alloc)?)?;
+    lines.push(accept(alloc, "n")?)?;
+    unit.step = Some(lines);
+    Ok(unit)
+}
+
+/// An instance with two settings.
+fn placed(alloc: Global) -> Result<Instance, NoMemory> {
+    let mut placed = instance(alloc, b"a", b"Whole")?;
+    placed.settings.push(Setting {
+        name: name(alloc, b"p")?,
+        value: Literal::Truth(false),
+    })?;
+    placed.settings.push(Setting {
+        name: name(alloc, b"q")?,
+        value: literal(9),
+    })?;
+    Ok(placed)
+}
+
+/// A unit with an empty step.
+fn still_unit(alloc: Global) -> Result<Unit, NoMemory> {
+    let mut unit = bare_unit(alloc, b"Still")?;
+    unit.step = Some(List::new(alloc));
+    Ok(unit)
+}
+
+/// Three units, of which the first has every kind of line.
+fn blocks(alloc: Global) -> Result<System, NoMemory> {
+    let mut system = bare_system(alloc, 1);
+    system.units.push(whole_unit(alloc)?)?;
+    system.units.push(still_unit(alloc)?)?;
+    system.units.push(bare_unit(alloc, b"Bare")?)?;
+    system.instances.push(placed(alloc)?)?;
+    system.longest = Some(Literal::Number {
+        word: 25,
+        decimals: 2,
+    });
+    system.zero = Some(10_000);
+    system.rows = Some(100_000);
+    Ok(system)
+}
+
 /// The ports of the relay: an input, an event input, an output, and an event output that needs both inputs.
 fn add_relay_ports(alloc: Global, unit: &mut Unit) -> Result<(), NoMemory> {
     unit.inputs.push(Input {
@@ -409,6 +659,14 @@ fn right_operands_that_are_not_stronger_stand_in_parentheses(rt: HostRuntime) ->
 }
 
 #[test]
+fn every_infix_operation_has_its_class(rt: HostRuntime) -> Result<(), Fail> {
+    for (code, text) in INFIX.iter() {
+        assert_eq!(rt; printed(rt.alloc(), code)?.as_slice(), text.as_bytes());
+    }
+    Ok(())
+}
+
+#[test]
 fn prefixes_calls_choices_and_events_are_printed(rt: HostRuntime) -> Result<(), Fail> {
     for (code, text) in OTHERS.iter() {
         assert_eq!(rt; printed(rt.alloc(), code)?.as_slice(), text.as_bytes());
@@ -440,6 +698,15 @@ fn counter_is_printed(rt: HostRuntime) -> Result<(), Fail> {
     let mut out = Vec::new(alloc);
     print_system(alloc, &counter(alloc)?, &mut out)?;
     assert_eq!(rt; out.as_slice(), text_of(alloc, &COUNTER)?.as_slice());
+    Ok(())
+}
+
+#[test]
+fn every_line_of_version_1_is_printed(rt: HostRuntime) -> Result<(), Fail> {
+    let alloc = rt.alloc();
+    let mut out = Vec::new(alloc);
+    print_system(alloc, &blocks(alloc)?, &mut out)?;
+    assert_eq!(rt; out.as_slice(), text_of(alloc, &BLOCKS)?.as_slice());
     Ok(())
 }
 
