@@ -3,59 +3,40 @@ use Rattle.std.proofs.Common.{◌≡◌, ℕ, ◌<◌, ◌⊎◌, List, Option, 
 use Rattle.std.specs.Prelude.{IfSome}
 use Rattle.std.specs.Io.KnownBytes.{Appends, IsAtEnd}
 use Rattle.std.proofs.KnownBytes.{Appends-nil}
-use Rattle.first_form.specs.Reading.{text_limit}
-use Rattle.first_form.proofs.AnswerLemmas.{says_one, not_both, refused_once}
+use Rattle.unit_tree.specs.Texts.{text_limit}
 use Rattle.cosim_io.specs.Faults.{Rose}
 use Rattle.cosim_io.specs.Pieces.{AppendsPrefix}
 use Rattle.cosim_io.proofs.PieceLemmas.{AppendsPrefix-nil, AppendsPrefix-whole}
-use Rattle.cosim_app.specs.Answer.{Answer, AnswersRun, RunAnswers, IsAnswer, run_words, run_answer, refused_answer, usage_answer}
+use Rattle.cosim_app.specs.Answer.{Answer, CommandAnswers, AnswersCommand, IsAnswer, usage_answer}
+use Rattle.cosim_app.specs.Commands.{words_of, HaveNoForm}
+use Rattle.cosim_app.specs.declared.command_words.Command.{Command}
 use Rattle.cosim_app.specs.Headline.{Streams, Gives, PutsNothing, EndsWith, BreaksARule, IsNotesText, Promises}
 use Rattle.cosim_app.specs.Judgement.{PutsAnswer, PutsFront, IsOwn, AnswersInput, TellsNote}
 use Rattle.cosim_app.specs.Notes.{usage_note, read_fault_note, write_fault_note, no_memory_note}
 use Rattle.cosim_app.specs.declared.status.Status.{Status}
 use Rattle.cosim_app.specs.declared.status.Status.TheVariants as status
 use Rattle.unit_tree.specs.Lines.{size_of}
-use Rattle.unit_tree.specs.Trace.{IsTraceOf}
-use Rattle.unit_tree.specs.declared.system.System.{System}
-use Rattle.cosim_app.proofs.FormLaws.{runnable}
-use Rattle.cosim_app.proofs.JudgeLaws.{ends_unrefused}
-use Rattle.cosim_app.proofs.TraceExists.{traces_same}
+use Rattle.cosim_app.proofs.CommandLaws.{answers_same, one_command, served_unrefused}
 
 -- ---- One answer
 
--- two runs of a text answer the same
-runs_same : (text : List ℕ) (one other : Answer) (a : AnswersRun text one) (b : AnswersRun text other) → one ≡ other
-runs_same text one other a b =
-    let same_system : a.system ≡ b.system = says_one text a.system b.system a.accepted b.accepted in
-    let trace : IsTraceOf b.system a.rows a.last a.ending = subst (λ (s : System). IsTraceOf s a.rows a.last a.ending) same_system a.trace in
-    let same = traces_same b.system (runnable text b.system b.accepted) a.rows b.rows a.last b.last a.ending b.ending trace b.trace in
-    a.is ∙ ap (λ s. run_answer s a.rows a.last a.ending) same_system ∙ ap (λ rows. run_answer b.system rows a.last a.ending) same.0 ∙ ap (λ last. run_answer b.system b.rows last a.ending) same.1 ∙ ap (run_answer b.system b.rows b.last) same.2 ∙ sym b.is
+-- the answer of a command's words is that of the command
+pub answer_of : (command : Command) (words : List (List ℕ)) (text : List ℕ) (answer : Answer) → words ≡ words_of command → IsAnswer words text answer → CommandAnswers command text answer
+answer_of command words text answer is (inl found) = subst (λ c. CommandAnswers c text answer) (one_command found.command command (sym found.words_are ∙ is)) found.is
+answer_of command words text answer is (inr found) = absurd (found.0 command is)
 
-pub run_answers_same : (text : List ℕ) (one other : Answer) → RunAnswers text one → RunAnswers text other → one ≡ other
-run_answers_same text one other (inl a) (inl b) =
-    let same = refused_once text a.line a.rule b.line b.rule a.refused b.refused in
-    a.is ∙ ap (λ l. refused_answer l a.rule) same.0 ∙ ap (refused_answer b.line) same.1 ∙ sym b.is
-run_answers_same text one other (inl a) (inr b) = absurd (not_both text b.system a.line a.rule b.accepted a.refused)
-run_answers_same text one other (inr a) (inl b) = absurd (not_both text a.system b.line b.rule a.accepted b.refused)
-run_answers_same text one other (inr a) (inr b) = runs_same text one other a b
-
--- the answer of the words of `run` is that of `run`
-pub run_of : (words : List (List ℕ)) (text : List ℕ) (answer : Answer) → words ≡ run_words → IsAnswer words text answer → RunAnswers text answer
-run_of words text answer is (inl found) = found.1
-run_of words text answer is (inr found) = absurd (found.0 is)
-
-pub usage_of : (words : List (List ℕ)) (text : List ℕ) (answer : Answer) → (words ≡ run_words → ⊥) → IsAnswer words text answer → answer ≡ usage_answer
-usage_of words text answer not (inl found) = absurd (not found.0)
+pub usage_of : (words : List (List ℕ)) (text : List ℕ) (answer : Answer) → HaveNoForm words → IsAnswer words text answer → answer ≡ usage_answer
+usage_of words text answer not (inl found) = absurd (not found.command found.words_are)
 usage_of words text answer not (inr found) = found.1
 
 -- what was put begins each answer
-front_of : (words : List (List ℕ)) (text : List ℕ) (held held' : Option (List ℕ)) → words ≡ run_words → PutsFront text held held' → (answer : Answer) → IsAnswer words text answer → AppendsPrefix held held' answer.out
-front_of words text held held' is puts answer found =
-    subst (λ (a : Answer). AppendsPrefix held held' a.out) (run_answers_same text puts.answer answer puts.is (run_of words text answer is found)) puts.front
+front_of : (command : Command) (words : List (List ℕ)) (text : List ℕ) (held held' : Option (List ℕ)) → words ≡ words_of command → PutsFront command text held held' → (answer : Answer) → IsAnswer words text answer → AppendsPrefix held held' answer.out
+front_of command words text held held' is puts answer found =
+    subst (λ (a : Answer). AppendsPrefix held held' a.out) (answers_same command text puts.answer answer puts.is (answer_of command words text answer is found)) puts.front
 
-fronts_of : (words : List (List ℕ)) (left held held' : Option (List ℕ)) → words ≡ run_words → IfSome left (λ text. PutsFront text held held') → IfSome left (λ text. (answer : Answer) → IsAnswer words text answer → AppendsPrefix held held' answer.out)
-fronts_of words None held held' is puts = tt
-fronts_of words (Some text) held held' is puts = front_of words text held held' is puts
+fronts_of : (command : Command) (words : List (List ℕ)) (left held held' : Option (List ℕ)) → words ≡ words_of command → IfSome left (λ text. PutsFront command text held held') → IfSome left (λ text. (answer : Answer) → IsAnswer words text answer → AppendsPrefix held held' answer.out)
+fronts_of command words None held held' is puts = tt
+fronts_of command words (Some text) held held' is puts = front_of command words text held held' is puts
 
 -- ---- From a status and its note to the clauses
 
@@ -65,16 +46,16 @@ pub record Facts (words : List (List ℕ)) (before now : Streams) (wanted : Stat
   pub untouched : (wanted ≡ status.Usage) ⊎ ((wanted ≡ status.Refused) ⊎ (wanted ≡ status.ReadFault)) → PutsNothing before now
   pub answers : (Rose before.read_faults now.read_faults → ⊥) → (Rose before.put_faults now.put_faults → ⊥) → (wanted ≡ status.NoMemory → ⊥) → IfSome before.left (λ text. (answer : Answer) → IsAnswer words text answer → Appends before.held now.held answer.out × (text_of_note ≡ answer.notes) × (wanted ≡ answer.status))
   pub is_text : IfSome before.left (λ text. IsNotesText words text text_of_note)
-  pub usage : wanted ≡ status.Usage → words ≡ run_words → ⊥
-  pub usage_due : (words ≡ run_words → ⊥) → wanted ≡ status.Usage
+  pub usage : wanted ≡ status.Usage → HaveNoForm words
+  pub usage_due : HaveNoForm words → wanted ≡ status.Usage
   pub read_fault : wanted ≡ status.ReadFault → Rose before.read_faults now.read_faults
   pub write_fault : wanted ≡ status.WriteFault → Rose before.put_faults now.put_faults
-  pub refused : wanted ≡ status.Refused → IfSome before.left BreaksARule
-  pub done : wanted ≡ status.Done → IfSome before.left (EndsWith status.Done)
-  pub zero_budget : wanted ≡ status.ZeroBudget → IfSome before.left (EndsWith status.ZeroBudget)
-  pub row_budget : wanted ≡ status.RowBudget → IfSome before.left (EndsWith status.RowBudget)
-  pub unit_fault : wanted ≡ status.UnitFault → IfSome before.left (EndsWith status.UnitFault)
-  pub step_refused : wanted ≡ status.StepRefused → IfSome before.left (EndsWith status.StepRefused)
+  pub refused : wanted ≡ status.Refused → IfSome before.left (BreaksARule words)
+  pub done : wanted ≡ status.Done → IfSome before.left (EndsWith words status.Done)
+  pub zero_budget : wanted ≡ status.ZeroBudget → IfSome before.left (EndsWith words status.ZeroBudget)
+  pub row_budget : wanted ≡ status.RowBudget → IfSome before.left (EndsWith words status.RowBudget)
+  pub unit_fault : wanted ≡ status.UnitFault → IfSome before.left (EndsWith words status.UnitFault)
+  pub step_refused : wanted ≡ status.StepRefused → IfSome before.left (EndsWith words status.StepRefused)
   pub put_greater : before.put_faults < now.put_faults → wanted ≡ status.WriteFault
   pub read_greater : before.read_faults < now.read_faults → wanted ≡ status.ReadFault
   pub done_read : wanted ≡ status.Done → IsAtEnd now.left
@@ -83,7 +64,7 @@ pub record Facts (words : List (List ℕ)) (before now : Streams) (wanted : Stat
   pub unit_fault_read : wanted ≡ status.UnitFault → IsAtEnd now.left
   pub step_refused_read : wanted ≡ status.StepRefused → IsAtEnd now.left
   pub refused_read : wanted ≡ status.Refused → IsAtEnd now.left ⊎ IfSome before.left (λ text. text_limit < size_of text)
-  pub usage_read : (words ≡ run_words → ⊥) → (now.left ≡ before.left) × (now.read_faults ≡ before.read_faults)
+  pub usage_read : HaveNoForm words → (now.left ≡ before.left) × (now.read_faults ≡ before.read_faults)
   pub read_fault_text : wanted ≡ status.ReadFault → text_of_note ≡ read_fault_note
   pub write_fault_text : wanted ≡ status.WriteFault → text_of_note ≡ write_fault_note
   pub no_memory_text : wanted ≡ status.NoMemory → text_of_note ≡ no_memory_note
@@ -172,27 +153,27 @@ promises_told words before now wanted given note facts (inr failed) =
 
 -- ---- The facts of each way through a call
 
-usage_front : (words : List (List ℕ)) (left held : Option (List ℕ)) → (words ≡ run_words → ⊥) → IfSome left (λ text. (answer : Answer) → IsAnswer words text answer → AppendsPrefix held held answer.out)
+usage_front : (words : List (List ℕ)) (left held : Option (List ℕ)) → HaveNoForm words → IfSome left (λ text. (answer : Answer) → IsAnswer words text answer → AppendsPrefix held held answer.out)
 usage_front words None held not = tt
 usage_front words (Some text) held not = λ answer found. AppendsPrefix-nil held answer.out
 
-usage_answers : (words : List (List ℕ)) (left held : Option (List ℕ)) → (words ≡ run_words → ⊥) → IfSome left (λ text. (answer : Answer) → IsAnswer words text answer → Appends held held answer.out × (usage_note ≡ answer.notes) × (status.Usage ≡ answer.status))
+usage_answers : (words : List (List ℕ)) (left held : Option (List ℕ)) → HaveNoForm words → IfSome left (λ text. (answer : Answer) → IsAnswer words text answer → Appends held held answer.out × (usage_note ≡ answer.notes) × (status.Usage ≡ answer.status))
 usage_answers words None held not = tt
 usage_answers words (Some text) held not = λ answer found.
     let is : answer ≡ usage_answer = usage_of words text answer not found in
     (subst (λ (a : Answer). Appends held held a.out) (sym is) (Appends-nil held), ap (λ (a : Answer). a.notes) (sym is), ap (λ (a : Answer). a.status) (sym is))
 
-usage_text : (words : List (List ℕ)) (left : Option (List ℕ)) → (words ≡ run_words → ⊥) → IfSome left (λ text. IsNotesText words text usage_note)
+usage_text : (words : List (List ℕ)) (left : Option (List ℕ)) → HaveNoForm words → IfSome left (λ text. IsNotesText words text usage_note)
 usage_text words None not = tt
 usage_text words (Some text) not = inr (inr (inr (λ answer found. ap (λ (a : Answer). a.notes) (sym (usage_of words text answer not found)))))
 
-pub facts_usage : (words : List (List ℕ)) (before now : Streams) → (words ≡ run_words → ⊥) → now.left ≡ before.left → now.read_faults ≡ before.read_faults → now.held ≡ before.held → now.put_faults ≡ before.put_faults → Facts words before now status.Usage usage_note
+pub facts_usage : (words : List (List ℕ)) (before now : Streams) → HaveNoForm words → now.left ≡ before.left → now.read_faults ≡ before.read_faults → now.held ≡ before.held → now.put_faults ≡ before.put_faults → Facts words before now status.Usage usage_note
 facts_usage words before now not left reads held puts = record {
   front = subst (λ (h : Option (List ℕ)). IfSome before.left (λ text. (answer : Answer) → IsAnswer words text answer → AppendsPrefix before.held h answer.out)) (sym held) (usage_front words before.left before.held not);
   untouched = λ _. record { held = held; faults = puts };
   answers = λ _ _ _. subst (λ (h : Option (List ℕ)). IfSome before.left (λ text. (answer : Answer) → IsAnswer words text answer → Appends before.held h answer.out × (usage_note ≡ answer.notes) × (status.Usage ≡ answer.status))) (sym held) (usage_answers words before.left before.held not);
   is_text = usage_text words before.left not;
-  usage = λ _ is. not is;
+  usage = λ _. not;
   usage_due = λ _. refl;
   read_fault = λ e. absurd (cc);
   write_fault = λ e. absurd (cc);
@@ -230,14 +211,14 @@ fixed_text_is : (words : List (List ℕ)) (left : Option (List ℕ)) (note : Lis
 fixed_text_is words None note is = tt
 fixed_text_is words (Some text) note is = is text
 
-pub facts_read_fault : (words : List (List ℕ)) (before now : Streams) → words ≡ run_words → IfSome before.left (λ text. PutsFront text before.held before.held) → Rose before.read_faults now.read_faults → now.held ≡ before.held → now.put_faults ≡ before.put_faults → Facts words before now status.ReadFault read_fault_note
-facts_read_fault words before now is_run nothing rose held puts = record {
-  front = subst (λ (h : Option (List ℕ)). IfSome before.left (λ text. (answer : Answer) → IsAnswer words text answer → AppendsPrefix before.held h answer.out)) (sym held) (fronts_of words before.left before.held before.held is_run nothing);
+pub facts_read_fault : (command : Command) (words : List (List ℕ)) (before now : Streams) → words ≡ words_of command → IfSome before.left (λ text. PutsFront command text before.held before.held) → Rose before.read_faults now.read_faults → now.held ≡ before.held → now.put_faults ≡ before.put_faults → Facts words before now status.ReadFault read_fault_note
+facts_read_fault command words before now words_are nothing rose held puts = record {
+  front = subst (λ (h : Option (List ℕ)). IfSome before.left (λ text. (answer : Answer) → IsAnswer words text answer → AppendsPrefix before.held h answer.out)) (sym held) (fronts_of command words before.left before.held before.held words_are nothing);
   untouched = λ _. record { held = held; faults = puts };
   answers = λ quiet _ _. absurd (quiet rose);
   is_text = fixed_text_is words before.left read_fault_note (λ text. inl refl);
   usage = λ e. absurd (cc);
-  usage_due = λ not. absurd (not is_run);
+  usage_due = λ not. absurd (not command words_are);
   read_fault = λ _. rose;
   write_fault = λ e. absurd (cc);
   refused = λ e. absurd (cc);
@@ -254,20 +235,20 @@ facts_read_fault words before now is_run nothing rose held puts = record {
   unit_fault_read = λ e. absurd (cc);
   step_refused_read = λ e. absurd (cc);
   refused_read = λ e. absurd (cc);
-  usage_read = λ not. absurd (not is_run);
+  usage_read = λ not. absurd (not command words_are);
   read_fault_text = λ _. refl;
   write_fault_text = λ e. absurd (cc);
   no_memory_text = λ e. absurd (cc);
 }
 
-pub facts_write_fault : (words : List (List ℕ)) (before now : Streams) → words ≡ run_words → IfSome before.left (λ text. PutsFront text before.held now.held) → now.read_faults ≡ before.read_faults → Rose before.put_faults now.put_faults → Facts words before now status.WriteFault write_fault_note
-facts_write_fault words before now is_run puts_front reads rose = record {
-  front = fronts_of words before.left before.held now.held is_run puts_front;
+pub facts_write_fault : (command : Command) (words : List (List ℕ)) (before now : Streams) → words ≡ words_of command → IfSome before.left (λ text. PutsFront command text before.held now.held) → now.read_faults ≡ before.read_faults → Rose before.put_faults now.put_faults → Facts words before now status.WriteFault write_fault_note
+facts_write_fault command words before now words_are puts_front reads rose = record {
+  front = fronts_of command words before.left before.held now.held words_are puts_front;
   untouched = λ e. absurd (write_fault_is_other e);
   answers = λ _ quiet _. absurd (quiet rose);
   is_text = fixed_text_is words before.left write_fault_note (λ text. inr (inl refl));
   usage = λ e. absurd (cc);
-  usage_due = λ not. absurd (not is_run);
+  usage_due = λ not. absurd (not command words_are);
   read_fault = λ e. absurd (cc);
   write_fault = λ _. rose;
   refused = λ e. absurd (cc);
@@ -284,20 +265,20 @@ facts_write_fault words before now is_run puts_front reads rose = record {
   unit_fault_read = λ e. absurd (cc);
   step_refused_read = λ e. absurd (cc);
   refused_read = λ e. absurd (cc);
-  usage_read = λ not. absurd (not is_run);
+  usage_read = λ not. absurd (not command words_are);
   read_fault_text = λ e. absurd (cc);
   write_fault_text = λ _. refl;
   no_memory_text = λ e. absurd (cc);
 }
 
-pub facts_no_memory : (words : List (List ℕ)) (before now : Streams) → words ≡ run_words → IfSome before.left (λ text. PutsFront text before.held now.held) → now.read_faults ≡ before.read_faults → now.put_faults ≡ before.put_faults → Facts words before now status.NoMemory no_memory_note
-facts_no_memory words before now is_run puts_front reads puts = record {
-  front = fronts_of words before.left before.held now.held is_run puts_front;
+pub facts_no_memory : (command : Command) (words : List (List ℕ)) (before now : Streams) → words ≡ words_of command → IfSome before.left (λ text. PutsFront command text before.held now.held) → now.read_faults ≡ before.read_faults → now.put_faults ≡ before.put_faults → Facts words before now status.NoMemory no_memory_note
+facts_no_memory command words before now words_are puts_front reads puts = record {
+  front = fronts_of command words before.left before.held now.held words_are puts_front;
   untouched = λ e. absurd (no_memory_is_other e);
   answers = λ _ _ more. absurd (more refl);
   is_text = fixed_text_is words before.left no_memory_note (λ text. inr (inr (inl refl)));
   usage = λ e. absurd (cc);
-  usage_due = λ not. absurd (not is_run);
+  usage_due = λ not. absurd (not command words_are);
   read_fault = λ e. absurd (cc);
   write_fault = λ e. absurd (cc);
   refused = λ e. absurd (cc);
@@ -314,17 +295,17 @@ facts_no_memory words before now is_run puts_front reads puts = record {
   unit_fault_read = λ e. absurd (cc);
   step_refused_read = λ e. absurd (cc);
   refused_read = λ e. absurd (cc);
-  usage_read = λ not. absurd (not is_run);
+  usage_read = λ not. absurd (not command words_are);
   read_fault_text = λ e. absurd (cc);
   write_fault_text = λ e. absurd (cc);
   no_memory_text = λ _. refl;
 }
 
 -- an answer of its own
-own_front : (words : List (List ℕ)) (left held held' : Option (List ℕ)) (given : Status) (note : List ℕ) → words ≡ run_words → IfSome left (λ text. PutsAnswer text held held' given note) → IfSome left (λ text. (answer : Answer) → IsAnswer words text answer → Appends held held' answer.out × (note ≡ answer.notes) × (given ≡ answer.status))
-own_front words None held held' given note is_run gives = tt
-own_front words (Some text) held held' given note is_run gives = λ answer found.
-    let same = run_answers_same text gives.answer answer gives.is (run_of words text answer is_run found) in
+own_front : (command : Command) (words : List (List ℕ)) (left held held' : Option (List ℕ)) (given : Status) (note : List ℕ) → words ≡ words_of command → IfSome left (λ text. PutsAnswer command text held held' given note) → IfSome left (λ text. (answer : Answer) → IsAnswer words text answer → Appends held held' answer.out × (note ≡ answer.notes) × (given ≡ answer.status))
+own_front command words None held held' given note words_are gives = tt
+own_front command words (Some text) held held' given note words_are gives = λ answer found.
+    let same = answers_same command text gives.answer answer gives.is (answer_of command words text answer words_are found) in
     (subst (λ (a : Answer). Appends held held' a.out) same gives.out, gives.notes ∙ ap (λ (a : Answer). a.notes) same, gives.same_status ∙ ap (λ (a : Answer). a.status) same)
 
 own_prefix : (words : List (List ℕ)) (left held held' : Option (List ℕ)) (given : Status) (note : List ℕ) → IfSome left (λ text. (answer : Answer) → IsAnswer words text answer → Appends held held' answer.out × (note ≡ answer.notes) × (given ≡ answer.status)) → IfSome left (λ text. (answer : Answer) → IsAnswer words text answer → AppendsPrefix held held' answer.out)
@@ -335,22 +316,21 @@ own_text : (words : List (List ℕ)) (left held held' : Option (List ℕ)) (give
 own_text words None held held' given note answers = tt
 own_text words (Some text) held held' given note answers = inr (inr (inr (λ answer found. (answers answer found).1)))
 
-breaks : (text : List ℕ) (answer : Answer) → RunAnswers text answer → answer.status ≡ status.Refused → BreaksARule text
-breaks text answer (inl a) is = record { line = a.line; rule = a.rule; refused = a.refused }
-breaks text answer (inr a) is = absurd (ends_unrefused a.ending answer.status (ap (λ (x : Answer). x.status) a.is) is)
+breaks : (command : Command) (words : List (List ℕ)) (text : List ℕ) (answer : Answer) → words ≡ words_of command → CommandAnswers command text answer → answer.status ≡ status.Refused → BreaksARule words text
+breaks command words text answer words_are (inl a) is = record { command = command; words_are = words_are; line = a.line; rule = a.rule; refused = a.refused }
+breaks command words text answer words_are (inr a) is = absurd (served_unrefused command text answer a is)
 
-breaks_a_rule : (left held held' : Option (List ℕ)) (given : Status) (note : List ℕ) → IfSome left (λ text. PutsAnswer text held held' given note) → given ≡ status.Refused → IfSome left BreaksARule
-breaks_a_rule None held held' given note gives is = tt
-breaks_a_rule (Some text) held held' given note gives is = breaks text gives.answer gives.is (sym gives.same_status ∙ is)
+breaks_a_rule : (command : Command) (words : List (List ℕ)) (left held held' : Option (List ℕ)) (given : Status) (note : List ℕ) → words ≡ words_of command → IfSome left (λ text. PutsAnswer command text held held' given note) → given ≡ status.Refused → IfSome left (BreaksARule words)
+breaks_a_rule command words None held held' given note words_are gives is = tt
+breaks_a_rule command words (Some text) held held' given note words_are gives is = breaks command words text gives.answer words_are gives.is (sym gives.same_status ∙ is)
 
-ends_so : (text : List ℕ) (answer : Answer) (end : Status) → (end ≡ status.Refused → ⊥) → RunAnswers text answer → answer.status ≡ end → EndsWith end text
-ends_so text answer end other (inl a) is = absurd (other (sym is ∙ ap (λ (x : Answer). x.status) a.is))
-ends_so text answer end other (inr a) is =
-    record { system = a.system; accepted = a.accepted; rows = a.rows; last = a.last; ending = a.ending; trace = a.trace; status = sym (ap (λ (x : Answer). x.status) a.is) ∙ is }
+ends_so : (command : Command) (words : List (List ℕ)) (text : List ℕ) (answer : Answer) (end : Status) → (end ≡ status.Refused → ⊥) → words ≡ words_of command → CommandAnswers command text answer → answer.status ≡ end → EndsWith words end text
+ends_so command words text answer end other words_are (inl a) is = absurd (other (sym is ∙ ap (λ (x : Answer). x.status) a.is))
+ends_so command words text answer end other words_are (inr a) is = record { command = command; words_are = words_are; answer = answer; serves = a; status = is }
 
-ends_with : (left held held' : Option (List ℕ)) (given end : Status) (note : List ℕ) → (end ≡ status.Refused → ⊥) → IfSome left (λ text. PutsAnswer text held held' given note) → given ≡ end → IfSome left (EndsWith end)
-ends_with None held held' given end note other gives is = tt
-ends_with (Some text) held held' given end note other gives is = ends_so text gives.answer end other gives.is (sym gives.same_status ∙ is)
+ends_with : (command : Command) (words : List (List ℕ)) (left held held' : Option (List ℕ)) (given end : Status) (note : List ℕ) → (end ≡ status.Refused → ⊥) → words ≡ words_of command → IfSome left (λ text. PutsAnswer command text held held' given note) → given ≡ end → IfSome left (EndsWith words end)
+ends_with command words None held held' given end note other words_are gives is = tt
+ends_with command words (Some text) held held' given end note other words_are gives is = ends_so command words text gives.answer end other words_are gives.is (sym gives.same_status ∙ is)
 
 own_is_other : (given other : Status) → IsOwn given → (IsOwn other → ⊥) → given ≡ other → ⊥
 own_is_other given other own not is = not (subst IsOwn is own)
@@ -368,9 +348,9 @@ read_or_long : (given : Status) (left left' : Option (List ℕ)) → IsAtEnd lef
 read_or_long given left left' (inl end) = inl end
 read_or_long given left left' (inr long) = inr long.1
 
-pub facts_answered : (words : List (List ℕ)) (before now : Streams) (given : Status) (note : List ℕ) → words ≡ run_words → AnswersInput before.left now.left before.read_faults now.read_faults before.held now.held before.put_faults now.put_faults given note → Facts words before now given note
-facts_answered words before now given note is_run a =
-    let answers = own_front words before.left before.held now.held given note is_run a.gives in
+pub facts_answered : (command : Command) (words : List (List ℕ)) (before now : Streams) (given : Status) (note : List ℕ) → words ≡ words_of command → AnswersInput command before.left now.left before.read_faults now.read_faults before.held now.held before.put_faults now.put_faults given note → Facts words before now given note
+facts_answered command words before now given note words_are a =
+    let answers = own_front command words before.left before.held now.held given note words_are a.gives in
     let reads = a.same_reads in
     let puts = a.same_puts in
     record {
@@ -379,15 +359,15 @@ facts_answered words before now given note is_run a =
       answers = λ _ _ _. answers;
       is_text = own_text words before.left before.held now.held given note answers;
       usage = λ e. absurd (own_is_other given status.Usage a.own (λ x. x) e);
-      usage_due = λ not. absurd (not is_run);
+      usage_due = λ not. absurd (not command words_are);
       read_fault = λ e. absurd (own_is_other given status.ReadFault a.own (λ x. x) e);
       write_fault = λ e. absurd (own_is_other given status.WriteFault a.own (λ x. x) e);
-      refused = breaks_a_rule before.left before.held now.held given note a.gives;
-      done = ends_with before.left before.held now.held given status.Done note (λ e. absurd (cc)) a.gives;
-      zero_budget = ends_with before.left before.held now.held given status.ZeroBudget note (λ e. absurd (cc)) a.gives;
-      row_budget = ends_with before.left before.held now.held given status.RowBudget note (λ e. absurd (cc)) a.gives;
-      unit_fault = ends_with before.left before.held now.held given status.UnitFault note (λ e. absurd (cc)) a.gives;
-      step_refused = ends_with before.left before.held now.held given status.StepRefused note (λ e. absurd (cc)) a.gives;
+      refused = breaks_a_rule command words before.left before.held now.held given note words_are a.gives;
+      done = ends_with command words before.left before.held now.held given status.Done note (λ e. absurd (cc)) words_are a.gives;
+      zero_budget = ends_with command words before.left before.held now.held given status.ZeroBudget note (λ e. absurd (cc)) words_are a.gives;
+      row_budget = ends_with command words before.left before.held now.held given status.RowBudget note (λ e. absurd (cc)) words_are a.gives;
+      unit_fault = ends_with command words before.left before.held now.held given status.UnitFault note (λ e. absurd (cc)) words_are a.gives;
+      step_refused = ends_with command words before.left before.held now.held given status.StepRefused note (λ e. absurd (cc)) words_are a.gives;
       put_greater = λ more. absurd (omega arith);
       read_greater = λ more. absurd (omega arith);
       done_read = λ e. read_to_end given before.left now.left (λ r. absurd (cc)) a.to_end;
@@ -396,7 +376,7 @@ facts_answered words before now given note is_run a =
       unit_fault_read = λ e. read_to_end given before.left now.left (λ r. absurd (cc)) a.to_end;
       step_refused_read = λ e. read_to_end given before.left now.left (λ r. absurd (cc)) a.to_end;
       refused_read = λ e. read_or_long given before.left now.left a.to_end;
-      usage_read = λ not. absurd (not is_run);
+      usage_read = λ not. absurd (not command words_are);
       read_fault_text = λ e. absurd (own_is_other given status.ReadFault a.own (λ x. x) e);
       write_fault_text = λ e. absurd (own_is_other given status.WriteFault a.own (λ x. x) e);
       no_memory_text = λ e. absurd (own_is_other given status.NoMemory a.own (λ x. x) e);

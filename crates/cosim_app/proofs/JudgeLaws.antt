@@ -1,21 +1,29 @@
 -- What a run has put and come to, as the answer of its text.
-use Rattle.std.proofs.Common.{◌≡◌, ℕ, ◌+◌, ◌<◌, List, length, length-append, arith, Option, Some, None, Result, Ok, Err, refl, sym, ap, subst, ◌∙◌, inl, inr}
+use Rattle.std.proofs.Common.{◌≡◌, ℕ, ◌+◌, ◌<◌, ◌≤◌, ◌⊎◌, List, [], length, length-append, arith, Option, Some, None, Result, Ok, Err, refl, sym, ap, subst, ◌∙◌, inl, inr}
 use Rattle.std.specs.Prelude.{IfSome}
-use Rattle.std.specs.Io.KnownBytes.{IsAtEnd}
+use Rattle.std.specs.Io.KnownBytes.{Appends, IsAtEnd}
 use Rattle.std.proofs.KnownBytes.{Appends-nil}
-use Rattle.first_form.specs.Reading.{IsAccepted, IsRefused, IsAnswered, text_limit}
-use Rattle.first_form.proofs.AnswerLemmas.{answered}
-use Rattle.unit_tokens.proofs.LineLemmas.{length_le_size_of}
+use Rattle.first_form.specs.Reading.{IsAccepted}
 use Rattle.first_form.proofs.ReadingLemmas.{refused_long}
+use Rattle.unit_accept.specs.Accepting.{IsAcceptedAs, source_line}
+use Rattle.unit_accept.proofs.Acceptance.{as_many}
+use Rattle.text_laws.proofs.ReadIsPrintable.{read_is_printable}
+use Rattle.unit_tree.proofs.EventLaws.{one_or_two}
+use Rattle.unit_text.proofs.ReadingLaws.{long_refused}
+use Rattle.unit_tree.specs.Texts.{text_limit}
+use Rattle.unit_tokens.proofs.LineLemmas.{length_le_size_of}
 use Rattle.unit_tree.specs.Lines.{size_of}
 use Rattle.unit_tree.specs.declared.ending.Ending.{Ending}
 use Rattle.unit_tree.specs.declared.ending.Ending.TheVariants.{Completed, RowBudget, ZeroBudget, UnitFault, StepRefused}
 use Rattle.unit_tree.specs.declared.system.System.{System}
-use Rattle.cosim_io.specs.Pieces.{ConsumesExactly}
+use Rattle.cosim_io.specs.Pieces.{AppendsPrefix, ConsumesExactly}
 use Rattle.cosim_io.proofs.PieceLemmas.{AppendsPrefix-nil, AppendsPrefix-whole}
-use Rattle.cosim_app.specs.Answer.{Answer, RunAnswers, run_answer, refused_answer, status_of}
-use Rattle.cosim_app.specs.Judgement.{PutsAnswer, PutsFront, IsOwn, JudgesText, JudgesInput, Refuses}
+use Rattle.cosim_app.specs.Answer.{Answer, IsOfUnservedVersion, RefusedBy, Serves, run_answer, refused_answer, accepted_answer, printed_text, printed_answer, status_of}
+use Rattle.cosim_app.specs.declared.command_words.Command.{Command}
+use Rattle.cosim_app.specs.declared.command_words.Command.TheVariants.{Run, Check, Print}
+use Rattle.cosim_app.specs.Judgement.{PutsAnswer, PutsFront, PutsPiece, TellsAccepted, IsOwn, JudgesText, JudgesInput, Refuses}
 use Rattle.cosim_app.specs.Notes.{ending_note, refused_note}
+use Rattle.cosim_app.proofs.CommandLaws.{command_answered, ends_unrefused}
 use Rattle.cosim_app.specs.Runnable.{PutsTrace}
 use Rattle.cosim_app.specs.declared.fault.RunEnd.{RunEnd}
 use Rattle.cosim_app.specs.declared.fault.RunFault.{RunFault}
@@ -27,7 +35,7 @@ use Rattle.cosim_app.proofs.FormLaws.{runnable}
 use Rattle.cosim_app.proofs.TraceExists.{trace_of_runnable}
 
 -- a run that ended has put the answer
-pub puts_answer : (text : List ℕ) (system : System) (held held' : Option (List ℕ)) (result : Result RunEnd RunFault) (end : RunEnd) (given : Status) (note : List ℕ) → IsAccepted text system → PutsTrace system held held' result → result ≡ Ok end → given ≡ status_of end.ending → note ≡ ending_note system end.ending end.last → PutsAnswer text held held' given note
+pub puts_answer : (text : List ℕ) (system : System) (held held' : Option (List ℕ)) (result : Result RunEnd RunFault) (end : RunEnd) (given : Status) (note : List ℕ) → IsAccepted text system → PutsTrace system held held' result → result ≡ Ok end → given ≡ status_of end.ending → note ≡ ending_note system end.ending end.last → PutsAnswer Run text held held' given note
 puts_answer text system held held' result end given note accepted puts is given_is note_is =
     let trace = trace_of_runnable system (runnable text system accepted) in
     let ended = subst (PutsTrace system held held') is puts in
@@ -41,7 +49,7 @@ puts_answer text system held held' result end given note accepted puts is given_
     }
 
 -- a run that was given up has put a front of the answer
-pub puts_front : (text : List ℕ) (system : System) (held held' : Option (List ℕ)) (result : Result RunEnd RunFault) (fault : RunFault) → IsAccepted text system → PutsTrace system held held' result → result ≡ Err fault → PutsFront text held held'
+pub puts_front : (text : List ℕ) (system : System) (held held' : Option (List ℕ)) (result : Result RunEnd RunFault) (fault : RunFault) → IsAccepted text system → PutsTrace system held held' result → result ≡ Err fault → PutsFront Run text held held'
 puts_front text system held held' result fault accepted puts is =
     let trace = trace_of_runnable system (runnable text system accepted) in
     let given_up = subst (PutsTrace system held held') is puts in
@@ -52,7 +60,7 @@ puts_front text system held held' result fault accepted puts is =
     }
 
 -- and so has one that ended, as far as its output goes
-pub puts_front_of : (text : List ℕ) (system : System) (held held' : Option (List ℕ)) (result : Result RunEnd RunFault) (end : RunEnd) → IsAccepted text system → PutsTrace system held held' result → result ≡ Ok end → PutsFront text held held'
+pub puts_front_of : (text : List ℕ) (system : System) (held held' : Option (List ℕ)) (result : Result RunEnd RunFault) (end : RunEnd) → IsAccepted text system → PutsTrace system held held' result → result ≡ Ok end → PutsFront Run text held held'
 puts_front_of text system held held' result end accepted puts is =
     let trace = trace_of_runnable system (runnable text system accepted) in
     let ended = subst (PutsTrace system held held') is puts in
@@ -71,33 +79,15 @@ ends_own ZeroBudget given is = subst IsOwn (sym is) tt
 ends_own (StepRefused instance asked accepted) given is = subst IsOwn (sym is) tt
 ends_own (UnitFault instance place fault) given is = subst IsOwn (sym is) tt
 
-pub ends_unrefused : (ending : Ending) (given : Status) → given ≡ status_of ending → given ≡ status.Refused → ⊥
-ends_unrefused Completed given is refused = cc
-ends_unrefused RowBudget given is refused = cc
-ends_unrefused ZeroBudget given is refused = cc
-ends_unrefused (StepRefused instance asked accepted) given is refused = cc
-ends_unrefused (UnitFault instance place fault) given is refused = cc
-
-answer_of : (text : List ℕ) → IsAnswered text → (answer : Answer) × RunAnswers text answer
-answer_of text (inl (system, accepted)) =
-    let trace = trace_of_runnable system (runnable text system accepted) in
-    (run_answer system trace.rows trace.last trace.ending, inr (record { system = system; accepted = accepted; rows = trace.rows; last = trace.last; ending = trace.ending; trace = trace.is_trace; is = refl }))
-answer_of text (inr refusal) =
-    (refused_answer refusal.0 refusal.1, inl (record { line = refusal.0; rule = refusal.1; refused = refusal.2; is = refl }))
-
--- each text has an answer of `run`
-pub run_answered : (text : List ℕ) → (answer : Answer) × RunAnswers text answer
-run_answered text = answer_of text (answered text)
-
 -- nothing was put yet
-pub puts_nothing : (text : List ℕ) (held : Option (List ℕ)) → PutsFront text held held
-puts_nothing text held =
-    let some = run_answered text in
+pub puts_nothing : (command : Command) (text : List ℕ) (held : Option (List ℕ)) → PutsFront command text held held
+puts_nothing command text held =
+    let some = command_answered command text in
     record { answer = some.0; is = some.1; front = AppendsPrefix-nil held some.0.out }
 
 -- a refusal is the answer of a text that is refused
-pub refuses : (text : List ℕ) (held : Option (List ℕ)) (faults line rule : ℕ) (v : Verdict) → IsRefused text line rule → Refuses line rule v → JudgesText text held held faults faults v
-refuses text held faults line rule (verdict.Answered given note) refused is = (
+pub refuses : (command : Command) (text : List ℕ) (held : Option (List ℕ)) (faults line rule : ℕ) (v : Verdict) → RefusedBy command text line rule → Refuses line rule v → JudgesText command text held held faults faults v
+refuses command text held faults line rule (verdict.Answered given note) refused is = (
   record {
     answer = refused_answer line rule;
     is = inl (record { line = line; rule = rule; refused = refused; is = refl });
@@ -109,14 +99,14 @@ refuses text held faults line rule (verdict.Answered given note) refused is = (
   refl,
   λ _. refl,
 )
-refuses text held faults line rule verdict.NoMemory refused is = (puts_nothing text held, refl)
-refuses text held faults line rule verdict.ReadFault refused is = absurd is
-refuses text held faults line rule verdict.WriteFault refused is = absurd is
+refuses command text held faults line rule verdict.NoMemory refused is = (puts_nothing command text held, refl)
+refuses command text held faults line rule verdict.ReadFault refused is = absurd is
+refuses command text held faults line rule verdict.WriteFault refused is = absurd is
 
 -- nothing was put yet, whatever the input is
-pub nothing_put : (left : Option (List ℕ)) (held : Option (List ℕ)) → IfSome left (λ text. PutsFront text held held)
-nothing_put None held = tt
-nothing_put (Some text) held = puts_nothing text held
+pub nothing_put : (command : Command) (left : Option (List ℕ)) (held : Option (List ℕ)) → IfSome left (λ text. PutsFront command text held held)
+nothing_put command None held = tt
+nothing_put command (Some text) held = puts_nothing command text held
 
 -- more bytes than a text may have were taken
 too_long : (left left' : Option (List ℕ)) → ConsumesExactly left left' (text_limit + 1) → IfSome left (λ text. text_limit < size_of text)
@@ -128,50 +118,104 @@ too_long (Some text) (Some rest) taken =
     let front = taken.size in
     omega arith
 
-long_answer : (left : Option (List ℕ)) (held : Option (List ℕ)) (given : Status) (note : List ℕ) → IfSome left (λ text. text_limit < size_of text) → given ≡ status.Refused → note ≡ refused_note 1 2 → IfSome left (λ text. PutsAnswer text held held given note)
-long_answer None held given note long is note_is = tt
-long_answer (Some text) held given note long is note_is = record {
+-- by each command
+refused_as_long : (command : Command) (text : List ℕ) → text_limit < size_of text → RefusedBy command text 1 2
+refused_as_long Run text long = refused_long text long
+refused_as_long Check text long = inl (inl (long_refused text long))
+refused_as_long Print text long = inl (long_refused text long)
+
+long_answer : (command : Command) (left : Option (List ℕ)) (held : Option (List ℕ)) (given : Status) (note : List ℕ) → IfSome left (λ text. text_limit < size_of text) → given ≡ status.Refused → note ≡ refused_note 1 2 → IfSome left (λ text. PutsAnswer command text held held given note)
+long_answer command None held given note long is note_is = tt
+long_answer command (Some text) held given note long is note_is = record {
   answer = refused_answer 1 2;
-  is = inl (record { line = 1; rule = 2; refused = refused_long text long; is = refl });
+  is = inl (record { line = 1; rule = 2; refused = refused_as_long command text long; is = refl });
   out = Appends-nil held;
   notes = note_is;
   same_status = is;
 }
 
 -- a text that is too long is refused at once
-pub refuses_long : (left left' : Option (List ℕ)) (reads reads' : ℕ) (held : Option (List ℕ)) (puts : ℕ) (v : Verdict) → ConsumesExactly left left' (text_limit + 1) → reads' ≡ reads → Refuses 1 2 v → JudgesInput left left' reads reads' held held puts puts v
-refuses_long left left' reads reads' held puts (verdict.Answered given note) taken same is =
+pub refuses_long : (command : Command) (left left' : Option (List ℕ)) (reads reads' : ℕ) (held : Option (List ℕ)) (puts : ℕ) (v : Verdict) → ConsumesExactly left left' (text_limit + 1) → reads' ≡ reads → Refuses 1 2 v → JudgesInput command left left' reads reads' held held puts puts v
+refuses_long command left left' reads reads' held puts (verdict.Answered given note) taken same is =
     let long = too_long left left' taken in
     record {
-      gives = long_answer left held given note.items long is.0 is.1;
+      gives = long_answer command left held given note.items long is.0 is.1;
       own = subst IsOwn (sym is.0) tt;
       same_reads = same;
       same_puts = refl;
       untouched = λ _. refl;
       to_end = inr (is.0, long);
     }
-refuses_long left left' reads reads' held puts verdict.NoMemory taken same is = (nothing_put left held, same, refl)
-refuses_long left left' reads reads' held puts verdict.ReadFault taken same is = absurd is
-refuses_long left left' reads reads' held puts verdict.WriteFault taken same is = absurd is
+refuses_long command left left' reads reads' held puts verdict.NoMemory taken same is = (nothing_put command left held, same, refl)
+refuses_long command left left' reads reads' held puts verdict.ReadFault taken same is = absurd is
+refuses_long command left left' reads reads' held puts verdict.WriteFault taken same is = absurd is
 
-gives_of : (left : Option (List ℕ)) (text : List ℕ) (held held' : Option (List ℕ)) (given : Status) (note : List ℕ) → IfSome left (λ all. text ≡ all) → PutsAnswer text held held' given note → IfSome left (λ all. PutsAnswer all held held' given note)
-gives_of None text held held' given note whole puts = tt
-gives_of (Some all) text held held' given note whole puts = subst (λ (t : List ℕ). PutsAnswer t held held' given note) whole puts
+gives_of : (command : Command) (left : Option (List ℕ)) (text : List ℕ) (held held' : Option (List ℕ)) (given : Status) (note : List ℕ) → IfSome left (λ all. text ≡ all) → PutsAnswer command text held held' given note → IfSome left (λ all. PutsAnswer command all held held' given note)
+gives_of command None text held held' given note whole puts = tt
+gives_of command (Some all) text held held' given note whole puts = subst (λ (t : List ℕ). PutsAnswer command t held held' given note) whole puts
 
-front_of : (left : Option (List ℕ)) (text : List ℕ) (held held' : Option (List ℕ)) → IfSome left (λ all. text ≡ all) → PutsFront text held held' → IfSome left (λ all. PutsFront all held held')
-front_of None text held held' whole puts = tt
-front_of (Some all) text held held' whole puts = subst (λ (t : List ℕ). PutsFront t held held') whole puts
+front_of : (command : Command) (left : Option (List ℕ)) (text : List ℕ) (held held' : Option (List ℕ)) → IfSome left (λ all. text ≡ all) → PutsFront command text held held' → IfSome left (λ all. PutsFront command all held held')
+front_of command None text held held' whole puts = tt
+front_of command (Some all) text held held' whole puts = subst (λ (t : List ℕ). PutsFront command t held held') whole puts
 
 -- the verdict on the whole input is that on its text
-pub judges_whole : (left left' : Option (List ℕ)) (reads reads' : ℕ) (held held' : Option (List ℕ)) (puts puts' : ℕ) (text : List ℕ) (v : Verdict) → IfSome left (λ all. text ≡ all) → IsAtEnd left' → reads' ≡ reads → JudgesText text held held' puts puts' v → JudgesInput left left' reads reads' held held' puts puts' v
-judges_whole left left' reads reads' held held' puts puts' text (verdict.Answered given note) whole ended same is = record {
-  gives = gives_of left text held held' given note.items whole is.0;
+pub judges_whole : (command : Command) (left left' : Option (List ℕ)) (reads reads' : ℕ) (held held' : Option (List ℕ)) (puts puts' : ℕ) (text : List ℕ) (v : Verdict) → IfSome left (λ all. text ≡ all) → IsAtEnd left' → reads' ≡ reads → JudgesText command text held held' puts puts' v → JudgesInput command left left' reads reads' held held' puts puts' v
+judges_whole command left left' reads reads' held held' puts puts' text (verdict.Answered given note) whole ended same is = record {
+  gives = gives_of command left text held held' given note.items whole is.0;
   own = is.1;
   same_reads = same;
   same_puts = is.2;
   untouched = is.3;
   to_end = inl ended;
 }
-judges_whole left left' reads reads' held held' puts puts' text verdict.NoMemory whole ended same is = (front_of left text held held' whole is.0, same, is.1)
-judges_whole left left' reads reads' held held' puts puts' text verdict.WriteFault whole ended same is = (front_of left text held held' whole is.0, same, is.1)
-judges_whole left left' reads reads' held held' puts puts' text verdict.ReadFault whole ended same is = absurd is
+judges_whole command left left' reads reads' held held' puts puts' text verdict.NoMemory whole ended same is = (front_of command left text held held' whole is.0, same, is.1)
+judges_whole command left left' reads reads' held held' puts puts' text verdict.WriteFault whole ended same is = (front_of command left text held held' whole is.0, same, is.1)
+judges_whole command left left' reads reads' held held' puts puts' text verdict.ReadFault whole ended same is = absurd is
+
+-- ---- One piece
+
+-- a whole output in one piece, with no note
+pub puts_whole : (command : Command) (text : List ℕ) (held held' : Option (List ℕ)) (faults faults' : ℕ) (answer : Answer) (bytes : List ℕ) (v : Verdict) → Serves command text answer → answer.out ≡ bytes → answer.notes ≡ [] → answer.status ≡ status.Done → PutsPiece held held' faults faults' bytes v → JudgesText command text held held' faults faults' v
+puts_whole command text held held' faults faults' answer bytes (verdict.Answered given note) serves out notes done puts = (
+  record { answer = answer; is = inr serves; out = subst (Appends held held') (sym out) puts.1; notes = puts.2 ∙ sym notes; same_status = puts.0 ∙ sym done },
+  subst IsOwn (sym puts.0) tt,
+  puts.3,
+  λ refused. absurd (done_unrefused given puts.0 refused),
+)
+  where
+    done_unrefused : (given : Status) → given ≡ status.Done → given ≡ status.Refused → ⊥
+    done_unrefused given is refused = cc
+puts_whole command text held held' faults faults' answer bytes verdict.WriteFault serves out notes done puts =
+    (record { answer = answer; is = inr serves; front = subst (AppendsPrefix held held') (sym out) puts.0 }, puts.1)
+puts_whole command text held held' faults faults' answer bytes verdict.NoMemory serves out notes done puts =
+    (subst (PutsFront command text held) (sym puts.0) (puts_nothing command text held), puts.1)
+puts_whole command text held held' faults faults' answer bytes verdict.ReadFault serves out notes done puts = absurd puts
+
+version_is_one : (version : ℕ) → 1 ≤ version → version ≤ 2 → (version ≡ 2 → ⊥) → version ≡ 1
+version_is_one version least most not = by (one_or_two version least most)
+  where
+    by : (version ≡ 1) ⊎ (version ≡ 2) → version ≡ 1
+    by (inl is) = is
+    by (inr is) = absurd (not is)
+
+-- a text that is accepted, by the version of its system
+pub checks_accepted : (text : List ℕ) (system : System) (lines : List ℕ) (header : ℕ) (held held' : Option (List ℕ)) (faults faults' : ℕ) (v : Verdict) → IsAcceptedAs text system lines → source_line lines 1 ≡ Some header → TellsAccepted system.version header held held' faults faults' v → JudgesText Check text held held' faults faults' v
+checks_accepted text system lines header held held' faults faults' v accepted at (inl (version, refusal, held_is, faults_is)) =
+    let unserved : IsOfUnservedVersion text header 25 = record { system = system; lines = lines; accepted = accepted; version = version; at = at; by = refl } in
+    subst (λ h. JudgesText Check text held h faults faults' v) (sym held_is)
+    (subst (λ f. JudgesText Check text held held faults f v) (sym faults_is) (refuses Check text held faults header 25 v (inr unserved) refusal))
+checks_accepted text system lines header held held' faults faults' v accepted at (inr (other, puts)) =
+    let version = (read_is_printable text system accepted.reads.reads).ranged.version in
+    puts_whole Check text held held' faults faults' accepted_answer accepted_answer.out v
+    (record { system = system; lines = lines; accepted = accepted; version = version_is_one system.version version.0 version.1 other; is = refl }) refl refl refl puts
+
+-- and its canonical text
+pub prints_accepted : (text : List ℕ) (system : System) (lines : List ℕ) (held held' : Option (List ℕ)) (faults faults' : ℕ) (v : Verdict) → IsAcceptedAs text system lines → PutsPiece held held' faults faults' (printed_text system) v → JudgesText Print text held held' faults faults' v
+prints_accepted text system lines held held' faults faults' v accepted puts =
+    puts_whole Print text held held' faults faults' (printed_answer system) (printed_text system) v (record { system = system; lines = lines; accepted = accepted; is = refl }) refl refl refl puts
+
+-- the lines that canonical lines came from begin with the header's
+pub some_header : (text : List ℕ) (system : System) (lines : List ℕ) → IsAcceptedAs text system lines → 0 < length lines
+some_header text system lines accepted =
+    let same = as_many text system lines accepted.reads in
+    omega (arith, same)

@@ -1,5 +1,6 @@
 pub mod AnswerLaws
 pub mod CallLaws
+pub mod CommandLaws
 pub mod FormLaws
 pub mod Going
 pub mod JudgeLaws

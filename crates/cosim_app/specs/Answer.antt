@@ -1,14 +1,19 @@
 -- Answer: what the program puts out and notes, and how it ends, for the words of a command line and the bytes
 -- of its input.
-use Rattle.std.specs.Prelude.{◌≡◌, ℕ, List, [], ◌∷◌, codes, ◌⊎◌}
+use Rattle.std.specs.Prelude.{◌≡◌, ℕ, List, [], ◌++◌, Some, codes, ◌⊎◌}
 use Rattle.first_form.specs.Reading.{IsAccepted, IsRefused}
 use Rattle.super_time.specs.declared.point.Point.{Point}
+use Rattle.unit_accept.specs.Accepting.{IsAcceptedAs, IsRefusedAt, source_line}
+use Rattle.unit_tree.specs.Canonical.{canonical_text}
 use Rattle.unit_tree.specs.Trace.{Row, IsTraceOf}
 use Rattle.unit_tree.specs.declared.ending.Ending.{Ending}
 use Rattle.unit_tree.specs.declared.ending.Ending.TheVariants.{Completed, RowBudget, ZeroBudget, UnitFault, StepRefused}
 use Rattle.unit_tree.specs.declared.system.System.{System}
-use Rattle.cosim_app.specs.TraceText.{trace_text}
+use Rattle.cosim_app.specs.Commands.{words_of, HaveNoForm}
+use Rattle.cosim_app.specs.TraceText.{line_end, trace_text}
 use Rattle.cosim_app.specs.Notes.{usage_note, refused_note, ending_note}
+use Rattle.cosim_app.specs.declared.command_words.Command.{Command}
+use Rattle.cosim_app.specs.declared.command_words.Command.TheVariants.{Run, Check, Print}
 use Rattle.cosim_app.specs.declared.status.Status.{Status}
 use Rattle.cosim_app.specs.declared.status.Status.TheVariants as status
 
@@ -16,10 +21,6 @@ pub record Answer : Type 0 where
   pub out : List ℕ
   pub notes : List ℕ
   pub status : Status
-
--- The words of `run`, the one command.
-abbrev pub run_words : List (List ℕ)
-run_words = codes "run" ∷ []
 
 abbrev pub usage_answer : Answer
 usage_answer = record { out = []; notes = usage_note; status = status.Usage }
@@ -39,12 +40,7 @@ abbrev pub run_answer : System → List Row → Point → Ending → Answer
 run_answer system rows last ending =
     record { out = trace_text system rows; notes = ending_note system ending last; status = status_of ending }
 
--- A text that is refused is answered by its line and rule.
-pub record AnswersRefusal (text : List ℕ) (answer : Answer) : Type 0 where
-  pub line : ℕ
-  pub rule : ℕ
-  pub refused : IsRefused text line rule
-  pub is : answer ≡ refused_answer line rule
+-- ---- What each command answers
 
 -- A text that is accepted is answered by its trace.
 pub record AnswersRun (text : List ℕ) (answer : Answer) : Type 0 where
@@ -56,13 +52,72 @@ pub record AnswersRun (text : List ℕ) (answer : Answer) : Type 0 where
   pub trace : IsTraceOf system rows last ending
   pub is : answer ≡ run_answer system rows last ending
 
--- The answer of `run` for a text.
-abbrev pub RunAnswers : List ℕ → Answer → Type 0
-RunAnswers text answer = AnswersRefusal text answer ⊎ AnswersRun text answer
+-- The text keeps all rules, and is of the version whose systems can't be run yet, which is said of its header.
+pub record IsOfUnservedVersion (text : List ℕ) (line rule : ℕ) : Type 0 where
+  pub system : System
+  pub lines : List ℕ
+  pub accepted : IsAcceptedAs text system lines
+  pub version : system.version ≡ 2
+  pub at : source_line lines 1 ≡ Some line
+  pub by : rule ≡ 25
 
--- The answer for the words and the input: `run` on a text that is refused or accepted; any other words have
--- no form, and the input does not matter.
+abbrev pub accepted_answer : Answer
+accepted_answer = record { out = codes "accepted" ++ line_end; notes = []; status = status.Done }
+
+-- A text of version 1 that keeps all rules is told to be accepted.
+pub record AnswersCheck (text : List ℕ) (answer : Answer) : Type 0 where
+  pub system : System
+  pub lines : List ℕ
+  pub accepted : IsAcceptedAs text system lines
+  pub version : system.version ≡ 1
+  pub is : answer ≡ accepted_answer
+
+-- What is printed of a system: its canonical text.
+unfoldable pub printed_text : System → List ℕ
+printed_text system = canonical_text system
+
+abbrev pub printed_answer : System → Answer
+printed_answer system = record { out = printed_text system; notes = []; status = status.Done }
+
+-- A text that keeps all rules is answered by the canonical text of its system.
+pub record AnswersPrint (text : List ℕ) (answer : Answer) : Type 0 where
+  pub system : System
+  pub lines : List ℕ
+  pub accepted : IsAcceptedAs text system lines
+  pub is : answer ≡ printed_answer system
+
+-- The answer of a command for a text that it serves.
+abbrev pub Serves : Command → List ℕ → Answer → Type 0
+Serves Run text answer = AnswersRun text answer
+Serves Check text answer = AnswersCheck text answer
+Serves Print text answer = AnswersPrint text answer
+
+-- The line and the rule by which a command refuses a text.
+abbrev pub RefusedBy : Command → List ℕ → ℕ → ℕ → Type 0
+RefusedBy Run text line rule = IsRefused text line rule
+RefusedBy Check text line rule = IsRefusedAt text line rule ⊎ IsOfUnservedVersion text line rule
+RefusedBy Print text line rule = IsRefusedAt text line rule
+
+-- A text that is refused is answered by its line and rule.
+pub record AnswersRefusal (command : Command) (text : List ℕ) (answer : Answer) : Type 0 where
+  pub line : ℕ
+  pub rule : ℕ
+  pub refused : RefusedBy command text line rule
+  pub is : answer ≡ refused_answer line rule
+
+-- The answer of a command for a text.
+abbrev pub CommandAnswers : Command → List ℕ → Answer → Type 0
+CommandAnswers command text answer = AnswersRefusal command text answer ⊎ Serves command text answer
+
+-- ---- The answer
+
+-- The answer for the words of a command on its input.
+pub record AnswersCommand (words : List (List ℕ)) (text : List ℕ) (answer : Answer) : Type 0 where
+  pub command : Command
+  pub words_are : words ≡ words_of command
+  pub is : CommandAnswers command text answer
+
+-- The answer for the words and the input: that of the command; words that are those of no command have no form, and the input
+-- does not matter.
 abbrev pub IsAnswer : List (List ℕ) → List ℕ → Answer → Type 0
-IsAnswer words text answer =
-    ((words ≡ run_words) × RunAnswers text answer)
-    ⊎ ((words ≡ run_words → ⊥) × (answer ≡ usage_answer))
+IsAnswer words text answer = AnswersCommand words text answer ⊎ (HaveNoForm words × (answer ≡ usage_answer))

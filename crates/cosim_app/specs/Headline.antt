@@ -2,16 +2,14 @@
 -- the notes.
 use Rattle.std.specs.Prelude.{◌≡◌, ℕ, ◌<◌, List, Option, IfSome, ◌⊎◌}
 use Rattle.std.specs.Io.KnownBytes.{Appends, IsAtEnd}
-use Rattle.first_form.specs.Reading.{IsAccepted, IsRefused, text_limit}
 use Rattle.unit_tree.specs.Lines.{size_of}
-use Rattle.super_time.specs.declared.point.Point.{Point}
-use Rattle.unit_tree.specs.Trace.{Row, IsTraceOf}
-use Rattle.unit_tree.specs.declared.ending.Ending.{Ending}
-use Rattle.unit_tree.specs.declared.system.System.{System}
+use Rattle.unit_tree.specs.Texts.{text_limit}
 use Rattle.cosim_io.specs.Faults.{Rose}
 use Rattle.cosim_io.specs.Pieces.{AppendsPrefix}
-use Rattle.cosim_app.specs.Answer.{Answer, IsAnswer, run_words, status_of}
+use Rattle.cosim_app.specs.Answer.{Answer, IsAnswer, RefusedBy, Serves}
+use Rattle.cosim_app.specs.Commands.{words_of, HaveNoForm}
 use Rattle.cosim_app.specs.Notes.{read_fault_note, write_fault_note, no_memory_note}
+use Rattle.cosim_app.specs.declared.command_words.Command.{Command}
 use Rattle.cosim_app.specs.declared.status.Status.{Status}
 use Rattle.cosim_app.specs.declared.status.Status.TheVariants as status
 
@@ -55,40 +53,40 @@ pub record PrefixClause (words : List (List ℕ)) (before now : Streams) (given 
   pub refused : given ≡ status.Refused → PutsNothing before now
   pub read_fault : given ≡ status.ReadFault → PutsNothing before now
 
--- The text is accepted, and its trace ends so that the status is this one.
-pub record EndsWith (given : Status) (text : List ℕ) : Type 0 where
-  pub system : System
-  pub accepted : IsAccepted text system
-  pub rows : List Row
-  pub last : Point
-  pub ending : Ending
-  pub trace : IsTraceOf system rows last ending
-  pub status : status_of ending ≡ given
+-- The words are those of a command that serves the text, and its answer has this status: of a run, its trace ends so.
+pub record EndsWith (words : List (List ℕ)) (given : Status) (text : List ℕ) : Type 0 where
+  pub command : Command
+  pub words_are : words ≡ words_of command
+  pub answer : Answer
+  pub serves : Serves command text answer
+  pub status : answer.status ≡ given
 
--- Some line of the text breaks a rule.
-pub record BreaksARule (text : List ℕ) : Type 0 where
+-- The words are those of a command that refuses the text.
+pub record BreaksARule (words : List (List ℕ)) (text : List ℕ) : Type 0 where
+  pub command : Command
+  pub words_are : words ≡ words_of command
   pub line : ℕ
   pub rule : ℕ
-  pub refused : IsRefused text line rule
+  pub refused : RefusedBy command text line rule
 
 -- Cause clause: each status comes only with its cause, and a count of faults that is greater after the call than
 -- before is answered as that fault: a sink's before the source's.
 pub record CauseClause (words : List (List ℕ)) (before now : Streams) (given : Status) : Type 0 where
-  pub usage : given ≡ status.Usage → words ≡ run_words → ⊥
-  pub usage_due : (words ≡ run_words → ⊥) → (given ≡ status.Usage) ⊎ (given ≡ status.WriteFault)
+  pub usage : given ≡ status.Usage → HaveNoForm words
+  pub usage_due : HaveNoForm words → (given ≡ status.Usage) ⊎ (given ≡ status.WriteFault)
   pub read_fault : given ≡ status.ReadFault → Rose before.read_faults now.read_faults
   pub write_fault : given ≡ status.WriteFault → Rose before.put_faults now.put_faults ⊎ Rose before.note_faults now.note_faults
-  pub refused : given ≡ status.Refused → IfSome before.left BreaksARule
-  pub done : given ≡ status.Done → IfSome before.left (EndsWith status.Done)
-  pub zero_budget : given ≡ status.ZeroBudget → IfSome before.left (EndsWith status.ZeroBudget)
-  pub row_budget : given ≡ status.RowBudget → IfSome before.left (EndsWith status.RowBudget)
-  pub unit_fault : given ≡ status.UnitFault → IfSome before.left (EndsWith status.UnitFault)
-  pub step_refused : given ≡ status.StepRefused → IfSome before.left (EndsWith status.StepRefused)
+  pub refused : given ≡ status.Refused → IfSome before.left (BreaksARule words)
+  pub done : given ≡ status.Done → IfSome before.left (EndsWith words status.Done)
+  pub zero_budget : given ≡ status.ZeroBudget → IfSome before.left (EndsWith words status.ZeroBudget)
+  pub row_budget : given ≡ status.RowBudget → IfSome before.left (EndsWith words status.RowBudget)
+  pub unit_fault : given ≡ status.UnitFault → IfSome before.left (EndsWith words status.UnitFault)
+  pub step_refused : given ≡ status.StepRefused → IfSome before.left (EndsWith words status.StepRefused)
   pub put_greater : before.put_faults < now.put_faults → given ≡ status.WriteFault
   pub note_greater : before.note_faults < now.note_faults → given ≡ status.WriteFault
   pub read_greater : before.read_faults < now.read_faults → (given ≡ status.ReadFault) ⊎ ((given ≡ status.WriteFault) × Rose before.note_faults now.note_faults)
 
--- Whole-input clause: a run that comes to its end, or that is refused by another rule than the text's length, has
+-- Whole-input clause: a command that comes to its end, or that refuses its text by another rule than the text's length, has
 -- read the source to its end; other words than those of a command read nothing.
 pub record WholeInputClause (words : List (List ℕ)) (before now : Streams) (given : Status) : Type 0 where
   pub done : given ≡ status.Done → IsAtEnd now.left
@@ -97,7 +95,7 @@ pub record WholeInputClause (words : List (List ℕ)) (before now : Streams) (gi
   pub unit_fault : given ≡ status.UnitFault → IsAtEnd now.left
   pub step_refused : given ≡ status.StepRefused → IsAtEnd now.left
   pub refused : given ≡ status.Refused → IsAtEnd now.left ⊎ IfSome before.left (λ text. text_limit < size_of text)
-  pub usage : (words ≡ run_words → ⊥) → (now.left ≡ before.left) × (now.read_faults ≡ before.read_faults)
+  pub usage : HaveNoForm words → (now.left ≡ before.left) × (now.read_faults ≡ before.read_faults)
 
 -- A whole text of notes: one of the faults', or the answer's.
 abbrev pub IsNotesText : List (List ℕ) → List ℕ → List ℕ → Type 0

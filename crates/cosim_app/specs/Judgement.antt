@@ -1,32 +1,33 @@
--- What a run has put and come to, before its note is told.
-use Rattle.std.specs.Prelude.{◌≡◌, ℕ, ◌<◌, List, Option, IfSome, ⊤, ◌⊎◌}
+-- What a command has put and come to, before its note is told.
+use Rattle.std.specs.Prelude.{◌≡◌, ℕ, ◌<◌, List, [], Option, IfSome, ⊤, ◌⊎◌}
 use Rattle.std.specs.Io.KnownBytes.{Appends, IsAtEnd}
-use Rattle.first_form.specs.Reading.{text_limit}
 use Rattle.unit_tree.specs.Lines.{size_of}
+use Rattle.unit_tree.specs.Texts.{text_limit}
 use Rattle.cosim_io.specs.Faults.{Rose}
 use Rattle.cosim_io.specs.Pieces.{AppendsPrefix}
-use Rattle.cosim_app.specs.Answer.{Answer, RunAnswers}
+use Rattle.cosim_app.specs.Answer.{Answer, CommandAnswers, accepted_answer}
 use Rattle.cosim_app.specs.Notes.{refused_note}
+use Rattle.cosim_app.specs.declared.command_words.Command.{Command}
 use Rattle.cosim_app.specs.declared.status.Status.{Status}
 use Rattle.cosim_app.specs.declared.status.Status.TheVariants as status
 use Rattle.cosim_app.specs.declared.verdict.Verdict.{Verdict}
 use Rattle.cosim_app.specs.declared.verdict.Verdict.TheVariants as verdict
 
--- The status and the note are the text's answer, and its bytes were put.
-pub record PutsAnswer (text : List ℕ) (held held' : Option (List ℕ)) (given : Status) (note : List ℕ) : Type 0 where
+-- The status and the note are the command's answer for the text, and its bytes were put.
+pub record PutsAnswer (command : Command) (text : List ℕ) (held held' : Option (List ℕ)) (given : Status) (note : List ℕ) : Type 0 where
   pub answer : Answer
-  pub is : RunAnswers text answer
+  pub is : CommandAnswers command text answer
   pub out : Appends held held' answer.out
   pub notes : note ≡ answer.notes
   pub same_status : given ≡ answer.status
 
--- What was put begins the text's answer.
-pub record PutsFront (text : List ℕ) (held held' : Option (List ℕ)) : Type 0 where
+-- What was put begins the command's answer for the text.
+pub record PutsFront (command : Command) (text : List ℕ) (held held' : Option (List ℕ)) : Type 0 where
   pub answer : Answer
-  pub is : RunAnswers text answer
+  pub is : CommandAnswers command text answer
   pub front : AppendsPrefix held held' answer.out
 
--- A status that an answer of `run` has.
+-- A status that the answer of a command has.
 abbrev pub IsOwn : Status → Type 0
 IsOwn status.Done = ⊤
 IsOwn status.Refused = ⊤
@@ -36,13 +37,21 @@ IsOwn status.UnitFault = ⊤
 IsOwn status.StepRefused = ⊤
 IsOwn _ = ⊥
 
--- A run of a whole text has come to the verdict, and done so much to the output.
-abbrev pub JudgesText : List ℕ → Option (List ℕ) → Option (List ℕ) → ℕ → ℕ → Verdict → Type 0
-JudgesText text held held' faults faults' (verdict.Answered given note) =
-    PutsAnswer text held held' given note.items × IsOwn given × (faults' ≡ faults) × (given ≡ status.Refused → held' ≡ held)
-JudgesText text held held' faults faults' verdict.WriteFault = PutsFront text held held' × Rose faults faults'
-JudgesText text held held' faults faults' verdict.NoMemory = PutsFront text held held' × (faults' ≡ faults)
-JudgesText text held held' faults faults' verdict.ReadFault = ⊥
+-- A command on a whole text has come to the verdict, and done so much to the output.
+abbrev pub JudgesText : Command → List ℕ → Option (List ℕ) → Option (List ℕ) → ℕ → ℕ → Verdict → Type 0
+JudgesText command text held held' faults faults' (verdict.Answered given note) =
+    PutsAnswer command text held held' given note.items × IsOwn given × (faults' ≡ faults) × (given ≡ status.Refused → held' ≡ held)
+JudgesText command text held held' faults faults' verdict.WriteFault = PutsFront command text held held' × Rose faults faults'
+JudgesText command text held held' faults faults' verdict.NoMemory = PutsFront command text held held' × (faults' ≡ faults)
+JudgesText command text held held' faults faults' verdict.ReadFault = ⊥
+
+-- The bytes were put in one piece, and there is no note; or the put failed; or there was no memory, and nothing was put.
+abbrev pub PutsPiece : Option (List ℕ) → Option (List ℕ) → ℕ → ℕ → List ℕ → Verdict → Type 0
+PutsPiece held held' faults faults' bytes (verdict.Answered given note) =
+    (given ≡ status.Done) × Appends held held' bytes × (note.items ≡ []) × (faults' ≡ faults)
+PutsPiece held held' faults faults' bytes verdict.WriteFault = AppendsPrefix held held' bytes × Rose faults faults'
+PutsPiece held held' faults faults' bytes verdict.NoMemory = (held' ≡ held) × (faults' ≡ faults)
+PutsPiece held held' faults faults' bytes verdict.ReadFault = ⊥
 
 -- A refusal by a line and a rule, or want of memory for its note.
 abbrev pub Refuses : ℕ → ℕ → Verdict → Type 0
@@ -50,26 +59,33 @@ Refuses line rule (verdict.Answered given note) = (given ≡ status.Refused) × 
 Refuses line rule verdict.NoMemory = ⊤
 Refuses line rule _ = ⊥
 
--- A run has answered its input: put the answer's bytes, with the status and the note of its own, and read the input
+-- A system of the version is told to be accepted; one of the version that is not run yet is refused at its header, and nothing
+-- is put.
+abbrev pub TellsAccepted : ℕ → ℕ → Option (List ℕ) → Option (List ℕ) → ℕ → ℕ → Verdict → Type 0
+TellsAccepted version header held held' faults faults' told =
+    ((version ≡ 2) × Refuses header 25 told × (held' ≡ held) × (faults' ≡ faults))
+    ⊎ ((version ≡ 2 → ⊥) × PutsPiece held held' faults faults' accepted_answer.out told)
+
+-- A command has answered its input: put the answer's bytes, with the status and the note of its own, and read the input
 -- to its end, but for a text that is too long.
-pub record AnswersInput (left left' : Option (List ℕ)) (reads reads' : ℕ) (held held' : Option (List ℕ)) (puts puts' : ℕ) (given : Status) (note : List ℕ) : Type 0 where
-  pub gives : IfSome left (λ text. PutsAnswer text held held' given note)
+pub record AnswersInput (command : Command) (left left' : Option (List ℕ)) (reads reads' : ℕ) (held held' : Option (List ℕ)) (puts puts' : ℕ) (given : Status) (note : List ℕ) : Type 0 where
+  pub gives : IfSome left (λ text. PutsAnswer command text held held' given note)
   pub own : IsOwn given
   pub same_reads : reads' ≡ reads
   pub same_puts : puts' ≡ puts
   pub untouched : given ≡ status.Refused → held' ≡ held
   pub to_end : IsAtEnd left' ⊎ ((given ≡ status.Refused) × IfSome left (λ text. text_limit < size_of text))
 
--- A run has read its input and come to the verdict.
-abbrev pub JudgesInput : Option (List ℕ) → Option (List ℕ) → ℕ → ℕ → Option (List ℕ) → Option (List ℕ) → ℕ → ℕ → Verdict → Type 0
-JudgesInput left left' reads reads' held held' puts puts' (verdict.Answered given note) =
-    AnswersInput left left' reads reads' held held' puts puts' given note.items
-JudgesInput left left' reads reads' held held' puts puts' verdict.ReadFault =
+-- A command has read its input and come to the verdict.
+abbrev pub JudgesInput : Command → Option (List ℕ) → Option (List ℕ) → ℕ → ℕ → Option (List ℕ) → Option (List ℕ) → ℕ → ℕ → Verdict → Type 0
+JudgesInput command left left' reads reads' held held' puts puts' (verdict.Answered given note) =
+    AnswersInput command left left' reads reads' held held' puts puts' given note.items
+JudgesInput command left left' reads reads' held held' puts puts' verdict.ReadFault =
     Rose reads reads' × (held' ≡ held) × (puts' ≡ puts)
-JudgesInput left left' reads reads' held held' puts puts' verdict.WriteFault =
-    IfSome left (λ text. PutsFront text held held') × (reads' ≡ reads) × Rose puts puts'
-JudgesInput left left' reads reads' held held' puts puts' verdict.NoMemory =
-    IfSome left (λ text. PutsFront text held held') × (reads' ≡ reads) × (puts' ≡ puts)
+JudgesInput command left left' reads reads' held held' puts puts' verdict.WriteFault =
+    IfSome left (λ text. PutsFront command text held held') × (reads' ≡ reads) × Rose puts puts'
+JudgesInput command left left' reads reads' held held' puts puts' verdict.NoMemory =
+    IfSome left (λ text. PutsFront command text held held') × (reads' ≡ reads) × (puts' ≡ puts)
 
 -- A note was told with its status; where telling it failed, the status is a write fault.
 abbrev pub TellsNote : Option (List ℕ) → Option (List ℕ) → ℕ → ℕ → List ℕ → Status → Status → Type 0

@@ -3,6 +3,7 @@ pub mod Pieces
 pub mod Runnable
 pub mod TraceText
 pub mod Words
+pub mod Commands
 pub mod ExitCodes
 pub mod Headline
 pub mod Judgement

@@ -1,11 +1,11 @@
 //! The commands of the program.
-ghost use Rattle.std.specs.Prelude.{◌≡◌, ◌↔◌, IsTrue};
-ghost use Rattle.cosim_app.specs.Answer.{run_words};
+ghost use Rattle.std.specs.Prelude.{◌≡◌};
 ghost use Rattle.cosim_app.specs.Headline.{Promises, streams};
 ghost use Rattle.cosim_app.specs.Judgement.{TellsNote};
 ghost use Rattle.cosim_app.specs.Laws.{EveryCallIsAnswered, NoCallIsAnsweredTwice};
 ghost use Rattle.cosim_app.specs.Words.{bytes_of};
 
+use crate::command_words::command_of;
 use crate::judge::judge;
 use crate::status::Status;
 use crate::verdict::Verdict;
@@ -13,16 +13,6 @@ use cosim_io::{Sink, Source};
 use std::alloc::Global;
 use std::sync::Wait;
 use std::thread::Threads;
-
-/// Whether the words are those of `run`.
-fn is_run(words: &[String]) -> bool
-    ensures { IsTrue result ↔ (bytes_of words.now ≡ run_words) }
-{
-    match words {
-        [word] => word.as_str() == "run",
-        _ => false,
-    }
-}
 
 /// Tells a note, where there is one, with the status that it is for.
 pub fn tell<N: Sink>(notes: &mut N, note: &[u8], status: Status) -> Status
@@ -53,10 +43,10 @@ pub fn cosim_alone<S: Source, O: Sink, N: Sink>(
         (streams (S.left source.new) (S.faults source.new) (O.held out.new) (O.faults out.new) (N.held notes.new) (N.faults notes.new))
         result }
 {
-    if !is_run(words) {
+    let Some(command) = command_of(words) else {
         return tell(notes, b"cosim: usage\n", Status::Usage);
-    }
-    match judge(alloc, source, out) {
+    };
+    match judge(alloc, command, source, out) {
         Verdict::Answered { status, note } => tell(notes, &note, status),
         Verdict::ReadFault => tell(notes, b"cosim: read fault\n", Status::ReadFault),
         Verdict::WriteFault => tell(notes, b"cosim: write fault\n", Status::WriteFault),

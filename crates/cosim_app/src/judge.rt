@@ -1,11 +1,14 @@
-//! A run, from the text to its verdict.
+//! A command on its input, from the text to its verdict.
 ghost use Rattle.std.specs.Prelude.{◌≡◌, List, ℕ};
 ghost use Rattle.first_form.specs.Reading.{IsAccepted};
 ghost use Rattle.cosim_app.specs.Answer.{status_of};
 ghost use Rattle.cosim_app.specs.Judgement.{JudgesText, JudgesInput, Refuses};
+ghost use Rattle.cosim_app.specs.declared.command_words.Command.TheVariants.{Run};
 ghost use Rattle.cosim_app.specs.Runnable.{IsRunnable};
 
+use crate::command_words::Command;
 use crate::fault::RunFault;
+use crate::language::{check_text, print_text};
 use crate::note;
 use crate::run_system::run_system;
 use crate::status::Status;
@@ -44,7 +47,7 @@ pub fn refuse(alloc: Global, line: u32, rule: u8) -> Verdict
 /// Runs a system that a text says.
 fn judge_system<O: Sink>(alloc: Global, system: &System, out: &mut O) -> Verdict
     requires { IsRunnable system.now }
-    ensures { (text : List ℕ) → IsAccepted text system.now → JudgesText text (O.held out.old) (O.held out.new) (O.faults out.old) (O.faults out.new) result }
+    ensures { (text : List ℕ) → IsAccepted text system.now → JudgesText Run text (O.held out.old) (O.held out.new) (O.faults out.old) (O.faults out.new) result }
 {
     match run_system(alloc, system, out) {
         Ok(end) => match note::ending(alloc, system, end) {
@@ -60,8 +63,8 @@ fn judge_system<O: Sink>(alloc: Global, system: &System, out: &mut O) -> Verdict
 }
 
 /// Runs a whole text, or refuses it.
-pub fn judge_text<O: Sink>(alloc: Global, text: &[u8], out: &mut O) -> Verdict
-    ensures { JudgesText text.now (O.held out.old) (O.held out.new) (O.faults out.old) (O.faults out.new) result }
+fn run_text<O: Sink>(alloc: Global, text: &[u8], out: &mut O) -> Verdict
+    ensures { JudgesText Run text.now (O.held out.old) (O.held out.new) (O.faults out.old) (O.faults out.new) result }
 {
     match read_first_form(alloc, text) {
         Ok(system) => judge_system(alloc, &system, out),
@@ -70,12 +73,28 @@ pub fn judge_text<O: Sink>(alloc: Global, text: &[u8], out: &mut O) -> Verdict
     }
 }
 
-/// Reads the input and runs it.
-pub fn judge<S: Source, O: Sink>(alloc: Global, source: &mut S, out: &mut O) -> Verdict
-    ensures { JudgesInput (S.left source.old) (S.left source.new) (S.faults source.old) (S.faults source.new) (O.held out.old) (O.held out.new) (O.faults out.old) (O.faults out.new) result }
+/// A command on a whole text.
+pub fn judge_text<O: Sink>(alloc: Global, command: Command, text: &[u8], out: &mut O) -> Verdict
+    ensures { JudgesText command text.now (O.held out.old) (O.held out.new) (O.faults out.old) (O.faults out.new) result }
+{
+    match command {
+        Command::Run => run_text(alloc, text, out),
+        Command::Check => check_text(alloc, text, out),
+        Command::Print => print_text(alloc, text, out),
+    }
+}
+
+/// Reads the input and does the command on it.
+pub fn judge<S: Source, O: Sink>(
+    alloc: Global,
+    command: Command,
+    source: &mut S,
+    out: &mut O,
+) -> Verdict
+    ensures { JudgesInput command (S.left source.old) (S.left source.new) (S.faults source.old) (S.faults source.new) (O.held out.old) (O.held out.new) (O.faults out.old) (O.faults out.new) result }
 {
     match read_all(alloc, source, LONGEST_TEXT) {
-        Ok(text) => judge_text(alloc, &text, out),
+        Ok(text) => judge_text(alloc, command, &text, out),
         Err(ReadEnd::TooLong) => refuse(alloc, 1, SIZE_RULE),
         Err(ReadEnd::Fault) => Verdict::ReadFault,
         Err(ReadEnd::NoMemory) => Verdict::NoMemory,

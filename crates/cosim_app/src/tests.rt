@@ -145,3 +145,67 @@ fn texts_and_their_rows(rt: HostRuntime) -> Result<(), Fail> {
     }
     Ok(())
 }
+
+/// The counter as it is printed.
+const CANONICAL: &str =
+    "cosim 1\nunit Counter\nstate n:Int64=0\noutput y:Int64=n\nstep\nn:=n+1\nend\nend\ninstance a:Counter\nend\nstop 3\nlongest 1\n";
+
+/// `check` and `print`: what is accepted, refused at the source's line, of a version that isn't run yet, or can't be put.
+#[test]
+fn texts_are_checked_and_printed(rt: HostRuntime) -> Result<(), Fail> {
+    let late = "instance a : A\nend\nstop 1\ncosim 1\n";
+    let undeclared = "cosim 1\n\ninstance a : B\nend\nstop 1\n";
+    let second = "\ncosim 2\nunit A\nend\ninstance a : A\nend\nstop 1\n";
+    let printed = "cosim 2\nunit A\nend\ninstance a:A\nend\nstop 1\n";
+    for (word, text, puts, status, put, note) in [
+        ("check", COUNTER, 0, Status::Done, "accepted\n", ""),
+        ("print", COUNTER, 0, Status::Done, CANONICAL, ""),
+        (
+            "check",
+            late,
+            0,
+            Status::Refused,
+            "",
+            "cosim: line 1: rule 7\n",
+        ),
+        (
+            "check",
+            undeclared,
+            0,
+            Status::Refused,
+            "",
+            "cosim: line 3: rule 9\n",
+        ),
+        (
+            "print",
+            undeclared,
+            0,
+            Status::Refused,
+            "",
+            "cosim: line 3: rule 9\n",
+        ),
+        (
+            "check",
+            second,
+            0,
+            Status::Refused,
+            "",
+            "cosim: line 2: rule 25\n",
+        ),
+        ("print", second, 0, Status::Done, printed, ""),
+        (
+            "check",
+            COUNTER,
+            1,
+            Status::WriteFault,
+            "acce",
+            "cosim: write fault\n",
+        ),
+    ] {
+        let (given, out, notes) = call(rt.alloc(), &[word], text, &[], &[puts], &[])?;
+        assert_eq!(rt; given, status);
+        assert!(rt; out.bytes() == put.as_bytes());
+        assert!(rt; notes.bytes() == note.as_bytes());
+    }
+    Ok(())
+}

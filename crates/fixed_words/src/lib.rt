@@ -6,7 +6,7 @@
 //! as what they hold, so that trees of them are plain data.
 //!
 //! The layers above use all that is named here. [`read_literal`], [`literal_word`], [`fits`] and the
-//! operations take no memory; [`word_text`] takes only what its buffer grows by.
+//! operations take no memory; [`word_text`] and [`magnitude_text`] take only what their buffer grows by.
 //!
 //! Definitions: `specs/Types.antt` (kinds, ranges, fits), `specs/Operations.antt` (the integer that
 //! each operation means, or its fault), `specs/Digits.antt` (numbers as text), `specs/Literals.antt`
@@ -30,7 +30,7 @@ pub use laws::{quotients_are_floors, texts_are_read_back, texts_spell_one_litera
 pub use list::List;
 pub use literals::{literal_word, read_literal};
 pub use operations::{abs, add, div, fix_div, fix_mul, mul, neg, rem, scale_down, scale_up, sub};
-pub use text::word_text;
+pub use text::{magnitude_text, word_text};
 pub use types::{Fault, Kind, Literal, LiteralFault, Ty, fits};
 
 /// Want of memory, as an error.

@@ -52,6 +52,22 @@ fn append_sign(word: i64, out: &mut Vec<u8>) -> Result<(), NoMemory>
     Ok(())
 }
 
+/// Appends a magnitude with so many decimals. Where there is no memory, something may have been appended.
+fn append_magnitude(decimals: u8, magnitude: u64, out: &mut Vec<u8>) -> Result<(), NoMemory>
+    requires { decimals ≤ 9 }
+    ensures ok { OnOk result (out.new.items ≡ out.old.items ++ fixed_text decimals magnitude) }
+    ensures err { OnErr result (take (length out.old.items) out.new.items ≡ out.old.items) }
+{
+    let mut buffer = Buffer::new();
+    let digits = buffer.format(magnitude).as_bytes();
+    let decimals = usize::from(decimals);
+    if digits.len() <= decimals {
+        append_below_one(digits, decimals, out)
+    } else {
+        append_from_one(digits, decimals, out)
+    }
+}
+
 /// Appends a fixed-point word. Where there is no memory, something may have been appended.
 fn append_fixed(decimals: u8, word: i64, out: &mut Vec<u8>) -> Result<(), NoMemory>
     requires { decimals ≤ 9 }
@@ -60,14 +76,7 @@ fn append_fixed(decimals: u8, word: i64, out: &mut Vec<u8>) -> Result<(), NoMemo
     ensures err { OnErr result (take (length out.old.items) out.new.items ≡ out.old.items) }
 {
     append_sign(word, out)?;
-    let mut buffer = Buffer::new();
-    let digits = buffer.format(word.unsigned_abs()).as_bytes();
-    let decimals = usize::from(decimals);
-    if digits.len() <= decimals {
-        append_below_one(digits, decimals, out)?;
-    } else {
-        append_from_one(digits, decimals, out)?;
-    }
+    append_magnitude(decimals, word.unsigned_abs(), out)?;
     Ok(())
 }
 
@@ -80,6 +89,21 @@ fn fixed_word_text(decimals: u8, word: i64, out: &mut Vec<u8>) -> Result<(), NoM
 {
     let before = out.len();
     let written = append_fixed(decimals, word, out);
+    if written.is_err() {
+        out.truncate(before);
+    }
+    written
+}
+
+/// Appends a magnitude as a decimal number with exactly so many decimals, and no point where there are none. Only the
+/// growth of `out` takes memory; where there is none `out` is as before.
+pub fn magnitude_text(decimals: u8, magnitude: u64, out: &mut Vec<u8>) -> Result<(), NoMemory>
+    requires { decimals ≤ 9 }
+    ensures ok { OnOk result (out.new.items ≡ out.old.items ++ fixed_text decimals magnitude) }
+    ensures err { OnErr result (out.new.items ≡ out.old.items) }
+{
+    let before = out.len();
+    let written = append_magnitude(decimals, magnitude, out);
     if written.is_err() {
         out.truncate(before);
     }

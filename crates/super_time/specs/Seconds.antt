@@ -1,10 +1,16 @@
 -- Seconds as ticks: a tick is ten to the power of minus the resolution, in seconds.
-use Rattle.std.specs.Prelude.{ℕ, ◌*◌, ◌/◌, ◌%◌, ◌^◌, ◌==◌, not, ◌&&◌, nat_lt, if◌then◌else◌, unsigned_abs, Option, Some, None, Result, Ok, Err}
+use Rattle.std.specs.Prelude.{ℕ, ◌≤◌, ⊤, List, ◌*◌, ◌/◌, ◌%◌, ◌^◌, ◌==◌, not, ◌&&◌, nat_lt, if◌then◌else◌, unsigned_abs, Option, Some, None, Result, Ok, Err}
 use Rattle.std.specs.Int.{is_negative}
+use Rattle.fixed_words.specs.Texts.{fixed_text}
 use Rattle.fixed_words.specs.declared.types.Literal.{Literal}
 use Rattle.fixed_words.specs.declared.types.Literal.TheVariants as literal
 use Rattle.super_time.specs.declared.seconds.SecondsFault.{SecondsFault}
 use Rattle.super_time.specs.declared.seconds.SecondsFault.TheVariants.{NotDecimal, NotMultiple, TooLarge}
+
+-- A literal has at most nine decimals.
+abbrev pub AreDecimalsOf : Literal → Type 0
+AreDecimalsOf (literal.Truth told) = ⊤
+AreDecimalsOf (literal.Number number decimals) = decimals ≤ 9
 
 -- A literal that is no truth value and not negative is a number of seconds: so many units of ten to the power of
 -- minus its decimals. This is it in ticks, where it is a whole number of them.
@@ -23,3 +29,7 @@ abbrev pub seconds_of : ℕ → Literal → Result ℕ SecondsFault
 seconds_of resolution (literal.Truth told) = Err NotDecimal
 seconds_of resolution (literal.Number number decimals) =
     if is_negative number then Err NotDecimal else within_run (ticks_in resolution (literal.Number number decimals))
+
+-- A time in ticks as seconds: a decimal number with as many decimals as the resolution, and no point for 0.
+abbrev pub seconds_text_of : ℕ → ℕ → List ℕ
+seconds_text_of resolution ticks = fixed_text resolution ticks

@@ -1,3 +1,9 @@
+//! Seconds as ticks, and ticks as seconds.
+ghost use Rattle.std.specs.Prelude.{◌≡◌, ◌≤◌, ◌<◌, ◌*◌, ◌/◌, ◌%◌, ◌^◌, ◌==◌, ◌++◌, Some, None, if◌then◌else◌, OnOk, OnErr};
+ghost use Rattle.super_time.specs.Seconds.{AreDecimalsOf, seconds_of, seconds_text_of, within_run};
+
+use fixed_words::{Literal, NoMemory, magnitude_text};
+
 /// Why a literal is no number of ticks that a run may have.
 #[derive(Clone, Copy, Debug, PartialEq, Eq)]
 pub enum SecondsFault {
@@ -7,4 +13,89 @@ pub enum SecondsFault {
     NotMultiple,
     /// It is a whole number of ticks, above 10^15.
     TooLarge,
+}
+
+/// The power of ten, for at most 9 decimals.
+fn ten_to_the(decimals: u8) -> u128
+    requires { decimals ≤ 9 }
+    ensures power { result ≡ 10 ^ decimals }
+    ensures least { 1 ≤ result }
+    ensures greatest { result ≤ 10 ^ 9 }
+{
+    match decimals {
+        0 => 1,
+        1 => 10,
+        2 => 100,
+        3 => 1_000,
+        4 => 10_000,
+        5 => 100_000,
+        6 => 1_000_000,
+        7 => 10_000_000,
+        8 => 100_000_000,
+        _ => 1_000_000_000,
+    }
+}
+
+/// So many units of a power of ten.
+fn product(number: u64, unit: u128) -> u128
+    requires { unit ≤ 10 ^ 9 }
+    ensures { result ≡ number * unit }
+{
+    u128::from(number) * unit
+}
+
+/// Ticks as those of a run, which has at most 10^15.
+fn of_run(ticks: u128) -> Result<u64, SecondsFault>
+    ensures { result ≡ within_run (Some ticks) }
+{
+    if ticks > 1_000_000_000_000_000 {
+        Err(SecondsFault::TooLarge)
+    } else {
+        Ok(ticks as u64)
+    }
+}
+
+/// The ticks in so many units of ten to the power of minus `decimals` seconds.
+fn ticks(resolution: u8, number: u64, decimals: u8) -> Result<u64, SecondsFault>
+    requires resolution { resolution ≤ 9 }
+    requires decimals { decimals ≤ 9 }
+    ensures { result
+        ≡ within_run (if (number * 10 ^ resolution) % 10 ^ decimals == 0 then Some (number * 10 ^ resolution / 10 ^ decimals) else None) }
+{
+    let parts = product(number, ten_to_the(resolution));
+    let unit = ten_to_the(decimals);
+    if parts % unit == 0 {
+        of_run(parts / unit)
+    } else {
+        Err(SecondsFault::NotMultiple)
+    }
+}
+
+/// The ticks that a literal is as a number of seconds, where a tick is ten to the power of minus `resolution` seconds; or
+/// why it is none that a run may have: first by its form, then by its value. No memory is taken.
+pub fn read_seconds(resolution: u8, literal: Literal) -> Result<u64, SecondsFault>
+    requires resolution { resolution ≤ 9 }
+    requires decimals { AreDecimalsOf literal }
+    ensures { result ≡ seconds_of resolution literal }
+{
+    match literal {
+        Literal::Truth(_) => Err(SecondsFault::NotDecimal),
+        Literal::Number { word, decimals } => {
+            if word < 0 {
+                Err(SecondsFault::NotDecimal)
+            } else {
+                ticks(resolution, word.unsigned_abs(), decimals)
+            }
+        }
+    }
+}
+
+/// Appends a time in ticks as seconds, with exactly `resolution` decimals, and no point where that is 0. Only the growth
+/// of `out` takes memory; where there is none `out` is as before.
+pub fn seconds_text(resolution: u8, t: u64, out: &mut Vec<u8>) -> Result<(), NoMemory>
+    requires { resolution ≤ 9 }
+    ensures ok { OnOk result (out.new.items ≡ out.old.items ++ seconds_text_of resolution t) }
+    ensures err { OnErr result (out.new.items ≡ out.old.items) }
+{
+    magnitude_text(resolution, t, out)
 }

@@ -7,6 +7,7 @@ pub mod Counting
 pub mod Judging
 pub mod PlainMeasures
 pub mod PortPuts
+pub mod Declaring
 pub mod FoundPorts
 pub mod Ranged
 pub mod Sited

@@ -3,7 +3,7 @@ pub mod Joins
 pub mod Measures
 pub mod Places
 pub mod PortTables
+pub mod Questions
 pub mod Ranges
 pub mod Rules
-pub mod Seconds
 pub mod Walks

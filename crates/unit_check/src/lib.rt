@@ -1,7 +1,9 @@
 //! Whether a system is well-formed, or which rule it breaks, and at which line.
 //!
-//! The layers above use [`check`], or [`judge`] where a system is only looked at. The rules are defined in `unit_tree`, in its `WellFormed`; how they are judged
-//! along a walk stands in `specs/Walks.antt` (the walk by the parts of a system) and `specs/Rules.antt` (the tests).
+//! The layers above use [`check`], or [`judge`] where a system is only looked at, and [`line_of_output`] for the line at which the
+//! rule of cycles names an output. The rules are defined in `unit_tree`, in its `WellFormed` and `Orders`; how they are judged
+//! along a walk stands in `specs/Walks.antt` (the walk by the parts of a system), `specs/Rules.antt` (the tests) and
+//! `specs/Questions.antt` (what a walk asks).
 #![tactic(auto)]
 
 mod checking;
@@ -9,14 +11,16 @@ mod counts;
 mod kind_lines;
 mod measures;
 mod name_lines;
+mod output_lines;
 mod port_tables;
 mod ports;
+mod question;
 mod rules;
 mod run_lines;
-mod seconds;
 mod tables;
 #[cfg(test)]
 mod tests;
 mod walk;
 
 pub use checking::{CheckFault, check, judge};
+pub use output_lines::line_of_output;

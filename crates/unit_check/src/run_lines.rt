@@ -6,9 +6,9 @@ ghost use Rattle.unit_check.specs.Walks.{form_of};
 ghost use Rattle.unit_tree.specs.WellFormed.{lacks_stop, lacks_instance, has_too_many_rows, resolution_of, unit_resolution};
 ghost use Rattle.unit_tree.specs.Names.{unit_of_instance};
 
-use crate::seconds::read_seconds;
 use crate::walk::FormRef;
 use fixed_words::Literal;
+use super_time::read_seconds;
 use unit_names::SystemNames;
 use unit_tree::Instance;
 

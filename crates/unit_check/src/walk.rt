@@ -1,8 +1,9 @@
-//! A walk along the canonical lines of a system, up to the first line that breaks a rule.
+//! A walk along the canonical lines of a system, up to the first line that answers a question.
 ghost use Rattle.std.specs.Prelude.{◌≡◌, ◌-◌};
 ghost use Rattle.std.specs.List.{slice_get};
 ghost use Rattle.unit_tree.specs.declared.line_form.LineForm.TheVariants as form;
-ghost use Rattle.unit_check.specs.Rules.{Says, defined, test_of};
+ghost use Rattle.unit_check.specs.Questions.{asked_of};
+ghost use Rattle.unit_check.specs.Rules.{Says, defined};
 ghost use Rattle.unit_tree.specs.Printable.{IsRanged};
 ghost use Rattle.unit_tree.specs.WellFormed.{lines_breaking};
 ghost use Rattle.unit_check.specs.Walks.{
@@ -28,7 +29,8 @@ ghost use Rattle.unit_check.specs.Walks.{
   system_walk,
 };
 
-use crate::rules::{Rule, breaks};
+use crate::question::{Question, answers};
+use crate::rules::Rule;
 use crate::tables::Tables;
 use fixed_words::{List, Literal};
 use unit_names::UnitNames;
@@ -80,16 +82,16 @@ pub(crate) enum FormRef<'a> {
 /// Why a walk stopped.
 #[derive(Clone, Copy, Debug, PartialEq, Eq)]
 pub enum Stop {
-    /// At the line of this number, counted from 1, which breaks the rule.
+    /// At the line of this number, counted from 1, which breaks the rule, or is the one that was sought.
     At(u32),
     /// There are more lines than numbers.
     Full,
 }
 
-/// The rule that is looked at, and what is known of the system.
+/// What each line is asked, and what is known of the system.
 #[derive(Clone, Copy)]
 pub(crate) struct Walker<'a> {
-    rule: Rule,
+    question: Question<'a>,
     tables: &'a Tables<'a>,
 }
 
@@ -101,7 +103,7 @@ impl Walker<'_> {
         self.tables.names().system()
     }
 
-    /// The number behind a line, unless it breaks the rule.
+    /// The number behind a line, unless its answer is yes.
     fn past(
         &self,
         scope: ScopeRef<'_, '_>,
@@ -109,9 +111,9 @@ impl Walker<'_> {
         line: FormRef<'_>,
         number: u32,
     ) -> Result<u32, Stop>
-        ensures { result ≡ past (test_of self.now.rule self.now.tables.now (scope_of scope.entry) place (form_of line.entry)) number }
+        ensures { result ≡ past (asked_of self.now.question self.now.tables.now (scope_of scope.entry) place (form_of line.entry)) number }
     {
-        if breaks(self.rule, self.tables, scope, place, line) {
+        if answers(self.question, self.tables, scope, place, line) {
             Err(Stop::At(number))
         } else if number == u32::MAX {
             Err(Stop::Full)
@@ -128,7 +130,7 @@ impl Walker<'_> {
         line: FormRef<'_>,
         number: u32,
     ) -> Result<u32, Stop>
-        ensures { result ≡ past_from (test_of self.now.rule self.now.tables.now (scope_of scope.entry)) first (form_of line.entry) number }
+        ensures { result ≡ past_from (asked_of self.now.question self.now.tables.now (scope_of scope.entry)) first (form_of line.entry) number }
     {
         self.past(scope, number.saturating_sub(first) as usize, line, number)
     }
@@ -143,7 +145,7 @@ fn past_line(
     line: &Line,
     number: u32,
 ) -> Result<u32, Stop>
-    ensures { result ≡ line_walk (past_from (test_of walker.now.rule walker.now.tables.now (StepScope unit.now)) first) line.now number }
+    ensures { result ≡ line_walk (past_from (asked_of walker.now.question walker.now.tables.now (StepScope unit.now)) first) line.now number }
 {
     let scope = ScopeRef::Step(unit);
     match line {
@@ -183,7 +185,7 @@ fn past_lines(
     lines: &[Line],
     number: u32,
 ) -> Result<u32, Stop>
-    ensures { result ≡ each (line_walk (past_from (test_of walker.now.rule walker.now.tables.now (StepScope unit.now)) first)) lines.now number }
+    ensures { result ≡ each (line_walk (past_from (asked_of walker.now.question walker.now.tables.now (StepScope unit.now)) first)) lines.now number }
 {
     let mut next = number;
     for line in lines {
@@ -201,7 +203,7 @@ fn past_step(
     lines: &[Line],
     number: u32,
 ) -> Result<u32, Stop>
-    ensures { result ≡ step_walk (test_of walker.now.rule walker.now.tables.now) unit.now lines.now number }
+    ensures { result ≡ step_walk (asked_of walker.now.question walker.now.tables.now) unit.now lines.now number }
 {
     let first = walker.past(ScopeRef::Unit(unit), 0, FormRef::Step, number)?;
     let number = past_lines(walker, unit, first, lines, first)?;
@@ -214,7 +216,7 @@ fn past_params(
     first: u32,
     number: u32,
 ) -> Result<u32, Stop>
-    ensures { result ≡ each (λ param. past_from (test_of walker.now.rule walker.now.tables.now (UnitScope unit.now)) first (form.Param param)) unit.now.params number }
+    ensures { result ≡ each (λ param. past_from (asked_of walker.now.question walker.now.tables.now (UnitScope unit.now)) first (form.Param param)) unit.now.params number }
 {
     let mut next = number;
     for param in unit.unit().params.as_slice() {
@@ -229,7 +231,7 @@ fn past_states(
     first: u32,
     number: u32,
 ) -> Result<u32, Stop>
-    ensures { result ≡ each (λ state. past_from (test_of walker.now.rule walker.now.tables.now (UnitScope unit.now)) first (form.State state)) unit.now.states number }
+    ensures { result ≡ each (λ state. past_from (asked_of walker.now.question walker.now.tables.now (UnitScope unit.now)) first (form.State state)) unit.now.states number }
 {
     let mut next = number;
     for state in unit.unit().states.as_slice() {
@@ -244,7 +246,7 @@ fn past_locals(
     first: u32,
     number: u32,
 ) -> Result<u32, Stop>
-    ensures { result ≡ each (λ local. past_from (test_of walker.now.rule walker.now.tables.now (UnitScope unit.now)) first (form.Local local)) unit.now.locals number }
+    ensures { result ≡ each (λ local. past_from (asked_of walker.now.question walker.now.tables.now (UnitScope unit.now)) first (form.Local local)) unit.now.locals number }
 {
     let mut next = number;
     for local in unit.unit().locals.as_slice() {
@@ -259,7 +261,7 @@ fn past_inputs(
     first: u32,
     number: u32,
 ) -> Result<u32, Stop>
-    ensures { result ≡ each (λ input. past_from (test_of walker.now.rule walker.now.tables.now (UnitScope unit.now)) first (form.Input input)) unit.now.inputs number }
+    ensures { result ≡ each (λ input. past_from (asked_of walker.now.question walker.now.tables.now (UnitScope unit.now)) first (form.Input input)) unit.now.inputs number }
 {
     let mut next = number;
     for input in unit.unit().inputs.as_slice() {
@@ -274,7 +276,7 @@ fn past_events_in(
     first: u32,
     number: u32,
 ) -> Result<u32, Stop>
-    ensures { result ≡ each (λ event. past_from (test_of walker.now.rule walker.now.tables.now (UnitScope unit.now)) first (form.EventInput event)) unit.now.events_in number }
+    ensures { result ≡ each (λ event. past_from (asked_of walker.now.question walker.now.tables.now (UnitScope unit.now)) first (form.EventInput event)) unit.now.events_in number }
 {
     let mut next = number;
     for event in unit.unit().events_in.as_slice() {
@@ -294,7 +296,7 @@ fn past_outputs(
     first: u32,
     number: u32,
 ) -> Result<u32, Stop>
-    ensures { result ≡ each (λ output. past_from (test_of walker.now.rule walker.now.tables.now (UnitScope unit.now)) first (form.Output output)) unit.now.outputs number }
+    ensures { result ≡ each (λ output. past_from (asked_of walker.now.question walker.now.tables.now (UnitScope unit.now)) first (form.Output output)) unit.now.outputs number }
 {
     let mut next = number;
     for output in unit.unit().outputs.as_slice() {
@@ -309,7 +311,7 @@ fn past_events_out(
     first: u32,
     number: u32,
 ) -> Result<u32, Stop>
-    ensures { result ≡ each (λ event. past_from (test_of walker.now.rule walker.now.tables.now (UnitScope unit.now)) first (form.EventOutput event)) unit.now.events_out number }
+    ensures { result ≡ each (λ event. past_from (asked_of walker.now.question walker.now.tables.now (UnitScope unit.now)) first (form.EventOutput event)) unit.now.events_out number }
 {
     let mut next = number;
     for event in unit.unit().events_out.as_slice() {
@@ -329,7 +331,7 @@ fn past_plain_names(
     first: u32,
     number: u32,
 ) -> Result<u32, Stop>
-    ensures { result ≡ plain_names_walk (past_from (test_of walker.now.rule walker.now.tables.now (UnitScope unit.now)) first) unit.now number }
+    ensures { result ≡ plain_names_walk (past_from (asked_of walker.now.question walker.now.tables.now (UnitScope unit.now)) first) unit.now number }
 {
     let number = past_params(walker, unit, first, number)?;
     let number = past_states(walker, unit, first, number)?;
@@ -342,7 +344,7 @@ fn past_ports(
     first: u32,
     number: u32,
 ) -> Result<u32, Stop>
-    ensures { result ≡ ports_walk (past_from (test_of walker.now.rule walker.now.tables.now (UnitScope unit.now)) first) unit.now number }
+    ensures { result ≡ ports_walk (past_from (asked_of walker.now.question walker.now.tables.now (UnitScope unit.now)) first) unit.now number }
 {
     let number = past_inputs(walker, unit, first, number)?;
     let number = past_events_in(walker, unit, first, number)?;
@@ -352,7 +354,7 @@ fn past_ports(
 
 /// The number behind the lines of a unit that declare names.
 fn past_names(walker: &Walker<'_>, unit: &UnitNames<'_>, number: u32) -> Result<u32, Stop>
-    ensures { result ≡ names_walk (past_from (test_of walker.now.rule walker.now.tables.now (UnitScope unit.now)) number) unit.now number }
+    ensures { result ≡ names_walk (past_from (asked_of walker.now.question walker.now.tables.now (UnitScope unit.now)) number) unit.now number }
 {
     let first = number;
     let number = past_plain_names(walker, unit, first, number)?;
@@ -360,7 +362,7 @@ fn past_names(walker: &Walker<'_>, unit: &UnitNames<'_>, number: u32) -> Result<
 }
 
 fn past_resolution(walker: &Walker<'_>, unit: &UnitNames<'_>, number: u32) -> Result<u32, Stop>
-    ensures { result ≡ if_given (λ decimals. past (test_of walker.now.rule walker.now.tables.now (UnitScope unit.now) 0 (form.Resolution decimals))) unit.now.resolution number }
+    ensures { result ≡ if_given (λ decimals. past (asked_of walker.now.question walker.now.tables.now (UnitScope unit.now) 0 (form.Resolution decimals))) unit.now.resolution number }
 {
     match unit.unit().resolution {
         Some(decimals) => walker.past(
@@ -374,7 +376,7 @@ fn past_resolution(walker: &Walker<'_>, unit: &UnitNames<'_>, number: u32) -> Re
 }
 
 fn past_max(walker: &Walker<'_>, unit: &UnitNames<'_>, number: u32) -> Result<u32, Stop>
-    ensures { result ≡ if_given (λ value. past (test_of walker.now.rule walker.now.tables.now (UnitScope unit.now) 0 (form.Max value))) unit.now.max number }
+    ensures { result ≡ if_given (λ value. past (asked_of walker.now.question walker.now.tables.now (UnitScope unit.now) 0 (form.Max value))) unit.now.max number }
 {
     match &unit.unit().max {
         Some(value) => walker.past(ScopeRef::Unit(unit), 0, FormRef::Max(value), number),
@@ -383,7 +385,7 @@ fn past_max(walker: &Walker<'_>, unit: &UnitNames<'_>, number: u32) -> Result<u3
 }
 
 fn past_given_step(walker: &Walker<'_>, unit: &UnitNames<'_>, number: u32) -> Result<u32, Stop>
-    ensures { result ≡ if_given (step_walk (test_of walker.now.rule walker.now.tables.now) unit.now) unit.now.step number }
+    ensures { result ≡ if_given (step_walk (asked_of walker.now.question walker.now.tables.now) unit.now) unit.now.step number }
 {
     match &unit.unit().step {
         Some(lines) => past_step(walker, unit, lines.as_slice(), number),
@@ -393,7 +395,7 @@ fn past_given_step(walker: &Walker<'_>, unit: &UnitNames<'_>, number: u32) -> Re
 
 /// The number behind what a unit does, and its `end`.
 fn past_behaviour(walker: &Walker<'_>, unit: &UnitNames<'_>, number: u32) -> Result<u32, Stop>
-    ensures { result ≡ behaviour_walk (test_of walker.now.rule walker.now.tables.now) unit.now number }
+    ensures { result ≡ behaviour_walk (asked_of walker.now.question walker.now.tables.now) unit.now number }
 {
     let number = past_max(walker, unit, number)?;
     let number = past_given_step(walker, unit, number)?;
@@ -402,7 +404,7 @@ fn past_behaviour(walker: &Walker<'_>, unit: &UnitNames<'_>, number: u32) -> Res
 
 /// The number behind the block of a unit.
 fn past_unit(walker: &Walker<'_>, unit: &UnitNames<'_>, number: u32) -> Result<u32, Stop>
-    ensures { result ≡ unit_walk (test_of walker.now.rule walker.now.tables.now) unit.now number }
+    ensures { result ≡ unit_walk (asked_of walker.now.question walker.now.tables.now) unit.now number }
 {
     let number = past_resolution(walker, unit, number)?;
     let number = past_names(walker, unit, number)?;
@@ -411,7 +413,7 @@ fn past_unit(walker: &Walker<'_>, unit: &UnitNames<'_>, number: u32) -> Result<u
 
 /// The number behind the unit of a place and its block, where there is one.
 fn past_numbered(walker: &Walker<'_>, place: usize, number: u32) -> Result<u32, Stop>
-    ensures { result ≡ numbered_walk (test_of walker.now.rule walker.now.tables.now) place (slice_get walker.now.tables.now.units place) number }
+    ensures { result ≡ numbered_walk (asked_of walker.now.question walker.now.tables.now) place (slice_get walker.now.tables.now.units place) number }
 {
     match walker.tables.names().unit(place) {
         Some(unit) => {
@@ -425,7 +427,7 @@ fn past_numbered(walker: &Walker<'_>, place: usize, number: u32) -> Result<u32, 
 
 #[tactic(auto, using(crate::proofs::Units::unit_on))]
 fn past_units(walker: &Walker<'_>, number: u32) -> Result<u32, Stop>
-    ensures { result ≡ units_walk (test_of walker.now.rule walker.now.tables.now) 0 walker.now.tables.now.units number }
+    ensures { result ≡ units_walk (asked_of walker.now.question walker.now.tables.now) 0 walker.now.tables.now.units number }
 {
     let mut next = number;
     for place in 0..walker.system().units.len() {
@@ -435,7 +437,7 @@ fn past_units(walker: &Walker<'_>, number: u32) -> Result<u32, Stop>
 }
 
 fn past_settings(walker: &Walker<'_>, instance: &Instance, number: u32) -> Result<u32, Stop>
-    ensures { result ≡ each (λ setting. past_from (test_of walker.now.rule walker.now.tables.now (InstanceScope instance.now)) number (form.Setting setting)) instance.now.settings number }
+    ensures { result ≡ each (λ setting. past_from (asked_of walker.now.question walker.now.tables.now (InstanceScope instance.now)) number (form.Setting setting)) instance.now.settings number }
 {
     let mut next = number;
     for setting in instance.settings.as_slice() {
@@ -451,14 +453,14 @@ fn past_settings(walker: &Walker<'_>, instance: &Instance, number: u32) -> Resul
 
 /// The number behind the block of an instance.
 fn past_instance(walker: &Walker<'_>, instance: &Instance, number: u32) -> Result<u32, Stop>
-    ensures { result ≡ instance_walk (test_of walker.now.rule walker.now.tables.now) instance.now number }
+    ensures { result ≡ instance_walk (asked_of walker.now.question walker.now.tables.now) instance.now number }
 {
     let number = past_settings(walker, instance, number)?;
     walker.past(ScopeRef::Instance(instance), 0, FormRef::End, number)
 }
 
 fn past_instances(walker: &Walker<'_>, number: u32) -> Result<u32, Stop>
-    ensures { result ≡ instances_walk (test_of walker.now.rule walker.now.tables.now) 0 walker.now.tables.now.instances number }
+    ensures { result ≡ instances_walk (asked_of walker.now.question walker.now.tables.now) 0 walker.now.tables.now.instances number }
 {
     let mut next = number;
     for (place, instance) in walker.system().instances.as_slice().iter().enumerate() {
@@ -469,7 +471,7 @@ fn past_instances(walker: &Walker<'_>, number: u32) -> Result<u32, Stop>
 }
 
 fn past_wires(walker: &Walker<'_>, number: u32) -> Result<u32, Stop>
-    ensures { result ≡ each (λ wire. past_from (test_of walker.now.rule walker.now.tables.now TopScope) number (form.Connect wire)) walker.now.tables.now.wires number }
+    ensures { result ≡ each (λ wire. past_from (asked_of walker.now.question walker.now.tables.now TopScope) number (form.Connect wire)) walker.now.tables.now.wires number }
 {
     let mut next = number;
     for wire in walker.system().wires.as_slice() {
@@ -479,7 +481,7 @@ fn past_wires(walker: &Walker<'_>, number: u32) -> Result<u32, Stop>
 }
 
 fn past_samples(walker: &Walker<'_>, number: u32) -> Result<u32, Stop>
-    ensures { result ≡ each (λ port. past_from (test_of walker.now.rule walker.now.tables.now TopScope) number (form.Sample port)) walker.now.tables.now.samples number }
+    ensures { result ≡ each (λ port. past_from (asked_of walker.now.question walker.now.tables.now TopScope) number (form.Sample port)) walker.now.tables.now.samples number }
 {
     let mut next = number;
     for port in walker.system().samples.as_slice() {
@@ -490,7 +492,7 @@ fn past_samples(walker: &Walker<'_>, number: u32) -> Result<u32, Stop>
 
 /// The number behind what a system is made of.
 fn past_parts(walker: &Walker<'_>, number: u32) -> Result<u32, Stop>
-    ensures { result ≡ parts_walk (test_of walker.now.rule walker.now.tables.now) walker.now.tables.now number }
+    ensures { result ≡ parts_walk (asked_of walker.now.question walker.now.tables.now) walker.now.tables.now number }
 {
     let number = past_units(walker, number)?;
     let number = past_instances(walker, number)?;
@@ -498,7 +500,7 @@ fn past_parts(walker: &Walker<'_>, number: u32) -> Result<u32, Stop>
 }
 
 fn past_stop(walker: &Walker<'_>, given: Option<Literal>, number: u32) -> Result<u32, Stop>
-    ensures { result ≡ if_given (λ seconds. past (test_of walker.now.rule walker.now.tables.now TopScope 0 (form.Stop seconds))) given number }
+    ensures { result ≡ if_given (λ seconds. past (asked_of walker.now.question walker.now.tables.now TopScope 0 (form.Stop seconds))) given number }
 {
     match given {
         Some(seconds) => walker.past(ScopeRef::Top, 0, FormRef::Stop(seconds), number),
@@ -507,7 +509,7 @@ fn past_stop(walker: &Walker<'_>, given: Option<Literal>, number: u32) -> Result
 }
 
 fn past_longest(walker: &Walker<'_>, given: Option<Literal>, number: u32) -> Result<u32, Stop>
-    ensures { result ≡ if_given (λ seconds. past (test_of walker.now.rule walker.now.tables.now TopScope 0 (form.Longest seconds))) given number }
+    ensures { result ≡ if_given (λ seconds. past (asked_of walker.now.question walker.now.tables.now TopScope 0 (form.Longest seconds))) given number }
 {
     match given {
         Some(seconds) => walker.past(ScopeRef::Top, 0, FormRef::Longest(seconds), number),
@@ -516,7 +518,7 @@ fn past_longest(walker: &Walker<'_>, given: Option<Literal>, number: u32) -> Res
 }
 
 fn past_zero(walker: &Walker<'_>, given: Option<u32>, number: u32) -> Result<u32, Stop>
-    ensures { result ≡ if_given (λ count. past (test_of walker.now.rule walker.now.tables.now TopScope 0 (form.Zero count))) given number }
+    ensures { result ≡ if_given (λ count. past (asked_of walker.now.question walker.now.tables.now TopScope 0 (form.Zero count))) given number }
 {
     match given {
         Some(count) => walker.past(ScopeRef::Top, 0, FormRef::Zero(count), number),
@@ -525,7 +527,7 @@ fn past_zero(walker: &Walker<'_>, given: Option<u32>, number: u32) -> Result<u32
 }
 
 fn past_rows(walker: &Walker<'_>, given: Option<u32>, number: u32) -> Result<u32, Stop>
-    ensures { result ≡ if_given (λ count. past (test_of walker.now.rule walker.now.tables.now TopScope 0 (form.Rows count))) given number }
+    ensures { result ≡ if_given (λ count. past (asked_of walker.now.question walker.now.tables.now TopScope 0 (form.Rows count))) given number }
 {
     match given {
         Some(count) => walker.past(ScopeRef::Top, 0, FormRef::Rows(count), number),
@@ -535,7 +537,7 @@ fn past_rows(walker: &Walker<'_>, given: Option<u32>, number: u32) -> Result<u32
 
 /// The number behind the lines that say how a system is run.
 fn past_limits(walker: &Walker<'_>, number: u32) -> Result<u32, Stop>
-    ensures { result ≡ limits_walk (test_of walker.now.rule walker.now.tables.now TopScope 0) walker.now.tables.now number }
+    ensures { result ≡ limits_walk (asked_of walker.now.question walker.now.tables.now TopScope 0) walker.now.tables.now number }
 {
     let number = past_stop(walker, walker.system().stop, number)?;
     let number = past_longest(walker, walker.system().longest, number)?;
@@ -545,7 +547,7 @@ fn past_limits(walker: &Walker<'_>, number: u32) -> Result<u32, Stop>
 
 /// The number behind the last line.
 fn past_system(walker: &Walker<'_>) -> Result<u32, Stop>
-    ensures { result ≡ system_walk (test_of walker.now.rule walker.now.tables.now) walker.now.tables.now 1 }
+    ensures { result ≡ system_walk (asked_of walker.now.question walker.now.tables.now) walker.now.tables.now 1 }
 {
     let number = walker.past(
         ScopeRef::Top,
@@ -558,11 +560,11 @@ fn past_system(walker: &Walker<'_>) -> Result<u32, Stop>
     past_samples(walker, number)
 }
 
-/// One more than there are lines, or why a walk by a rule stops.
-pub(crate) fn past_all(rule: Rule, tables: &Tables<'_>) -> Result<u32, Stop>
-    ensures { result ≡ system_walk (test_of rule tables.now) tables.now 1 }
+/// One more than there are lines, or why a walk with a question stops.
+pub(crate) fn past_all(question: Question<'_>, tables: &Tables<'_>) -> Result<u32, Stop>
+    ensures { result ≡ system_walk (asked_of question.entry tables.now) tables.now 1 }
 {
-    let walker = Walker { rule, tables };
+    let walker = Walker { question, tables };
     past_system(&walker)
 }
 
@@ -571,5 +573,5 @@ pub(crate) fn first_line(rule: Rule, tables: &Tables<'_>) -> Result<u32, Stop>
     requires ranged { IsRanged tables.now }
     ensures { Says result (lines_breaking (defined rule) tables.now) }
 {
-    past_all(rule, tables)
+    past_all(Question::Breaks(rule), tables)
 }

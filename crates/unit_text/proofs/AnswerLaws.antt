@@ -18,12 +18,12 @@ use Rattle.unit_tree.specs.declared.line_form.LineForm.TheVariants as form
 use Rattle.unit_tree.specs.declared.system.System.{System}
 use Rattle.unit_text.specs.Laws.{IsAnswered, HasOneReading, SaysOneSystem, EveryTextIsAnsweredOnce}
 use Rattle.unit_text.specs.Reading.{blank_rule}
-use Rattle.unit_text.specs.Seen.{IsClean}
+use Rattle.unit_lines.specs.Seen.{IsClean}
 use Rattle.unit_text.specs.Nesting.{Nested, headed_by, and_form, nested_forms}
 use Rattle.unit_text.proofs.NestingLaws.{before_next, same_parts, whole_forms, parts_close}
-use Rattle.unit_text.proofs.Refusing.{unbroken, IsUnbroken, AreUnbroken, IsLeast, first_broken, no_break}
+use Rattle.text_laws.proofs.Refusing.{unbroken, IsUnbroken, AreUnbroken, IsLeast, first_broken, no_break}
 use Rattle.unit_text.proofs.Walks.{FormsAreKnown, Decided, first_line, version_known, FormIn, form_in, same_forms, AreBlank, NestTo, are_short, blank_more, nest_blank, header_begins, line_nests, BreaksLeast, bytes_break, length_breaks, formless_breaks, place_breaks, first_place_breaks, headless_breaks, blank_unbroken, is_written, none_written, blank_have_none, one_in}
-use Rattle.unit_text.proofs.SpelledBytes.{none_forbidden}
+use Rattle.text_laws.proofs.SpelledBytes.{none_forbidden}
 use Rattle.unit_tree.specs.Texts.{BeginsVersion2}
 
 -- ---- A line, whatever it is
@@ -243,7 +243,7 @@ version_is version (part ∷ all) = with_keeps part (system_of version all) ∙ 
     with_keeps (parts.Samples port) system = refl
 
 -- Lines that nest and leave no block open say the system of their parts.
-pub ends_whole : (text : List ℕ) (nested : Nested) → size_of text ≤ text_limit → NestTo (source_lines text) (source_lines text) nested → nested_forms nested ≡ text_forms nested.version nested.parts → Reads text (system_of nested.version nested.parts)
+unfoldable pub ends_whole : (text : List ℕ) (nested : Nested) → size_of text ≤ text_limit → NestTo (source_lines text) (source_lines text) nested → nested_forms nested ≡ text_forms nested.version nested.parts → Reads text (system_of nested.version nested.parts)
 ends_whole text nested fits so_far whole = record {
   parts = nested.parts;
   says = ap (λ version. system_of version nested.parts) (version_is nested.version nested.parts);

@@ -1,19 +1,12 @@
--- Laws of reading: what the definitions of the language promise to those who read texts and write them.
-use Rattle.std.specs.Prelude.{◌≡◌, ◌≤◌, ◌⊎◌, ◌↔◌, ℕ, List, [], ◌∷◌, length, IsTrue}
+-- Laws of reading: that each text says one system or is refused, and that lines nest by parts.
+use Rattle.std.specs.Prelude.{◌≡◌, ◌⊎◌, ◌↔◌, ℕ, List, [], ◌∷◌, IsTrue}
 use Rattle.unit_tree.specs.Blocks.{no_lines, open_blocks, are_placed}
-use Rattle.unit_tree.specs.Canonical.{canonical_text, line_text}
-use Rattle.unit_tree.specs.LineForms.{HasForm}
 use Rattle.unit_tree.specs.Lines.{source_lines}
 use Rattle.unit_tree.specs.Parts.{Part, text_forms}
-use Rattle.unit_tree.specs.Printable.{IsPrintable}
 use Rattle.unit_tree.specs.Texts.{HaveForms, Reads, IsRefused}
 use Rattle.unit_tree.specs.declared.line_form.LineForm.{LineForm}
 use Rattle.unit_tree.specs.declared.line_form.LineForm.TheVariants as form
 use Rattle.unit_tree.specs.declared.system.System.{System}
-
--- A line has one form at most.
-abbrev pub HasOneForm : Type 0
-HasOneForm = (line : List ℕ) (one other : LineForm) → HasForm one line → HasForm other line → one ≡ other
 
 -- A text is written with one version and one list of parts at most, and so says one system at most.
 abbrev pub HasOneReading : List ℕ → Type 0
@@ -42,15 +35,3 @@ EveryTextIsAnsweredOnce = (text : List ℕ) → IsAnsweredOnce text
 abbrev pub NestingIsByParts : Type 0
 NestingIsByParts =
     (version : ℕ) (forms : List LineForm) → IsTrue (are_placed no_lines (form.Header version ∷ forms)) → (open_blocks (form.Header version ∷ forms) ≡ []) ↔ ((parts : List Part) × (form.Header version ∷ forms ≡ text_forms version parts))
-
--- What a text says has a canonical text, and is in range.
-abbrev pub WhatIsReadIsPrintable : Type 0
-WhatIsReadIsPrintable = (text : List ℕ) (system : System) → Reads text system → IsPrintable system
-
--- Reading the canonical text of a system gives this system.
-abbrev pub CanonicalTextIsReadBack : Type 0
-CanonicalTextIsReadBack = (system : System) → IsPrintable system → Reads (canonical_text system) system
-
--- A canonical line is never longer than a line that it came from.
-abbrev pub CanonicalLinesAreShortest : Type 0
-CanonicalLinesAreShortest = (some : LineForm) (line : List ℕ) → HasForm some line → length (line_text some) ≤ length line

@@ -1,9 +1,5 @@
 pub mod Drafts
-pub mod Expressions
 pub mod Laws
-pub mod Levels
-pub mod LineReading
 pub mod Nesting
+pub mod Numbering
 pub mod Reading
-pub mod Seen
-pub mod WorkedTexts

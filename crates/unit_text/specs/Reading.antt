@@ -2,22 +2,27 @@
 use Rattle.std.specs.Prelude.{◌≡◌, ◌≤◌, ◌+◌, ◌⊎◌, ℕ, suc, nat_lt, List, [], ◌∷◌, ◌++◌, length, IsTrue, Option, Some, None, Result, Ok, Err, true, false, ⊤, if◌then◌else◌}
 use Rattle.std.specs.Borrow.{Bor}
 use Rattle.std.specs.List.{AllByRecursion, list_all}
+use Rattle.std.specs.Option.{option_map}
 use Rattle.unit_tree.specs.Blocks.{no_lines, may_stand}
 use Rattle.unit_tree.specs.LineForms.{HasForm, is_of_version_2}
 use Rattle.unit_tree.specs.Lines.{source_lines, is_blank_line}
-use Rattle.unit_tree.specs.Texts.{line_limit, Reads, IsRefused}
+use Rattle.unit_tree.specs.SourceLines.{ReadsFrom}
+use Rattle.unit_tree.specs.Texts.{line_limit, IsRefused}
 use Rattle.unit_tree.specs.declared.line_form.LineForm.{LineForm}
 use Rattle.unit_tree.specs.declared.line_form.LineForm.TheVariants as form
-use Rattle.unit_tree.specs.declared.system.System.{System}
 use Rattle.unit_tokens.specs.declared.fault.Unread.{Unread}
 use Rattle.unit_tokens.specs.declared.fault.Unread.TheVariants as unread
-use Rattle.unit_text.specs.Drafts.{with_form}
-use Rattle.unit_text.specs.LineReading.{LineHas}
-use Rattle.unit_text.specs.Seen.{IsClean, TellsOf}
+use Rattle.unit_text.specs.Drafts.{with_form, whole_system}
+use Rattle.unit_lines.specs.LineReading.{LineHas}
+use Rattle.unit_text.specs.Numbering.{place_in, group_of, bare_numbers, with_marks, in_order}
+use Rattle.unit_lines.specs.Seen.{IsClean, TellsOf}
 use Rattle.unit_text.specs.declared.draft.Draft.{Draft}
 use Rattle.unit_text.specs.declared.fault.TextFault.{TextFault}
 use Rattle.unit_text.specs.declared.fault.TextFault.TheVariants as fault
-use Rattle.unit_text.specs.declared.lines.Seen.TheVariants as told
+use Rattle.unit_lines.specs.declared.lines.Seen.TheVariants as told
+use Rattle.unit_text.specs.declared.numbers.Group.{Group}
+use Rattle.unit_text.specs.declared.numbers.Mark.{Mark}
+use Rattle.unit_text.specs.declared.reading.ReadText.{ReadText}
 
 -- The line keeps the rules that look at its bytes alone, and is not blank.
 pub record IsWritten (line : List ℕ) : Type 0 where
@@ -60,16 +65,21 @@ abbrev pub FormIn : ℕ → List ℕ → Option LineForm → Type 0
 FormIn version line (Some some) = HasForm some line × IsFormOf version some
 FormIn version line None = LineHas line None ⊎ IsOfOther version line
 
--- The line has a form of the version, and the draft becomes this with it: none where the form may not stand there.
-pub record FormGives (draft : Draft) (line : List ℕ) (next : Option Draft) : Type 0 where
+-- The draft with a line of the form, and the group of this line. None where the form may not stand there.
+abbrev pub and_group : Draft → LineForm → Option (Draft × Option Group)
+and_group draft some = option_map (λ next. (next, group_of (place_in draft.block) some)) (with_form draft some)
+
+-- The line has a form of the version, and this comes of the draft with it.
+pub record FormGives (draft : Draft) (line : List ℕ) (next : Option (Draft × Option Group)) : Type 0 where
   pub is_written : IsWritten line
   pub some : LineForm
   pub form_in : FormIn draft.system.version line (Some some)
-  pub next_is : with_form draft some ≡ next
+  pub next_is : and_group draft some ≡ next
 
--- What the line makes of the draft of the lines before it: the draft with it, or a rule that it breaks.
-abbrev pub LineGives : Draft → List ℕ → Result Draft ℕ → Type 0
-LineGives draft line (Ok next) = (IsClean line × (is_blank_line line ≡ true) × (next ≡ draft)) ⊎ FormGives draft line (Some next)
+-- What the line makes of the draft of the lines before it: the draft with it, and its group, of which a blank line has none; or
+-- a rule that it breaks.
+abbrev pub LineGives : Draft → List ℕ → Result (Draft × Option Group) ℕ → Type 0
+LineGives draft line (Ok next) = (IsClean line × (is_blank_line line ≡ true) × (next ≡ (draft, None))) ⊎ FormGives draft line (Some next)
 LineGives draft line (Err rule) =
     TellsOf line (told.Broken rule)
     ⊎ ((rule ≡ 4) × IsWritten line × FormIn draft.system.version line None)
@@ -121,8 +131,16 @@ HeaderGives text (Ok (version, number, rest)) = HeadsText text version number re
 HeaderGives text (Err (fault.Line number rule)) = HeadBreaks text number rule ⊎ IsTrue (list_all is_blank_line (source_lines text))
 HeaderGives text (Err fault.NoMemory) = ⊤
 
--- The answer to a text: the system that it says, or the line and the rule by which it is refused.
-abbrev pub AnswersText : List ℕ → Result System TextFault → Type 0
-AnswersText text (Ok system) = Reads text system
+-- What all lines say, of which the last has this number, or that a block is open there.
+abbrev pub WholeGives : Draft → ℕ → List Mark → ℕ → Result ReadText TextFault → Type 0
+WholeGives draft header marks number (Ok read) =
+    (whole_system draft ≡ Some read.system) × (read.lines ≡ in_order (with_marks (bare_numbers header) marks))
+WholeGives draft header marks number (Err (fault.Line line rule)) = (whole_system draft ≡ None) × (line ≡ number) × (rule ≡ 6)
+WholeGives draft header marks number (Err fault.NoMemory) = ⊤
+
+-- The answer to a text: the system that it says, with the lines that its canonical lines came from, or the line and the rule
+-- by which it is refused.
+abbrev pub AnswersText : List ℕ → Result ReadText TextFault → Type 0
+AnswersText text (Ok read) = ReadsFrom text read.system read.lines
 AnswersText text (Err (fault.Line line rule)) = IsRefused text line rule
 AnswersText text (Err fault.NoMemory) = ⊤

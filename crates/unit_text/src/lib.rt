@@ -1,37 +1,23 @@
-//! Reading of model texts of the whole language: from bytes to the tree of a system, or the line and the rule by which the
-//! text is refused.
+//! Reading of model texts of the whole language: from bytes to the tree of a system and the lines that its canonical lines came
+//! from, or the line and the rule by which the text is refused.
 //!
-//! The layer above uses [`read_system`] with its [`TextFault`]. The laws of reading are public functions without a body:
-//! each text is answered once ([`texts_are_answered_once`]), a line has one form at most ([`lines_have_one_form`]) and so
-//! has an expression ([`tokens_write_one_expression`]), nesting is by parts ([`nesting_is_by_parts`]), what is read is
-//! printable ([`what_is_read_is_printable`]), a canonical text is read back ([`canonical_text_is_read_back`]), and no
-//! canonical line is longer than a line that it came from ([`canonical_lines_are_shortest`]). [`texts_are_worked`] is of
-//! texts that were worked out by hand.
+//! The layer above uses [`read_system`] with [`ReadText`] and [`TextFault`]. Two laws of reading are public functions without
+//! a body: each text is answered once ([`texts_are_answered_once`]), and nesting is by parts ([`nesting_is_by_parts`]); those
+//! on one line stand in `unit_lines`, those that need no reader in `text_laws`.
 //!
-//! Definitions: `Texts` of `unit_tree`, with those that it cites; `specs/Laws.antt` states the laws. How the reading goes
-//! about it stands in `specs/Expressions.antt` (an expression by its tokens), `specs/LineReading.antt` (the form of a line),
-//! `specs/Drafts.antt` (the system as far as its lines have come) and `specs/Reading.antt` (one line after the other).
+//! Definitions: `Texts` and `SourceLines` of `unit_tree`, with those that they cite; `specs/Laws.antt` states the laws. How the
+//! reading goes about it stands in `specs/Drafts.antt` (the system as far as its lines have come), `specs/Numbering.antt` (the
+//! numbers of its lines) and `specs/Reading.antt` (one line after the other).
 #![tactic(auto)]
 
 mod draft;
-mod expressions;
 mod fault;
 mod laws;
-mod levels;
-mod line_forms;
-mod lines;
+mod numbers;
 mod reading;
 #[cfg(test)]
 mod tests;
-mod versions;
-mod worked;
 
-pub use expressions::{expression, tokens_write_one_expression};
 pub use fault::TextFault;
-pub use laws::{
-    canonical_lines_are_shortest, canonical_text_is_read_back, lines_have_one_form,
-    nesting_is_by_parts, texts_are_answered_once, what_is_read_is_printable,
-};
-pub use line_forms::line_form;
-pub use reading::{LONGEST_TEXT, SIZE_RULE, read_system};
-pub use worked::texts_are_worked;
+pub use laws::{nesting_is_by_parts, texts_are_answered_once};
+pub use reading::{LONGEST_TEXT, ReadText, SIZE_RULE, read_system};

@@ -1,19 +1,23 @@
 //! Reading of a text, along its lines.
-ghost use Rattle.std.specs.Prelude.{◌≡◌, ◌<◌, ◌≤◌, length, true, false};
+ghost use Rattle.std.specs.Prelude.{◌≡◌, ◌<◌, ◌≤◌, length, true, false, IfOk};
 ghost use Rattle.std.specs.List.{list_all};
 ghost use Rattle.unit_tree.specs.Blocks.{no_lines, may_stand};
 ghost use Rattle.unit_tree.specs.Lines.{source_lines, size_of, is_blank_line};
+ghost use Rattle.unit_tree.specs.Printable.{IsPrintable};
 ghost use Rattle.unit_tree.specs.Texts.{text_limit};
-ghost use Rattle.unit_tokens.specs.Scanning.{ReadsAs};
-ghost use Rattle.unit_text.specs.Seen.{TellsOf};
-ghost use Rattle.unit_text.specs.Reading.{IsWritten, headless_rule, FirstGives, IsFormOf, FormIn, LineGives, fault_at, AnswersAt, blank_rule, HeaderGives, AnswersText};
+ghost use Rattle.unit_tokens.specs.Scanning.{Gives, ReadsAs};
+ghost use Rattle.unit_lines.specs.Seen.{TellsOf};
+ghost use Rattle.unit_text.specs.Reading.{IsWritten, headless_rule, FirstGives, IsFormOf, FormIn, and_group, LineGives, WholeGives, fault_at, AnswersAt, blank_rule, HeaderGives, AnswersText};
 
 use crate::draft::Draft;
 use crate::fault::TextFault;
-use crate::line_forms::form_of_line;
-use crate::lines::{LENGTH_RULE, LONGEST_LINE, Seen, is_blank_line, look_at, without_return};
-use crate::versions::{VERSION_2, is_of_version_2};
+use crate::numbers::{Group, Mark, Place, note, numbers_in_order};
+use fixed_words::List;
 use std::alloc::Global;
+use unit_lines::{
+    LENGTH_RULE, LONGEST_LINE, Seen, VERSION_2, form_of_line, is_blank_line, is_of_version_2,
+    look_at, without_return,
+};
 use unit_tokens::{Unread, cut_line, size};
 use unit_tree::{LineForm, System};
 
@@ -114,8 +118,30 @@ fn at_line(unread: Unread, line: u32, rule: u8) -> TextFault
     }
 }
 
-/// The draft with a written line more.
-fn with_written(alloc: Global, draft: Draft, line: &[u8], number: u32) -> Result<Draft, TextFault>
+/// The system that a text says, and for each of its canonical lines the number, from 1, of the line of the text that it came
+/// from.
+#[derive(Debug, Drop)]
+pub struct ReadText {
+    pub system: System,
+    pub lines: List<u32>,
+}
+
+/// The draft with a line of the form more, and the group of this line. `NoForm` where it may not stand there.
+fn and_group(alloc: Global, draft: Draft, form: LineForm) -> Result<(Draft, Option<Group>), Unread>
+    ensures { Gives result (and_group draft form) }
+{
+    let group = Group::of(Place::of(&draft.block), &form);
+    let next = draft.with_form(alloc, form)?;
+    Ok((next, group))
+}
+
+/// The draft with a written line more, and the group of this line.
+fn with_written(
+    alloc: Global,
+    draft: Draft,
+    line: &[u8],
+    number: u32,
+) -> Result<(Draft, Option<Group>), TextFault>
     requires { IsWritten line.now }
     ensures { AnswersAt number (LineGives draft line.now) result }
 {
@@ -123,20 +149,47 @@ fn with_written(alloc: Global, draft: Draft, line: &[u8], number: u32) -> Result
         Ok(form) => form,
         Err(unread) => return Err(at_line(unread, number, FORM_RULE)),
     };
-    match draft.with_form(alloc, form) {
+    match and_group(alloc, draft, form) {
         Ok(next) => Ok(next),
         Err(unread) => Err(at_line(unread, number, PLACE_RULE)),
     }
 }
 
-/// The draft with a line more, whatever it is.
-fn with_line(alloc: Global, draft: Draft, line: &[u8], number: u32) -> Result<Draft, TextFault>
+/// The draft with a line more, whatever it is, and its group, of which a blank line has none.
+fn with_line(
+    alloc: Global,
+    draft: Draft,
+    line: &[u8],
+    number: u32,
+) -> Result<(Draft, Option<Group>), TextFault>
     ensures { AnswersAt number (LineGives draft line.now) result }
 {
     match look_at(line) {
         Seen::Broken(rule) => Err(TextFault::Line { line: number, rule }),
-        Seen::Blank => Ok(draft),
+        Seen::Blank => Ok((draft, None)),
         Seen::Written => with_written(alloc, draft, line, number),
+    }
+}
+
+/// What the lines of a text say, of which the last has this number.
+fn whole_text(
+    alloc: Global,
+    draft: Draft,
+    header: u32,
+    marks: &[Mark],
+    number: u32,
+) -> Result<ReadText, TextFault>
+    ensures { WholeGives draft header marks.now number result }
+{
+    match draft.whole_system() {
+        Some(system) => {
+            let lines = numbers_in_order(alloc, header, marks)?;
+            Ok(ReadText { system, lines })
+        }
+        None => Err(TextFault::Line {
+            line: number,
+            rule: END_RULE,
+        }),
     }
 }
 
@@ -201,37 +254,36 @@ fn header_of(alloc: Global, text: &[u8]) -> Result<(u8, u32, &[u8]), TextFault>
     })
 }
 
-/// The system that a text says whose lines are not all blank.
+/// What a text says whose lines are not all blank.
 #[tactic(auto, using(unit_tokens::proofs::LineLemmas::length_le_size_of))]
-fn read_lines(alloc: Global, text: &[u8]) -> Result<System, TextFault>
+fn read_lines(alloc: Global, text: &[u8]) -> Result<ReadText, TextFault>
     requires short { size_of text.now ≤ text_limit }
     requires written { list_all is_blank_line (source_lines text.now) ≡ false }
     ensures { AnswersText text.now result }
 {
-    let (version, mut number, mut rest) = header_of(alloc, text)?;
+    let (version, header, mut rest) = header_of(alloc, text)?;
+    let mut number = header;
     let mut draft = Draft::new(alloc, version);
+    let mut marks = Vec::new(alloc);
     while !rest.is_empty() {
         let (line, behind) = cut_line(rest);
         rest = behind;
         number += 1;
-        draft = with_line(alloc, draft, without_return(line), number)?;
+        let (next, group) = with_line(alloc, draft, without_return(line), number)?;
+        draft = next;
+        note(&mut marks, group, number)?;
     }
-    match draft.whole_system() {
-        Some(system) => Ok(system),
-        None => Err(TextFault::Line {
-            line: number,
-            rule: END_RULE,
-        }),
-    }
+    whole_text(alloc, draft, header, marks.as_slice(), number)
 }
 
-/// The system that a text says.
+/// The system that a text says, with the lines that its canonical lines came from. It is in range, and printable.
 ///
 /// Any other text is refused: one that is too long at line 1 by rule 2, and else at the first line that breaks a rule, by the
 /// least that it breaks; where only the end of a block lacks, at the last line by rule 6.
-#[tactic(auto, using(crate::proofs::ReadingLaws::long_refused, crate::proofs::ReadingLaws::blank_refused))]
-pub fn read_system(alloc: Global, text: &[u8]) -> Result<System, TextFault>
-    ensures { AnswersText text.now result }
+#[tactic(auto, using(crate::proofs::ReadingLaws::long_refused, crate::proofs::ReadingLaws::blank_refused, crate::proofs::AnswersPrinted::read_printable))]
+pub fn read_system(alloc: Global, text: &[u8]) -> Result<ReadText, TextFault>
+    ensures answer { AnswersText text.now result }
+    ensures printable { IfOk result (λ read. IsPrintable read.system) }
 {
     if size(text) > LONGEST_TEXT {
         return Err(TextFault::Line {

@@ -22,14 +22,14 @@ use Rattle.unit_tree.proofs.EquationLaws.{AreEquations, one_solution, has_soluti
 
 -- ---- Outputs and their places
 
-abbrev needs_of : Outlet → List ℕ
+abbrev pub needs_of : Outlet → List ℕ
 needs_of outlet = places_needed outlet.standing.0 outlet.output
 
-needs_counted : (standing : Standing) (instance from : ℕ) (outputs : List Output) → map needs_of (map (λ counted. record { standing = standing; instance = instance; output = counted.1; number = counted.0 }) (enumerate_from from outputs)) ≡ map (places_needed standing.0) outputs
+pub needs_counted : (standing : Standing) (instance from : ℕ) (outputs : List Output) → map needs_of (map (λ counted. record { standing = standing; instance = instance; output = counted.1; number = counted.0 }) (enumerate_from from outputs)) ≡ map (places_needed standing.0) outputs
 needs_counted standing instance from [] = refl
 needs_counted standing instance from (output ∷ outputs) = ap (λ rest. places_needed standing.0 output ∷ rest) (needs_counted standing instance (from + 1) outputs)
 
-needs_from : (from : ℕ) (members : List Member) (states : List (List ℤ)) → length states ≡ length members → map needs_of (flat_map outlets_of (enumerate_from from (zip members states))) ≡ flat_map (λ member. map (places_needed member) member.component.unit.outputs) members
+pub needs_from : (from : ℕ) (members : List Member) (states : List (List ℤ)) → length states ≡ length members → map needs_of (flat_map outlets_of (enumerate_from from (zip members states))) ≡ flat_map (λ member. map (places_needed member) member.component.unit.outputs) members
 needs_from from [] states one_each = refl
 needs_from from (member ∷ members) [] one_each = absurd (omega (arith, one_each))
 needs_from from (member ∷ members) (state ∷ states) one_each =
@@ -46,22 +46,22 @@ outlets_count run states one_each = sym (length-map (outlets run states) needs_o
 
 -- ---- What an output sees
 
-abbrev Agree : Ports → Ports → ℕ → Type 0
+abbrev pub Agree : Ports → Ports → ℕ → Type 0
 Agree one other place = slice_get one place ≡ slice_get other place
 
 -- With whether the input is needed, and its source.
-seen_same : (one other : Ports) (needed : Bool) (source : Source) (start : ℤ) (rest : List ℕ) → AllByRecursion (Agree one other) (cons_option (cond needed (place_in source) None) rest) → (cond needed (input_word one source) (Some start) ≡ cond needed (input_word other source) (Some start)) × AllByRecursion (Agree one other) rest
+pub seen_same : (one other : Ports) (needed : Bool) (source : Source) (start : ℤ) (rest : List ℕ) → AllByRecursion (Agree one other) (cons_option (cond needed (place_in source) None) rest) → (cond needed (input_word one source) (Some start) ≡ cond needed (input_word other source) (Some start)) × AllByRecursion (Agree one other) rest
 seen_same one other true (Start word) start rest agree = (refl, agree)
 seen_same one other true (AtPlace place) start rest agree = (ap (λ found. option_and_then (λ word. word) found) agree.0, agree.1)
 seen_same one other false source start rest agree = (refl, agree)
 
-sees_same : (one other : Ports) (output : Output) (pairs : List (Input × Source)) → AllByRecursion (Agree one other) (filter_map (place_needed output) pairs) → map (seen_by one output) pairs ≡ map (seen_by other output) pairs
+pub sees_same : (one other : Ports) (output : Output) (pairs : List (Input × Source)) → AllByRecursion (Agree one other) (filter_map (place_needed output) pairs) → map (seen_by one output) pairs ≡ map (seen_by other output) pairs
 sees_same one other output [] agree = refl
 sees_same one other output ((input, source) ∷ pairs) agree =
     let here = seen_same one other (is_among output.needs input.name) source (start_word input.ty input.start) (filter_map (place_needed output) pairs) agree in
     ap (λ seen. seen ∷ map (seen_by one output) pairs) here.0 ∙ ap (λ rest. seen_by other output (input, source) ∷ rest) (sees_same one other output pairs here.1)
 
-word_same : (one other : Ports) (outlet : Outlet) → AllByRecursion (Agree one other) (needs_of outlet) → word_at one outlet ≡ word_at other outlet
+pub word_same : (one other : Ports) (outlet : Outlet) → AllByRecursion (Agree one other) (needs_of outlet) → word_at one outlet ≡ word_at other outlet
 word_same one other outlet agree =
     ap (λ seen. option_and_then result_ok (option_map (λ inputs. get_of outlet.standing.0.component outlet.standing.1 inputs outlet.output) (all_there seen)))
     (sees_same one other outlet.output (zip outlet.standing.0.component.unit.inputs outlet.standing.0.sources) agree)
@@ -69,7 +69,7 @@ word_same one other outlet agree =
 -- ---- The right sides are equations
 
 -- What stands at a place of a list that is mapped.
-needs_here : (run : Composition) (states : List (List ℤ)) (place : ℕ) (outlet : Outlet) → length states ≡ length run.members → slice_get (outlets run states) place ≡ Some outlet → needs_at run place ≡ needs_of outlet
+pub needs_here : (run : Composition) (states : List (List ℤ)) (place : ℕ) (outlet : Outlet) → length states ≡ length run.members → slice_get (outlets run states) place ≡ Some outlet → needs_at run place ≡ needs_of outlet
 needs_here run states place outlet one_each is =
     ap (λ all. unwrap_or (slice_get all place) []) (sym (needs_are run states one_each))
     ∙ ap (λ found. unwrap_or found []) (slice_get-map needs_of (outlets run states) place ∙ ap (option_map needs_of) is)
@@ -80,7 +80,7 @@ pub record AtPlaceOf (run : Composition) (states : List (List ℤ)) (place : ℕ
   pub is : slice_get (outlets run states) place ≡ Some outlet
   pub needs : needs_at run place ≡ needs_of outlet
 
-found_by : (run : Composition) (states : List (List ℤ)) (place : ℕ) (found : Option Outlet) → length states ≡ length run.members → place < length (outlets run states) → slice_get (outlets run states) place ≡ found → AtPlaceOf run states place
+pub found_by : (run : Composition) (states : List (List ℤ)) (place : ℕ) (found : Option Outlet) → length states ≡ length run.members → place < length (outlets run states) → slice_get (outlets run states) place ≡ found → AtPlaceOf run states place
 found_by run states place (Some outlet) one_each within is = record { outlet = outlet; is = is; needs = needs_here run states place outlet one_each is }
 found_by run states place None one_each within is = absurd (past (outlets run states) place within is)
   where
@@ -94,7 +94,7 @@ outlet_at run states place one_each within =
     found_by run states place (slice_get (outlets run states) place) one_each (omega (arith, within, outlets_count run states one_each)) refl
 
 -- What a solution has at a place.
-side_at : (run : Composition) (states : List (List ℤ)) (ports : Ports) (place : ℕ) (outlet : Outlet) → slice_get (outlets run states) place ≡ Some outlet → slice_get (right_sides run states ports) place ≡ Some (word_at ports outlet)
+pub side_at : (run : Composition) (states : List (List ℤ)) (ports : Ports) (place : ℕ) (outlet : Outlet) → slice_get (outlets run states) place ≡ Some outlet → slice_get (right_sides run states ports) place ≡ Some (word_at ports outlet)
 side_at run states ports place outlet is = slice_get-map (word_at ports) (outlets run states) place ∙ ap (option_map (word_at ports)) is
 
 pub are_equations : (run : Composition) (states : List (List ℤ)) → length states ≡ length run.members → AreEquations run (right_sides run states)
@@ -109,16 +109,16 @@ are_equations run states one_each = record {
 
 -- ---- Undefined outputs
 
-abbrev Defined : Ports → ℕ → Type 0
+abbrev pub Defined : Ports → ℕ → Type 0
 Defined ports place = (word : ℤ) × (slice_get ports place ≡ Some (Some word))
 
 -- Of an input, with whether it is needed.
-seen_there : (ports : Ports) (needed : Bool) (source : Source) (start : ℤ) (rest : List ℕ) → AllByRecursion (Defined ports) (cons_option (cond needed (place_in source) None) rest) → ((word : ℤ) × (cond needed (input_word ports source) (Some start) ≡ Some word)) × AllByRecursion (Defined ports) rest
+pub seen_there : (ports : Ports) (needed : Bool) (source : Source) (start : ℤ) (rest : List ℕ) → AllByRecursion (Defined ports) (cons_option (cond needed (place_in source) None) rest) → ((word : ℤ) × (cond needed (input_word ports source) (Some start) ≡ Some word)) × AllByRecursion (Defined ports) rest
 seen_there ports true (Start word) start rest defined = ((word, refl), defined)
 seen_there ports true (AtPlace place) start rest defined = ((defined.0.0, ap (λ found. option_and_then (λ word. word) found) defined.0.1), defined.1)
 seen_there ports false source start rest defined = ((start, refl), defined)
 
-all_seen : (ports : Ports) (output : Output) (pairs : List (Input × Source)) → AllByRecursion (Defined ports) (filter_map (place_needed output) pairs) → (words : List ℤ) × (all_there (map (seen_by ports output) pairs) ≡ Some words)
+pub all_seen : (ports : Ports) (output : Output) (pairs : List (Input × Source)) → AllByRecursion (Defined ports) (filter_map (place_needed output) pairs) → (words : List ℤ) × (all_there (map (seen_by ports output) pairs) ≡ Some words)
 all_seen ports output [] defined = ([], refl)
 all_seen ports output ((input, source) ∷ pairs) defined =
     let here = seen_there ports (is_among output.needs input.name) source (start_word input.ty input.start) (filter_map (place_needed output) pairs) defined in
@@ -126,14 +126,14 @@ all_seen ports output ((input, source) ∷ pairs) defined =
     (here.0.0 ∷ rest.0, ap (λ seen. all_there (seen ∷ map (seen_by ports output) pairs)) here.0.1 ∙ ap (in_front here.0.0) rest.1)
 
 -- With what get gives.
-word_there : (ports : Ports) (outlet : Outlet) (given : Outcome) → given_at ports outlet ≡ Some given → fault_at ports outlet ≡ None → (word : ℤ) × (word_at ports outlet ≡ Some word)
+pub word_there : (ports : Ports) (outlet : Outlet) (given : Outcome) → given_at ports outlet ≡ Some given → fault_at ports outlet ≡ None → (word : ℤ) × (word_at ports outlet ≡ Some word)
 word_there ports outlet (Ok word) is none = (word, ap (λ given. option_and_then result_ok given) is)
 word_there ports outlet (Err fault) is none = absurd (some_is_none (sym (ap (λ given. option_map (UnitFault outlet.instance (place.Output outlet.number)) (option_and_then result_err given)) is) ∙ none))
   where
     some_is_none : {A : Type 0} {x : A} → Some x ≡ None → ⊥
     some_is_none is = cc
 
-outlet_is_there : (ports : Ports) (outlet : Outlet) → AllByRecursion (Defined ports) (needs_of outlet) → fault_at ports outlet ≡ None → (word : ℤ) × (word_at ports outlet ≡ Some word)
+pub outlet_is_there : (ports : Ports) (outlet : Outlet) → AllByRecursion (Defined ports) (needs_of outlet) → fault_at ports outlet ≡ None → (word : ℤ) × (word_at ports outlet ≡ Some word)
 outlet_is_there ports outlet defined none =
     let inputs = all_seen ports outlet.output (zip outlet.standing.0.component.unit.inputs outlet.standing.0.sources) defined in
     word_there ports outlet (get_of outlet.standing.0.component outlet.standing.1 inputs.0 outlet.output)
@@ -145,7 +145,7 @@ none_at (None ∷ all) zero found none is = cc
 none_at (None ∷ all) (suc place) found none is = none_at all place found none is
 none_at (Some ending ∷ all) place found none is = absurd (cc)
 
-defined_along : (run : Composition) (states : List (List ℤ)) (ports : Ports) → length states ≡ length run.members → IsAssignment run states ports → port_fault run states ports ≡ None → (before order : List ℕ) → IsOrderedAfter run before order → AllByRecursion (Defined ports) before → AllByRecursion (Defined ports) order
+pub defined_along : (run : Composition) (states : List (List ℤ)) (ports : Ports) → length states ≡ length run.members → IsAssignment run states ports → port_fault run states ports ≡ None → (before order : List ℕ) → IsOrderedAfter run before order → AllByRecursion (Defined ports) before → AllByRecursion (Defined ports) order
 defined_along run states ports one_each is none before [] ordered defined = tt
 defined_along run states ports one_each is none before (place ∷ later) ordered defined =
     let at_place = outlet_at run states place one_each ordered.0 in
@@ -155,7 +155,7 @@ defined_along run states ports one_each is none before (place ∷ later) ordered
     let here : Defined ports place = (there.0, ap (λ all. slice_get all place) is ∙ side_at run states ports place at_place.outlet at_place.is ∙ ap Some there.1) in
     (here, defined_along run states ports one_each is none (before ++ (place ∷ [])) later ordered.3 (all_behind (Defined ports) before place defined here))
 
-all_defined : (ports : Ports) → ((place : ℕ) → place < length ports → Defined ports place) → list_all is_some ports ≡ true
+pub all_defined : (ports : Ports) → ((place : ℕ) → place < length ports → Defined ports place) → list_all is_some ports ≡ true
 all_defined [] each = refl
 all_defined (None ∷ ports) each = let first = each 0 (omega arith) in absurd (nothing first.0 first.1)
   where
@@ -163,7 +163,7 @@ all_defined (None ∷ ports) each = let first = each 0 (omega arith) in absurd (
     nothing word is = cc
 all_defined (Some word ∷ ports) each = all_defined ports (λ place within. each (suc place) (omega (arith, within)))
 
-no_fault_by : (ports : Ports) (outlet : Outlet) (given : Option Outcome) → given_at ports outlet ≡ given → is_some (word_at ports outlet) ≡ true → fault_at ports outlet ≡ None
+pub no_fault_by : (ports : Ports) (outlet : Outlet) (given : Option Outcome) → given_at ports outlet ≡ given → is_some (word_at ports outlet) ≡ true → fault_at ports outlet ≡ None
 no_fault_by ports outlet None is there = ap (λ given. option_map (UnitFault outlet.instance (place.Output outlet.number)) (option_and_then result_err given)) is
 no_fault_by ports outlet (Some (Ok word)) is there = ap (λ given. option_map (UnitFault outlet.instance (place.Output outlet.number)) (option_and_then result_err given)) is
 no_fault_by ports outlet (Some (Err fault)) is there = absurd (differ (sym (ap (λ given. is_some (option_and_then result_ok given)) is) ∙ there))
@@ -171,7 +171,7 @@ no_fault_by ports outlet (Some (Err fault)) is there = absurd (differ (sym (ap (
     differ : false ≡ true → ⊥
     differ is = cc
 
-no_faults : (ports : Ports) (all : List Outlet) → list_all is_some (map (word_at ports) all) ≡ true → first_some (map (fault_at ports) all) ≡ None
+pub no_faults : (ports : Ports) (all : List Outlet) → list_all is_some (map (word_at ports) all) ≡ true → first_some (map (fault_at ports) all) ≡ None
 no_faults ports [] there = refl
 no_faults ports (outlet ∷ all) there =
     let both = and_parts (is_some (word_at ports outlet)) (list_all is_some (map (word_at ports) all)) there in

@@ -24,63 +24,63 @@ use Rattle.unit_tree.proofs.PartLaws.{grouped_ten, unit_is}
 
 -- ---- Facts of each of many
 
-front_of : {A : Type 0} (P : A → Type 0) (xs ys : List A) → AllByRecursion P (xs ++ ys) → AllByRecursion P xs
+pub front_of : {A : Type 0} (P : A → Type 0) (xs ys : List A) → AllByRecursion P (xs ++ ys) → AllByRecursion P xs
 front_of P [] ys all = _
 front_of P (x ∷ xs) ys all = (all.0, front_of P xs ys all.1)
 
-back_of : {A : Type 0} (P : A → Type 0) (xs ys : List A) → AllByRecursion P (xs ++ ys) → AllByRecursion P ys
+pub back_of : {A : Type 0} (P : A → Type 0) (xs ys : List A) → AllByRecursion P (xs ++ ys) → AllByRecursion P ys
 back_of P [] ys all = all
 back_of P (x ∷ xs) ys all = back_of P xs ys all.1
 
-of_mapped : {A B : Type 0} (P : B → Type 0) (f : A → B) (xs : List A) → AllByRecursion P (map f xs) → AllByRecursion (λ x. P (f x)) xs
+pub of_mapped : {A B : Type 0} (P : B → Type 0) (f : A → B) (xs : List A) → AllByRecursion P (map f xs) → AllByRecursion (λ x. P (f x)) xs
 of_mapped P f [] all = _
 of_mapped P f (x ∷ xs) all = (all.0, of_mapped P f xs all.1)
 
-of_flat : {A B : Type 0} (P : B → Type 0) (f : A → List B) (xs : List A) → AllByRecursion P (flat_map f xs) → AllByRecursion (λ x. AllByRecursion P (f x)) xs
+pub of_flat : {A B : Type 0} (P : B → Type 0) (f : A → List B) (xs : List A) → AllByRecursion P (flat_map f xs) → AllByRecursion (λ x. AllByRecursion P (f x)) xs
 of_flat P f [] all = _
 of_flat P f (x ∷ xs) all = (front_of P (f x) (flat_map f xs) all, of_flat P f xs (back_of P (f x) (flat_map f xs) all))
 
 -- ---- No line breaks a rule
 
-kept_on : (test : Bool) (number : ℕ) (rest : List ℕ) → cons_option (cond test (Some number) None) rest ≡ [] → (test ≡ false) × (rest ≡ [])
+pub kept_on : (test : Bool) (number : ℕ) (rest : List ℕ) → cons_option (cond test (Some number) None) rest ≡ [] → (test ≡ false) × (rest ≡ [])
 kept_on true number rest none = absurd (cc none)
 kept_on false number rest none = (refl, none)
 
-unbroken_from : (breaks : Site → Bool) (number : ℕ) (all : List Site) → filter_map (number_where breaks) (enumerate_from number all) ≡ [] → AllByRecursion (λ site. breaks site ≡ false) all
+pub unbroken_from : (breaks : Site → Bool) (number : ℕ) (all : List Site) → filter_map (number_where breaks) (enumerate_from number all) ≡ [] → AllByRecursion (λ site. breaks site ≡ false) all
 unbroken_from breaks number [] none = _
 unbroken_from breaks number (site ∷ all) none =
     let both = kept_on (breaks site) number (filter_map (number_where breaks) (enumerate_from (number + 1) all)) none in
     (both.0, unbroken_from breaks (number + 1) all both.1)
 
 -- A fact of all sites holds of the one of each head.
-each_at_head : (P : Site → Type 0) (scope : Scope) (earlier : List LineForm) (front : List Headed) (this : Headed) (others : List Headed) → AllByRecursion P (sites scope earlier (front ++ (this ∷ others))) → P (site_at scope earlier front this)
+pub each_at_head : (P : Site → Type 0) (scope : Scope) (earlier : List LineForm) (front : List Headed) (this : Headed) (others : List Headed) → AllByRecursion P (sites scope earlier (front ++ (this ∷ others))) → P (site_at scope earlier front this)
 each_at_head P scope earlier [] this others all = subst (λ e. P (record { scope = scope; earlier = e; line = this.head })) (sym (append-nil earlier)) all.0
 each_at_head P scope earlier (first ∷ front) this others all =
     subst P (one_more scope earlier first front this) (each_at_head P scope (earlier ++ (first.head ∷ [])) front this others (back_of P first.block (sites scope (earlier ++ (first.head ∷ [])) (front ++ (this ∷ others))) all.1))
 
-all_heads : (Q : Scope → LineForm → Type 0) (scope : Scope) (earlier : List LineForm) (headed : List Headed) → AllByRecursion (λ site. Q site.scope site.line) (sites scope earlier headed) → AllByRecursion (λ one. Q scope one.head × AllByRecursion (λ site. Q site.scope site.line) one.block) headed
+pub all_heads : (Q : Scope → LineForm → Type 0) (scope : Scope) (earlier : List LineForm) (headed : List Headed) → AllByRecursion (λ site. Q site.scope site.line) (sites scope earlier headed) → AllByRecursion (λ one. Q scope one.head × AllByRecursion (λ site. Q site.scope site.line) one.block) headed
 all_heads Q scope earlier [] all = _
 all_heads Q scope earlier (first ∷ others) all =
     ((all.0, front_of (λ site. Q site.scope site.line) first.block (sites scope (earlier ++ (first.head ∷ [])) others) all.1), all_heads Q scope (earlier ++ (first.head ∷ [])) others (back_of (λ site. Q site.scope site.line) first.block (sites scope (earlier ++ (first.head ∷ [])) others) all.1))
 
 -- ---- Instances have names of their own
 
-map_split : {A B : Type 0} (f : A → B) (xs ys : List A) → map f (xs ++ ys) ≡ map f xs ++ map f ys
+pub map_split : {A B : Type 0} (f : A → B) (xs ys : List A) → map f (xs ++ ys) ≡ map f xs ++ map f ys
 map_split f [] ys = refl
 map_split f (x ∷ xs) ys = ap (λ rest. f x ∷ rest) (map_split f xs ys)
 
-names_before : (units : List Unit) (instances : List Instance) → filter_map instance_declared (heads (map headed_of (map unit_part units ++ map parts.HasInstance instances))) ≡ map (λ instance. instance.name) instances
+pub names_before : (units : List Unit) (instances : List Instance) → filter_map instance_declared (heads (map headed_of (map unit_part units ++ map parts.HasInstance instances))) ≡ map (λ instance. instance.name) instances
 names_before [] [] = refl
 names_before [] (instance ∷ instances) = ap (λ rest. instance.name ∷ rest) (names_before [] instances)
 names_before (unit ∷ units) instances = names_before units instances
 
-middle_false : (one two three : Bool) → (one || (two || three)) ≡ false → two ≡ false
+pub middle_false : (one two three : Bool) → (one || (two || three)) ≡ false → two ≡ false
 middle_false true two three none = absurd (cc none)
 middle_false false true three none = absurd (cc none)
 middle_false false false three none = refl
 
 -- No instance before this one has its name.
-fresh : (system : System) (before later : List Instance) (instance : Instance) → AllByRecursion (λ site. redeclares system site ≡ false) (sites_of system) → system.instances ≡ before ++ (instance ∷ later) → list_any (bytes_eq instance.name) (map (λ one. one.name) before) ≡ false
+pub fresh : (system : System) (before later : List Instance) (instance : Instance) → AllByRecursion (λ site. redeclares system site ≡ false) (sites_of system) → system.instances ≡ before ++ (instance ∷ later) → list_any (bytes_eq instance.name) (map (λ one. one.name) before) ≡ false
 fresh system before later instance kept cut =
     let front = alone (form.Header system.version) ∷ map headed_of (map unit_part system.units ++ map parts.HasInstance before) in
     let others = map headed_of (map parts.HasInstance later ++ parts_behind system) in
@@ -96,21 +96,21 @@ fresh system before later instance kept cut =
     let not_said = middle_false (says_again bytes_eq unit_declared (site_at TopScope [] front (headed_of (parts.HasInstance instance)))) (says_again bytes_eq instance_declared (site_at TopScope [] front (headed_of (parts.HasInstance instance)))) (says_again bytes_eq name_declared (site_at TopScope [] front (headed_of (parts.HasInstance instance)))) here in
     ap (list_any (bytes_eq instance.name)) (sym (names_before system.units before)) ∙ not_said
 
-same_name : (name : List ℕ) → bytes_eq name name ≡ true
+pub same_name : (name : List ℕ) → bytes_eq name name ≡ true
 same_name name = (bytes_eq-Decides name name).1 refl
 
-turned : (test : Bool) (one other : List ℕ) → bytes_eq one other ≡ test → bytes_eq other one ≡ false → test ≡ false
+pub turned : (test : Bool) (one other : List ℕ) → bytes_eq one other ≡ test → bytes_eq other one ≡ false → test ≡ false
 turned true one other is none =
     let same : one ≡ other = (bytes_eq-Decides one other).0 is in
     let told : bytes_eq other one ≡ true = (bytes_eq-Decides other one).1 (sym same) in
     absurd (cc (told, none))
 turned false one other is none = refl
 
-either_false : (one other : Bool) → (one || other) ≡ false → (one ≡ false) × (other ≡ false)
+pub either_false : (one other : Bool) → (one || other) ≡ false → (one ≡ false) × (other ≡ false)
 either_false true other none = absurd (cc none)
 either_false false other none = (refl, none)
 
-first_named : (before later : List Instance) (instance : Instance) → list_any (bytes_eq instance.name) (map (λ one. one.name) before) ≡ false → find (λ one. bytes_eq one.name instance.name) (before ++ (instance ∷ later)) ≡ Some instance
+pub first_named : (before later : List Instance) (instance : Instance) → list_any (bytes_eq instance.name) (map (λ one. one.name) before) ≡ false → find (λ one. bytes_eq one.name instance.name) (before ++ (instance ∷ later)) ≡ Some instance
 first_named [] later instance none = ap (λ test. cond test (Some instance) (find (λ one. bytes_eq one.name instance.name) later)) (same_name instance.name)
 first_named (first ∷ before) later instance none =
     let both = either_false (bytes_eq instance.name first.name) (list_any (bytes_eq instance.name) (map (λ one. one.name) before)) none in
@@ -119,14 +119,14 @@ first_named (first ∷ before) later instance none =
 
 -- ---- Which output a port names
 
-record FromInstance (system : System) (instances : List Instance) (port : PortName) : Type 0 where
-  before : List Instance
-  instance : Instance
-  later : List Instance
-  cut : instances ≡ before ++ (instance ∷ later)
-  is_in : IsIn (map (λ output. port_of instance output.name) (outputs_in (unit_of_instance system instance))) port
+pub record FromInstance (system : System) (instances : List Instance) (port : PortName) : Type 0 where
+  pub before : List Instance
+  pub instance : Instance
+  pub later : List Instance
+  pub cut : instances ≡ before ++ (instance ∷ later)
+  pub is_in : IsIn (map (λ output. port_of instance output.name) (outputs_in (unit_of_instance system instance))) port
 
-in_two : (xs ys : List PortName) (port : PortName) → IsIn (xs ++ ys) port → IsIn xs port ⊎ IsIn ys port
+pub in_two : (xs ys : List PortName) (port : PortName) → IsIn (xs ++ ys) port → IsIn xs port ⊎ IsIn ys port
 in_two [] ys port stands = inr stands
 in_two (x ∷ xs) ys port (inl is) = inl (inl is)
 in_two (x ∷ xs) ys port (inr later) = elim (in_two xs ys port later) [
@@ -134,7 +134,7 @@ in_two (x ∷ xs) ys port (inr later) = elim (in_two xs ys port later) [
   | inr there ↦ inr there
 ]
 
-from_instance : (system : System) (instances : List Instance) (port : PortName) → IsIn (flat_map (λ instance. map (λ output. port_of instance output.name) (outputs_in (unit_of_instance system instance))) instances) port → FromInstance system instances port
+pub from_instance : (system : System) (instances : List Instance) (port : PortName) → IsIn (flat_map (λ instance. map (λ output. port_of instance output.name) (outputs_in (unit_of_instance system instance))) instances) port → FromInstance system instances port
 from_instance system [] port stands = absurd stands
 from_instance system (first ∷ instances) port stands = elim (in_two (map (λ output. port_of first output.name) (outputs_in (unit_of_instance system first))) _ port stands) [
   | inl here ↦ record { before = []; instance = first; later = instances; cut = refl; is_in = here }
@@ -144,7 +144,7 @@ from_instance system (first ∷ instances) port stands = elim (in_two (map (λ o
 ]
 
 -- Where no port of the list has the name, the named port is none of them.
-not_among : (instance : Instance) (ports : List Port) (port : PortName) → AllByRecursion (λ one. bytes_eq one.name port.port ≡ false) ports → IsIn (map (λ output. port_of instance output.name) ports) port → ⊥
+pub not_among : (instance : Instance) (ports : List Port) (port : PortName) → AllByRecursion (λ one. bytes_eq one.name port.port ≡ false) ports → IsIn (map (λ output. port_of instance output.name) ports) port → ⊥
 not_among instance [] port none stands = stands
 not_among instance (one ∷ ports) port none (inl is) =
     let same : one.name ≡ port.port = ap (λ p. p.port) is in
@@ -152,17 +152,17 @@ not_among instance (one ∷ ports) port none (inl is) =
     absurd (cc (told, none.0))
 not_among instance (one ∷ ports) port none (inr later) = not_among instance ports port none.1 later
 
-named_instance : (instance : Instance) (ports : List Port) (port : PortName) → IsIn (map (λ output. port_of instance output.name) ports) port → port.instance ≡ instance.name
+pub named_instance : (instance : Instance) (ports : List Port) (port : PortName) → IsIn (map (λ output. port_of instance output.name) ports) port → port.instance ≡ instance.name
 named_instance instance [] port stands = absurd stands
 named_instance instance (one ∷ ports) port (inl is) = ap (λ p. p.instance) (sym is)
 named_instance instance (one ∷ ports) port (inr later) = named_instance instance ports port later
 
-record Member (units : List Unit) (unit : Unit) : Type 0 where
-  before : List Unit
-  later : List Unit
-  cut : units ≡ before ++ (unit ∷ later)
+pub record Member (units : List Unit) (unit : Unit) : Type 0 where
+  pub before : List Unit
+  pub later : List Unit
+  pub cut : units ≡ before ++ (unit ∷ later)
 
-member : (units : List Unit) (name : List ℕ) (unit : Unit) → unit_named units name ≡ Some unit → Member units unit
+pub member : (units : List Unit) (name : List ℕ) (unit : Unit) → unit_named units name ≡ Some unit → Member units unit
 member [] name unit is = absurd (cc is)
 member (first ∷ units) name unit is = by_test (bytes_eq first.name name) is (member units name unit)
   where
@@ -172,19 +172,19 @@ member (first ∷ units) name unit is = by_test (bytes_eq first.name name) is (m
 
 -- ---- The lines of a unit's outputs
 
-abbrev Unnamed : List ℕ → Unit → Scope → LineForm → Type 0
+abbrev pub Unnamed : List ℕ → Unit → Scope → LineForm → Type 0
 Unnamed name unit scope line = declares_output name (Some unit) scope line ≡ false
 
-mapped : {A B : Type 0} (P : B → Type 0) (f : A → B) (xs : List A) → AllByRecursion (λ x. P (f x)) xs → AllByRecursion P (map f xs)
+pub mapped : {A B : Type 0} (P : B → Type 0) (f : A → B) (xs : List A) → AllByRecursion (λ x. P (f x)) xs → AllByRecursion P (map f xs)
 mapped P f [] all = _
 mapped P f (x ∷ xs) all = (all.0, mapped P f xs all.1)
 
-each_so : {A : Type 0} (P Q : A → Type 0) → ((x : A) → P x → Q x) → (xs : List A) → AllByRecursion P xs → AllByRecursion Q xs
+pub each_so : {A : Type 0} (P Q : A → Type 0) → ((x : A) → P x → Q x) → (xs : List A) → AllByRecursion P xs → AllByRecursion Q xs
 each_so P Q so [] all = _
 each_so P Q so (x ∷ xs) all = (so x all.0, each_so P Q so xs all.1)
 
 -- Where no line of the unit declares an output of the name, no output has it.
-no_output : (name : List ℕ) (unit : Unit) → AllByRecursion (λ site. Unnamed name unit site.scope site.line) (headed_of (unit_part unit)).block → AllByRecursion (λ one. bytes_eq one.name name ≡ false) (output_ports unit)
+pub no_output : (name : List ℕ) (unit : Unit) → AllByRecursion (λ site. Unnamed name unit site.scope site.line) (headed_of (unit_part unit)).block → AllByRecursion (λ one. bytes_eq one.name name ≡ false) (output_ports unit)
 no_output name unit none =
     let said = unit_of unit.name (unit_parts unit) in
     let P = λ (one : Headed). Unnamed name unit (UnitScope said) one.head × AllByRecursion (λ site. Unnamed name unit site.scope site.line) one.block in
@@ -202,7 +202,7 @@ no_output name unit none =
     and_false true other is none = none
     and_false false other is none = absurd (cc is)
 
-none_found : (test : Site → Bool) (number : ℕ) (all : List Site) → find (λ at. test at.1) (enumerate_from number all) ≡ None → AllByRecursion (λ site. test site ≡ false) all
+pub none_found : (test : Site → Bool) (number : ℕ) (all : List Site) → find (λ at. test at.1) (enumerate_from number all) ≡ None → AllByRecursion (λ site. test site ≡ false) all
 none_found test number [] none = _
 none_found test number (site ∷ all) none = let both = by_test (test site) (number, site) (find (λ at. test at.1) (enumerate_from (number + 1) all)) none in (both.0, none_found test (number + 1) all both.1)
   where
@@ -211,7 +211,7 @@ none_found test number (site ∷ all) none = let both = by_test (test site) (num
     by_test false x rest none = (refl, none)
 
 -- The units of a system, each with a fact of the sites of its block.
-each_unit : (Q : Scope → LineForm → Type 0) (system : System) → AllByRecursion (λ site. Q site.scope site.line) (sites_of system) → AllByRecursion (λ unit. AllByRecursion (λ site. Q site.scope site.line) (headed_of (unit_part unit)).block) system.units
+pub each_unit : (Q : Scope → LineForm → Type 0) (system : System) → AllByRecursion (λ site. Q site.scope site.line) (sites_of system) → AllByRecursion (λ unit. AllByRecursion (λ site. Q site.scope site.line) (headed_of (unit_part unit)).block) system.units
 each_unit Q system all =
     let P = λ (one : Headed). Q TopScope one.head × AllByRecursion (λ site. Q site.scope site.line) one.block in
     let tops = (all_heads Q TopScope [] (alone (form.Header system.version) ∷ flat_map headed_part (canonical_parts system)) all).1 in
@@ -221,7 +221,7 @@ each_unit Q system all =
 
 -- ---- An output's line
 
-by_unit : (system : System) (port : PortName) (instance : Instance) (unit : Option Unit) → unit_of_instance system instance ≡ unit → instance_named system port.instance ≡ Some instance → IsIn (map (λ output. port_of instance output.name) (outputs_in unit)) port → (line : ℕ) × (line_of_output system port ≡ Some line)
+pub by_unit : (system : System) (port : PortName) (instance : Instance) (unit : Option Unit) → unit_of_instance system instance ≡ unit → instance_named system port.instance ≡ Some instance → IsIn (map (λ output. port_of instance output.name) (outputs_in unit)) port → (line : ℕ) × (line_of_output system port ≡ Some line)
 by_unit system port instance None is found stands = absurd stands
 by_unit system port instance (Some unit) is found stands =
     let listed = member system.units instance.unit unit is in

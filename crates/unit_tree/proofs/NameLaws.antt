@@ -58,22 +58,22 @@ same_bytes one other is = (bytes_eq-Decides one other).0 is
 pub bytes_of : (one other : List ℕ) → one ≡ other → bytes_eq one other ≡ true
 bytes_of one other is = (bytes_eq-Decides one other).1 is
 
-true_is_false : {A : Type 0} (b : Bool) → b ≡ true → b ≡ false → A
+pub true_is_false : {A : Type 0} (b : Bool) → b ≡ true → b ≡ false → A
 true_is_false true is isnt = absurd (cc)
 true_is_false false is isnt = absurd (cc)
 
-or_false : (one other : Bool) → (one || other) ≡ false → (one ≡ false) × (other ≡ false)
+pub or_false : (one other : Bool) → (one || other) ≡ false → (one ≡ false) × (other ≡ false)
 or_false false other is = (refl, is)
 or_false true other is = absurd (cc)
 
 -- What equals none of some is not among them.
-not_among : {B : Type 0} (same : B → B → Bool) (tells : (one other : B) → one ≡ other → same one other ≡ true) (name : B) (names : List B) → list_any (same name) names ≡ false → Has names name → ⊥
+pub not_among : {B : Type 0} (same : B → B → Bool) (tells : (one other : B) → one ≡ other → same one other ≡ true) (name : B) (names : List B) → list_any (same name) names ≡ false → Has names name → ⊥
 not_among same tells name [] none has = has
 not_among same tells name (first ∷ names) none (inl is) = true_is_false (same name first) (tells name first (sym is)) (or_false (same name first) (list_any (same name) names) none).0
 not_among same tells name (first ∷ names) none (inr has) = not_among same tells name names (or_false (same name first) (list_any (same name) names) none).1 has
 
 -- The first of a name is the only one.
-found_by : {A : Type 0} (name : A → List ℕ) (x first : A) (others : List A) (named : Bool) → bytes_eq (name first) (name x) ≡ named → (Has (map name others) (name first) → ⊥) → (first ≡ x) ⊎ Has others x → (Has others x → find (λ y. bytes_eq (name y) (name x)) others ≡ Some x) → cond named (Some first) (find (λ y. bytes_eq (name y) (name x)) others) ≡ Some x
+pub found_by : {A : Type 0} (name : A → List ℕ) (x first : A) (others : List A) (named : Bool) → bytes_eq (name first) (name x) ≡ named → (Has (map name others) (name first) → ⊥) → (first ≡ x) ⊎ Has others x → (Has others x → find (λ y. bytes_eq (name y) (name x)) others ≡ Some x) → cond named (Some first) (find (λ y. bytes_eq (name y) (name x)) others) ≡ Some x
 found_by name x first others true is apart (inl same) later = ap Some same
 found_by name x first others true is apart (inr has) later =
     absurd (apart (subst (Has (map name others)) (sym (same_bytes (name first) (name x) is)) (has_map name others x has)))
@@ -87,44 +87,44 @@ found name (first ∷ others) x apart has =
 
 -- ---- Lines that keep a rule
 
-kept_by : (breaks : Site → Bool) (number : ℕ) (site : Site) (all : List Site) (told : Bool) → breaks site ≡ told → cons_option (cond told (Some number) None) (filter_map (number_where breaks) (enumerate_from (number + 1) all)) ≡ [] → (breaks site ≡ false) × (filter_map (number_where breaks) (enumerate_from (number + 1) all) ≡ [])
+pub kept_by : (breaks : Site → Bool) (number : ℕ) (site : Site) (all : List Site) (told : Bool) → breaks site ≡ told → cons_option (cond told (Some number) None) (filter_map (number_where breaks) (enumerate_from (number + 1) all)) ≡ [] → (breaks site ≡ false) × (filter_map (number_where breaks) (enumerate_from (number + 1) all) ≡ [])
 kept_by breaks number site all true is none = absurd (cc)
 kept_by breaks number site all false is none = (is, none)
 
-all_keep : (breaks : Site → Bool) (number : ℕ) (all : List Site) → filter_map (number_where breaks) (enumerate_from number all) ≡ [] → AllByRecursion (λ site. breaks site ≡ false) all
+pub all_keep : (breaks : Site → Bool) (number : ℕ) (all : List Site) → filter_map (number_where breaks) (enumerate_from number all) ≡ [] → AllByRecursion (λ site. breaks site ≡ false) all
 all_keep breaks number [] none = tt
 all_keep breaks number (site ∷ all) none =
     let both = kept_by breaks number site all (breaks site) refl none in
     (both.0, all_keep breaks (number + 1) all both.1)
 
 module _ (P : Site → Type 0) where
-  all_front : (front behind : List Site) → AllByRecursion P (front ++ behind) → AllByRecursion P front × AllByRecursion P behind
+  pub all_front : (front behind : List Site) → AllByRecursion P (front ++ behind) → AllByRecursion P front × AllByRecursion P behind
   all_front [] behind all = (tt, all)
   all_front (site ∷ front) behind all = let rest = all_front front behind all.1 in ((all.0, rest.0), rest.1)
 
   -- The same of lines with their blocks.
-  abbrev Hold : Scope → List LineForm → List Headed → Type 0
+  abbrev pub Hold : Scope → List LineForm → List Headed → Type 0
   Hold scope earlier [] = ⊤
   Hold scope earlier (headed ∷ others) = P (record { scope = scope; earlier = earlier; line = headed.head }) × AllByRecursion P headed.block × Hold scope (earlier ++ (headed.head ∷ [])) others
 
-  hold_all : (scope : Scope) (earlier : List LineForm) (headed : List Headed) → AllByRecursion P (sites scope earlier headed) → Hold scope earlier headed
+  pub hold_all : (scope : Scope) (earlier : List LineForm) (headed : List Headed) → AllByRecursion P (sites scope earlier headed) → Hold scope earlier headed
   hold_all scope earlier [] all = tt
   hold_all scope earlier (first ∷ others) all =
       let parts = all_front first.block (sites scope (earlier ++ (first.head ∷ [])) others) all.1 in
       (all.0, parts.0, hold_all scope (earlier ++ (first.head ∷ [])) others parts.1)
 
-  hold_front : (scope : Scope) (earlier : List LineForm) (front behind : List Headed) → Hold scope earlier (front ++ behind) → Hold scope earlier front
+  pub hold_front : (scope : Scope) (earlier : List LineForm) (front behind : List Headed) → Hold scope earlier (front ++ behind) → Hold scope earlier front
   hold_front scope earlier [] behind hold = tt
   hold_front scope earlier (first ∷ front) behind hold = (hold.0, hold.1, hold_front scope (earlier ++ (first.head ∷ [])) front behind hold.2)
 
   -- With what comes before.
-  hold_behind : (scope : Scope) (earlier : List LineForm) (front behind : List Headed) → Hold scope earlier (front ++ behind) → (before : List LineForm) × Hold scope before behind
+  pub hold_behind : (scope : Scope) (earlier : List LineForm) (front behind : List Headed) → Hold scope earlier (front ++ behind) → (before : List LineForm) × Hold scope before behind
   hold_behind scope earlier [] behind hold = (earlier, hold)
   hold_behind scope earlier (first ∷ front) behind hold = hold_behind scope (earlier ++ (first.head ∷ [])) front behind hold.2
 
   module _ {A B : Type 0} (same : B → B → Bool) (tells : (one other : B) → one ≡ other → same one other ≡ true) (head : A → Headed) (name : A → B) (asked : LineForm → Option B) (asks : (x : A) → asked (head x).head ≡ Some (name x)) (unsaid : (site : Site) → P site → is_said same (filter_map asked site.earlier) (asked site.line) ≡ false) where
     -- Things that are declared one after the other have different names, and none of an earlier line's.
-    apart : (scope : Scope) (earlier : List LineForm) (xs : List A) → Hold scope earlier (map head xs) → Distinct (map name xs) × ((one : B) → Has (map name xs) one → Has (filter_map asked earlier) one → ⊥)
+    pub apart : (scope : Scope) (earlier : List LineForm) (xs : List A) → Hold scope earlier (map head xs) → Distinct (map name xs) × ((one : B) → Has (map name xs) one → Has (filter_map asked earlier) one → ⊥)
     apart scope earlier [] hold = (tt, λ one has before. has)
     apart scope earlier (x ∷ xs) hold =
         let rest = apart scope (earlier ++ ((head x).head ∷ [])) xs hold.2 in
@@ -153,65 +153,65 @@ pub record PortsDiffer (system : System) : Type 0 where
   pub instances : Distinct (map (λ instance. instance.name) system.instances)
   pub outputs : AllByRecursion (λ unit. Distinct (output_names unit)) system.units
 
-abbrev Keeps : System → Site → Type 0
+abbrev pub Keeps : System → Site → Type 0
 Keeps system site = redeclares system site ≡ false
 
-instance_unsaid : (system : System) (site : Site) → Keeps system site → is_said bytes_eq (filter_map instance_declared site.earlier) (instance_declared site.line) ≡ false
+pub instance_unsaid : (system : System) (site : Site) → Keeps system site → is_said bytes_eq (filter_map instance_declared site.earlier) (instance_declared site.line) ≡ false
 instance_unsaid system site kept =
     (or_false (says_again bytes_eq instance_declared site) (says_again bytes_eq name_declared site) (or_false (says_again bytes_eq unit_declared site) (says_again bytes_eq instance_declared site || says_again bytes_eq name_declared site) kept).1).0
 
-name_unsaid : (system : System) (site : Site) → Keeps system site → is_said bytes_eq (filter_map name_declared site.earlier) (name_declared site.line) ≡ false
+pub name_unsaid : (system : System) (site : Site) → Keeps system site → is_said bytes_eq (filter_map name_declared site.earlier) (name_declared site.line) ≡ false
 name_unsaid system site kept =
     (or_false (says_again bytes_eq instance_declared site) (says_again bytes_eq name_declared site) (or_false (says_again bytes_eq unit_declared site) (says_again bytes_eq instance_declared site || says_again bytes_eq name_declared site) kept).1).1
 
-abbrev instance_head : Instance → Headed
+abbrev pub instance_head : Instance → Headed
 instance_head instance = record {
   head = form.Instance instance.name instance.unit;
   block = sites (InstanceScope instance) [] (map alone (map form.Setting instance.settings ++ (form.End ∷ [])));
 }
 
-instance_heads : (instances : List Instance) → flat_map headed_part (map parts.HasInstance instances) ≡ map instance_head instances
+pub instance_heads : (instances : List Instance) → flat_map headed_part (map parts.HasInstance instances) ≡ map instance_head instances
 instance_heads [] = refl
 instance_heads (instance ∷ instances) = ap (λ rest. instance_head instance ∷ rest) (instance_heads instances)
 
 -- What declares an output.
-data Declaring : Type 0 where
+pub data Declaring : Type 0 where
   OfOutput : Output → Declaring
   OfEvent : EventOut → Declaring
 
-abbrev declaring_head : Declaring → Headed
+abbrev pub declaring_head : Declaring → Headed
 declaring_head (OfOutput output) = alone (form.Output output)
 declaring_head (OfEvent event) = alone (form.EventOutput event)
 
-abbrev declaring_name : Declaring → List ℕ
+abbrev pub declaring_name : Declaring → List ℕ
 declaring_name (OfOutput output) = output.name
 declaring_name (OfEvent event) = event.name
 
-declaring_asks : (declaring : Declaring) → name_declared (declaring_head declaring).head ≡ Some (declaring_name declaring)
+pub declaring_asks : (declaring : Declaring) → name_declared (declaring_head declaring).head ≡ Some (declaring_name declaring)
 declaring_asks (OfOutput output) = refl
 declaring_asks (OfEvent event) = refl
 
-abbrev all_declaring : List Output → List EventOut → List Declaring
+abbrev pub all_declaring : List Output → List EventOut → List Declaring
 all_declaring outputs events = map OfOutput outputs ++ map OfEvent events
 
-output_heads : (unit : Unit) (outputs : List Output) (events : List EventOut) → flat_map (headed_unit_part unit) (map parts.HasOutput outputs ++ map parts.HasEventOut events) ≡ map declaring_head (all_declaring outputs events)
+pub output_heads : (unit : Unit) (outputs : List Output) (events : List EventOut) → flat_map (headed_unit_part unit) (map parts.HasOutput outputs ++ map parts.HasEventOut events) ≡ map declaring_head (all_declaring outputs events)
 output_heads unit [] [] = refl
 output_heads unit [] (event ∷ events) = ap (λ rest. alone (form.EventOutput event) ∷ rest) (output_heads unit [] events)
 output_heads unit (output ∷ outputs) events = ap (λ rest. alone (form.Output output) ∷ rest) (output_heads unit outputs events)
 
-abbrev ports_declared : List Output → List EventOut → List Port
+abbrev pub ports_declared : List Output → List EventOut → List Port
 ports_declared outputs events =
     map (λ output. record { name = output.name; ty = output.ty; is_event = false; needs = output.needs }) outputs ++ map (λ event. record { name = event.name; ty = event.ty; is_event = true; needs = event.needs }) events
 
-abbrev names_declared : List Output → List EventOut → List (List ℕ)
+abbrev pub names_declared : List Output → List EventOut → List (List ℕ)
 names_declared outputs events = map (λ (port : Port). port.name) (ports_declared outputs events)
 
-declaring_names : (outputs : List Output) (events : List EventOut) → map declaring_name (all_declaring outputs events) ≡ names_declared outputs events
+pub declaring_names : (outputs : List Output) (events : List EventOut) → map declaring_name (all_declaring outputs events) ≡ names_declared outputs events
 declaring_names [] [] = refl
 declaring_names [] (event ∷ events) = ap (λ rest. event.name ∷ rest) (declaring_names [] events)
 declaring_names (output ∷ outputs) events = ap (λ rest. output.name ∷ rest) (declaring_names outputs events)
 
-plain_apart : (outputs : List Output) (events : List EventOut) → Distinct (names_declared outputs events) → Distinct (map (λ output. output.name) outputs)
+pub plain_apart : (outputs : List Output) (events : List EventOut) → Distinct (names_declared outputs events) → Distinct (map (λ output. output.name) outputs)
 plain_apart [] events apart = tt
 plain_apart (output ∷ outputs) events apart = (λ has. apart.0 (among_plain outputs has), plain_apart outputs events apart.1)
   where
@@ -220,32 +220,32 @@ plain_apart (output ∷ outputs) events apart = (λ has. apart.0 (among_plain ou
     among_plain (other ∷ others) (inl is) = inl is
     among_plain (other ∷ others) (inr has) = inr (among_plain others has)
 
-all_plain_apart : (units : List Unit) → AllByRecursion (λ unit. Distinct (output_names unit)) units → AllByRecursion (λ unit. Distinct (map (λ output. output.name) unit.outputs)) units
+pub all_plain_apart : (units : List Unit) → AllByRecursion (λ unit. Distinct (output_names unit)) units → AllByRecursion (λ unit. Distinct (map (λ output. output.name) unit.outputs)) units
 all_plain_apart [] apart = tt
 all_plain_apart (unit ∷ units) apart = (plain_apart unit.outputs unit.events_out apart.0, all_plain_apart units apart.1)
 
 -- ---- The lines of outputs, instances and connections
 
-abbrev said : Unit → Unit
+abbrev pub said : Unit → Unit
 said unit = unit_of unit.name (unit_parts unit)
 
-abbrev wire_head : Wire → Headed
+abbrev pub wire_head : Wire → Headed
 wire_head wire = alone (form.Connect wire)
 
-wire_heads : (wires : List Wire) → flat_map headed_part (map parts.Connects wires) ≡ map wire_head wires
+pub wire_heads : (wires : List Wire) → flat_map headed_part (map parts.Connects wires) ≡ map wire_head wires
 wire_heads [] = refl
 wire_heads (wire ∷ wires) = ap (λ rest. wire_head wire ∷ rest) (wire_heads wires)
 
-abbrev said_units : List Unit → List Part
+abbrev pub said_units : List Unit → List Part
 said_units units = map (λ unit. parts.HasUnit unit.name (unit_parts unit)) units
 
 module _ (P : Site → Type 0) where
-  drop_last : {A : Type 0} (f : A → List Headed) (scope : Scope) (earlier : List LineForm) (front behind : List A) → Hold P scope earlier (flat_map f (front ++ behind)) → Hold P scope earlier (flat_map f front)
+  pub drop_last : {A : Type 0} (f : A → List Headed) (scope : Scope) (earlier : List LineForm) (front behind : List A) → Hold P scope earlier (flat_map f (front ++ behind)) → Hold P scope earlier (flat_map f front)
   drop_last f scope earlier front behind hold =
       hold_front P scope earlier (flat_map f front) (flat_map f behind) (subst (Hold P scope earlier) (flat_map-append f front behind) hold)
 
   -- The outputs of a unit, event outputs among them.
-  outputs_hold : (unit : Unit) → AllByRecursion P (sites (UnitScope (said unit)) [] (flat_map (headed_unit_part (said unit)) (unit_parts unit) ++ (alone form.End ∷ []))) → (before : List LineForm) × Hold P (UnitScope (said unit)) before (map declaring_head (all_declaring unit.outputs unit.events_out))
+  pub outputs_hold : (unit : Unit) → AllByRecursion P (sites (UnitScope (said unit)) [] (flat_map (headed_unit_part (said unit)) (unit_parts unit) ++ (alone form.End ∷ []))) → (before : List LineForm) × Hold P (UnitScope (said unit)) before (map declaring_head (all_declaring unit.outputs unit.events_out))
   outputs_hold unit all =
       let scope : Scope = UnitScope (said unit) in
       let headed : UnitPart → List Headed = headed_unit_part (said unit) in
@@ -263,14 +263,14 @@ module _ (P : Site → Type 0) where
       (here.0, subst (Hold P scope here.0) (output_heads (said unit) unit.outputs unit.events_out) here.1)
 
   -- What the lines of a system keep, those of units, instances and connections keep.
-  record Kept (system : System) : Type 0 where
-    units : Hold P TopScope (form.Header system.version ∷ []) (flat_map headed_part (said_units system.units))
-    before_instances : List LineForm
-    instances : Hold P TopScope before_instances (map instance_head system.instances)
-    before_wires : List LineForm
-    wires : Hold P TopScope before_wires (map wire_head system.wires)
+  pub record Kept (system : System) : Type 0 where
+    pub units : Hold P TopScope (form.Header system.version ∷ []) (flat_map headed_part (said_units system.units))
+    pub before_instances : List LineForm
+    pub instances : Hold P TopScope before_instances (map instance_head system.instances)
+    pub before_wires : List LineForm
+    pub wires : Hold P TopScope before_wires (map wire_head system.wires)
 
-  kept_parts : (system : System) → AllByRecursion P (sites_of system) → Kept system
+  pub kept_parts : (system : System) → AllByRecursion P (sites_of system) → Kept system
   kept_parts system all =
       let header : List LineForm = form.Header system.version ∷ [] in
       let units : List Part = said_units system.units in
@@ -302,7 +302,7 @@ module _ (P : Site → Type 0) where
 -- ---- Names
 
 module _ (system : System) where
-  units_outputs : (units : List Unit) (earlier : List LineForm) → Hold (Keeps system) TopScope earlier (flat_map headed_part (said_units units)) → AllByRecursion (λ unit. Distinct (output_names unit)) units
+  pub units_outputs : (units : List Unit) (earlier : List LineForm) → Hold (Keeps system) TopScope earlier (flat_map headed_part (said_units units)) → AllByRecursion (λ unit. Distinct (output_names unit)) units
   units_outputs [] earlier hold = tt
   units_outputs (unit ∷ units) earlier hold =
       let here = outputs_hold (Keeps system) unit hold.1 in (
@@ -336,21 +336,21 @@ same_port_of one other is =
     ∙ bytes_of one.port other.port (ap (λ (p : PortName). p.port) is)
 
 module _ (system : System) where
-  abbrev Names : Site → Type 0
+  abbrev pub Names : Site → Type 0
   Names site = misnames system site.scope site.line ≡ false
 
-  not_false : (b : Bool) → not b ≡ false → b ≡ true
+  pub not_false : (b : Bool) → not b ≡ false → b ≡ true
   not_false true is = refl
   not_false false is = absurd (cc)
 
-  outputs_need : (unit : Unit) (before : List LineForm) (outputs : List Output) (events : List EventOut) → Hold Names (UnitScope unit) before (map declaring_head (all_declaring outputs events)) → AllByRecursion (λ output. are_among (input_names unit) output.needs ≡ true) outputs
+  pub outputs_need : (unit : Unit) (before : List LineForm) (outputs : List Output) (events : List EventOut) → Hold Names (UnitScope unit) before (map declaring_head (all_declaring outputs events)) → AllByRecursion (λ output. are_among (input_names unit) output.needs ≡ true) outputs
   outputs_need unit before [] events hold = tt
   outputs_need unit before (output ∷ outputs) events hold = (
     not_false _ (or_false (not (keeps_to (output_uses unit) output.value)) (not (are_among (input_names unit) output.needs)) hold.0).1,
     outputs_need unit (before ++ (form.Output output ∷ [])) outputs events hold.2,
   )
 
-  units_need : (units : List Unit) (earlier : List LineForm) → Hold Names TopScope earlier (flat_map headed_part (said_units units)) → AllByRecursion (λ unit. AllByRecursion (λ output. are_among (input_names unit) output.needs ≡ true) unit.outputs) units
+  pub units_need : (units : List Unit) (earlier : List LineForm) → Hold Names TopScope earlier (flat_map headed_part (said_units units)) → AllByRecursion (λ unit. AllByRecursion (λ output. are_among (input_names unit) output.needs ≡ true) unit.outputs) units
   units_need [] earlier hold = tt
   units_need (unit ∷ units) earlier hold =
       let here = outputs_hold Names unit hold.1 in (
@@ -359,7 +359,7 @@ module _ (system : System) where
       )
 
   -- The same of all ports, those of events among them.
-  ports_need : (unit : Unit) (before : List LineForm) (outputs : List Output) (events : List EventOut) → Hold Names (UnitScope unit) before (map declaring_head (all_declaring outputs events)) → AllByRecursion (λ (port : Port). are_among (input_names unit) port.needs ≡ true) (ports_declared outputs events)
+  pub ports_need : (unit : Unit) (before : List LineForm) (outputs : List Output) (events : List EventOut) → Hold Names (UnitScope unit) before (map declaring_head (all_declaring outputs events)) → AllByRecursion (λ (port : Port). are_among (input_names unit) port.needs ≡ true) (ports_declared outputs events)
   ports_need unit before [] [] hold = tt
   ports_need unit before [] (event ∷ events) hold = (
     not_false _ (or_false (not (keeps_to (output_uses unit) event.value)) (not (are_among (input_names unit) event.needs)) hold.0).1,
@@ -370,7 +370,7 @@ module _ (system : System) where
     ports_need unit (before ++ (form.Output output ∷ [])) outputs events hold.2,
   )
 
-  units_ports_need : (units : List Unit) (earlier : List LineForm) → Hold Names TopScope earlier (flat_map headed_part (said_units units)) → AllByRecursion (λ unit. AllByRecursion (λ (port : Port). are_among (input_names unit) port.needs ≡ true) (output_ports unit)) units
+  pub units_ports_need : (units : List Unit) (earlier : List LineForm) → Hold Names TopScope earlier (flat_map headed_part (said_units units)) → AllByRecursion (λ unit. AllByRecursion (λ (port : Port). are_among (input_names unit) port.needs ≡ true) (output_ports unit)) units
   units_ports_need [] earlier hold = tt
   units_ports_need (unit ∷ units) earlier hold =
       let here = outputs_hold Names unit hold.1 in (
@@ -381,14 +381,14 @@ module _ (system : System) where
   pub ports_need_inputs : IsWellFormed system → AllByRecursion (λ unit. AllByRecursion (λ (port : Port). are_among (input_names unit) port.needs ≡ true) (output_ports unit)) system.units
   ports_need_inputs kept = units_ports_need system.units (form.Header system.version ∷ []) (kept_parts Names system (all_keep (λ site. misnames system site.scope site.line) 1 (sites_of system) kept.1.0)).units
 
-  wires_from : (wires : List Wire) (earlier : List LineForm) → Hold Names TopScope earlier (map wire_head wires) → AllByRecursion (λ wire. is_none (output_at system wire.from) ≡ false) wires
+  pub wires_from : (wires : List Wire) (earlier : List LineForm) → Hold Names TopScope earlier (map wire_head wires) → AllByRecursion (λ wire. is_none (output_at system wire.from) ≡ false) wires
   wires_from [] earlier hold = tt
   wires_from (wire ∷ wires) earlier hold = (
     (or_false (is_none (output_at system wire.from)) (is_none (input_at system wire.to)) hold.0).0,
     wires_from wires (earlier ++ (form.Connect wire ∷ [])) hold.2,
   )
 
-  abbrev Once : Site → Type 0
+  abbrev pub Once : Site → Type 0
   Once site = connects_again system site ≡ false
 
   pub is_wired : IsWellFormed system → Wired system

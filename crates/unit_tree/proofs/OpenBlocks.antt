@@ -50,38 +50,38 @@ stay_both scope blocks between after xs ys on_xs on_ys = record {
 -- ---- Step lines
 
 -- A step line closes what it opens, and in a step, or in a block there, each of its lines has the scope of the step.
-record IsInStep (some : Line) : Type 0 where
-  closed : (blocks : List Block) → fold behind blocks (line_forms some) ≡ blocks
-  are_in : (unit : Unit) (blocks : List Block) → in_step blocks ≡ true → AreIn (StepScope unit) blocks (line_forms some)
+pub record IsInStep (some : Line) : Type 0 where
+  pub closed : (blocks : List Block) → fold behind blocks (line_forms some) ≡ blocks
+  pub are_in : (unit : Unit) (blocks : List Block) → in_step blocks ≡ true → AreIn (StepScope unit) blocks (line_forms some)
 
-abbrev Stepped : Type 0
+abbrev pub Stepped : Type 0
 Stepped = (some : Line) × IsInStep some
 
-abbrev line_in : Stepped → Line
+abbrev pub line_in : Stepped → Line
 line_in one = one.0
 
-abbrev forms_in : List Stepped → List LineForm
+abbrev pub forms_in : List Stepped → List LineForm
 forms_in lines = joined (map line_forms (map line_in lines))
 
-all_closed : (lines : List Stepped) (blocks : List Block) → fold behind blocks (forms_in lines) ≡ blocks
+pub all_closed : (lines : List Stepped) (blocks : List Block) → fold behind blocks (forms_in lines) ≡ blocks
 all_closed [] blocks = refl
 all_closed (one ∷ lines) blocks =
     fold-append behind blocks (line_forms one.0) (forms_in lines) ∙ ap (λ all. fold behind all (forms_in lines)) (one.1.closed blocks) ∙ all_closed lines blocks
 
-all_in : (unit : Unit) (lines : List Stepped) (blocks : List Block) → in_step blocks ≡ true → AreIn (StepScope unit) blocks (forms_in lines)
+pub all_in : (unit : Unit) (lines : List Stepped) (blocks : List Block) → in_step blocks ≡ true → AreIn (StepScope unit) blocks (forms_in lines)
 all_in unit [] blocks is = _
 all_in unit (one ∷ lines) blocks is =
     are_in_both (StepScope unit) blocks (line_forms one.0) (forms_in lines) (one.1.are_in unit blocks is) (subst (λ all. AreIn (StepScope unit) all (forms_in lines)) (sym (one.1.closed blocks)) (all_in unit lines blocks is))
 
 -- The lines of a block, and what closes it.
-block_closed : (lines : List Stepped) (rest : List LineForm) (blocks after : List Block) → fold behind blocks rest ≡ after → fold behind blocks (forms_in lines ++ rest) ≡ after
+pub block_closed : (lines : List Stepped) (rest : List LineForm) (blocks after : List Block) → fold behind blocks rest ≡ after → fold behind blocks (forms_in lines ++ rest) ≡ after
 block_closed lines rest blocks after is = fold-append behind blocks (forms_in lines) rest ∙ ap (λ all. fold behind all rest) (all_closed lines blocks) ∙ is
 
-block_in : (unit : Unit) (lines : List Stepped) (rest : List LineForm) (blocks : List Block) → in_step blocks ≡ true → AreIn (StepScope unit) blocks rest → AreIn (StepScope unit) blocks (forms_in lines ++ rest)
+pub block_in : (unit : Unit) (lines : List Stepped) (rest : List LineForm) (blocks : List Block) → in_step blocks ≡ true → AreIn (StepScope unit) blocks rest → AreIn (StepScope unit) blocks (forms_in lines ++ rest)
 block_in unit lines rest blocks is on_rest =
     are_in_both (StepScope unit) blocks (forms_in lines) rest (all_in unit lines blocks is) (subst (λ all. AreIn (StepScope unit) all rest) (sym (all_closed lines blocks)) on_rest)
 
-in_step_scope : (unit : Unit) (blocks : List Block) (line : LineForm) → in_step blocks ≡ true → is_end line ≡ false → is_scope_in blocks (StepScope unit) line ≡ true
+pub in_step_scope : (unit : Unit) (blocks : List Block) (line : LineForm) → in_step blocks ≡ true → is_end line ≡ false → is_scope_in blocks (StepScope unit) line ≡ true
 in_step_scope unit [] line is not_end = absurd (cc is)
 in_step_scope unit (InUnit ∷ blocks) line is not_end = absurd (cc is)
 in_step_scope unit (InStep ∷ blocks) line is not_end = rw not_end refl
@@ -90,7 +90,7 @@ in_step_scope unit (InElse ∷ blocks) line is not_end = refl
 in_step_scope unit (InRepeat ∷ blocks) line is not_end = refl
 in_step_scope unit (InInstance ∷ blocks) line is not_end = absurd (cc is)
 
-in_step-Assign : (target : List ℕ) (value : Expr) → IsInStep (line.Assign target value)
+pub in_step-Assign : (target : List ℕ) (value : Expr) → IsInStep (line.Assign target value)
 in_step-Assign target value =
     let are = fold-Assign (List LineForm) block_forms target value in
     record {
@@ -98,7 +98,7 @@ in_step-Assign target value =
       are_in = λ unit blocks is. subst (AreIn (StepScope unit) blocks) (sym are) (in_step_scope unit blocks (form.Assign target value) is refl, _);
     }
 
-in_step-Accept : (value : Expr) → IsInStep (line.Accept value)
+pub in_step-Accept : (value : Expr) → IsInStep (line.Accept value)
 in_step-Accept value =
     let are = fold-Accept (List LineForm) block_forms value in
     record {
@@ -106,7 +106,7 @@ in_step-Accept value =
       are_in = λ unit blocks is. subst (AreIn (StepScope unit) blocks) (sym are) (in_step_scope unit blocks (form.Accept value) is refl, _);
     }
 
-in_step-Repeat : (count : ℕ) (body : List Stepped) → IsInStep (line.Repeat count (map line_in body))
+pub in_step-Repeat : (count : ℕ) (body : List Stepped) → IsInStep (line.Repeat count (map line_in body))
 in_step-Repeat count body =
     let are = fold-Repeat (List LineForm) block_forms count (map line_in body) in
     record {
@@ -117,10 +117,10 @@ in_step-Repeat count body =
     }
 
 -- `if` with what stands behind its lines, which begins the `else` or is the `end`.
-abbrev if_forms : Expr → List Stepped → List LineForm → List LineForm
+abbrev pub if_forms : Expr → List Stepped → List LineForm → List LineForm
 if_forms condition then_lines rest = form.If condition ∷ forms_in then_lines ++ rest
 
-in_step-IfNone : (condition : Expr) (then_lines : List Stepped) → IsInStep (line.If condition (map line_in then_lines) None)
+pub in_step-IfNone : (condition : Expr) (then_lines : List Stepped) → IsInStep (line.If condition (map line_in then_lines) None)
 in_step-IfNone condition then_lines =
     let are : line_forms (line.If condition (map line_in then_lines) None) ≡ if_forms condition then_lines (form.End ∷ []) =
     fold-If (List LineForm) block_forms condition (map line_in then_lines) None ∙ ap (λ lines. form.If condition ∷ lines) (append_assoc (forms_in then_lines) [] (form.End ∷ [])) in
@@ -131,7 +131,7 @@ in_step-IfNone condition then_lines =
           (in_step_scope unit blocks (form.If condition) is refl, block_in unit then_lines (form.End ∷ []) (InIf ∷ blocks) refl (refl, _));
     }
 
-in_step-IfElse : (condition : Expr) (then_lines else_lines : List Stepped) → IsInStep (line.If condition (map line_in then_lines) (Some (map line_in else_lines)))
+pub in_step-IfElse : (condition : Expr) (then_lines else_lines : List Stepped) → IsInStep (line.If condition (map line_in then_lines) (Some (map line_in else_lines)))
 in_step-IfElse condition then_lines else_lines =
     let rest = form.Else ∷ forms_in else_lines ++ (form.End ∷ []) in
     let are : line_forms (line.If condition (map line_in then_lines) (Some (map line_in else_lines))) ≡ if_forms condition then_lines rest =
@@ -145,7 +145,7 @@ in_step-IfElse condition then_lines else_lines =
           );
     }
 
-step_node : (y : Line-F Stepped) → IsInStep (roll-Line (map-Line Stepped Line line_in y))
+pub step_node : (y : Line-F Stepped) → IsInStep (roll-Line (map-Line Stepped Line line_in y))
 step_node (Line-F.Assign target value) = subst IsInStep (sym (rolls-Assign target value)) (in_step-Assign target value)
 step_node (Line-F.If condition then_lines None) = subst IsInStep (sym (rolls-If condition (map line_in then_lines) None)) (in_step-IfNone condition then_lines)
 step_node (Line-F.If condition then_lines (Some else_lines)) =
@@ -153,7 +153,7 @@ step_node (Line-F.If condition then_lines (Some else_lines)) =
 step_node (Line-F.Repeat count body) = subst IsInStep (sym (rolls-Repeat count (map line_in body))) (in_step-Repeat count body)
 step_node (Line-F.Accept value) = subst IsInStep (sym (rolls-Accept value)) (in_step-Accept value)
 
-is_in_step : (some : Line) → IsInStep some
+pub is_in_step : (some : Line) → IsInStep some
 is_in_step = ind-Line IsInStep (λ x y is. subst (λ z. IsInStep (roll-Line z)) is (step_node y))
 
 pub line_leaves : (some : Line) (blocks : List Block) → fold behind blocks (line_forms some) ≡ blocks

@@ -6,7 +6,7 @@ use Rattle.unit_tree.specs.Orders.{IsIn, DependsOn, needs, through, IsOrderlyAft
 use Rattle.unit_tree.specs.declared.system.PortName.{PortName}
 use Rattle.unit_tree.specs.declared.system.System.{System}
 
-in_front : (front behind : List PortName) (port : PortName) → IsIn front port → IsIn (front ++ behind) port
+pub in_front : (front behind : List PortName) (port : PortName) → IsIn front port → IsIn (front ++ behind) port
 in_front [] behind port stands = absurd stands
 in_front (first ∷ front) behind port (inl is) = inl is
 in_front (first ∷ front) behind port (inr later) = inr (in_front front behind port later)
@@ -16,20 +16,20 @@ each_in P [] port all stands = absurd stands
 each_in P (first ∷ ports) port all (inl is) = subst P is all.0
 each_in P (first ∷ ports) port all (inr later) = each_in P ports port all.1 later
 
-front_is_orderly : (system : System) (before front behind : List PortName) → IsOrderlyAfter system before (front ++ behind) → IsOrderlyAfter system before front
+pub front_is_orderly : (system : System) (before front behind : List PortName) → IsOrderlyAfter system before (front ++ behind) → IsOrderlyAfter system before front
 front_is_orderly system before [] behind orderly = _
 front_is_orderly system before (first ∷ front) behind orderly =
     (orderly.0, orderly.1, orderly.2, front_is_orderly system (before ++ (first ∷ [])) front behind orderly.3)
 
 -- A port of an orderly list, with what comes before it there.
-record Placed (system : System) (before order : List PortName) (port : PortName) : Type 0 where
-  front : List PortName
-  behind : List PortName
-  cut : order ≡ front ++ behind
-  apart : IsIn (before ++ front) port → ⊥
-  after_needs : AllByRecursion (IsIn (before ++ front)) (needed_by system port)
+pub record Placed (system : System) (before order : List PortName) (port : PortName) : Type 0 where
+  pub front : List PortName
+  pub behind : List PortName
+  pub cut : order ≡ front ++ behind
+  pub apart : IsIn (before ++ front) port → ⊥
+  pub after_needs : AllByRecursion (IsIn (before ++ front)) (needed_by system port)
 
-place_of : (system : System) (before order : List PortName) (port : PortName) → IsOrderlyAfter system before order → IsIn order port → Placed system before order port
+pub place_of : (system : System) (before order : List PortName) (port : PortName) → IsOrderlyAfter system before order → IsIn order port → Placed system before order port
 place_of system before [] port orderly stands = absurd stands
 place_of system before (first ∷ order) port orderly (inl is) = record {
   front = [];
@@ -49,14 +49,14 @@ place_of system before (first ∷ order) port orderly (inr later) =
     }
 
 -- What a port of an orderly list depends on comes before it.
-record Before (order : List PortName) (port other : PortName) : Type 0 where
-  front : List PortName
-  behind : List PortName
-  cut : order ≡ front ++ behind
-  apart : IsIn front port → ⊥
-  holds : IsIn front other
+pub record Before (order : List PortName) (port other : PortName) : Type 0 where
+  pub front : List PortName
+  pub behind : List PortName
+  pub cut : order ≡ front ++ behind
+  pub apart : IsIn front port → ⊥
+  pub holds : IsIn front other
 
-comes_before : (system : System) (port other : PortName) → DependsOn system port other → (order : List PortName) → IsOrderly system order → IsIn order port → Before order port other
+pub comes_before : (system : System) (port other : PortName) → DependsOn system port other → (order : List PortName) → IsOrderly system order → IsIn order port → Before order port other
 comes_before system port other (needs port' other' direct) order orderly stands =
     let placed = place_of system [] order port orderly stands in
     record {

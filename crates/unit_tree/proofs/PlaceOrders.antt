@@ -27,7 +27,7 @@ use Rattle.unit_tree.proofs.RunTraces.{one_each}
 
 -- ---- Ports in lists
 
-true_is_false : {A : Type 0} (b : Bool) → b ≡ true → b ≡ false → A
+pub true_is_false : {A : Type 0} (b : Bool) → b ≡ true → b ≡ false → A
 true_is_false true is isnt = absurd (cc)
 true_is_false false is isnt = absurd (cc)
 
@@ -48,7 +48,7 @@ same_port_is one other is =
     ∙ ap (λ port. record { instance = other.instance; port = port }) (same_bytes one.port other.port both.1)
 
 -- With whether the first is the port.
-found_by : (told : Bool) (port first : PortName) (ports : List PortName) (later : ℕ) → same_port port first ≡ told → (first ≡ port) ⊎ IsIn ports port → (IsIn ports port → slice_get ports later ≡ Some port) → slice_get (first ∷ ports) (cond (not told) (1 + later) 0) ≡ Some port
+pub found_by : (told : Bool) (port first : PortName) (ports : List PortName) (later : ℕ) → same_port port first ≡ told → (first ≡ port) ⊎ IsIn ports port → (IsIn ports port → slice_get ports later ≡ Some port) → slice_get (first ∷ ports) (cond (not told) (1 + later) 0) ≡ Some port
 found_by true port first ports later is stands at_later = ap Some (sym (same_port_is port first is))
 found_by false port first ports later is (inl same) at_later = true_is_false (same_port port first) (same_port_of port first (sym same)) is
 found_by false port first ports later is (inr stands) at_later =
@@ -56,21 +56,21 @@ found_by false port first ports later is (inr stands) at_later =
     ap (slice_get (first ∷ ports)) next ∙ at_later stands
 
 -- The place of a port has it.
-found_at : (ports : List PortName) (port : PortName) → IsIn ports port → slice_get ports (position_or_len (same_port port) ports) ≡ Some port
+pub found_at : (ports : List PortName) (port : PortName) → IsIn ports port → slice_get ports (position_or_len (same_port port) ports) ≡ Some port
 found_at [] port stands = absurd stands
 found_at (first ∷ ports) port stands = found_by (same_port port first) port first ports (position_or_len (same_port port) ports) refl stands (λ later. found_at ports port later)
 
-has_at : {A : Type 0} (xs : List A) (k : ℕ) (x : A) → slice_get xs k ≡ Some x → Has xs x
+pub has_at : {A : Type 0} (xs : List A) (k : ℕ) (x : A) → slice_get xs k ≡ Some x → Has xs x
 has_at [] k x is = absurd (cc)
 has_at (first ∷ others) zero x is = inl (cc)
 has_at (first ∷ others) (suc k) x is = inr (has_at others k x is)
 
-place_by : (told : Bool) (port first : PortName) (later k : ℕ) → same_port port first ≡ told → (first ≡ port → ⊥) → later ≡ k → cond (not told) (1 + later) 0 ≡ suc k
+pub place_by : (told : Bool) (port first : PortName) (later k : ℕ) → same_port port first ≡ told → (first ≡ port → ⊥) → later ≡ k → cond (not told) (1 + later) 0 ≡ suc k
 place_by true port first later k is other same = absurd (other (sym (same_port_is port first is)))
 place_by false port first later k is other same = omega arith
 
 -- Where ports differ, what stands at a place has it as its place.
-place_is : (ports : List PortName) (k : ℕ) (port : PortName) → Distinct ports → slice_get ports k ≡ Some port → position_or_len (same_port port) ports ≡ k
+pub place_is : (ports : List PortName) (k : ℕ) (port : PortName) → Distinct ports → slice_get ports k ≡ Some port → position_or_len (same_port port) ports ≡ k
 place_is [] k port apart is = absurd (cc)
 place_is (first ∷ ports) zero port apart is =
     let same : first ≡ port = cc in
@@ -80,7 +80,7 @@ place_is (first ∷ ports) (suc k) port apart is =
 
 -- ---- Lists side by side
 
-zip_append : {A B : Type 0} (R : A → B → Type 0) (xs xs' : List A) (ys ys' : List B) → AllZip R xs ys → AllZip R xs' ys' → AllZip R (xs ++ xs') (ys ++ ys')
+pub zip_append : {A B : Type 0} (R : A → B → Type 0) (xs xs' : List A) (ys ys' : List B) → AllZip R xs ys → AllZip R xs' ys' → AllZip R (xs ++ xs') (ys ++ ys')
 zip_append R [] xs' [] ys' one other = other
 zip_append R [] xs' (y ∷ ys) ys' one other = absurd one
 zip_append R (x ∷ xs) xs' [] ys' one other = absurd one
@@ -91,13 +91,13 @@ pub record Beside {A B : Type 0} (R : A → B → Type 0) (x : A) (ys : List B) 
   pub is : slice_get ys k ≡ Some other
   pub related : R x other
 
-zip_at : {A B : Type 0} (R : A → B → Type 0) (xs : List A) (ys : List B) (k : ℕ) (x : A) → AllZip R xs ys → slice_get xs k ≡ Some x → Beside R x ys k
+pub zip_at : {A B : Type 0} (R : A → B → Type 0) (xs : List A) (ys : List B) (k : ℕ) (x : A) → AllZip R xs ys → slice_get xs k ≡ Some x → Beside R x ys k
 zip_at R [] ys k x all is = absurd (cc)
 zip_at R (first ∷ xs) [] k x all is = absurd all
 zip_at R (first ∷ xs) (y ∷ ys) zero x all is = let same : first ≡ x = cc in record { other = y; is = refl; related = subst (λ z. R z y) same all.0 }
 zip_at R (first ∷ xs) (y ∷ ys) (suc k) x all is = let later = zip_at R xs ys k x all.1 is in record { other = later.other; is = later.is; related = later.related }
 
-at_place : {A : Type 0} (xs : List A) (k : ℕ) → k < length xs → (x : A) × (slice_get xs k ≡ Some x)
+pub at_place : {A : Type 0} (xs : List A) (k : ℕ) → k < length xs → (x : A) × (slice_get xs k ≡ Some x)
 at_place [] k within = absurd (omega arith)
 at_place (x ∷ xs) zero within = (x, refl)
 at_place (x ∷ xs) (suc k) within = at_place xs k (omega (arith, within))
@@ -113,7 +113,7 @@ distinct_append (x ∷ xs) ys one other apart =
 
 -- ---- Units and their outputs
 
-abbrev plain_port : Output → Port
+abbrev pub plain_port : Output → Port
 plain_port output = record { name = output.name; ty = output.ty; is_event = false; needs = output.needs }
 
 -- What is known of each unit.
@@ -122,52 +122,52 @@ pub record Known (unit : Unit) : Type 0 where
   pub no_events : unit.events_out ≡ []
   pub no_events_in : unit.events_in ≡ []
 
-all_known : (units : List Unit) → AllByRecursion (λ unit. (unit.events_in ≡ []) × (unit.events_out ≡ [])) units → AllByRecursion (λ unit. Distinct (map (λ output. output.name) unit.outputs)) units → AllByRecursion Known units
+pub all_known : (units : List Unit) → AllByRecursion (λ unit. (unit.events_in ≡ []) × (unit.events_out ≡ [])) units → AllByRecursion (λ unit. Distinct (map (λ output. output.name) unit.outputs)) units → AllByRecursion Known units
 all_known [] plain apart = tt
 all_known (unit ∷ units) plain apart = (record { apart = apart.0; no_events = plain.0.1; no_events_in = plain.0.0 }, all_known units plain.1 apart.1)
 
 module _ (P : Unit → Type 0) where
   -- With whether the first unit has the name.
-  named_by : (told : Bool) (first unit : Unit) (rest : Option Unit) → P first → (rest ≡ Some unit → P unit) → cond told (Some first) rest ≡ Some unit → P unit
+  pub named_by : (told : Bool) (first unit : Unit) (rest : Option Unit) → P first → (rest ≡ Some unit → P unit) → cond told (Some first) rest ≡ Some unit → P unit
   named_by true first unit rest holds later is = let same : first ≡ unit = cc in subst P same holds
   named_by false first unit rest holds later is = later is
 
-  named_holds : (units : List Unit) (name : List ℕ) (unit : Unit) → AllByRecursion P units → unit_named units name ≡ Some unit → P unit
+  pub named_holds : (units : List Unit) (name : List ℕ) (unit : Unit) → AllByRecursion P units → unit_named units name ≡ Some unit → P unit
   named_holds [] name unit all is = absurd (cc)
   named_holds (first ∷ units) name unit all is = named_by (bytes_eq first.name name) first unit (unit_named units name) all.0 (λ later. named_holds units name unit all.1 later) is
 
-ports_plain : (unit : Unit) → Known unit → output_ports unit ≡ map plain_port unit.outputs
+pub ports_plain : (unit : Unit) → Known unit → output_ports unit ≡ map plain_port unit.outputs
 ports_plain unit known =
     ap (λ (events : List EventOut). map plain_port unit.outputs ++ map (λ event. record { name = event.name; ty = event.ty; is_event = true; needs = event.needs }) events) known.no_events ∙ append-nil (map plain_port unit.outputs)
 
-names_plain : (outputs : List Output) → map (λ (port : Port). port.name) (map plain_port outputs) ≡ map (λ output. output.name) outputs
+pub names_plain : (outputs : List Output) → map (λ (port : Port). port.name) (map plain_port outputs) ≡ map (λ output. output.name) outputs
 names_plain [] = refl
 names_plain (output ∷ outputs) = ap (λ rest. output.name ∷ rest) (names_plain outputs)
 
 module _ (system : System) (plain : HasNoEvents system) (differ : NamesDiffer system) where
-  abbrev known : AllByRecursion Known system.units
+  abbrev pub known : AllByRecursion Known system.units
   known = all_known system.units plain differ.outputs
 
   -- ---- All outputs differ
 
-  in_instance : (instance : Instance) (ports : List Port) (port : PortName) → Has (ports_in instance ports) port → instance.name ≡ port.instance
+  pub in_instance : (instance : Instance) (ports : List Port) (port : PortName) → Has (ports_in instance ports) port → instance.name ≡ port.instance
   in_instance instance [] port has = absurd has
   in_instance instance (first ∷ ports) port (inl is) = ap (λ (p : PortName). p.instance) is
   in_instance instance (first ∷ ports) port (inr has) = in_instance instance ports port has
 
-  in_names : (instance : Instance) (ports : List Port) (port : PortName) → Has (ports_in instance ports) port → Has (map (λ (p : Port). p.name) ports) port.port
+  pub in_names : (instance : Instance) (ports : List Port) (port : PortName) → Has (ports_in instance ports) port → Has (map (λ (p : Port). p.name) ports) port.port
   in_names instance [] port has = absurd has
   in_names instance (first ∷ ports) port (inl is) = inl (ap (λ (p : PortName). p.port) is)
   in_names instance (first ∷ ports) port (inr has) = inr (in_names instance ports port has)
 
-  ports_apart : (instance : Instance) (ports : List Port) → Distinct (map (λ (p : Port). p.name) ports) → Distinct (ports_in instance ports)
+  pub ports_apart : (instance : Instance) (ports : List Port) → Distinct (map (λ (p : Port). p.name) ports) → Distinct (ports_in instance ports)
   ports_apart instance [] apart = tt
   ports_apart instance (first ∷ ports) apart = (λ has. apart.0 (in_names instance ports (port_of instance first.name) has), ports_apart instance ports apart.1)
 
-  abbrev ports_of : Instance → List PortName
+  abbrev pub ports_of : Instance → List PortName
   ports_of instance = ports_in instance (outputs_in (unit_of_instance system instance))
 
-  in_instances : (instances : List Instance) (port : PortName) → Has (flat_map ports_of instances) port → Has (map (λ instance. instance.name) instances) port.instance
+  pub in_instances : (instances : List Instance) (port : PortName) → Has (flat_map ports_of instances) port → Has (map (λ instance. instance.name) instances) port.instance
   in_instances [] port has = absurd has
   in_instances (instance ∷ instances) port has =
       elim (has_either (ports_of instance) (flat_map ports_of instances) port has) [
@@ -175,21 +175,21 @@ module _ (system : System) (plain : HasNoEvents system) (differ : NamesDiffer sy
         | inr h ↦ inr (in_instances instances port h)
       ]
 
-  unit_apart : (instance : Instance) (given : Option Unit) → unit_of_instance system instance ≡ given → Distinct (ports_in instance (outputs_in given))
+  pub unit_apart : (instance : Instance) (given : Option Unit) → unit_of_instance system instance ≡ given → Distinct (ports_in instance (outputs_in given))
   unit_apart instance None is = tt
   unit_apart instance (Some unit) is =
       let unit_known = named_holds Known system.units instance.unit unit known is in
       subst (λ ports. Distinct (ports_in instance ports)) (sym (ports_plain unit unit_known))
       (ports_apart instance (map plain_port unit.outputs) (subst (λ names. Distinct names) (sym (names_plain unit.outputs)) unit_known.apart))
 
-  all_apart : (instances : List Instance) → Distinct (map (λ instance. instance.name) instances) → Distinct (flat_map ports_of instances)
+  pub all_apart : (instances : List Instance) → Distinct (map (λ instance. instance.name) instances) → Distinct (flat_map ports_of instances)
   all_apart [] apart = tt
   all_apart (instance ∷ instances) apart =
       distinct_append (ports_of instance) (flat_map ports_of instances) (unit_apart instance (unit_of_instance system instance) refl) (all_apart instances apart.1)
       (λ port here later.
       apart.0 (subst (Has (map (λ instance. instance.name) instances)) (sym (in_instance instance (outputs_in (unit_of_instance system instance)) port here)) (in_instances instances port later)))
 
-  outputs_apart : Distinct (outputs_of system)
+  pub outputs_apart : Distinct (outputs_of system)
   outputs_apart = all_apart system.instances differ.instances
 
   -- ---- What a place needs is what its output needs
@@ -199,10 +199,10 @@ module _ (system : System) (plain : HasNoEvents system) (differ : NamesDiffer sy
     pub needs : IsIn (needed_by system port) source
     pub at : place_of system source ≡ place
 
-  abbrev Needs : PortName → List ℕ → Type 0
+  abbrev pub Needs : PortName → List ℕ → Type 0
   Needs port places = AllByRecursion (Needed port) places
 
-  in_flat : (f : List ℕ → List PortName) (names : List (List ℕ)) (name : List ℕ) (port : PortName) → Has names name → IsIn (f name) port → IsIn (flat_map f names) port
+  pub in_flat : (f : List ℕ → List PortName) (names : List (List ℕ)) (name : List ℕ) (port : PortName) → Has names name → IsIn (f name) port → IsIn (flat_map f names) port
   in_flat f [] name port has stands = absurd has
   in_flat f (first ∷ names) name port (inl is) stands = has_in (f first ++ flat_map f names) port (has_front (f first) (flat_map f names) port (in_has (f first) port (subst (λ n. IsIn (f n) port) (sym is) stands)))
   in_flat f (first ∷ names) name port (inr has) stands = has_in (f first ++ flat_map f names) port (has_behind (f first) (flat_map f names) port (in_has (flat_map f names) port (in_flat f names name port has stands)))
@@ -236,10 +236,10 @@ module _ (system : System) (plain : HasNoEvents system) (differ : NamesDiffer sy
 
   -- ---- Places side by side with outputs
 
-  abbrev needs_in : Member → List (List ℕ)
+  abbrev pub needs_in : Member → List (List ℕ)
   needs_in member = map (places_needed member) member.component.unit.outputs
 
-  there : (instance : Instance) (unit : Unit) (output : Output) → instance_named system instance.name ≡ Some instance → unit_of_instance system instance ≡ Some unit → Has unit.outputs output → output_at system (port_of instance output.name) ≡ Some (plain_port output)
+  pub there : (instance : Instance) (unit : Unit) (output : Output) → instance_named system instance.name ≡ Some instance → unit_of_instance system instance ≡ Some unit → Has unit.outputs output → output_at system (port_of instance output.name) ≡ Some (plain_port output)
   there instance unit output instance_is unit_is has =
       let unit_known = named_holds Known system.units instance.unit unit known unit_is in
       ap (λ named. option_and_then (λ u. port_named (output_ports u) output.name) (option_and_then (unit_of_instance system) named)) instance_is
@@ -273,29 +273,29 @@ module _ (system : System) (plain : HasNoEvents system) (differ : NamesDiffer sy
     sides_of : AllZip R (outputs_of system) (needs_of_places (composition_of system))
     sides_of = all_sides system.instances (all_has _ system.instances (λ instance has. found (λ (i : Instance). i.name) system.instances instance differ.instances has))
 
-  sides : AllZip Needs (outputs_of system) (needs_of_places (composition_of system))
+  pub sides : AllZip Needs (outputs_of system) (needs_of_places (composition_of system))
   sides = sides_of Needs (λ instance unit output instance_is unit_is has. inputs_needed instance output (there instance unit output instance_is unit_is has) unit.inputs)
 
-  count_is : length (needs_of_places (composition_of system)) ≡ length (outputs_of system)
+  pub count_is : length (needs_of_places (composition_of system)) ≡ length (outputs_of system)
   count_is = one_each Needs (outputs_of system) (needs_of_places (composition_of system)) sides
 
   -- ---- The order
 
-  abbrev places : List PortName → List ℕ
+  abbrev pub places : List PortName → List ℕ
   places ports = map (place_of system) ports
 
-  among_places : (ports : List PortName) (port : PortName) → IsIn ports port → IsAmong (places ports) (place_of system port)
+  pub among_places : (ports : List PortName) (port : PortName) → IsIn ports port → IsAmong (places ports) (place_of system port)
   among_places [] port stands = absurd stands
   among_places (first ∷ ports) port (inl is) = inl (ap (place_of system) is)
   among_places (first ∷ ports) port (inr later) = inr (among_places ports port later)
 
   -- A place that is among those of outputs is that of one.
-  port_among : (ports : List PortName) (place : ℕ) → IsAmong (places ports) place → (port : PortName) × IsIn ports port × (place_of system port ≡ place)
+  pub port_among : (ports : List PortName) (place : ℕ) → IsAmong (places ports) place → (port : PortName) × IsIn ports port × (place_of system port ≡ place)
   port_among [] place among_them = absurd among_them
   port_among (first ∷ ports) place (inl is) = (first, inl refl, is)
   port_among (first ∷ ports) place (inr later) = let port = port_among ports place later in (port.0, inr port.1, port.2)
 
-  same_place : (one other : PortName) → IsIn (outputs_of system) one → IsIn (outputs_of system) other → place_of system one ≡ place_of system other → one ≡ other
+  pub same_place : (one other : PortName) → IsIn (outputs_of system) one → IsIn (outputs_of system) other → place_of system one ≡ place_of system other → one ≡ other
   same_place one other is_one is_other same =
       let first = found_at (outputs_of system) one is_one in
       let second : slice_get (outputs_of system) (place_of system one) ≡ Some other = ap (slice_get (outputs_of system)) same ∙ found_at (outputs_of system) other is_other in
@@ -304,18 +304,18 @@ module _ (system : System) (plain : HasNoEvents system) (differ : NamesDiffer sy
       some_same : Some one ≡ Some other → one ≡ other
       some_same is = cc
 
-  needs_among : (port : PortName) (before : List PortName) (needed : List ℕ) → Needs port needed → AllByRecursion (IsIn before) (needed_by system port) → AllByRecursion (IsAmong (places before)) needed
+  pub needs_among : (port : PortName) (before : List PortName) (needed : List ℕ) → Needs port needed → AllByRecursion (IsIn before) (needed_by system port) → AllByRecursion (IsAmong (places before)) needed
   needs_among port before [] needs all = tt
   needs_among port before (place ∷ needed) needs all = (
     subst (IsAmong (places before)) needs.0.at (among_places before needs.0.source (each_in (IsIn before) (needed_by system port) needs.0.source all needs.0.needs)),
     needs_among port before needed needs.1 all,
   )
 
-  all_in : (P : PortName → Type 0) (ports : List PortName) (port : PortName) → AllByRecursion P ports → P port → AllByRecursion P (ports ++ (port ∷ []))
+  pub all_in : (P : PortName → Type 0) (ports : List PortName) (port : PortName) → AllByRecursion P ports → P port → AllByRecursion P (ports ++ (port ∷ []))
   all_in P [] port all holds = (holds, tt)
   all_in P (first ∷ ports) port all holds = (all.0, all_in P ports port all.1 holds)
 
-  ordered : (before order : List PortName) → AllByRecursion (IsIn (outputs_of system)) before → IsOrderlyAfter system before order → IsOrderedAfter (composition_of system) (places before) (places order)
+  pub ordered : (before order : List PortName) → AllByRecursion (IsIn (outputs_of system)) before → IsOrderlyAfter system before order → IsOrderedAfter (composition_of system) (places before) (places order)
   ordered before [] outputs orderly = tt
   ordered before (port ∷ later) outputs orderly =
       let here = found_at (outputs_of system) port orderly.0 in
@@ -347,13 +347,13 @@ module _ (system : System) (plain : HasNoEvents system) (differ : NamesDiffer sy
   -- ---- The way back: where each output and its place come from
 
   -- The plain input of a name, where there are no others.
-  input_named : (inputs : List Input) (events : List EventIn) (name : List ℕ) → events ≡ [] → Has (port_names (map (λ input. record { name = input.name; ty = input.ty; is_event = false; needs = [] }) inputs ++ map (λ event. record { name = event.name; ty = event.ty; is_event = true; needs = [] }) events)) name → (input : Input) × Has inputs input × (input.name ≡ name)
+  pub input_named : (inputs : List Input) (events : List EventIn) (name : List ℕ) → events ≡ [] → Has (port_names (map (λ input. record { name = input.name; ty = input.ty; is_event = false; needs = [] }) inputs ++ map (λ event. record { name = event.name; ty = event.ty; is_event = true; needs = [] }) events)) name → (input : Input) × Has inputs input × (input.name ≡ name)
   input_named inputs (event ∷ events) name none has = absurd (cc)
   input_named [] [] name none has = absurd has
   input_named (input ∷ inputs) [] name none (inl is) = (input, inl refl, is)
   input_named (input ∷ inputs) [] name none (inr has) = let later = input_named inputs [] name none has in (later.0, inr later.1, later.2)
 
-  from_flat : (f : List ℕ → List PortName) (names : List (List ℕ)) (source : PortName) → IsIn (flat_map f names) source → (name : List ℕ) × Has names name × IsIn (f name) source
+  pub from_flat : (f : List ℕ → List PortName) (names : List (List ℕ)) (source : PortName) → IsIn (flat_map f names) source → (name : List ℕ) × Has names name × IsIn (f name) source
   from_flat f [] source stands = absurd stands
   from_flat f (first ∷ names) source stands =
       elim (has_either (f first) (flat_map f names) source (in_has (f first ++ flat_map f names) source stands)) [
@@ -363,45 +363,45 @@ module _ (system : System) (plain : HasNoEvents system) (differ : NamesDiffer sy
 
   -- ---- What is connected to an input
 
-  abbrev sources_among : PortName → List Wire → List PortName
+  abbrev pub sources_among : PortName → List Wire → List PortName
   sources_among port wires = filter_map (source_if port) wires
 
-  from_by : (P : PortName → Type 0) (told : Bool) (wire : Wire) (others : List PortName) (source : PortName) → P wire.from → (IsIn others source → P source) → IsIn (cons_option (cond told (Some wire.from) None) others) source → P source
+  pub from_by : (P : PortName → Type 0) (told : Bool) (wire : Wire) (others : List PortName) (source : PortName) → P wire.from → (IsIn others source → P source) → IsIn (cons_option (cond told (Some wire.from) None) others) source → P source
   from_by P true wire others source holds later (inl is) = subst P is holds
   from_by P true wire others source holds later (inr stands) = later stands
   from_by P false wire others source holds later stands = later stands
 
-  from_each : (P : PortName → Type 0) (port : PortName) (wires : List Wire) (source : PortName) → AllByRecursion (λ (wire : Wire). P wire.from) wires → IsIn (sources_among port wires) source → P source
+  pub from_each : (P : PortName → Type 0) (port : PortName) (wires : List Wire) (source : PortName) → AllByRecursion (λ (wire : Wire). P wire.from) wires → IsIn (sources_among port wires) source → P source
   from_each P port [] source all stands = absurd stands
   from_each P port (wire ∷ wires) source all stands = from_by P (same_port wire.to port) wire (sources_among port wires) source all.0 (from_each P port wires source all.1) stands
 
-  none_by : (told : Bool) (port : PortName) (wire : Wire) (others : List PortName) → same_port wire.to port ≡ told → (wire.to ≡ port → ⊥) → others ≡ [] → cons_option (cond told (Some wire.from) None) others ≡ []
+  pub none_by : (told : Bool) (port : PortName) (wire : Wire) (others : List PortName) → same_port wire.to port ≡ told → (wire.to ≡ port → ⊥) → others ≡ [] → cons_option (cond told (Some wire.from) None) others ≡ []
   none_by true port wire others is other none = absurd (other (same_port_is wire.to port is))
   none_by false port wire others is other none = none
 
-  none_to : (port : PortName) (wires : List Wire) → (Has (map (λ (wire : Wire). wire.to) wires) port → ⊥) → sources_among port wires ≡ []
+  pub none_to : (port : PortName) (wires : List Wire) → (Has (map (λ (wire : Wire). wire.to) wires) port → ⊥) → sources_among port wires ≡ []
   none_to port [] none = refl
   none_to port (wire ∷ wires) none = none_by (same_port wire.to port) port wire (sources_among port wires) refl (λ is. none (inl is)) (none_to port wires (λ has. none (inr has)))
 
-  one_by : (told : Bool) (port : PortName) (wire : Wire) (others : List PortName) (source : PortName) → (told ≡ true → others ≡ []) → (IsIn others source → others ≡ source ∷ []) → IsIn (cons_option (cond told (Some wire.from) None) others) source → cons_option (cond told (Some wire.from) None) others ≡ source ∷ []
+  pub one_by : (told : Bool) (port : PortName) (wire : Wire) (others : List PortName) (source : PortName) → (told ≡ true → others ≡ []) → (IsIn others source → others ≡ source ∷ []) → IsIn (cons_option (cond told (Some wire.from) None) others) source → cons_option (cond told (Some wire.from) None) others ≡ source ∷ []
   one_by true port wire others source none later (inl is) = ap (λ rest. wire.from ∷ rest) (none refl) ∙ ap (λ first. first ∷ []) is
   one_by true port wire others source none later (inr stands) = absurd (subst (λ all. IsIn all source) (none refl) stands)
   one_by false port wire others source none later stands = later stands
 
   -- At most one is.
-  one_source : (port : PortName) (wires : List Wire) (source : PortName) → Distinct (map (λ (wire : Wire). wire.to) wires) → IsIn (sources_among port wires) source → sources_among port wires ≡ source ∷ []
+  pub one_source : (port : PortName) (wires : List Wire) (source : PortName) → Distinct (map (λ (wire : Wire). wire.to) wires) → IsIn (sources_among port wires) source → sources_among port wires ≡ source ∷ []
   one_source port [] source once stands = absurd stands
   one_source port (wire ∷ wires) source once stands =
       one_by (same_port wire.to port) port wire (sources_among port wires) source
       (λ is. none_to port wires (subst (λ to. Has (map (λ (w : Wire). w.to) wires) to → ⊥) (same_port_is wire.to port is) once.0))
       (one_source port wires source once.1) stands
 
-  among_behind : (given : Option ℕ) (rest : List ℕ) (place : ℕ) → IsAmong rest place → IsAmong (cons_option given rest) place
+  pub among_behind : (given : Option ℕ) (rest : List ℕ) (place : ℕ) → IsAmong rest place → IsAmong (cons_option given rest) place
   among_behind None rest place has = has
   among_behind (Some first) rest place has = inr has
 
   -- The place of an input that is needed and connected.
-  place_among : (instance : Instance) (output : Output) (inputs : List Input) (input : Input) (place : ℕ) → Has inputs input → place_needed output (input, source_of system instance input) ≡ Some place → IsAmong (filter_map (place_needed output) (zip inputs (map (source_of system instance) inputs))) place
+  pub place_among : (instance : Instance) (output : Output) (inputs : List Input) (input : Input) (place : ℕ) → Has inputs input → place_needed output (input, source_of system instance input) ≡ Some place → IsAmong (filter_map (place_needed output) (zip inputs (map (source_of system instance) inputs))) place
   place_among instance output [] input place has is = absurd has
   place_among instance output (first ∷ inputs) input place (inl same) is =
       let here : place_needed output (first, source_of system instance first) ≡ Some place =

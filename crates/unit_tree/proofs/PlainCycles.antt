@@ -27,21 +27,21 @@ use Rattle.unit_tree.proofs.PortLaws.{or_true, or_right, among, each_among, all_
 
 -- ---- Needs
 
-abbrev of_input : Input → Port
+abbrev pub of_input : Input → Port
 of_input input = record { name = input.name; ty = input.ty; is_event = false; needs = [] }
 
-abbrev of_event_in : EventIn → Port
+abbrev pub of_event_in : EventIn → Port
 of_event_in event = record { name = event.name; ty = event.ty; is_event = true; needs = [] }
 
-has_input : (unit : Unit) (input : Input) → Has (unit.inputs ++ flat_map plain_inputs unit.events_in) input → Has (input_names (plain_unit unit)) input.name
+pub has_input : (unit : Unit) (input : Input) → Has (unit.inputs ++ flat_map plain_inputs unit.events_in) input → Has (input_names (plain_unit unit)) input.name
 has_input unit input has =
     has_map (λ (port : Port). port.name) (input_ports (plain_unit unit)) (of_input input)
     (has_front (map of_input (unit.inputs ++ flat_map plain_inputs unit.events_in)) [] (of_input input) (has_map of_input (unit.inputs ++ flat_map plain_inputs unit.events_in) input has))
 
-of_event_input : (unit : Unit) (event : EventIn) (input : Input) → Has unit.events_in event → Has (plain_inputs event) input → Has (input_names (plain_unit unit)) input.name
+pub of_event_input : (unit : Unit) (event : EventIn) (input : Input) → Has unit.events_in event → Has (plain_inputs event) input → Has (input_names (plain_unit unit)) input.name
 of_event_input unit event input has inside = has_input unit input (has_behind unit.inputs (flat_map plain_inputs unit.events_in) input (has_flat plain_inputs unit.events_in event input has inside))
 
-same_input : (unit : Unit) (need : List ℕ) → Has (input_names unit) need → Has (input_names (plain_unit unit)) need
+pub same_input : (unit : Unit) (need : List ℕ) → Has (input_names unit) need → Has (input_names (plain_unit unit)) need
 same_input unit need has =
     let port = map_has (λ (port : Port). port.name) (input_ports unit) need has in
     subst (Has (input_names (plain_unit unit))) port.is
@@ -54,36 +54,36 @@ same_input unit need has =
           subst (λ (p : Port). Has (input_names (plain_unit unit)) p.name) event.is (of_event_input unit event.one _ event.has (inr (inl refl)))
     ])
 
-presence_input : (unit : Unit) (need : List ℕ) → is_among (event_input_names unit) need ≡ true → Has (input_names (plain_unit unit)) (presence_name need)
+pub presence_input : (unit : Unit) (need : List ℕ) → is_among (event_input_names unit) need ≡ true → Has (input_names (plain_unit unit)) (presence_name need)
 presence_input unit need is =
     let event = map_has (λ (e : EventIn). e.name) unit.events_in need (among (event_input_names unit) need is) in
     subst (λ name. Has (input_names (plain_unit unit)) (presence_name name)) event.is (of_event_input unit event.one _ event.has (inl refl))
 
-need_is : (unit : Unit) (need made : List ℕ) (told : Bool) → is_among (event_input_names unit) need ≡ told → Has (input_names unit) need → Has (cond told (presence_name need ∷ need ∷ []) (need ∷ [])) made → Has (input_names (plain_unit unit)) made
+pub need_is : (unit : Unit) (need made : List ℕ) (told : Bool) → is_among (event_input_names unit) need ≡ told → Has (input_names unit) need → Has (cond told (presence_name need ∷ need ∷ []) (need ∷ [])) made → Has (input_names (plain_unit unit)) made
 need_is unit need made true is has (inl same) = subst (Has (input_names (plain_unit unit))) same (presence_input unit need is)
 need_is unit need made true is has (inr (inl same)) = subst (Has (input_names (plain_unit unit))) same (same_input unit need has)
 need_is unit need made true is has (inr (inr none)) = absurd none
 need_is unit need made false is has (inl same) = subst (Has (input_names (plain_unit unit))) same (same_input unit need has)
 need_is unit need made false is has (inr none) = absurd none
 
-abbrev AreInputs : Unit → List (List ℕ) → Type 0
+abbrev pub AreInputs : Unit → List (List ℕ) → Type 0
 AreInputs unit needs = are_among (input_names unit) needs ≡ true
 
-needs_are : (unit : Unit) (needs : List (List ℕ)) → AreInputs unit needs → AreInputs (plain_unit unit) (plain_needs unit needs)
+pub needs_are : (unit : Unit) (needs : List (List ℕ)) → AreInputs unit needs → AreInputs (plain_unit unit) (plain_needs unit needs)
 needs_are unit needs are =
     all_among (input_names (plain_unit unit)) (plain_needs unit needs) (λ made has.
     let from = flat_has (plain_need unit) needs made has in
     need_is unit from.one made (is_among (event_input_names unit) from.one) refl (among (input_names unit) from.one (each_among (input_names unit) needs from.one are from.has)) from.inside)
 
-abbrev AllNeed : Unit → List Output → Type 0
+abbrev pub AllNeed : Unit → List Output → Type 0
 AllNeed unit outputs = AllByRecursion (λ (output : Output). AreInputs unit output.needs) outputs
 
-event_needs : (unit : Unit) (event : EventOut) (output : Output) → AreInputs unit event.needs → Has (plain_outputs unit event) output → AreInputs (plain_unit unit) output.needs
+pub event_needs : (unit : Unit) (event : EventOut) (output : Output) → AreInputs unit event.needs → Has (plain_outputs unit event) output → AreInputs (plain_unit unit) output.needs
 event_needs unit event output are (inl is) = subst (λ (o : Output). AreInputs (plain_unit unit) o.needs) is (needs_are unit event.needs are)
 event_needs unit event output are (inr (inl is)) = subst (λ (o : Output). AreInputs (plain_unit unit) o.needs) is (needs_are unit event.needs are)
 event_needs unit event output are (inr (inr none)) = absurd none
 
-unit_needs : (unit : Unit) → AllByRecursion (λ (port : Port). AreInputs unit port.needs) (output_ports unit) → AllNeed (plain_unit unit) (plain_unit unit).outputs
+pub unit_needs : (unit : Unit) → AllByRecursion (λ (port : Port). AreInputs unit port.needs) (output_ports unit) → AllNeed (plain_unit unit) (plain_unit unit).outputs
 unit_needs unit each =
     all_has (λ (output : Output). AreInputs (plain_unit unit) output.needs) (ones unit ++ twos unit) (λ output has.
     elim (has_either (ones unit) (twos unit) output has) [
@@ -96,21 +96,21 @@ unit_needs unit each =
           event_needs unit from.one output (each_has (λ (port : Port). AreInputs unit port.needs) (output_ports unit) (of_event from.one) each (has_behind (map of_output unit.outputs) (map of_event unit.events_out) (of_event from.one) (has_map of_event unit.events_out from.one from.has))) from.inside
     ])
 
-all_need : (units : List Unit) → AllByRecursion (λ unit. AllByRecursion (λ (port : Port). AreInputs unit port.needs) (output_ports unit)) units → AllByRecursion (λ unit. AllNeed unit unit.outputs) (map plain_unit units)
+pub all_need : (units : List Unit) → AllByRecursion (λ unit. AllByRecursion (λ (port : Port). AreInputs unit port.needs) (output_ports unit)) units → AllByRecursion (λ unit. AllNeed unit unit.outputs) (map plain_unit units)
 all_need [] each = tt
 all_need (unit ∷ units) each = (unit_needs unit each.0, all_need units each.1)
 
 -- ---- Outputs
 
 -- An output of a system is found by its name.
-some_output : (system : System) (port : PortName) → Declared system port → ((d : Declared system port) → output_at system (port_of d.instance d.output.name) ≡ Some d.output) → is_none (output_at system port) ≡ false
+pub some_output : (system : System) (port : PortName) → Declared system port → ((d : Declared system port) → output_at system (port_of d.instance d.output.name) ≡ Some d.output) → is_none (output_at system port) ≡ false
 some_output system port d found = subst (λ p. is_none (output_at system p) ≡ false) d.is (ap is_none (found d))
 
-abbrev targets : List Wire → List PortName
+abbrev pub targets : List Wire → List PortName
 targets wires = map (λ (wire : Wire). wire.to) wires
 
 -- Ports are looked for by their names.
-is_in : (ports : List PortName) (port : PortName) → list_any (same_port port) ports ≡ true → IsIn ports port
+pub is_in : (ports : List PortName) (port : PortName) → list_any (same_port port) ports ≡ true → IsIn ports port
 is_in [] port told = absurd (cc)
 is_in (first ∷ ports) port told =
     elim (or_true (same_port port first) (list_any (same_port port) ports) told) [
@@ -118,57 +118,57 @@ is_in (first ∷ ports) port told =
       | inr later ↦ inr (is_in ports port later)
     ]
 
-told_in : (ports : List PortName) (port : PortName) → IsIn ports port → list_any (same_port port) ports ≡ true
+pub told_in : (ports : List PortName) (port : PortName) → IsIn ports port → list_any (same_port port) ports ≡ true
 told_in [] port stands = absurd stands
 told_in (first ∷ ports) port (inl is) = ap (λ b. b || list_any (same_port port) ports) (same_port_of port first (sym is))
 told_in (first ∷ ports) port (inr later) = or_right (same_port port first) (list_any (same_port port) ports) (told_in ports port later)
 
 -- Ports that are kept by a test.
-kept_by : (told : Bool) (test : PortName → Bool) (first port : PortName) (ports : List PortName) → test first ≡ told → test port ≡ true → (first ≡ port) ⊎ IsIn ports port → (IsIn ports port → IsIn (filter test ports) port) → IsIn (cond told (first ∷ filter test ports) (filter test ports)) port
+pub kept_by : (told : Bool) (test : PortName → Bool) (first port : PortName) (ports : List PortName) → test first ≡ told → test port ≡ true → (first ≡ port) ⊎ IsIn ports port → (IsIn ports port → IsIn (filter test ports) port) → IsIn (cond told (first ∷ filter test ports) (filter test ports)) port
 kept_by true test first port ports is holds (inl same) later = inl same
 kept_by true test first port ports is holds (inr stands) later = inr (later stands)
 kept_by false test first port ports is holds (inl same) later = let other : true ≡ false = sym holds ∙ ap test (sym same) ∙ is in absurd (cc other)
 kept_by false test first port ports is holds (inr stands) later = later stands
 
-kept_in : (test : PortName → Bool) (ports : List PortName) (port : PortName) → test port ≡ true → IsIn ports port → IsIn (filter test ports) port
+pub kept_in : (test : PortName → Bool) (ports : List PortName) (port : PortName) → test port ≡ true → IsIn ports port → IsIn (filter test ports) port
 kept_in test [] port holds stands = absurd stands
 kept_in test (first ∷ ports) port holds stands = kept_by (test first) test first port ports refl holds stands (kept_in test ports port holds)
 
-was_by : (told : Bool) (test : PortName → Bool) (first port : PortName) (ports : List PortName) → (IsIn (filter test ports) port → IsIn ports port) → IsIn (cond told (first ∷ filter test ports) (filter test ports)) port → IsIn (first ∷ ports) port
+pub was_by : (told : Bool) (test : PortName → Bool) (first port : PortName) (ports : List PortName) → (IsIn (filter test ports) port → IsIn ports port) → IsIn (cond told (first ∷ filter test ports) (filter test ports)) port → IsIn (first ∷ ports) port
 was_by true test first port ports later (inl same) = inl same
 was_by true test first port ports later (inr stands) = inr (later stands)
 was_by false test first port ports later stands = inr (later stands)
 
-was_in : (test : PortName → Bool) (ports : List PortName) (port : PortName) → IsIn (filter test ports) port → IsIn ports port
+pub was_in : (test : PortName → Bool) (ports : List PortName) (port : PortName) → IsIn (filter test ports) port → IsIn ports port
 was_in test [] port stands = absurd stands
 was_in test (first ∷ ports) port stands = was_by (test first) test first port ports (was_in test ports port) stands
 
 module _ (system : System) (ranged : IsRanged system) (kept : IsWellFormed system) where
-  abbrev plain : System
+  abbrev pub plain : System
   plain = plain_of system
 
-  abbrev right : Wired system
+  abbrev pub right : Wired system
   right = is_wired system kept
 
   -- ---- Connections
 
   -- Each connection comes from an output.
-  comes_from_output : (wire : Wire) → Has system.wires wire → IsIn (outputs_of system) wire.from
+  pub comes_from_output : (wire : Wire) → Has system.wires wire → IsIn (outputs_of system) wire.from
   comes_from_output wire has =
       has_in (outputs_of system) wire.from (output_has system wire.from (each_has (λ (w : Wire). is_none (output_at system w.from) ≡ false) system.wires wire right.from has))
 
-  plain_some : (port : PortName) → IsIn (outputs_of plain) port → is_none (output_at plain port) ≡ false
+  pub plain_some : (port : PortName) → IsIn (outputs_of plain) port → is_none (output_at plain port) ≡ false
   plain_some port stands =
       some_output plain port (declared plain port stands) (λ d. output_is plain (plain_differ system ranged kept) d.instance d.unit d.output d.instance_has d.unit_is d.has)
 
-  from_by : (told : Bool) (wire made : Wire) → Has (cond told (presence_wire wire ∷ wire ∷ []) (wire ∷ [])) made → Has (split_by system ranged kept told wire.from) made.from
+  pub from_by : (told : Bool) (wire made : Wire) → Has (cond told (presence_wire wire ∷ wire ∷ []) (wire ∷ [])) made → Has (split_by system ranged kept told wire.from) made.from
   from_by true wire made (inl is) = inl (ap (λ (w : Wire). w.from) is)
   from_by true wire made (inr (inl is)) = inr (inl (ap (λ (w : Wire). w.from) is))
   from_by true wire made (inr (inr none)) = absurd none
   from_by false wire made (inl is) = inl (ap (λ (w : Wire). w.from) is)
   from_by false wire made (inr none) = absurd none
 
-  plain_from : AllByRecursion (λ (wire : Wire). is_none (output_at plain wire.from) ≡ false) plain.wires
+  pub plain_from : AllByRecursion (λ (wire : Wire). is_none (output_at plain wire.from) ≡ false) plain.wires
   plain_from =
       all_has (λ (wire : Wire). is_none (output_at plain wire.from) ≡ false) plain.wires (λ made has.
       let of = flat_has (plain_wires system) system.wires made has in
@@ -176,14 +176,14 @@ module _ (system : System) (ranged : IsRanged system) (kept : IsWellFormed syste
       (made_stands system ranged kept of.one.from (comes_from_output of.one of.has) made.from (from_by (is_event_output system of.one.from) of.one made of.inside)))
 
   -- A connection of the plain form leads to what one of the system becomes.
-  leads_to : (wire made : Wire) (port : PortName) → Has (plain_wires system wire) made → made.to ≡ port → (wire.to ≡ port) ⊎ (presence_port wire.to ≡ port)
+  pub leads_to : (wire made : Wire) (port : PortName) → Has (plain_wires system wire) made → made.to ≡ port → (wire.to ≡ port) ⊎ (presence_port wire.to ≡ port)
   leads_to wire made port has is =
       elim (wire_by (is_event_output system wire.from) wire made has) [
         | inl same ↦ inl (ap (λ (w : Wire). w.to) same ∙ is)
         | inr both ↦ inr (ap (λ (w : Wire). w.to) both.1 ∙ is)
       ]
 
-  two_targets : (told : Bool) (wire : Wire) → IsPlain wire.to.port → Distinct (targets (cond told (presence_wire wire ∷ wire ∷ []) (wire ∷ [])))
+  pub two_targets : (told : Bool) (wire : Wire) → IsPlain wire.to.port → Distinct (targets (cond told (presence_wire wire ∷ wire ∷ []) (wire ∷ [])))
   two_targets true wire name = (itself_not, ((λ none. none), tt))
     where
       itself_not : Has (wire.to ∷ []) (presence_port wire.to) → ⊥
@@ -191,7 +191,7 @@ module _ (system : System) (ranged : IsRanged system) (kept : IsWellFormed syste
       itself_not (inr none) = none
   two_targets false wire name = ((λ none. none), tt)
 
-  targets_apart : (wires : List Wire) → AllByRecursion (λ (wire : Wire). IsPlain wire.to.port) wires → Distinct (targets wires) → Distinct (targets (flat_map (plain_wires system) wires))
+  pub targets_apart : (wires : List Wire) → AllByRecursion (λ (wire : Wire). IsPlain wire.to.port) wires → Distinct (targets wires) → Distinct (targets (flat_map (plain_wires system) wires))
   targets_apart [] names apart = tt
   targets_apart (wire ∷ wires) names apart =
       subst Distinct (sym (map-append (λ (w : Wire). w.to) (plain_wires system wire) (flat_map (plain_wires system) wires)))
@@ -213,7 +213,7 @@ module _ (system : System) (ranged : IsRanged system) (kept : IsWellFormed syste
 
   -- ---- What an output needs
 
-  itself_by : {A : Type 0} (told : Bool) (other one : A) → Has (cond told (other ∷ one ∷ []) (one ∷ [])) one
+  pub itself_by : {A : Type 0} (told : Bool) (other one : A) → Has (cond told (other ∷ one ∷ []) (one ∷ [])) one
   itself_by true other one = inr (inl refl)
   itself_by false other one = inl refl
 
@@ -222,7 +222,7 @@ module _ (system : System) (ranged : IsRanged system) (kept : IsWellFormed syste
     pub stands : IsIn (outputs_of system) source
     pub needed : IsIn (needed_by plain port) source
 
-  still_of : (port : PortName) (d : Declared system port) (source : PortName) → Has (needed_by system (port_of d.instance d.output.name)) source → Still (port_of d.instance d.output.name) source
+  pub still_of : (port : PortName) (d : Declared system port) (source : PortName) → Has (needed_by system (port_of d.instance d.output.name)) source → Still (port_of d.instance d.output.name) source
   still_of port d source has =
       let to_input : List ℕ → PortName = λ input. record { instance = d.instance.name; port = input } in
       let listed : Has (flat_map (λ input. sources_of system (to_input input)) d.output.needs) source =
@@ -244,20 +244,20 @@ module _ (system : System) (ranged : IsRanged system) (kept : IsWellFormed syste
             (has_flat (λ input. sources_of plain (to_input input)) (plain_needs d.unit d.output.needs) need.one source plain_need_has source_has));
       }
 
-  still : (port source : PortName) → IsIn (outputs_of system) port → Has (needed_by system port) source → Still port source
+  pub still : (port source : PortName) → IsIn (outputs_of system) port → Has (needed_by system port) source → Still port source
   still port source stands =
       let d = declared system port stands in
       subst (λ p. Has (needed_by system p) source → Still p source) d.is (still_of port d source)
 
   -- ---- An orderly list of the plain form, without the ports that tell of events
 
-  abbrev is_output : PortName → Bool
+  abbrev pub is_output : PortName → Bool
   is_output port = list_any (same_port port) (outputs_of system)
 
-  abbrev outputs_among : List PortName → List PortName
+  abbrev pub outputs_among : List PortName → List PortName
   outputs_among ports = filter is_output ports
 
-  put : (told : Bool) (before later : List PortName) (port : PortName) → is_output port ≡ told → (IsIn before port → ⊥) → AllByRecursion (IsIn before) (needed_by plain port) → IsOrderlyAfter system (outputs_among before ++ cond told (port ∷ []) []) later → IsOrderlyAfter system (outputs_among before) (cond told (port ∷ later) later)
+  pub put : (told : Bool) (before later : List PortName) (port : PortName) → is_output port ≡ told → (IsIn before port → ⊥) → AllByRecursion (IsIn before) (needed_by plain port) → IsOrderlyAfter system (outputs_among before ++ cond told (port ∷ []) []) later → IsOrderlyAfter system (outputs_among before) (cond told (port ∷ later) later)
   put true before later port is apart all rest =
       let stands = is_in (outputs_of system) port is in (
         stands,
@@ -269,7 +269,7 @@ module _ (system : System) (ranged : IsRanged system) (kept : IsWellFormed syste
       )
   put false before later port is apart all rest = subst (λ front. IsOrderlyAfter system front later) (append-nil (outputs_among before)) rest
 
-  orderly : (before order : List PortName) → IsOrderlyAfter plain before order → IsOrderlyAfter system (outputs_among before) (outputs_among order)
+  pub orderly : (before order : List PortName) → IsOrderlyAfter plain before order → IsOrderlyAfter system (outputs_among before) (outputs_among order)
   orderly before [] is = tt
   orderly before (port ∷ later) is =
       put (is_output port) before (outputs_among later) port refl is.1 is.2

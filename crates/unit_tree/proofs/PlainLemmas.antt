@@ -59,40 +59,40 @@ plain-Present name = fold-Present Expr node_plain name
 -- ---- What does not change
 
 -- A fold that makes the same of `present(u)` as of a name makes the same of the plain form.
-abbrev Same : (A : Type 0) → (Expr-F A → A) → Expr → Type 0
+abbrev pub Same : (A : Type 0) → (Expr-F A → A) → Expr → Type 0
 Same A step value = fold-Expr A step (plain_expression value) ≡ fold-Expr A step value
 
-abbrev SameOf : (A : Type 0) → (Expr-F A → A) → Type 0
+abbrev pub SameOf : (A : Type 0) → (Expr-F A → A) → Type 0
 SameOf A step = (value : Expr) × Same A step value
 
-same-Unary : (A : Type 0) (step : Expr-F A → A) (op : UnOp) (arg : Expr) → Same A step arg → Same A step (expr.Unary op arg)
+pub same-Unary : (A : Type 0) (step : Expr-F A → A) (op : UnOp) (arg : Expr) → Same A step arg → Same A step (expr.Unary op arg)
 same-Unary A step op arg is =
     ap (fold-Expr A step) (plain-Unary op arg) ∙ fold-Unary A step op (plain_expression arg)
     ∙ ap (λ a. step (Expr-F.Unary op a)) is
     ∙ sym (fold-Unary A step op arg)
 
-same-Binary : (A : Type 0) (step : Expr-F A → A) (op : BinOp) (left right : Expr) → Same A step left → Same A step right → Same A step (expr.Binary op left right)
+pub same-Binary : (A : Type 0) (step : Expr-F A → A) (op : BinOp) (left right : Expr) → Same A step left → Same A step right → Same A step (expr.Binary op left right)
 same-Binary A step op left right on_left on_right =
     ap (fold-Expr A step) (plain-Binary op left right)
     ∙ fold-Binary A step op (plain_expression left) (plain_expression right)
     ∙ rw (on_left, on_right) (sym (fold-Binary A step op left right))
 
-same-Clamp : (A : Type 0) (step : Expr-F A → A) (value low high : Expr) → Same A step value → Same A step low → Same A step high → Same A step (expr.Clamp value low high)
+pub same-Clamp : (A : Type 0) (step : Expr-F A → A) (value low high : Expr) → Same A step value → Same A step low → Same A step high → Same A step (expr.Clamp value low high)
 same-Clamp A step value low high on_value on_low on_high =
     ap (fold-Expr A step) (plain-Clamp value low high)
     ∙ fold-Clamp A step (plain_expression value) (plain_expression low) (plain_expression high)
     ∙ rw (on_value, on_low, on_high) (sym (fold-Clamp A step value low high))
 
-same-Choose : (A : Type 0) (step : Expr-F A → A) (condition then_part else_part : Expr) → Same A step condition → Same A step then_part → Same A step else_part → Same A step (expr.Choose condition then_part else_part)
+pub same-Choose : (A : Type 0) (step : Expr-F A → A) (condition then_part else_part : Expr) → Same A step condition → Same A step then_part → Same A step else_part → Same A step (expr.Choose condition then_part else_part)
 same-Choose A step condition then_part else_part on_condition on_then on_else =
     ap (fold-Expr A step) (plain-Choose condition then_part else_part)
     ∙ fold-Choose A step (plain_expression condition) (plain_expression then_part) (plain_expression else_part)
     ∙ rw (on_condition, on_then, on_else) (sym (fold-Choose A step condition then_part else_part))
 
-abbrev of_same : (A : Type 0) (step : Expr-F A → A) → SameOf A step → Expr
+abbrev pub of_same : (A : Type 0) (step : Expr-F A → A) → SameOf A step → Expr
 of_same A step one = one.0
 
-same_node : (A : Type 0) (step : Expr-F A → A) → ((name : List ℕ) → step (Expr-F.Var (presence_name name)) ≡ step (Expr-F.Present name)) → (y : Expr-F (SameOf A step)) → Same A step (roll-Expr (map-Expr (SameOf A step) Expr (of_same A step) y))
+pub same_node : (A : Type 0) (step : Expr-F A → A) → ((name : List ℕ) → step (Expr-F.Var (presence_name name)) ≡ step (Expr-F.Present name)) → (y : Expr-F (SameOf A step)) → Same A step (roll-Expr (map-Expr (SameOf A step) Expr (of_same A step) y))
 same_node A step present (Expr-F.Number number decimals) = subst (Same A step) (sym (rolls-Number number decimals)) (ap (fold-Expr A step) (plain-Number number decimals))
 same_node A step present (Expr-F.Truth told) = subst (Same A step) (sym (rolls-Truth told)) (ap (fold-Expr A step) (plain-Truth told))
 same_node A step present (Expr-F.Var name) = subst (Same A step) (sym (rolls-Var name)) (ap (fold-Expr A step) (plain-Var name))
@@ -108,7 +108,7 @@ same_node A step present Expr-F.Absent = subst (Same A step) (sym rolls-Absent) 
 same_node A step present (Expr-F.Present name) =
     subst (Same A step) (sym (rolls-Present name)) (ap (fold-Expr A step) (plain-Present name) ∙ fold-Var A step (presence_name name) ∙ present name ∙ sym (fold-Present A step name))
 
-same : (A : Type 0) (step : Expr-F A → A) → ((name : List ℕ) → step (Expr-F.Var (presence_name name)) ≡ step (Expr-F.Present name)) → (value : Expr) → Same A step value
+pub same : (A : Type 0) (step : Expr-F A → A) → ((name : List ℕ) → step (Expr-F.Var (presence_name name)) ≡ step (Expr-F.Present name)) → (value : Expr) → Same A step value
 same A step present = ind-Expr (Same A step) (λ x y is. subst (λ z. Same A step (roll-Expr z)) is (same_node A step present y))
 
 -- The plain form is as deep as the expression, and costs as much.
@@ -120,42 +120,42 @@ plain_cost = same ℕ node_cost (λ name. refl)
 
 -- ---- Step lines
 
-abbrev SameCost : Line → Type 0
+abbrev pub SameCost : Line → Type 0
 SameCost some = line_cost (plain_line some) ≡ line_cost some
 
-abbrev Costed : Type 0
+abbrev pub Costed : Type 0
 Costed = (some : Line) × SameCost some
 
-abbrev line_in : Costed → Line
+abbrev pub line_in : Costed → Line
 line_in one = one.0
 
-same_costs : (lines : List Costed) → map line_cost (map plain_line (map line_in lines)) ≡ map line_cost (map line_in lines)
+pub same_costs : (lines : List Costed) → map line_cost (map plain_line (map line_in lines)) ≡ map line_cost (map line_in lines)
 same_costs [] = refl
 same_costs (one ∷ lines) = rw (one.1, same_costs lines) refl
 
-cost-Assign : (target : List ℕ) (value : Expr) → SameCost (line.Assign target value)
+pub cost-Assign : (target : List ℕ) (value : Expr) → SameCost (line.Assign target value)
 cost-Assign target value =
     ap line_cost (fold-Assign Line node_plain_line target value) ∙ fold-Assign ℕ part_cost target (plain_expression value)
     ∙ ap (λ c. c + 1) (plain_cost value)
     ∙ sym (fold-Assign ℕ part_cost target value)
 
-cost-Accept : (value : Expr) → SameCost (line.Accept value)
+pub cost-Accept : (value : Expr) → SameCost (line.Accept value)
 cost-Accept value =
     ap line_cost (fold-Accept Line node_plain_line value) ∙ fold-Accept ℕ part_cost (plain_expression value)
     ∙ ap (λ c. c + 1) (plain_cost value)
     ∙ sym (fold-Accept ℕ part_cost value)
 
-cost-Repeat : (count : ℕ) (body : List Costed) → SameCost (line.Repeat count (map line_in body))
+pub cost-Repeat : (count : ℕ) (body : List Costed) → SameCost (line.Repeat count (map line_in body))
 cost-Repeat count body =
     ap line_cost (fold-Repeat Line node_plain_line count (map line_in body)) ∙ fold-Repeat ℕ part_cost count (map plain_line (map line_in body))
     ∙ ap (λ costs. part_cost (Line-F.Repeat count costs)) (same_costs body)
     ∙ sym (fold-Repeat ℕ part_cost count (map line_in body))
 
-same_else : (lines : Option (List Costed)) → option_map (map line_cost) (option_map (map plain_line) (option_map (map line_in) lines)) ≡ option_map (map line_cost) (option_map (map line_in) lines)
+pub same_else : (lines : Option (List Costed)) → option_map (map line_cost) (option_map (map plain_line) (option_map (map line_in) lines)) ≡ option_map (map line_cost) (option_map (map line_in) lines)
 same_else None = refl
 same_else (Some lines) = ap Some (same_costs lines)
 
-cost-If : (condition : Expr) (then_lines : List Costed) (else_lines : Option (List Costed)) → SameCost (line.If condition (map line_in then_lines) (option_map (map line_in) else_lines))
+pub cost-If : (condition : Expr) (then_lines : List Costed) (else_lines : Option (List Costed)) → SameCost (line.If condition (map line_in then_lines) (option_map (map line_in) else_lines))
 cost-If condition then_lines else_lines =
     ap line_cost (fold-If Line node_plain_line condition (map line_in then_lines) (option_map (map line_in) else_lines))
     ∙ fold-If ℕ part_cost (plain_expression condition) (map plain_line (map line_in then_lines)) (option_map (map plain_line) (option_map (map line_in) else_lines))
@@ -164,7 +164,7 @@ cost-If condition then_lines else_lines =
     ∙ ap (λ c. c + 1 + sum (map line_cost (map line_in then_lines)) + else_cost (option_map (map line_cost) (option_map (map line_in) else_lines))) (plain_cost condition)
     ∙ sym (fold-If ℕ part_cost condition (map line_in then_lines) (option_map (map line_in) else_lines))
 
-line_node : (y : Line-F Costed) → SameCost (roll-Line (map-Line Costed Line line_in y))
+pub line_node : (y : Line-F Costed) → SameCost (roll-Line (map-Line Costed Line line_in y))
 line_node (Line-F.Assign target value) = subst SameCost (sym (rolls-Assign target value)) (cost-Assign target value)
 line_node (Line-F.If condition then_lines None) = subst SameCost (sym (rolls-If condition (map line_in then_lines) None)) (cost-If condition then_lines None)
 line_node (Line-F.If condition then_lines (Some else_lines)) =
@@ -178,34 +178,34 @@ plain_line_cost = ind-Line SameCost (λ x y is. subst (λ z. SameCost (roll-Line
 -- ---- By its choices
 
 -- What the fold keeps as the whole is the expression.
-abbrev IsWhole : Expr → Type 0
+abbrev pub IsWhole : Expr → Type 0
 IsWhole value = (gap : Expr) (change : Expr → Expr) → (fold-Expr Choices (node_choices gap change) value).whole ≡ value
 
-abbrev Proved : Type 0
+abbrev pub Proved : Type 0
 Proved = (value : Expr) × IsWhole value
 
-abbrev bare : Proved → Expr
+abbrev pub bare : Proved → Expr
 bare value = value.0
 
-whole-Unary : (op : UnOp) (arg : Expr) → IsWhole arg → IsWhole (expr.Unary op arg)
+pub whole-Unary : (op : UnOp) (arg : Expr) → IsWhole arg → IsWhole (expr.Unary op arg)
 whole-Unary op arg is gap change =
     ap (λ c. c.whole) (fold-Unary Choices (node_choices gap change) op arg) ∙ ap (expr.Unary op) (is gap change)
 
-whole-Binary : (op : BinOp) (left right : Expr) → IsWhole left → IsWhole right → IsWhole (expr.Binary op left right)
+pub whole-Binary : (op : BinOp) (left right : Expr) → IsWhole left → IsWhole right → IsWhole (expr.Binary op left right)
 whole-Binary op left right on_left on_right gap change =
     ap (λ c. c.whole) (fold-Binary Choices (node_choices gap change) op left right) ∙ rw (on_left gap change, on_right gap change) refl
 
-whole-Clamp : (value low high : Expr) → IsWhole value → IsWhole low → IsWhole high → IsWhole (expr.Clamp value low high)
+pub whole-Clamp : (value low high : Expr) → IsWhole value → IsWhole low → IsWhole high → IsWhole (expr.Clamp value low high)
 whole-Clamp value low high on_value on_low on_high gap change =
     ap (λ c. c.whole) (fold-Clamp Choices (node_choices gap change) value low high)
     ∙ rw (on_value gap change, on_low gap change, on_high gap change) refl
 
-whole-Choose : (condition chosen_part other : Expr) → IsWhole condition → IsWhole chosen_part → IsWhole other → IsWhole (expr.Choose condition chosen_part other)
+pub whole-Choose : (condition chosen_part other : Expr) → IsWhole condition → IsWhole chosen_part → IsWhole other → IsWhole (expr.Choose condition chosen_part other)
 whole-Choose condition chosen_part other on_condition on_chosen on_other gap change =
     ap (λ c. c.whole) (fold-Choose Choices (node_choices gap change) condition chosen_part other)
     ∙ rw (on_condition gap change, on_chosen gap change, on_other gap change) refl
 
-node : (y : Expr-F Proved) → IsWhole (roll-Expr (map-Expr Proved Expr bare y))
+pub node : (y : Expr-F Proved) → IsWhole (roll-Expr (map-Expr Proved Expr bare y))
 node (Expr-F.Number number decimals) = subst IsWhole (sym (rolls-Number number decimals)) (λ gap change. ap (λ c. c.whole) (fold-Number Choices (node_choices gap change) number decimals))
 node (Expr-F.Truth told) = subst IsWhole (sym (rolls-Truth told)) (λ gap change. ap (λ c. c.whole) (fold-Truth Choices (node_choices gap change) told))
 node (Expr-F.Var name) = subst IsWhole (sym (rolls-Var name)) (λ gap change. ap (λ c. c.whole) (fold-Var Choices (node_choices gap change) name))

@@ -59,18 +59,18 @@ flat_has f (first ∷ xs) y has = elim (has_either (f first) (flat_map f xs) y h
 abbrev pub IsPlain : List ℕ → Type 0
 IsPlain name = (other : List ℕ) → name ≡ presence_name other → ⊥
 
-not_all : (other : List ℕ) → list_all is_word_byte (presence_name other) ≡ true → ⊥
+pub not_all : (other : List ℕ) → list_all is_word_byte (presence_name other) ≡ true → ⊥
 not_all [] is = absurd (cc)
 not_all (byte ∷ other) is = not_all other (and_parts (is_word_byte byte) (list_all is_word_byte (presence_name other)) is).1
 
-letter_not : is_letter 63 ≡ true → ⊥
+pub letter_not : is_letter 63 ≡ true → ⊥
 letter_not is = absurd (cc)
 
 pub word_is_plain : (name : List ℕ) → IsWord name → IsPlain name
 word_is_plain name word [] is = letter_not (subst IsWord is word).0
 word_is_plain name word (byte ∷ other) is = not_all other (subst IsWord is word).1
 
-nil_not : (name : List ℕ) → [] ≡ presence_name name → ⊥
+pub nil_not : (name : List ℕ) → [] ≡ presence_name name → ⊥
 nil_not [] is = absurd (cc)
 nil_not (byte ∷ name) is = absurd (cc)
 
@@ -97,38 +97,38 @@ pub record PlainNames (port : Port) : Type 0 where
   pub needs : (need : List ℕ) → Has port.needs need → IsPlain need
 
 module _ (system : System) (ranged : IsRanged system) where
-  words_on : (line : LineForm) → Has (canonical_forms system) line → AllByRecursion IsWord (names_on line)
+  pub words_on : (line : LineForm) → Has (canonical_forms system) line → AllByRecursion IsWord (names_on line)
   words_on line has = each_has (λ l. AllByRecursion IsWord (names_on l)) (canonical_forms system) line ranged.names has
 
-  plain_on : (line : LineForm) (name : List ℕ) → Has (canonical_forms system) line → Has (names_said line) name → IsPlain name
+  pub plain_on : (line : LineForm) (name : List ℕ) → Has (canonical_forms system) line → Has (names_said line) name → IsPlain name
   plain_on line name has said =
       word_is_plain name (each_has IsWord (names_on line) name (words_on line has) (has_front (names_said line) (names_on_expression (expression_on line)) name said))
 
-  abbrev units : List Part
+  abbrev pub units : List Part
   units = map (λ unit. parts.HasUnit unit.name (unit_parts unit)) system.units
 
-  abbrev instances : List Part
+  abbrev pub instances : List Part
   instances = map parts.HasInstance system.instances
 
-  abbrev wires : List Part
+  abbrev pub wires : List Part
   wires = map parts.Connects system.wires
 
-  abbrev stop : List Part
+  abbrev pub stop : List Part
   stop = optional parts.Stop system.stop
 
-  abbrev longest : List Part
+  abbrev pub longest : List Part
   longest = optional parts.Longest system.longest
 
-  abbrev zero_steps : List Part
+  abbrev pub zero_steps : List Part
   zero_steps = optional parts.Zero system.zero
 
-  abbrev rows : List Part
+  abbrev pub rows : List Part
   rows = optional parts.Rows system.rows
 
-  abbrev samples : List Part
+  abbrev pub samples : List Part
   samples = map parts.Samples system.samples
 
-  has_part : (part : Part) (line : LineForm) → Has ((units ++ instances) ++ wires) part → Has (part_forms part) line → Has (canonical_forms system) line
+  pub has_part : (part : Part) (line : LineForm) → Has ((units ++ instances) ++ wires) part → Has (part_forms part) line → Has (canonical_forms system) line
   has_part part line has inside =
       let a = has_front ((units ++ instances) ++ wires) stop part has in
       let b = has_front (((units ++ instances) ++ wires) ++ stop) longest part a in
@@ -144,17 +144,17 @@ module _ (system : System) (ranged : IsRanged system) where
       (inr (inr (inr (inl refl))))
 
   module _ (unit : Unit) (declared : Has system.units unit) where
-    abbrev before : List UnitPart
+    abbrev pub before : List UnitPart
     before =
         optional parts.Resolution unit.resolution ++ map parts.HasParam unit.params ++ map parts.HasState unit.states ++ map parts.HasLocal unit.locals ++ map parts.HasInput unit.inputs ++ map parts.HasEventIn unit.events_in
 
-    abbrev outputs : List UnitPart
+    abbrev pub outputs : List UnitPart
     outputs = map parts.HasOutput unit.outputs
 
-    abbrev events : List UnitPart
+    abbrev pub events : List UnitPart
     events = map parts.HasEventOut unit.events_out
 
-    unit_line : (part : UnitPart) (line : LineForm) → Has ((before ++ outputs) ++ events) part → Has (unit_part_forms part) line → Has (canonical_forms system) line
+    pub unit_line : (part : UnitPart) (line : LineForm) → Has ((before ++ outputs) ++ events) part → Has (unit_part_forms part) line → Has (canonical_forms system) line
     unit_line part line has inside =
         let a = has_front ((before ++ outputs) ++ events) (optional parts.Max unit.max) part has in
         let b = has_front (((before ++ outputs) ++ events) ++ optional parts.Max unit.max) (optional parts.Step unit.step) part a in
@@ -164,11 +164,11 @@ module _ (system : System) (ranged : IsRanged system) where
         (has_front (units ++ instances) wires unit_part (has_front units instances unit_part (has_map (λ (u : Unit). parts.HasUnit u.name (unit_parts u)) system.units unit declared)))
         (inr (has_front (flat_map unit_part_forms (unit_parts unit)) (form.End ∷ []) line here))
 
-    output_line : (output : Output) → Has unit.outputs output → Has (canonical_forms system) (form.Output output)
+    pub output_line : (output : Output) → Has unit.outputs output → Has (canonical_forms system) (form.Output output)
     output_line output has =
         unit_line (parts.HasOutput output) (form.Output output) (has_front (before ++ outputs) events (parts.HasOutput output) (has_behind before outputs (parts.HasOutput output) (has_map parts.HasOutput unit.outputs output has))) (inl refl)
 
-    event_line : (event : EventOut) → Has unit.events_out event → Has (canonical_forms system) (form.EventOutput event)
+    pub event_line : (event : EventOut) → Has unit.events_out event → Has (canonical_forms system) (form.EventOutput event)
     event_line event has =
         unit_line (parts.HasEventOut event) (form.EventOutput event) (has_behind (before ++ outputs) events (parts.HasEventOut event) (has_map parts.HasEventOut unit.events_out event has)) (inl refl)
 

@@ -36,7 +36,7 @@ pub record Declared (system : System) (port : PortName) : Type 0 where
   pub has : Has (output_ports unit) output
   pub is : port_of instance output.name ≡ port
 
-named_by : (first unit : Unit) (units : List Unit) (rest : Option Unit) (told : Bool) → (rest ≡ Some unit → Has units unit) → cond told (Some first) rest ≡ Some unit → Has (first ∷ units) unit
+pub named_by : (first unit : Unit) (units : List Unit) (rest : Option Unit) (told : Bool) → (rest ≡ Some unit → Has units unit) → cond told (Some first) rest ≡ Some unit → Has (first ∷ units) unit
 named_by first unit units rest true later is = inl (cc)
 named_by first unit units rest false later is = inr (later is)
 
@@ -45,13 +45,13 @@ named_has [] name unit is = absurd (cc)
 named_has (first ∷ units) name unit is = named_by first unit units (unit_named units name) (bytes_eq first.name name) (named_has units name unit) is
 
 module _ (system : System) where
-  abbrev ports_with : Instance → List Port → List PortName
+  abbrev pub ports_with : Instance → List Port → List PortName
   ports_with instance ports = map (λ (output : Port). port_of instance output.name) ports
 
-  abbrev ports_of : Instance → List PortName
+  abbrev pub ports_of : Instance → List PortName
   ports_of instance = ports_with instance (outputs_in (unit_of_instance system instance))
 
-  declared_by : (instance : Instance) (given : Option Unit) (port : PortName) → Has system.instances instance → unit_of_instance system instance ≡ given → Has (ports_with instance (outputs_in given)) port → Declared system port
+  pub declared_by : (instance : Instance) (given : Option Unit) (port : PortName) → Has system.instances instance → unit_of_instance system instance ≡ given → Has (ports_with instance (outputs_in given)) port → Declared system port
   declared_by instance None port instance_has unit_is has = absurd has
   declared_by instance (Some unit) port instance_has unit_is has =
       let from = map_has (λ (output : Port). port_of instance output.name) (output_ports unit) port has in
@@ -98,10 +98,10 @@ ones unit = map (plain_output unit) unit.outputs
 abbrev pub twos : Unit → List Output
 twos unit = flat_map (plain_outputs unit) unit.events_out
 
-plain_ports : (unit : Unit) → output_ports (plain_unit unit) ≡ map of_output (ones unit ++ twos unit)
+pub plain_ports : (unit : Unit) → output_ports (plain_unit unit) ≡ map of_output (ones unit ++ twos unit)
 plain_ports unit = append-nil (map of_output (ones unit ++ twos unit))
 
-has_plain_ports : (unit : Unit) (output : Output) → Has (ones unit ++ twos unit) output → Has (output_ports (plain_unit unit)) (of_output output)
+pub has_plain_ports : (unit : Unit) (output : Output) → Has (ones unit ++ twos unit) output → Has (output_ports (plain_unit unit)) (of_output output)
 has_plain_ports unit output has = subst (λ ports. Has ports (of_output output)) (sym (plain_ports unit)) (has_map of_output (ones unit ++ twos unit) output has)
 
 -- What a port of a unit becomes.
@@ -128,12 +128,12 @@ becomes unit port has = elim (has_either (map of_output unit.outputs) (map of_ev
         subst (Becomes unit) from.is (record { whole = made _ (inr (inl refl)); presence = λ is. made _ (inl refl) })
 
 -- What a port of the plain form comes from.
-record Comes (unit : Unit) (port : Port) : Type 0 where
-  from : Port
-  has : Has (output_ports unit) from
-  is : (port.name ≡ from.name) ⊎ ((from.is_event ≡ true) × (port.name ≡ presence_name from.name))
+pub record Comes (unit : Unit) (port : Port) : Type 0 where
+  pub from : Port
+  pub has : Has (output_ports unit) from
+  pub is : (port.name ≡ from.name) ⊎ ((from.is_event ≡ true) × (port.name ≡ presence_name from.name))
 
-comes : (unit : Unit) (port : Port) → Has (output_ports (plain_unit unit)) port → Comes unit port
+pub comes : (unit : Unit) (port : Port) → Has (output_ports (plain_unit unit)) port → Comes unit port
 comes unit port has = of_made (map_has of_output (ones unit ++ twos unit) port (subst (λ ports. Has ports port) (plain_ports unit) has))
   where
     of_one : (output : Output) → Has (ones unit) output → Comes unit (of_output output)
@@ -157,25 +157,25 @@ comes unit port has = of_made (map_has of_output (ones unit ++ twos unit) port (
     ])
 
 -- Names of a unit's plain form differ.
-abbrev both_names : EventOut → List (List ℕ)
+abbrev pub both_names : EventOut → List (List ℕ)
 both_names event = presence_name event.name ∷ event.name ∷ []
 
-abbrev output_name : Output → List ℕ
+abbrev pub output_name : Output → List ℕ
 output_name output = output.name
 
-twos_names : (unit : Unit) (events : List EventOut) → map output_name (flat_map (plain_outputs unit) events) ≡ flat_map both_names events
+pub twos_names : (unit : Unit) (events : List EventOut) → map output_name (flat_map (plain_outputs unit) events) ≡ flat_map both_names events
 twos_names unit [] = refl
 twos_names unit (event ∷ events) = ap (λ rest. presence_name event.name ∷ event.name ∷ rest) (twos_names unit events)
 
-names_are : (unit : Unit) (outputs : List Output) (events : List EventOut) → map output_name (map (plain_output unit) outputs ++ flat_map (plain_outputs unit) events) ≡ map output_name outputs ++ flat_map both_names events
+pub names_are : (unit : Unit) (outputs : List Output) (events : List EventOut) → map output_name (map (plain_output unit) outputs ++ flat_map (plain_outputs unit) events) ≡ map output_name outputs ++ flat_map both_names events
 names_are unit [] events = twos_names unit events
 names_are unit (output ∷ outputs) events = ap (λ rest. output.name ∷ rest) (names_are unit outputs events)
 
-abbrev event_name : EventOut → List ℕ
+abbrev pub event_name : EventOut → List ℕ
 event_name event = event.name
 
 -- A name among those of both ports is an event's, or one of presence.
-among_both : (events : List EventOut) (name : List ℕ) → Has (flat_map both_names events) name → Has (map event_name events) name ⊎ ((other : List ℕ) × Has (map event_name events) other × (name ≡ presence_name other))
+pub among_both : (events : List EventOut) (name : List ℕ) → Has (flat_map both_names events) name → Has (map event_name events) name ⊎ ((other : List ℕ) × Has (map event_name events) other × (name ≡ presence_name other))
 among_both [] name has = absurd has
 among_both (event ∷ events) name (inl is) = inr (event.name, inl refl, sym is)
 among_both (event ∷ events) name (inr (inl is)) = inl (inl is)
@@ -184,7 +184,7 @@ among_both (event ∷ events) name (inr (inr has)) = elim (among_both events nam
   | inr later ↦ inr (later.0, inr later.1, later.2)
 ]
 
-both_apart : (events : List EventOut) → Distinct (map event_name events) → AllByRecursion IsPlain (map event_name events) → Distinct (flat_map both_names events)
+pub both_apart : (events : List EventOut) → Distinct (map event_name events) → AllByRecursion IsPlain (map event_name events) → Distinct (flat_map both_names events)
 both_apart [] apart plain = tt
 both_apart (event ∷ events) apart plain = (presence_not, (name_not, both_apart events apart.1 plain.1))
   where
@@ -198,7 +198,7 @@ both_apart (event ∷ events) apart plain = (presence_not, (name_not, both_apart
       | inr later ↦ apart.0 (subst (Has (map event_name events)) (sym (same_presence event.name later.0 later.2)) later.1)
     ]
 
-names_apart : (outputs : List Output) (events : List EventOut) → Distinct (map output_name outputs ++ map event_name events) → AllByRecursion IsPlain (map output_name outputs ++ map event_name events) → Distinct (map output_name outputs ++ flat_map both_names events)
+pub names_apart : (outputs : List Output) (events : List EventOut) → Distinct (map output_name outputs ++ map event_name events) → AllByRecursion IsPlain (map output_name outputs ++ map event_name events) → Distinct (map output_name outputs ++ flat_map both_names events)
 names_apart [] events apart plain = both_apart events apart plain
 names_apart (output ∷ outputs) events apart plain = (name_not, names_apart outputs events apart.1 plain.1)
   where
@@ -211,17 +211,17 @@ names_apart (output ∷ outputs) events apart plain = (name_not, names_apart out
       ]
     ]
 
-source_names : (outputs : List Output) (events : List EventOut) → map (λ (port : Port). port.name) (map of_output outputs ++ map of_event events) ≡ map output_name outputs ++ map event_name events
+pub source_names : (outputs : List Output) (events : List EventOut) → map (λ (port : Port). port.name) (map of_output outputs ++ map of_event events) ≡ map output_name outputs ++ map event_name events
 source_names [] [] = refl
 source_names [] (event ∷ events) = ap (λ rest. event.name ∷ rest) (source_names [] events)
 source_names (output ∷ outputs) events = ap (λ rest. output.name ∷ rest) (source_names outputs events)
 
-unit_apart : (unit : Unit) → Distinct (output_names unit) → AllByRecursion IsPlain (output_names unit) → Distinct (map output_name (ones unit ++ twos unit))
+pub unit_apart : (unit : Unit) → Distinct (output_names unit) → AllByRecursion IsPlain (output_names unit) → Distinct (map output_name (ones unit ++ twos unit))
 unit_apart unit apart plain =
     subst Distinct (sym (names_are unit unit.outputs unit.events_out))
     (names_apart unit.outputs unit.events_out (subst Distinct (source_names unit.outputs unit.events_out) apart) (subst (AllByRecursion IsPlain) (source_names unit.outputs unit.events_out) plain))
 
-made_names : (outputs : List Output) → map (λ (port : Port). port.name) (map of_output outputs) ≡ map output_name outputs
+pub made_names : (outputs : List Output) → map (λ (port : Port). port.name) (map of_output outputs) ≡ map output_name outputs
 made_names [] = refl
 made_names (output ∷ outputs) = ap (λ rest. output.name ∷ rest) (made_names outputs)
 
@@ -235,11 +235,11 @@ plain_of system = record system {
   samples = samples_or_all system;
 }
 
-plain_named_by : (told : Bool) (first : Unit) (plain rest : Option Unit) → plain ≡ option_map plain_unit rest → cond told (Some (plain_unit first)) plain ≡ option_map plain_unit (cond told (Some first) rest)
+pub plain_named_by : (told : Bool) (first : Unit) (plain rest : Option Unit) → plain ≡ option_map plain_unit rest → cond told (Some (plain_unit first)) plain ≡ option_map plain_unit (cond told (Some first) rest)
 plain_named_by true first plain rest is = refl
 plain_named_by false first plain rest is = is
 
-plain_named : (units : List Unit) (name : List ℕ) → unit_named (map plain_unit units) name ≡ option_map plain_unit (unit_named units name)
+pub plain_named : (units : List Unit) (name : List ℕ) → unit_named (map plain_unit units) name ≡ option_map plain_unit (unit_named units name)
 plain_named [] name = refl
 plain_named (first ∷ units) name = plain_named_by (bytes_eq first.name name) first (unit_named (map plain_unit units) name) (unit_named units name) (plain_named units name)
 
@@ -250,7 +250,7 @@ pub record Joined (wires : List Wire) (port source : PortName) : Type 0 where
   pub to : wire.to ≡ port
   pub from : wire.from ≡ source
 
-wired_by : (told : Bool) (first : Wire) (wires : List Wire) (port source : PortName) (rest : List PortName) → same_port first.to port ≡ told → (Has rest source → Joined wires port source) → Has (cons_option (cond told (Some first.from) None) rest) source → Joined (first ∷ wires) port source
+pub wired_by : (told : Bool) (first : Wire) (wires : List Wire) (port source : PortName) (rest : List PortName) → same_port first.to port ≡ told → (Has rest source → Joined wires port source) → Has (cons_option (cond told (Some first.from) None) rest) source → Joined (first ∷ wires) port source
 wired_by true first wires port source rest told later (inl is) = record { wire = first; has = inl refl; to = same_port_is first.to port told; from = is }
 wired_by true first wires port source rest told later (inr has) = let wired = later has in record { wire = wired.wire; has = inr wired.has; to = wired.to; from = wired.from }
 wired_by false first wires port source rest told later has = let wired = later has in record { wire = wired.wire; has = inr wired.has; to = wired.to; from = wired.from }
@@ -259,7 +259,7 @@ pub wired : (wires : List Wire) (port source : PortName) → Has (filter_map (so
 wired [] port source has = absurd has
 wired (first ∷ wires) port source has = wired_by (same_port first.to port) first wires port source (filter_map (source_if port) wires) refl (wired wires port source) has
 
-has_source_by : (told : Bool) (first source : PortName) (rest : List PortName) → Has rest source → Has (cons_option (cond told (Some first) None) rest) source
+pub has_source_by : (told : Bool) (first source : PortName) (rest : List PortName) → Has rest source → Has (cons_option (cond told (Some first) None) rest) source
 has_source_by true first source rest has = inr has
 has_source_by false first source rest has = has
 
@@ -281,38 +281,38 @@ wire_by true wire plain (inr (inr none)) = absurd none
 wire_by false wire plain (inl is) = inl is
 wire_by false wire plain (inr none) = absurd none
 
-need_by : (told : Bool) (need input : List ℕ) → Has (cond told (presence_name need ∷ need ∷ []) (need ∷ [])) input → (need ≡ input) ⊎ (presence_name need ≡ input)
+pub need_by : (told : Bool) (need input : List ℕ) → Has (cond told (presence_name need ∷ need ∷ []) (need ∷ [])) input → (need ≡ input) ⊎ (presence_name need ≡ input)
 need_by true need input (inl is) = inr is
 need_by true need input (inr (inl is)) = inl is
 need_by true need input (inr (inr none)) = absurd none
 need_by false need input (inl is) = inl is
 need_by false need input (inr none) = absurd none
 
-port_by : (told : Bool) (port made : PortName) → Has (cond told (presence_port port ∷ port ∷ []) (port ∷ [])) made → (port ≡ made) ⊎ (presence_port port ≡ made)
+pub port_by : (told : Bool) (port made : PortName) → Has (cond told (presence_port port ∷ port ∷ []) (port ∷ [])) made → (port ≡ made) ⊎ (presence_port port ≡ made)
 port_by true port made (inl is) = inr is
 port_by true port made (inr (inl is)) = inl is
 port_by true port made (inr (inr none)) = absurd none
 port_by false port made (inl is) = inl is
 port_by false port made (inr none) = absurd none
 
-same_ports : (one other : PortName) → one.instance ≡ other.instance → one.port ≡ other.port → one ≡ other
+pub same_ports : (one other : PortName) → one.instance ≡ other.instance → one.port ≡ other.port → one ≡ other
 same_ports one other same_instance same_name =
     ap (λ instance. record { instance = instance; port = one.port }) same_instance
     ∙ ap (λ port. record { instance = other.instance; port = port }) same_name
 
-all_weaker : (P Q : PortName → Type 0) (ports : List PortName) → ((port : PortName) → P port → Q port) → AllByRecursion P ports → AllByRecursion Q ports
+pub all_weaker : (P Q : PortName → Type 0) (ports : List PortName) → ((port : PortName) → P port → Q port) → AllByRecursion P ports → AllByRecursion Q ports
 all_weaker P Q [] weaker all = tt
 all_weaker P Q (port ∷ ports) weaker all = (weaker port all.0, all_weaker P Q ports weaker all.1)
 
 pub in_longer : (ports behind : List PortName) (port : PortName) → IsIn ports port → IsIn (ports ++ behind) port
 in_longer ports behind port stands = has_in (ports ++ behind) port (has_front ports behind port (in_has ports port stands))
 
-all_longer : (P : PortName → Type 0) (ports : List PortName) (port : PortName) → AllByRecursion P ports → P port → AllByRecursion P (ports ++ (port ∷ []))
+pub all_longer : (P : PortName → Type 0) (ports : List PortName) (port : PortName) → AllByRecursion P ports → P port → AllByRecursion P (ports ++ (port ∷ []))
 all_longer P [] port all holds = (holds, tt)
 all_longer P (first ∷ ports) port all holds = (all.0, all_longer P ports port all.1 holds)
 
 -- A unit that the plain form has is that of one.
-comes_from : (units : List Unit) (name : List ℕ) (given : Option Unit) (plain : Unit) → unit_named units name ≡ given → option_map plain_unit given ≡ Some plain → (unit : Unit) × (unit_named units name ≡ Some unit) × (plain_unit unit ≡ plain)
+pub comes_from : (units : List Unit) (name : List ℕ) (given : Option Unit) (plain : Unit) → unit_named units name ≡ given → option_map plain_unit given ≡ Some plain → (unit : Unit) × (unit_named units name ≡ Some unit) × (plain_unit unit ≡ plain)
 comes_from units name None plain is made = absurd (cc)
 comes_from units name (Some unit) plain is made = (unit, is, some_same (plain_unit unit) plain made)
   where
@@ -320,30 +320,30 @@ comes_from units name (Some unit) plain is made = (unit, is, some_same (plain_un
     some_same one other same = cc
 
 module _ (system : System) (ranged : IsRanged system) (kept : IsWellFormed system) where
-  abbrev plain : System
+  abbrev pub plain : System
   plain = plain_of system
 
-  abbrev differ : PortsDiffer system
+  abbrev pub differ : PortsDiffer system
   differ = ports_differ system kept
 
-  plain_names_of : (unit : Unit) → Has system.units unit → AllByRecursion IsPlain (output_names unit)
+  pub plain_names_of : (unit : Unit) → Has system.units unit → AllByRecursion IsPlain (output_names unit)
   plain_names_of unit has =
       all_has IsPlain (output_names unit) (λ name stands.
       let from = map_has (λ (port : Port). port.name) (output_ports unit) name stands in
       subst IsPlain from.is (plain_port_names system ranged unit has from.one from.has).name)
 
-  units_apart : (units : List Unit) → AllByRecursion (λ unit. Distinct (output_names unit) × AllByRecursion IsPlain (output_names unit)) units → AllByRecursion (λ unit. Distinct (map (λ output. output.name) unit.outputs)) (map plain_unit units)
+  pub units_apart : (units : List Unit) → AllByRecursion (λ unit. Distinct (output_names unit) × AllByRecursion IsPlain (output_names unit)) units → AllByRecursion (λ unit. Distinct (map (λ output. output.name) unit.outputs)) (map plain_unit units)
   units_apart [] all = tt
   units_apart (unit ∷ units) all = (unit_apart unit all.0.0 all.0.1, units_apart units all.1)
 
-  ports_apart : (units : List Unit) → AllByRecursion (λ unit. Distinct (output_names unit) × AllByRecursion IsPlain (output_names unit)) units → AllByRecursion (λ unit. Distinct (output_names unit)) (map plain_unit units)
+  pub ports_apart : (units : List Unit) → AllByRecursion (λ unit. Distinct (output_names unit) × AllByRecursion IsPlain (output_names unit)) units → AllByRecursion (λ unit. Distinct (output_names unit)) (map plain_unit units)
   ports_apart [] all = tt
   ports_apart (unit ∷ units) all = (
     subst (λ (ports : List Port). Distinct (map (λ port. port.name) ports)) (sym (plain_ports unit)) (subst Distinct (sym (made_names (ones unit ++ twos unit))) (unit_apart unit all.0.0 all.0.1)),
     ports_apart units all.1,
   )
 
-  each_unit : AllByRecursion (λ unit. Distinct (output_names unit) × AllByRecursion IsPlain (output_names unit)) system.units
+  pub each_unit : AllByRecursion (λ unit. Distinct (output_names unit) × AllByRecursion IsPlain (output_names unit)) system.units
   each_unit = all_has _ system.units (λ unit has. (each_has (λ u. Distinct (output_names u)) system.units unit differ.outputs has, plain_names_of unit has))
 
   pub plain_names_differ : NamesDiffer plain
@@ -360,18 +360,18 @@ module _ (system : System) (ranged : IsRanged system) (kept : IsWellFormed syste
   abbrev pub split : PortName → List PortName
   split port = split_by (is_event_output system port) port
 
-  abbrev splits : List PortName → List PortName
+  abbrev pub splits : List PortName → List PortName
   splits ports = flat_map split ports
 
-  has_itself : (told : Bool) (port : PortName) → Has (split_by told port) port
+  pub has_itself : (told : Bool) (port : PortName) → Has (split_by told port) port
   has_itself true port = inr (inl refl)
   has_itself false port = inl refl
 
-  has_presence : (told : Bool) (port : PortName) → told ≡ true → Has (split_by told port) (presence_port port)
+  pub has_presence : (told : Bool) (port : PortName) → told ≡ true → Has (split_by told port) (presence_port port)
   has_presence true port is = inl refl
   has_presence false port is = absurd (cc)
 
-  in_splits : (ports : List PortName) (port made : PortName) → IsIn ports port → Has (split port) made → IsIn (splits ports) made
+  pub in_splits : (ports : List PortName) (port made : PortName) → IsIn ports port → Has (split port) made → IsIn (splits ports) made
   in_splits ports port made stands has = has_in (splits ports) made (has_flat split ports port made (in_has ports port stands) has)
 
   pub is_event_is : (d : Port) (instance : Instance) (unit : Unit) → Has system.instances instance → unit_of_instance system instance ≡ Some unit → Has (output_ports unit) d → is_event_output system (port_of instance d.name) ≡ d.is_event
@@ -381,7 +381,7 @@ module _ (system : System) (ranged : IsRanged system) (kept : IsWellFormed syste
   plain_unit_is instance unit is = plain_named system.units instance.unit ∙ ap (option_map plain_unit) is
 
   -- What an orderly list asks of an output of the plain form that comes next.
-  abbrev Next : List PortName → PortName → Type 0
+  abbrev pub Next : List PortName → PortName → Type 0
   Next before made = IsIn (outputs_of plain) made × (IsIn (splits before) made → ⊥) × AllByRecursion (IsIn (splits before)) (needed_by plain made)
 
   pub plain_name : (port : PortName) → IsIn (outputs_of system) port → IsPlain port.port
@@ -396,7 +396,7 @@ module _ (system : System) (ranged : IsRanged system) (kept : IsWellFormed syste
       let same : presence_port one ≡ presence_port other = is ∙ sym is' in
       same_ports one other (ap (λ (p : PortName). p.instance) same) (same_presence one.port other.port (ap (λ (p : PortName). p.port) same))
 
-  not_before : (before : List PortName) (port made : PortName) → AllByRecursion (IsIn (outputs_of system)) before → IsPlain port.port → Has (split port) made → IsIn (splits before) made → IsIn before port
+  pub not_before : (before : List PortName) (port made : PortName) → AllByRecursion (IsIn (outputs_of system)) before → IsPlain port.port → Has (split port) made → IsIn (splits before) made → IsIn before port
   not_before before port made outputs name has stands =
       let from = flat_has split before made (in_has (splits before) made stands) in
       let one_in = has_in before from.one from.has in
@@ -416,10 +416,10 @@ module _ (system : System) (ranged : IsRanged system) (kept : IsWellFormed syste
 
     -- What an output becomes, as the plain form declares it.
     record Made (made : PortName) : Type 0 where
-      declaring : Port
-      stands : Has (output_ports (plain_unit unit)) declaring
-      is : port_of instance declaring.name ≡ made
-      needs : declaring.needs ≡ plain_needs unit output.needs
+      pub declaring : Port
+      pub stands : Has (output_ports (plain_unit unit)) declaring
+      pub is : port_of instance declaring.name ≡ made
+      pub needs : declaring.needs ≡ plain_needs unit output.needs
 
     made_by : (told : Bool) (made : PortName) → output.is_event ≡ told → Has (split_by told port) made → Made made
     made_by true made event (inl is) = record { declaring = presence_one unit output; stands = (becomes unit output has).presence event; is = is; needs = refl }
@@ -483,13 +483,13 @@ module _ (system : System) (ranged : IsRanged system) (kept : IsWellFormed syste
       let from = made_by d.instance d.unit d.output d.instance_has d.unit_is d.has (is_event_output system (port_of d.instance d.output.name)) made (sym event) made_has in
       subst (IsIn (outputs_of plain)) from.is (stands_there plain d.instance (plain_unit d.unit) from.declaring d.instance_has (plain_unit_is d.instance d.unit d.unit_is) from.stands))
 
-  next : (before : List PortName) (port : PortName) → AllByRecursion (IsIn (outputs_of system)) before → IsIn (outputs_of system) port → (IsIn before port → ⊥) → AllByRecursion (IsIn before) (needed_by system port) → (made : PortName) → Has (split port) made → Next before made
+  pub next : (before : List PortName) (port : PortName) → AllByRecursion (IsIn (outputs_of system)) before → IsIn (outputs_of system) port → (IsIn before port → ⊥) → AllByRecursion (IsIn before) (needed_by system port) → (made : PortName) → Has (split port) made → Next before made
   next before port outputs stands =
       let d = declared system port stands in
       subst (λ p. (IsIn before p → ⊥) → AllByRecursion (IsIn before) (needed_by system p) → (made : PortName) → Has (split p) made → Next before made) d.is
       (next_of d.instance d.unit d.output d.instance_has d.unit_is d.has before outputs)
 
-  put : (told : Bool) (before later : List PortName) (port : PortName) → IsPlain port.port → ((made : PortName) → Has (split_by told port) made → Next before made) → IsOrderlyAfter plain (splits before ++ split_by told port) later → IsOrderlyAfter plain (splits before) (split_by told port ++ later)
+  pub put : (told : Bool) (before later : List PortName) (port : PortName) → IsPlain port.port → ((made : PortName) → Has (split_by told port) made → Next before made) → IsOrderlyAfter plain (splits before ++ split_by told port) later → IsOrderlyAfter plain (splits before) (split_by told port ++ later)
   put false before later port name each rest = let here = each port (inl refl) in (here.0, here.1, here.2, rest)
   put true before later port name each rest =
       let first = each (presence_port port) (inl refl) in
@@ -512,10 +512,10 @@ module _ (system : System) (ranged : IsRanged system) (kept : IsWellFormed syste
       itself_not (inl is) = name port.port (sym (ap (λ (p : PortName). p.port) is))
       itself_not (inr none) = none
 
-  splits_longer : (before : List PortName) (port : PortName) → splits (before ++ (port ∷ [])) ≡ splits before ++ split port
+  pub splits_longer : (before : List PortName) (port : PortName) → splits (before ++ (port ∷ [])) ≡ splits before ++ split port
   splits_longer before port = flat_map-append split before (port ∷ []) ∙ ap (λ rest. splits before ++ rest) (append-nil (split port))
 
-  ordered : (before order : List PortName) → AllByRecursion (IsIn (outputs_of system)) before → IsOrderlyAfter system before order → IsOrderlyAfter plain (splits before) (splits order)
+  pub ordered : (before order : List PortName) → AllByRecursion (IsIn (outputs_of system)) before → IsOrderlyAfter system before order → IsOrderlyAfter plain (splits before) (splits order)
   ordered before [] outputs orderly = tt
   ordered before (port ∷ later) outputs orderly =
       put (is_event_output system port) before (splits later) port (plain_name port orderly.0) (next before port outputs orderly.0 orderly.1 orderly.2)
@@ -524,14 +524,14 @@ module _ (system : System) (ranged : IsRanged system) (kept : IsWellFormed syste
 
   -- ---- All outputs of the plain form stand there
 
-  made_has : (instance : Instance) (unit : Unit) (output : Port) (come : Comes unit output) → Has system.instances instance → unit_of_instance system instance ≡ Some unit → (output.name ≡ come.from.name) ⊎ ((come.from.is_event ≡ true) × (output.name ≡ presence_name come.from.name)) → Has (split (port_of instance come.from.name)) (port_of instance output.name)
+  pub made_has : (instance : Instance) (unit : Unit) (output : Port) (come : Comes unit output) → Has system.instances instance → unit_of_instance system instance ≡ Some unit → (output.name ≡ come.from.name) ⊎ ((come.from.is_event ≡ true) × (output.name ≡ presence_name come.from.name)) → Has (split (port_of instance come.from.name)) (port_of instance output.name)
   made_has instance unit output come instance_has unit_is (inl same) =
       subst (Has (split (port_of instance come.from.name))) (ap (port_of instance) (sym same)) (has_itself (is_event_output system (port_of instance come.from.name)) (port_of instance come.from.name))
   made_has instance unit output come instance_has unit_is (inr is) =
       subst (Has (split (port_of instance come.from.name))) (ap (port_of instance) (sym is.1))
       (has_presence (is_event_output system (port_of instance come.from.name)) (port_of instance come.from.name) (is_event_is come.from instance unit instance_has unit_is come.has ∙ is.0))
 
-  all_stand : (order : List PortName) → AllByRecursion (IsIn order) (outputs_of system) → AllByRecursion (IsIn (splits order)) (outputs_of plain)
+  pub all_stand : (order : List PortName) → AllByRecursion (IsIn order) (outputs_of system) → AllByRecursion (IsIn (splits order)) (outputs_of plain)
   all_stand order all =
       all_has (IsIn (splits order)) (outputs_of plain) (λ made has.
       let d = declared plain made (has_in (outputs_of plain) made has) in

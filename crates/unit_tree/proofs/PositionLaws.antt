@@ -29,12 +29,12 @@ use Rattle.unit_tree.specs.declared.unit.Unit.{Unit}
 use Rattle.unit_tree.proofs.EffectKeeps.{step_keeps}
 use Rattle.unit_tree.proofs.StepLaws.{reply_is_at_most, agreed_is_least}
 
-abbrev Words : Member → List ℤ → Type 0
+abbrev pub Words : Member → List ℤ → Type 0
 Words member state = AreWordsOf member.component.unit.states state
 
 -- ---- The first position
 
-zero_fits : (ty : Ty) → is_word_of ty (pos 0) ≡ true
+pub zero_fits : (ty : Ty) → is_word_of ty (pos 0) ≡ true
 zero_fits types.Int8 = refl
 zero_fits types.UInt8 = refl
 zero_fits types.Int16 = refl
@@ -46,34 +46,34 @@ zero_fits types.Bool = refl
 zero_fits (types.Fixed decimals) = refl
 
 -- With whether a word is one of the type.
-start_by : (fits : Bool) (ty : Ty) (word : ℤ) → is_word_of ty word ≡ fits → is_word_of ty (or_zero (cond fits (Ok word) (Err Range))) ≡ true
+pub start_by : (fits : Bool) (ty : Ty) (word : ℤ) → is_word_of ty word ≡ fits → is_word_of ty (or_zero (cond fits (Ok word) (Err Range))) ≡ true
 start_by true ty word is = is
 start_by false ty word is = zero_fits ty
 
-start_from : (ty : Ty) (scaled : Result ℤ LiteralFault) → is_word_of ty (or_zero (within_type ty scaled)) ≡ true
+pub start_from : (ty : Ty) (scaled : Result ℤ LiteralFault) → is_word_of ty (or_zero (within_type ty scaled)) ≡ true
 start_from ty (Ok word) = start_by (is_word_of ty word) ty word refl
 start_from ty (Err fault) = zero_fits ty
 
-start_fits : (ty : Ty) (literal : Literal) → is_word_of ty (start_word ty literal) ≡ true
+pub start_fits : (ty : Ty) (literal : Literal) → is_word_of ty (start_word ty literal) ≡ true
 start_fits ty literal = start_from ty (scaled_literal ty literal)
 
-starts_fit : (states : List State) → AreWordsOf states (map (λ state. start_word state.ty state.start) states)
+pub starts_fit : (states : List State) → AreWordsOf states (map (λ state. start_word state.ty state.start) states)
 starts_fit [] = tt
 starts_fit (state ∷ states) = (start_fits state.ty state.start, starts_fit states)
 
-first_has_words : (members : List Member) → AllZip Words members (map (λ member. initial member.component) members)
+pub first_has_words : (members : List Member) → AllZip Words members (map (λ member. initial member.component) members)
 first_has_words [] = tt
 first_has_words (member ∷ members) = (starts_fit member.component.unit.states, first_has_words members)
 
 -- ---- The next position
 
 -- With whether the member is held, and what its step gives.
-after_by : (held : Bool) (result : Result Moved Fault) (member : Member) (state inputs : List ℤ) (time step : ℕ) → IsMember member → Words member state → step_of member.component state inputs time step ≡ result → Words member (state_after (state, cond held None (Some result)))
+pub after_by : (held : Bool) (result : Result Moved Fault) (member : Member) (state inputs : List ℤ) (time step : ℕ) → IsMember member → Words member state → step_of member.component state inputs time step ≡ result → Words member (state_after (state, cond held None (Some result)))
 after_by true result member state inputs time step is words gives = words
 after_by false (Ok moved) member state inputs time step is words gives = (step_keeps member.component state inputs time step moved is.params words gives).words
 after_by false (Err fault) member state inputs time step is words gives = words
 
-all_after : (t h : ℕ) (ports : Ports) (members : List Member) (states : List (List ℤ)) → AllByRecursion IsMember members → AllZip Words members states → AllZip Words members (map state_after (zip states (map (step_at t h ports) (zip members states))))
+pub all_after : (t h : ℕ) (ports : Ports) (members : List Member) (states : List (List ℤ)) → AllByRecursion IsMember members → AllZip Words members states → AllZip Words members (map state_after (zip states (map (step_at t h ports) (zip members states))))
 all_after t h ports [] [] are words = tt
 all_after t h ports [] (state ∷ states) are words = absurd words
 all_after t h ports (member ∷ members) [] are words = absurd words
@@ -90,13 +90,13 @@ positions_keep run are = record {
 
 -- ---- The agreed step
 
-reply_within : (held : Bool) (result : Result Moved Fault) (member : Member) (state inputs : List ℤ) (time t h : ℕ) → IsMember member → Words member state → step_of member.component state inputs time (local_step member.factor t h) ≡ result → reply_at t h (member, cond held None (Some result)) ≤ h
+pub reply_within : (held : Bool) (result : Result Moved Fault) (member : Member) (state inputs : List ℤ) (time t h : ℕ) → IsMember member → Words member state → step_of member.component state inputs time (local_step member.factor t h) ≡ result → reply_at t h (member, cond held None (Some result)) ≤ h
 reply_within true result member state inputs time t h is words gives = omega arith
 reply_within false (Ok moved) member state inputs time t h is words gives =
     reply_is_at_most member.factor t h moved.accepted is.factor (step_keeps member.component state inputs time (local_step member.factor t h) moved is.params words gives).accepted
 reply_within false (Err fault) member state inputs time t h is words gives = omega arith
 
-agreed_within : (t h : ℕ) (ports : Ports) (members : List Member) (states : List (List ℤ)) → AllByRecursion IsMember members → AllZip Words members states → agreed_step h (map (reply_at t h) (zip members (map (step_at t h ports) (zip members states)))) ≤ h
+pub agreed_within : (t h : ℕ) (ports : Ports) (members : List Member) (states : List (List ℤ)) → AllByRecursion IsMember members → AllZip Words members states → agreed_step h (map (reply_at t h) (zip members (map (step_at t h ports) (zip members states)))) ≤ h
 agreed_within t h ports [] states are words = omega arith
 agreed_within t h ports (member ∷ members) [] are words = absurd words
 agreed_within t h ports (member ∷ members) (state ∷ states) are words =
@@ -111,12 +111,12 @@ agreed_is_at_most run at ports are words = agreed_within at.point.t (proposed ru
 
 -- ---- The members of a system
 
-member_is : (system : System) (instance : Instance) (unit : Option Unit) (rest : List Member) → AllByRecursion IsMember rest → AllByRecursion IsMember (cons_option (member_with system instance unit) rest)
+pub member_is : (system : System) (instance : Instance) (unit : Option Unit) (rest : List Member) → AllByRecursion IsMember rest → AllByRecursion IsMember (cons_option (member_with system instance unit) rest)
 member_is system instance None rest are = are
 member_is system instance (Some unit) rest are =
     (record { factor = one-le-pow (resolution_of system - unwrap_or unit.resolution 0) 10 (omega arith); params = length-map unit.params _; sources = length-map unit.inputs _ }, are)
 
-members_are : (system : System) (instances : List Instance) → AllByRecursion IsMember (filter_map (λ instance. member_with system instance (unit_of_instance system instance)) instances)
+pub members_are : (system : System) (instances : List Instance) → AllByRecursion IsMember (filter_map (λ instance. member_with system instance (unit_of_instance system instance)) instances)
 members_are system [] = tt
 members_are system (instance ∷ instances) = member_is system instance (unit_of_instance system instance) _ (members_are system instances)
 

@@ -12,27 +12,27 @@ use Rattle.unit_tree.specs.declared.line_form.LineForm.{LineForm}
 
 -- ---- A rank that stands once
 
-abbrev not_in : ℕ → List ℕ → Bool
+abbrev pub not_in : ℕ → List ℕ → Bool
 not_in rank [] = true
 not_in rank (first ∷ ranks) = cond (rank == first) false (not_in rank ranks)
 
-abbrev stands_once : ℕ → List ℕ → Bool
+abbrev pub stands_once : ℕ → List ℕ → Bool
 stands_once rank [] = false
 stands_once rank (first ∷ ranks) = cond (rank == first) (not_in rank ranks) (stands_once rank ranks)
 
-none_ranked : {A : Type 0} (ranks : List ℕ) → by_rank {A = A} ranks [] ≡ []
+pub none_ranked : {A : Type 0} (ranks : List ℕ) → by_rank {A = A} ranks [] ≡ []
 none_ranked [] = refl
 none_ranked (rank ∷ ranks) = none_ranked ranks
 
-skipped_by : {A : Type 0} (test : Bool) (rank first : ℕ) (ranks : List ℕ) (list : List A) (rest : List (ℕ × List A)) → (rank == first) ≡ test → cond test false (not_in rank ranks) ≡ true → (not_in rank ranks ≡ true → by_rank ranks ((rank, list) ∷ rest) ≡ by_rank ranks rest) → by_rank (first ∷ ranks) ((rank, list) ∷ rest) ≡ by_rank (first ∷ ranks) rest
+pub skipped_by : {A : Type 0} (test : Bool) (rank first : ℕ) (ranks : List ℕ) (list : List A) (rest : List (ℕ × List A)) → (rank == first) ≡ test → cond test false (not_in rank ranks) ≡ true → (not_in rank ranks ≡ true → by_rank ranks ((rank, list) ∷ rest) ≡ by_rank ranks rest) → by_rank (first ∷ ranks) ((rank, list) ∷ rest) ≡ by_rank (first ∷ ranks) rest
 skipped_by true rank first ranks list rest is told later = absurd (cc told)
 skipped_by false rank first ranks list rest is told later = rw is (ap (λ more. of_rank rest first ++ more) (later told))
 
-skipped : {A : Type 0} (ranks : List ℕ) (rank : ℕ) (list : List A) (rest : List (ℕ × List A)) → not_in rank ranks ≡ true → by_rank ranks ((rank, list) ∷ rest) ≡ by_rank ranks rest
+pub skipped : {A : Type 0} (ranks : List ℕ) (rank : ℕ) (list : List A) (rest : List (ℕ × List A)) → not_in rank ranks ≡ true → by_rank ranks ((rank, list) ∷ rest) ≡ by_rank ranks rest
 skipped [] rank list rest told = refl
 skipped (first ∷ ranks) rank list rest told = skipped_by (rank == first) rank first ranks list rest refl told (skipped ranks rank list rest)
 
-once_by : {A : Type 0} (test : Bool) (rank first : ℕ) (ranks : List ℕ) (list : List A) (rest : List (ℕ × List A)) → (rank == first) ≡ test → cond test (not_in rank ranks) (stands_once rank ranks) ≡ true → (stands_once rank ranks ≡ true → IsPermutation (by_rank ranks ((rank, list) ∷ rest)) (list ++ by_rank ranks rest)) → IsPermutation (by_rank (first ∷ ranks) ((rank, list) ∷ rest)) (list ++ by_rank (first ∷ ranks) rest)
+pub once_by : {A : Type 0} (test : Bool) (rank first : ℕ) (ranks : List ℕ) (list : List A) (rest : List (ℕ × List A)) → (rank == first) ≡ test → cond test (not_in rank ranks) (stands_once rank ranks) ≡ true → (stands_once rank ranks ≡ true → IsPermutation (by_rank ranks ((rank, list) ∷ rest)) (list ++ by_rank ranks rest)) → IsPermutation (by_rank (first ∷ ranks) ((rank, list) ∷ rest)) (list ++ by_rank (first ∷ ranks) rest)
 once_by true rank first ranks list rest is told later =
     let same : by_rank (first ∷ ranks) ((rank, list) ∷ rest) ≡ list ++ by_rank (first ∷ ranks) rest =
     rw is (ap (λ more. (list ++ of_rank rest first) ++ more) (skipped ranks rank list rest told) ∙ append_assoc list (of_rank rest first) (by_rank ranks rest)) in
@@ -47,7 +47,7 @@ once_by false rank first ranks list rest is told later =
     (IsPermutation-trans (here ++ by_rank ranks ((rank, list) ∷ rest)) (here ++ (list ++ more)) (list ++ (here ++ more)) one
     (subst (λ xs. IsPermutation xs (list ++ (here ++ more))) (append_assoc here list more) (subst (λ ys. IsPermutation ((here ++ list) ++ more) ys) (append_assoc list here more) two)))
 
-once : {A : Type 0} (ranks : List ℕ) (rank : ℕ) (list : List A) (rest : List (ℕ × List A)) → stands_once rank ranks ≡ true → IsPermutation (by_rank ranks ((rank, list) ∷ rest)) (list ++ by_rank ranks rest)
+pub once : {A : Type 0} (ranks : List ℕ) (rank : ℕ) (list : List A) (rest : List (ℕ × List A)) → stands_once rank ranks ≡ true → IsPermutation (by_rank ranks ((rank, list) ∷ rest)) (list ++ by_rank ranks rest)
 once [] rank list rest told = absurd (cc told)
 once (first ∷ ranks) rank list rest told = once_by (rank == first) rank first ranks list rest refl told (once ranks rank list rest)
 
@@ -57,16 +57,16 @@ abbrev pub total : {P : Type 0} → (P → ℕ) → List P → ℕ
 total size [] = 0
 total size (part ∷ parts) = size part + total size parts
 
-take_none : {A : Type 0} (n : ℕ) → take {A = A} n [] ≡ []
+pub take_none : {A : Type 0} (n : ℕ) → take {A = A} n [] ≡ []
 take_none zero = refl
 take_none (suc n) = refl
 
-take_more : {A : Type 0} (n m : ℕ) (xs : List A) → take (n + m) xs ≡ take n xs ++ take m (drop n xs)
+pub take_more : {A : Type 0} (n m : ℕ) (xs : List A) → take (n + m) xs ≡ take n xs ++ take m (drop n xs)
 take_more zero m xs = let same : 0 + m ≡ m = omega arith in ap (λ k. take k xs) same
 take_more (suc n) m [] = take_none (suc n + m) ∙ sym (take_none m)
 take_more (suc n) m (x ∷ xs) = let more : suc n + m ≡ suc (n + m) = omega arith in ap (λ k. take k (x ∷ xs)) more ∙ ap (λ rest. x ∷ rest) (take_more n m xs)
 
-ranked : {A P : Type 0} (rank size : P → ℕ) (inside : P → List A → List A) (ranks : List ℕ) → ((part : P) → stands_once (rank part) ranks ≡ true) → ((part : P) (lines : List A) → IsPermutation (inside part lines) lines) → (all : List P) (lines : List A) → IsPermutation (by_rank ranks (each_ranked rank size inside all lines)) (take (total size all) lines)
+pub ranked : {A P : Type 0} (rank size : P → ℕ) (inside : P → List A → List A) (ranks : List ℕ) → ((part : P) → stands_once (rank part) ranks ≡ true) → ((part : P) (lines : List A) → IsPermutation (inside part lines) lines) → (all : List P) (lines : List A) → IsPermutation (by_rank ranks (each_ranked rank size inside all lines)) (take (total size all) lines)
 ranked rank size inside ranks on_ranks on_parts [] lines = subst (λ xs. IsPermutation xs []) (sym (none_ranked ranks)) (IsPermutation-refl [])
 ranked rank size inside ranks on_ranks on_parts (part ∷ all) lines =
     let rest = each_ranked rank size inside all (drop (size part) lines) in
@@ -77,7 +77,7 @@ ranked rank size inside ranks on_ranks on_parts (part ∷ all) lines =
 
 -- ---- A unit and a text
 
-unit_ranks_once : (part : UnitPart) → stands_once (unit_part_rank part) (0 ∷ 1 ∷ 2 ∷ 3 ∷ 4 ∷ 5 ∷ 6 ∷ 7 ∷ 8 ∷ 9 ∷ []) ≡ true
+pub unit_ranks_once : (part : UnitPart) → stands_once (unit_part_rank part) (0 ∷ 1 ∷ 2 ∷ 3 ∷ 4 ∷ 5 ∷ 6 ∷ 7 ∷ 8 ∷ 9 ∷ []) ≡ true
 unit_ranks_once (parts.Resolution decimals) = refl
 unit_ranks_once (parts.HasParam param) = refl
 unit_ranks_once (parts.HasState state) = refl
@@ -89,7 +89,7 @@ unit_ranks_once (parts.HasEventOut event) = refl
 unit_ranks_once (parts.Max value) = refl
 unit_ranks_once (parts.Step lines) = refl
 
-ranks_once : (part : Part) → stands_once (part_rank part) (0 ∷ 1 ∷ 2 ∷ 3 ∷ 4 ∷ 5 ∷ 6 ∷ 7 ∷ []) ≡ true
+pub ranks_once : (part : Part) → stands_once (part_rank part) (0 ∷ 1 ∷ 2 ∷ 3 ∷ 4 ∷ 5 ∷ 6 ∷ 7 ∷ []) ≡ true
 ranks_once (parts.HasUnit name inside) = refl
 ranks_once (parts.HasInstance instance) = refl
 ranks_once (parts.Connects wire) = refl
@@ -99,16 +99,16 @@ ranks_once (parts.Zero count) = refl
 ranks_once (parts.Rows count) = refl
 ranks_once (parts.Samples port) = refl
 
-total_is : {P : Type 0} (forms : P → List LineForm) (all : List P) → total (λ part. length (forms part)) all ≡ length (flat_map forms all)
+pub total_is : {P : Type 0} (forms : P → List LineForm) (all : List P) → total (λ part. length (forms part)) all ≡ length (flat_map forms all)
 total_is forms [] = refl
 total_is forms (part ∷ all) = ap (λ n. length (forms part) + n) (total_is forms all) ∙ sym (length-append (forms part) (flat_map forms all))
 
-in_unit_once : {A : Type 0} (all : List UnitPart) (lines : List A) → IsPermutation (unit_lines_in_order all lines) (take (length (flat_map unit_part_forms all)) lines)
+pub in_unit_once : {A : Type 0} (all : List UnitPart) (lines : List A) → IsPermutation (unit_lines_in_order all lines) (take (length (flat_map unit_part_forms all)) lines)
 in_unit_once all lines =
     subst (λ n. IsPermutation (unit_lines_in_order all lines) (take n lines)) (total_is unit_part_forms all)
     (ranked unit_part_rank (λ part. length (unit_part_forms part)) (λ part inside. inside) (0 ∷ 1 ∷ 2 ∷ 3 ∷ 4 ∷ 5 ∷ 6 ∷ 7 ∷ 8 ∷ 9 ∷ []) unit_ranks_once (λ part inside. IsPermutation-refl inside) all lines)
 
-in_part_once : {A : Type 0} (part : Part) (lines : List A) → IsPermutation (part_lines_in_order part lines) lines
+pub in_part_once : {A : Type 0} (part : Part) (lines : List A) → IsPermutation (part_lines_in_order part lines) lines
 in_part_once (parts.HasUnit name inside) lines =
     let n = length (flat_map unit_part_forms inside) in
     let rest = drop 1 lines in

@@ -14,20 +14,20 @@ use Rattle.unit_tree.proofs.RunTraces.{when_none, next_is_nearer, goes_to, goes_
 
 -- ---- A step
 
-none_by : (end : Option Ending) (position next : Position) → ends_or end position ≡ goes next → end ≡ None
+pub none_by : (end : Option Ending) (position next : Position) → ends_or end position ≡ goes next → end ≡ None
 none_by None position next is = refl
 none_by (Some ending) position next is = absurd (cc)
 
-next_row : (number budget : ℕ) → number < budget → (suc number == budget) ≡ false → suc number < budget
+pub next_row : (number budget : ℕ) → number < budget → (suc number == budget) ≡ false → suc number < budget
 next_row number budget within not_last = grind (arith, nat_tests)
 
-goes_within : (run : Composition) (one next : Stand) → AreMembers run → Goes run one next → HasWords run one.at → IsInBounds run one.at → IsInBounds run next.at
+pub goes_within : (run : Composition) (one next : Stand) → AreMembers run → Goes run one next → HasWords run one.at → IsInBounds run one.at → IsInBounds run next.at
 goes_within run one next are on words within =
     let none : first_some (ends_at run one.at one.ports) ≡ None = none_by (first_some (ends_at run one.at one.ports)) (after run one.at one.ports) next.at on.0 in
     let nearer = next_is_nearer run one are words (record { stop = within.stop; zeros = within.zeros }) none in
     subst (IsInBounds run) (goes_to run one next on) (record { stop = nearer.stop; zeros = nearer.zeros })
 
-goes_in_rows : (run : Composition) (one next : Stand) → Goes run one next → IsInRows run one.at → IsInRows run next.at
+pub goes_in_rows : (run : Composition) (one next : Stand) → Goes run one next → IsInRows run one.at → IsInRows run next.at
 goes_in_rows run one next on within =
     let none : first_some (ends_at run one.at one.ports) ≡ None = none_by (first_some (ends_at run one.at one.ports)) (after run one.at one.ports) next.at on.0 in
     let not_last : (suc one.at.number == run.row_budget) ≡ false = when_none _ _ (none_at (ends_at run one.at one.ports) 2 (row_end run one.at) none refl) in
@@ -43,23 +43,23 @@ step_is_right run one next are on = record {
 
 -- ---- A trace
 
-words_along : (run : Composition) (stand : Stand) (others : List Stand) (ending : Ending) → AreMembers run → HasWords run stand.at → Follows run stand others ending → AllByRecursion (λ (each : Stand). HasWords run each.at) (stand ∷ others)
+pub words_along : (run : Composition) (stand : Stand) (others : List Stand) (ending : Ending) → AreMembers run → HasWords run stand.at → Follows run stand others ending → AllByRecursion (λ (each : Stand). HasWords run each.at) (stand ∷ others)
 words_along run stand [] ending are words follow = (words, tt)
 words_along run stand (next ∷ others) ending are words follow = (words, words_along run next others ending are (goes_keeps run stand next are words follow.0) follow.1)
 
-bounds_along : (run : Composition) (stand : Stand) (others : List Stand) (ending : Ending) → AreMembers run → HasWords run stand.at → IsInBounds run stand.at → Follows run stand others ending → AllByRecursion (λ (each : Stand). IsInBounds run each.at) (stand ∷ others)
+pub bounds_along : (run : Composition) (stand : Stand) (others : List Stand) (ending : Ending) → AreMembers run → HasWords run stand.at → IsInBounds run stand.at → Follows run stand others ending → AllByRecursion (λ (each : Stand). IsInBounds run each.at) (stand ∷ others)
 bounds_along run stand [] ending are words within follow = (within, tt)
 bounds_along run stand (next ∷ others) ending are words within follow =
     (within, bounds_along run next others ending are (goes_keeps run stand next are words follow.0) (goes_within run stand next are follow.0 words within) follow.1)
 
-rows_along : (run : Composition) (stand : Stand) (others : List Stand) (ending : Ending) → IsInRows run stand.at → Follows run stand others ending → AllByRecursion (λ (each : Stand). IsInRows run each.at) (stand ∷ others)
+pub rows_along : (run : Composition) (stand : Stand) (others : List Stand) (ending : Ending) → IsInRows run stand.at → Follows run stand others ending → AllByRecursion (λ (each : Stand). IsInRows run each.at) (stand ∷ others)
 rows_along run stand [] ending within follow = (within, tt)
 rows_along run stand (next ∷ others) ending within follow = (within, rows_along run next others ending (goes_in_rows run stand next follow.0 within) follow.1)
 
-first_within : (run : Composition) → IsInBounds run (first_position run)
+pub first_within : (run : Composition) → IsInBounds run (first_position run)
 first_within run = record { stop = omega arith; zeros = omega arith }
 
-first_in_rows : (run : Composition) → 1 ≤ run.row_budget → IsInRows run (first_position run)
+pub first_in_rows : (run : Composition) → 1 ≤ run.row_budget → IsInRows run (first_position run)
 first_in_rows run rows = omega (arith, rows)
 
 pub stands_are_right : (run : Composition) (stands : List Stand) (ending : Ending) → AreMembers run → IsTrace run stands ending → HasRightStands run stands

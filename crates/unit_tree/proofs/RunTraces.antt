@@ -28,10 +28,10 @@ pub record Within (run : Composition) (at : Position) : Type 0 where
   pub stop : at.point.t ≤ run.stop
   pub zeros : at.point.n ≤ run.zero_budget
 
-abbrev left_at : Composition → Point → ℕ
+abbrev pub left_at : Composition → Point → ℕ
 left_at run point = (run.stop - point.t) * (run.zero_budget + 1) + (run.zero_budget - point.n)
 
-abbrev left : Composition → Position → ℕ
+abbrev pub left : Composition → Position → ℕ
 left run at = left_at run at.point
 
 pub when_none : {A : Type 0} (test : Bool) (given : A) → when test given ≡ None → test ≡ false
@@ -44,21 +44,21 @@ pub record Nearer (run : Composition) (point next : Point) : Type 0 where
   pub zeros : next.n ≤ run.zero_budget
   pub less : left_at run next < left_at run point
 
-nearer_zero : (run : Composition) (point : Point) → point.t ≤ run.stop → point.n ≤ run.zero_budget → (point.n == run.zero_budget) ≡ false → Nearer run point (record { t = point.t; n = suc point.n })
+pub nearer_zero : (run : Composition) (point : Point) → point.t ≤ run.stop → point.n ≤ run.zero_budget → (point.n == run.zero_budget) ≡ false → Nearer run point (record { t = point.t; n = suc point.n })
 nearer_zero run point within zeros not_last =
     let more : point.n < run.zero_budget = grind (arith, nat_tests) in
     record { stop = within; zeros = omega arith; less = omega arith }
 
-further : (ticks h zeros n : ℕ) → ticks * (zeros + 1) + zeros < (ticks + suc h) * (zeros + 1) + (zeros - n)
+pub further : (ticks h zeros n : ℕ) → ticks * (zeros + 1) + zeros < (ticks + suc h) * (zeros + 1) + (zeros - n)
 further ticks h zeros n = omega arith
 
-nearer_on : (run : Composition) (point : Point) (h : ℕ) → point.t ≤ run.stop → suc h ≤ run.stop - point.t → Nearer run point (record { t = point.t + suc h; n = 0 })
+pub nearer_on : (run : Composition) (point : Point) (h : ℕ) → point.t ≤ run.stop → suc h ≤ run.stop - point.t → Nearer run point (record { t = point.t + suc h; n = 0 })
 nearer_on run point h within fits =
     let longer : run.stop - point.t ≡ (run.stop - (point.t + suc h)) + suc h = omega arith in
     let less = further (run.stop - (point.t + suc h)) h run.zero_budget point.n in
     record { stop = omega arith; zeros = omega arith; less = rw longer (omega (arith, less)) }
 
-nearer_by : (waits : Bool) (run : Composition) (point : Point) (h : ℕ) → point.t ≤ run.stop → point.n ≤ run.zero_budget → h ≤ run.stop - point.t → (h == 0) ≡ waits → (waits && (point.n == run.zero_budget)) ≡ false → Nearer run point (cond waits (record { t = point.t; n = suc point.n }) (record { t = point.t + h; n = 0 }))
+pub nearer_by : (waits : Bool) (run : Composition) (point : Point) (h : ℕ) → point.t ≤ run.stop → point.n ≤ run.zero_budget → h ≤ run.stop - point.t → (h == 0) ≡ waits → (waits && (point.n == run.zero_budget)) ≡ false → Nearer run point (cond waits (record { t = point.t; n = suc point.n }) (record { t = point.t + h; n = 0 }))
 nearer_by true run point h within zeros fits is open_budget = nearer_zero run point within zeros open_budget
 nearer_by false run point zero within zeros fits is open_budget = absurd (cc)
 nearer_by false run point (suc h) within zeros fits is open_budget = nearer_on run point h within fits
@@ -73,7 +73,7 @@ next_is_nearer run stand are words within none =
 
 -- ---- Where a stand goes on to
 
-position_by : (end : Option Ending) (position next : Position) → ends_or end position ≡ goes next → position ≡ next
+pub position_by : (end : Option Ending) (position next : Position) → ends_or end position ≡ goes next → position ≡ next
 position_by None position next is = cc
 position_by (Some ending) position next is = absurd (cc)
 
@@ -85,15 +85,15 @@ goes_keeps run here next are words on = subst (HasWords run) (goes_to run here n
 
 -- ---- There is a trace
 
-abbrev Rest : Composition → Stand → Type 0
+abbrev pub Rest : Composition → Stand → Type 0
 Rest run stand = (stands : List Stand) × (ending : Ending) × Follows run stand stands ending
 
 module _ (run : Composition) (order : List ℕ) (are : AreMembers run) (is_order : IsPlaceOrder run order) where
-  rest_by : (end : Option Ending) (stand : Stand) → first_some (ends_at run stand.at stand.ports) ≡ end → (end ≡ None → (next : Stand) × Goes run stand next × Rest run next) → Rest run stand
+  pub rest_by : (end : Option Ending) (stand : Stand) → first_some (ends_at run stand.at stand.ports) ≡ end → (end ≡ None → (next : Stand) × Goes run stand next × Rest run next) → Rest run stand
   rest_by (Some ending) stand is later = ([], ending, ap (λ end. ends_or end (after run stand.at stand.ports)) is)
   rest_by None stand is later = let next = later refl in (next.0 ∷ next.2.0, next.2.1, (next.1, next.2.2))
 
-  rest_of : (more : ℕ) (stand : Stand) → left run stand.at < more → HasWords run stand.at → Within run stand.at → Rest run stand
+  pub rest_of : (more : ℕ) (stand : Stand) → left run stand.at < more → HasWords run stand.at → Within run stand.at → Rest run stand
   rest_of zero stand less words within = absurd (omega arith)
   rest_of (suc more) stand less words within =
       rest_by (first_some (ends_at run stand.at stand.ports)) stand refl (λ none.
@@ -108,7 +108,7 @@ module _ (run : Composition) (order : List ℕ) (are : AreMembers run) (is_order
 
   -- ---- There is no other
 
-  same_stand : (one other : Stand) → HasWords run one.at → IsStand run one → IsStand run other → one.at ≡ other.at → one ≡ other
+  pub same_stand : (one other : Stand) → HasWords run one.at → IsStand run one → IsStand run other → one.at ≡ other.at → one ≡ other
   same_stand one other words is_one is_other same =
       let assigned = one_assignment run order one.at.states is_order (one_each _ run.members one.at.states words) in
       let ports : one.ports ≡ other.ports =
@@ -116,11 +116,11 @@ module _ (run : Composition) (order : List ℕ) (are : AreMembers run) (is_order
       ∙ sym (assigned.is_only other.ports (subst (λ (at : Position). IsAssignment run at.states other.ports) (sym same) is_other)) in
       ap (λ (at : Position). record { at = at; ports = one.ports }) same ∙ ap (λ ports. record { at = other.at; ports = ports }) ports
 
-  goes_same : (here one other : Stand) → HasWords run here.at → Goes run here one → Goes run here other → one ≡ other
+  pub goes_same : (here one other : Stand) → HasWords run here.at → Goes run here one → Goes run here other → one ≡ other
   goes_same here one other words to_one to_other =
       same_stand one other (goes_keeps run here one are words to_one) to_one.1 to_other.1 (sym (goes_to run here one to_one) ∙ goes_to run here other to_other)
 
-  same_rest : (here : Stand) (xs ys : List Stand) (e f : Ending) → HasWords run here.at → Follows run here xs e → Follows run here ys f → (xs ≡ ys) × (e ≡ f)
+  pub same_rest : (here : Stand) (xs ys : List Stand) (e f : Ending) → HasWords run here.at → Follows run here xs e → Follows run here ys f → (xs ≡ ys) × (e ≡ f)
   same_rest here [] [] e f words p q = (refl, cc)
   same_rest here [] (y ∷ ys) e f words p q = absurd (cc)
   same_rest here (x ∷ xs) [] e f words p q = absurd (cc)
@@ -129,7 +129,7 @@ module _ (run : Composition) (order : List ℕ) (are : AreMembers run) (is_order
       let others = same_rest y xs ys e f (goes_keeps run here y are words q.0) (subst (λ (z : Stand). Follows run z xs e) same p.1) q.1 in
       (ap (λ z. z ∷ xs) same ∙ ap (λ zs. y ∷ zs) others.0, others.1)
 
-  same_trace : (xs ys : List Stand) (e f : Ending) → HasWords run (first_position run) → IsTrace run xs e → IsTrace run ys f → (xs ≡ ys) × (e ≡ f)
+  pub same_trace : (xs ys : List Stand) (e f : Ending) → HasWords run (first_position run) → IsTrace run xs e → IsTrace run ys f → (xs ≡ ys) × (e ≡ f)
   same_trace [] ys e f words p q = absurd p
   same_trace (x ∷ xs) [] e f words p q = absurd q
   same_trace (x ∷ xs) (y ∷ ys) e f words p q =

@@ -20,20 +20,20 @@ use Rattle.unit_tree.proofs.OpenBlocks.{blocks_behind, AreIn, Stay, lines_stay}
 use Rattle.unit_tree.proofs.SiteLaws.{line_at, alone_in}
 
 -- Each of the sites, behind those before it, has its scope.
-abbrev AreScoped : List Block → List Site → Type 0
+abbrev pub AreScoped : List Block → List Site → Type 0
 AreScoped blocks [] = ⊤
 AreScoped blocks (site ∷ all) = (is_scope_in blocks site.scope site.line ≡ true) × AreScoped (behind blocks site.line) all
 
 -- Such sites, and the blocks that they leave open.
-record Pass (blocks : List Block) (all : List Site) (after : List Block) : Type 0 where
-  leave : fold behind blocks (map line_at all) ≡ after
-  scoped : AreScoped blocks all
+pub record Pass (blocks : List Block) (all : List Site) (after : List Block) : Type 0 where
+  pub leave : fold behind blocks (map line_at all) ≡ after
+  pub scoped : AreScoped blocks all
 
-both_scoped : (blocks : List Block) (xs ys : List Site) → AreScoped blocks xs → AreScoped (fold behind blocks (map line_at xs)) ys → AreScoped blocks (xs ++ ys)
+pub both_scoped : (blocks : List Block) (xs ys : List Site) → AreScoped blocks xs → AreScoped (fold behind blocks (map line_at xs)) ys → AreScoped blocks (xs ++ ys)
 both_scoped blocks [] ys on_xs on_ys = on_ys
 both_scoped blocks (x ∷ xs) ys on_xs on_ys = (on_xs.0, both_scoped (behind blocks x.line) xs ys on_xs.1 on_ys)
 
-pass_both : (blocks between after : List Block) (xs ys : List Site) → Pass blocks xs between → Pass between ys after → Pass blocks (xs ++ ys) after
+pub pass_both : (blocks between after : List Block) (xs ys : List Site) → Pass blocks xs between → Pass between ys after → Pass blocks (xs ++ ys) after
 pass_both blocks between after xs ys on_xs on_ys = record {
   leave =
       ap (fold behind blocks) (map-append line_at xs ys)
@@ -43,28 +43,28 @@ pass_both blocks between after xs ys on_xs on_ys = record {
   scoped = both_scoped blocks xs ys on_xs.scoped (subst (λ all. AreScoped all ys) (sym on_xs.leave) on_ys.scoped);
 }
 
-pass_one : (blocks after : List Block) (site : Site) (all : List Site) → is_scope_in blocks site.scope site.line ≡ true → Pass (behind blocks site.line) all after → Pass blocks (site ∷ all) after
+pub pass_one : (blocks after : List Block) (site : Site) (all : List Site) → is_scope_in blocks site.scope site.line ≡ true → Pass (behind blocks site.line) all after → Pass blocks (site ∷ all) after
 pass_one blocks after site all is rest = record { leave = rest.leave; scoped = (is, rest.scoped) }
 
-pass_none : (blocks : List Block) → Pass blocks [] blocks
+pub pass_none : (blocks : List Block) → Pass blocks [] blocks
 pass_none blocks = record { leave = refl; scoped = _ }
 
 -- Lines without blocks.
-alone_scoped : (scope : Scope) (earlier : List LineForm) (blocks : List Block) (lines : List LineForm) → AreIn scope blocks lines → AreScoped blocks (sites scope earlier (map alone lines))
+pub alone_scoped : (scope : Scope) (earlier : List LineForm) (blocks : List Block) (lines : List LineForm) → AreIn scope blocks lines → AreScoped blocks (sites scope earlier (map alone lines))
 alone_scoped scope earlier blocks [] are = _
 alone_scoped scope earlier blocks (line ∷ lines) are = (are.0, alone_scoped scope (earlier ++ (line ∷ [])) (behind blocks line) lines are.1)
 
-alone_pass : (scope : Scope) (blocks after : List Block) (lines : List LineForm) → Stay scope blocks lines after → Pass blocks (sites scope [] (map alone lines)) after
+pub alone_pass : (scope : Scope) (blocks after : List Block) (lines : List LineForm) → Stay scope blocks lines after → Pass blocks (sites scope [] (map alone lines)) after
 alone_pass scope blocks after lines stay =
     record { leave = ap (fold behind blocks) (alone_in scope lines) ∙ stay.leave; scoped = alone_scoped scope [] blocks lines stay.are_in }
 
 -- ---- A unit
 
-step_pass : (unit : Unit) (lines : List Line) → Pass (InStep ∷ InUnit ∷ []) (sites (StepScope unit) [] (map alone (flat_map line_forms lines))) (InStep ∷ InUnit ∷ [])
+pub step_pass : (unit : Unit) (lines : List Line) → Pass (InStep ∷ InUnit ∷ []) (sites (StepScope unit) [] (map alone (flat_map line_forms lines))) (InStep ∷ InUnit ∷ [])
 step_pass unit lines =
     alone_pass (StepScope unit) (InStep ∷ InUnit ∷ []) (InStep ∷ InUnit ∷ []) (flat_map line_forms lines) (lines_stay unit lines (InStep ∷ InUnit ∷ []) refl)
 
-unit_pass : (unit : Unit) (earlier : List LineForm) (inside : List UnitPart) → Pass (InUnit ∷ []) (sites (UnitScope unit) earlier (flat_map (headed_unit_part unit) inside ++ (alone form.End ∷ []))) []
+pub unit_pass : (unit : Unit) (earlier : List LineForm) (inside : List UnitPart) → Pass (InUnit ∷ []) (sites (UnitScope unit) earlier (flat_map (headed_unit_part unit) inside ++ (alone form.End ∷ []))) []
 unit_pass unit earlier [] = record { leave = refl; scoped = (refl, _) }
 unit_pass unit earlier (parts.Resolution decimals ∷ inside) = pass_one (InUnit ∷ []) [] _ _ refl (unit_pass unit (earlier ++ (form.Resolution decimals ∷ [])) inside)
 unit_pass unit earlier (parts.HasParam param ∷ inside) = pass_one (InUnit ∷ []) [] _ _ refl (unit_pass unit (earlier ++ (form.Param param ∷ [])) inside)
@@ -82,11 +82,11 @@ unit_pass unit earlier (parts.Step lines ∷ inside) =
 
 -- ---- A text
 
-settings_stay : (instance : Instance) (settings : List Setting) → Stay (InstanceScope instance) (InInstance ∷ []) (map form.Setting settings ++ (form.End ∷ [])) []
+pub settings_stay : (instance : Instance) (settings : List Setting) → Stay (InstanceScope instance) (InInstance ∷ []) (map form.Setting settings ++ (form.End ∷ [])) []
 settings_stay instance [] = record { leave = refl; are_in = (refl, _) }
 settings_stay instance (setting ∷ settings) = let rest = settings_stay instance settings in record { leave = rest.leave; are_in = (refl, rest.are_in) }
 
-text_pass : (earlier : List LineForm) (all : List Part) → Pass [] (sites TopScope earlier (flat_map headed_part all)) []
+pub text_pass : (earlier : List LineForm) (all : List Part) → Pass [] (sites TopScope earlier (flat_map headed_part all)) []
 text_pass earlier [] = pass_none []
 text_pass earlier (parts.HasUnit name inside ∷ all) =
     pass_one [] [] _ _ refl
@@ -103,12 +103,12 @@ text_pass earlier (parts.Zero count ∷ all) = pass_one [] [] _ _ refl (text_pas
 text_pass earlier (parts.Rows count ∷ all) = pass_one [] [] _ _ refl (text_pass (earlier ++ (form.Rows count ∷ [])) all)
 text_pass earlier (parts.Samples port ∷ all) = pass_one [] [] _ _ refl (text_pass (earlier ++ (form.Sample port ∷ [])) all)
 
-system_pass : (system : System) → Pass [] (sites_of system) []
+pub system_pass : (system : System) → Pass [] (sites_of system) []
 system_pass system = pass_one [] [] _ _ refl (text_pass (form.Header system.version ∷ []) (canonical_parts system))
 
 -- ---- One site
 
-scoped_at : (blocks : List Block) (before later : List Site) (site : Site) → AreScoped blocks (before ++ (site ∷ later)) → is_scope_in (fold behind blocks (map line_at before)) site.scope site.line ≡ true
+pub scoped_at : (blocks : List Block) (before later : List Site) (site : Site) → AreScoped blocks (before ++ (site ∷ later)) → is_scope_in (fold behind blocks (map line_at before)) site.scope site.line ≡ true
 scoped_at blocks [] later site all = all.0
 scoped_at blocks (one ∷ before) later site all = scoped_at (behind blocks one.line) before later site all.1
 

@@ -31,23 +31,23 @@ pub record ShowSame (names : List (List ℕ)) (one other : Environment) : Type 0
   pub step : one.step ≡ other.step
   pub words : (name : List ℕ) → Has names name → value_of_name one.variables one.words name ≡ value_of_name other.variables other.words name
 
-abbrev Claim : Expr → Type 0
+abbrev pub Claim : Expr → Type 0
 Claim value = (one other : Environment) → ShowSame (names_in value) one other → value_of value one ≡ value_of value other
 
-abbrev Proved : Type 0
+abbrev pub Proved : Type 0
 Proved = (value : Expr) × Claim value
 
-abbrev bare : Proved → Expr
+abbrev pub bare : Proved → Expr
 bare value = value.0
 
-of_front : (front behind : List (List ℕ)) (one other : Environment) → ShowSame (front ++ behind) one other → ShowSame front one other
+pub of_front : (front behind : List (List ℕ)) (one other : Environment) → ShowSame (front ++ behind) one other → ShowSame front one other
 of_front front behind one other same = record { time = same.time; step = same.step; words = λ name has. same.words name (has_front front behind name has) }
 
-of_behind : (front behind : List (List ℕ)) (one other : Environment) → ShowSame (front ++ behind) one other → ShowSame behind one other
+pub of_behind : (front behind : List (List ℕ)) (one other : Environment) → ShowSame (front ++ behind) one other → ShowSame behind one other
 of_behind front behind one other same = record { time = same.time; step = same.step; words = λ name has. same.words name (has_behind front behind name has) }
 
 -- One node, of parts whose values are the same.
-node_same : (y : Expr-F Proved) (one other : Environment) → ShowSame (node_names (map-Expr Expr (List (List ℕ)) names_in (map-Expr Proved Expr bare y))) one other → node_meaning (map-Expr Expr Meaning value_of (map-Expr Proved Expr bare y)) one ≡ node_meaning (map-Expr Expr Meaning value_of (map-Expr Proved Expr bare y)) other
+pub node_same : (y : Expr-F Proved) (one other : Environment) → ShowSame (node_names (map-Expr Expr (List (List ℕ)) names_in (map-Expr Proved Expr bare y))) one other → node_meaning (map-Expr Expr Meaning value_of (map-Expr Proved Expr bare y)) one ≡ node_meaning (map-Expr Expr Meaning value_of (map-Expr Proved Expr bare y)) other
 node_same (Expr-F.Number number decimals) one other same = refl
 node_same (Expr-F.Truth told) one other same = refl
 node_same (Expr-F.Var name) one other same = ap (λ v. Ok v) (same.words name (inl refl))
@@ -79,7 +79,7 @@ node_same (Expr-F.Choose condition then_part else_part) one other same =
 node_same Expr-F.Absent one other same = refl
 node_same (Expr-F.Present name) one other same = refl
 
-node : (y : Expr-F Proved) → Claim (roll-Expr (map-Expr Proved Expr bare y))
+pub node : (y : Expr-F Proved) → Claim (roll-Expr (map-Expr Proved Expr bare y))
 node y one other same =
     ap (λ (meaning : Meaning). meaning one) (fold-roll-Expr Meaning node_meaning (map-Expr Proved Expr bare y))
     ∙ node_same y one other (subst (λ names. ShowSame names one other) (fold-roll-Expr (List (List ℕ)) node_names (map-Expr Proved Expr bare y)) same)
@@ -91,7 +91,7 @@ value_same = ind-Expr Claim (λ x y is. subst (λ z. Claim (roll-Expr z)) is (no
 -- ---- The value of an output
 
 -- Behind variables with the same words, a name has the same value where it has it in the rest.
-lookup_behind : (front rest : List Variable) (words ones others : List ℤ) (name : List ℕ) → length words ≡ length front → value_of_name rest ones name ≡ value_of_name rest others name → value_of_name (front ++ rest) (words ++ ones) name ≡ value_of_name (front ++ rest) (words ++ others) name
+pub lookup_behind : (front rest : List Variable) (words ones others : List ℤ) (name : List ℕ) → length words ≡ length front → value_of_name rest ones name ≡ value_of_name rest others name → value_of_name (front ++ rest) (words ++ ones) name ≡ value_of_name (front ++ rest) (words ++ others) name
 lookup_behind [] rest [] ones others name one_each same = same
 lookup_behind [] rest (word ∷ words) ones others name one_each same = absurd (omega (arith, one_each))
 lookup_behind (first ∷ front) rest [] ones others name one_each same = absurd (omega (arith, one_each))
@@ -99,14 +99,14 @@ lookup_behind (first ∷ front) rest (word ∷ words) ones others name one_each 
     ap (cond (bytes_eq first.name name) (record { kind = kind_of first.ty; word = word })) (lookup_behind front rest words ones others name (omega (arith, one_each)) same)
 
 -- An input of the name is in the needs.
-abbrev Covered : List (List ℕ) → List Input → List ℕ → Type 0
+abbrev pub Covered : List (List ℕ) → List Input → List ℕ → Type 0
 Covered needs inputs name = (input : Input) → Has inputs input → bytes_eq input.name name ≡ true → is_among needs input.name ≡ true
 
-input_by : (named : Bool) (input : Input) (one other : ℤ) (first second : Value) → (named ≡ true → one ≡ other) → first ≡ second → cond named (record { kind = kind_of input.ty; word = one }) first ≡ cond named (record { kind = kind_of input.ty; word = other }) second
+pub input_by : (named : Bool) (input : Input) (one other : ℤ) (first second : Value) → (named ≡ true → one ≡ other) → first ≡ second → cond named (record { kind = kind_of input.ty; word = one }) first ≡ cond named (record { kind = kind_of input.ty; word = other }) second
 input_by true input one other first second same later = ap (λ word. record { kind = kind_of input.ty; word = word }) (same refl)
 input_by false input one other first second same later = later
 
-lookup_inputs : (needs : List (List ℕ)) (inputs : List Input) (rest : List Variable) (ones others words : List ℤ) (name : List ℕ) → AgreeOn needs inputs ones others → Covered needs inputs name → value_of_name (map (λ input. variable input.name input.ty) inputs ++ rest) (ones ++ words) name ≡ value_of_name (map (λ input. variable input.name input.ty) inputs ++ rest) (others ++ words) name
+pub lookup_inputs : (needs : List (List ℕ)) (inputs : List Input) (rest : List Variable) (ones others words : List ℤ) (name : List ℕ) → AgreeOn needs inputs ones others → Covered needs inputs name → value_of_name (map (λ input. variable input.name input.ty) inputs ++ rest) (ones ++ words) name ≡ value_of_name (map (λ input. variable input.name input.ty) inputs ++ rest) (others ++ words) name
 lookup_inputs needs [] rest [] [] words name agree covered = refl
 lookup_inputs needs [] rest [] (other ∷ others) words name agree covered = absurd agree
 lookup_inputs needs [] rest (one ∷ ones) others words name agree covered = absurd agree
@@ -116,22 +116,22 @@ lookup_inputs needs (input ∷ inputs) rest (one ∷ ones) (other ∷ others) wo
     input_by (bytes_eq input.name name) input one other _ _ (λ named. agree.0 (covered input (inl refl) named))
     (lookup_inputs needs inputs rest ones others words name agree.1 (λ later has. covered later (inr has)))
 
-and_false : (one other : Bool) → one ≡ true → (one && not other) ≡ false → other ≡ true
+pub and_false : (one other : Bool) → one ≡ true → (one && not other) ≡ false → other ≡ true
 and_false true true is kept = refl
 and_false true false is kept = absurd (cc)
 and_false false other is kept = absurd (cc)
 
-or_false : (one other : Bool) → (one || other) ≡ false → (one ≡ false) × (other ≡ false)
+pub or_false : (one other : Bool) → (one || other) ≡ false → (one ≡ false) × (other ≡ false)
 or_false false other is = (refl, is)
 or_false true other is = absurd (cc)
 
 -- A name of an expression that uses no other input.
-kept_at : (test : List ℕ → Bool) (names : List (List ℕ)) (name : List ℕ) → list_any test names ≡ false → Has names name → test name ≡ false
+pub kept_at : (test : List ℕ → Bool) (names : List (List ℕ)) (name : List ℕ) → list_any test names ≡ false → Has names name → test name ≡ false
 kept_at test [] name none has = absurd has
 kept_at test (first ∷ names) name none (inl is) = subst (λ n. test n ≡ false) is (or_false (test first) (list_any test names) none).0
 kept_at test (first ∷ names) name none (inr has) = kept_at test names name (or_false (test first) (list_any test names) none).1 has
 
-any_front : (name : List ℕ) (front behind : List (List ℕ)) → is_among front name ≡ true → is_among (front ++ behind) name ≡ true
+pub any_front : (name : List ℕ) (front behind : List (List ℕ)) → is_among front name ≡ true → is_among (front ++ behind) name ≡ true
 any_front name [] behind is = absurd (cc)
 any_front name (first ∷ front) behind is = any_by (bytes_eq name first) (is_among front name) (is_among (front ++ behind) name) is (any_front name front behind)
   where
@@ -139,7 +139,7 @@ any_front name (first ∷ front) behind is = any_by (bytes_eq name first) (is_am
     any_by true later all is on = refl
     any_by false later all is on = on is
 
-input_among : (inputs : List Input) (input : Input) (name : List ℕ) → Has inputs input → name ≡ input.name → is_among (map (λ (input : Input). input.name) inputs) name ≡ true
+pub input_among : (inputs : List Input) (input : Input) (name : List ℕ) → Has inputs input → name ≡ input.name → is_among (map (λ (input : Input). input.name) inputs) name ≡ true
 input_among [] input name has is = absurd has
 input_among (first ∷ inputs) input name (inl same) is =
     ap (λ b. b || is_among (map (λ (input : Input). input.name) inputs) name) (bytes_of name first.name (is ∙ sym (ap (λ (i : Input). i.name) same)))
@@ -149,12 +149,12 @@ input_among (first ∷ inputs) input name (inr has) is = or_later (bytes_eq name
     or_later true later so = refl
     or_later false later so = so
 
-names_of_inputs : (inputs : List Input) → map (λ (port : Port). port.name) (map (λ (input : Input). record { name = input.name; ty = input.ty; is_event = false; needs = [] }) inputs) ≡ map (λ (input : Input). input.name) inputs
+pub names_of_inputs : (inputs : List Input) → map (λ (port : Port). port.name) (map (λ (input : Input). record { name = input.name; ty = input.ty; is_event = false; needs = [] }) inputs) ≡ map (λ (input : Input). input.name) inputs
 names_of_inputs [] = refl
 names_of_inputs (input ∷ inputs) = ap (λ rest. input.name ∷ rest) (names_of_inputs inputs)
 
 -- An input of a unit is among the names of its inputs.
-among_inputs : (unit : Unit) (input : Input) (name : List ℕ) → Has unit.inputs input → name ≡ input.name → is_among (input_names unit) name ≡ true
+pub among_inputs : (unit : Unit) (input : Input) (name : List ℕ) → Has unit.inputs input → name ≡ input.name → is_among (input_names unit) name ≡ true
 among_inputs unit input name has is =
     let plain : List Port = map (λ (input : Input). record { name = input.name; ty = input.ty; is_event = false; needs = [] }) unit.inputs in
     let events : List Port = map (λ event. record { name = event.name; ty = event.ty; is_event = true; needs = [] }) unit.events_in in
@@ -162,7 +162,7 @@ among_inputs unit input name has is =
     (any_front name (map (λ (port : Port). port.name) plain) (map (λ (port : Port). port.name) events)
     (subst (λ names. is_among names name ≡ true) (sym (names_of_inputs unit.inputs)) (input_among unit.inputs input name has is)))
 
-is_covered : (unit : Unit) (needs : List (List ℕ)) (value : Expr) (name : List ℕ) → uses_other_input unit needs value ≡ false → Has (names_in value) name → Covered needs unit.inputs name
+pub is_covered : (unit : Unit) (needs : List (List ℕ)) (value : Expr) (name : List ℕ) → uses_other_input unit needs value ≡ false → Has (names_in value) name → Covered needs unit.inputs name
 is_covered unit needs value name kept has input there same =
     let is : input.name ≡ name = same_bytes input.name name same in
     let needed : is_among needs name ≡ true =
@@ -194,7 +194,7 @@ get_same component state one other output params states agree kept =
     } in
     ap (λ value. value >>= given_as output.ty) (value_same output.value (environment_of component state one 0 0) (environment_of component state other 0 0) same)
 
-given_fits : (fits : Bool) (ty : Ty) (given word : ℤ) → is_word_of ty given ≡ fits → cond fits (Ok given) (Err Range) ≡ Ok word → is_word_of ty word ≡ true
+pub given_fits : (fits : Bool) (ty : Ty) (given word : ℤ) → is_word_of ty given ≡ fits → cond fits (Ok given) (Err Range) ≡ Ok word → is_word_of ty word ≡ true
 given_fits true ty given word is same = let equal : given ≡ word = cc in subst (λ w. is_word_of ty w ≡ true) equal is
 given_fits false ty given word is same = absurd (cc)
 

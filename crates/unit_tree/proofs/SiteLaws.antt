@@ -16,22 +16,22 @@ abbrev pub line_at : Site → LineForm
 line_at site = site.line
 
 -- A line with the lines of its block.
-abbrev all_of : Headed → List LineForm
+abbrev pub all_of : Headed → List LineForm
 all_of headed = headed.head ∷ map line_at headed.block
 
-lines_in : (scope : Scope) (earlier : List LineForm) (headed : List Headed) → map line_at (sites scope earlier headed) ≡ flat_map all_of headed
+pub lines_in : (scope : Scope) (earlier : List LineForm) (headed : List Headed) → map line_at (sites scope earlier headed) ≡ flat_map all_of headed
 lines_in scope earlier [] = refl
 lines_in scope earlier (first ∷ others) =
     ap (λ rest. first.head ∷ rest) (map-append line_at first.block (sites scope (earlier ++ (first.head ∷ [])) others) ∙ ap (λ rest. map line_at first.block ++ rest) (lines_in scope (earlier ++ (first.head ∷ [])) others))
 
-each_alone : (lines : List LineForm) → flat_map all_of (map alone lines) ≡ lines
+pub each_alone : (lines : List LineForm) → flat_map all_of (map alone lines) ≡ lines
 each_alone [] = refl
 each_alone (line ∷ lines) = ap (λ rest. line ∷ rest) (each_alone lines)
 
 pub alone_in : (scope : Scope) (lines : List LineForm) → map line_at (sites scope [] (map alone lines)) ≡ lines
 alone_in scope lines = lines_in scope [] (map alone lines) ∙ each_alone lines
 
-unit_part_is : (unit : Unit) (part : UnitPart) → flat_map all_of (headed_unit_part unit part) ≡ unit_part_forms part
+pub unit_part_is : (unit : Unit) (part : UnitPart) → flat_map all_of (headed_unit_part unit part) ≡ unit_part_forms part
 unit_part_is unit (parts.Resolution decimals) = refl
 unit_part_is unit (parts.HasParam param) = refl
 unit_part_is unit (parts.HasState state) = refl
@@ -43,18 +43,18 @@ unit_part_is unit (parts.HasEventOut event) = refl
 unit_part_is unit (parts.Max value) = refl
 unit_part_is unit (parts.Step lines) = ap (λ inside. form.Step ∷ inside ++ (form.End ∷ [])) (alone_in (StepScope unit) (flat_map line_forms lines))
 
-unit_parts_are : (unit : Unit) (all : List UnitPart) → flat_map all_of (flat_map (headed_unit_part unit) all) ≡ flat_map unit_part_forms all
+pub unit_parts_are : (unit : Unit) (all : List UnitPart) → flat_map all_of (flat_map (headed_unit_part unit) all) ≡ flat_map unit_part_forms all
 unit_parts_are unit [] = refl
 unit_parts_are unit (part ∷ all) =
     flat_map-append all_of (headed_unit_part unit part) (flat_map (headed_unit_part unit) all) ∙ rw (unit_part_is unit part, unit_parts_are unit all) refl
 
-unit_is : (unit : Unit) (inside : List UnitPart) → map line_at (sites (UnitScope unit) [] (flat_map (headed_unit_part unit) inside ++ (alone form.End ∷ []))) ≡ flat_map unit_part_forms inside ++ (form.End ∷ [])
+pub unit_is : (unit : Unit) (inside : List UnitPart) → map line_at (sites (UnitScope unit) [] (flat_map (headed_unit_part unit) inside ++ (alone form.End ∷ []))) ≡ flat_map unit_part_forms inside ++ (form.End ∷ [])
 unit_is unit inside =
     lines_in (UnitScope unit) [] (flat_map (headed_unit_part unit) inside ++ (alone form.End ∷ []))
     ∙ flat_map-append all_of (flat_map (headed_unit_part unit) inside) (alone form.End ∷ [])
     ∙ ap (λ front. front ++ (form.End ∷ [])) (unit_parts_are unit inside)
 
-part_is : (part : Part) → flat_map all_of (headed_part part) ≡ part_forms part
+pub part_is : (part : Part) → flat_map all_of (headed_part part) ≡ part_forms part
 part_is (parts.HasUnit name inside) = ap (λ block. form.Unit name ∷ block) (append-nil _ ∙ unit_is (unit_of name inside) inside)
 part_is (parts.HasInstance instance) =
     ap (λ block. form.Instance instance.name instance.unit ∷ block)
@@ -66,7 +66,7 @@ part_is (parts.Zero count) = refl
 part_is (parts.Rows count) = refl
 part_is (parts.Samples port) = refl
 
-parts_are : (all : List Part) → flat_map all_of (flat_map headed_part all) ≡ flat_map part_forms all
+pub parts_are : (all : List Part) → flat_map all_of (flat_map headed_part all) ≡ flat_map part_forms all
 parts_are [] = refl
 parts_are (part ∷ all) =
     flat_map-append all_of (headed_part part) (flat_map headed_part all)

@@ -1,5 +1,5 @@
--- Laws of the language. Those of the first part are proved; that of the second is owed by what orders the outputs, and
--- is not proved yet. What a reader of texts owes stands with the reader.
+-- Laws of the language. The last one is proved by what orders the outputs. What a reader of texts owes stands with the
+-- reader.
 use Rattle.std.specs.Prelude.{◌≡◌, ◌⊎◌, ◌↔◌, ℕ, List, ◌∷◌, ◌++◌, map, length, Some, None, IsTrue}
 use Rattle.std.specs.List.{flat_map}
 use Rattle.std.specs.List.Sorted.{IsPermutation}
@@ -17,8 +17,6 @@ use Rattle.unit_tree.specs.WellFormed.{Refusal, IsWellFormed, IsRefusal, refusal
 use Rattle.unit_tree.specs.declared.expr.Expr.{Expr}
 use Rattle.unit_tree.specs.declared.system.PortName.{PortName}
 use Rattle.unit_tree.specs.declared.system.System.{System}
-
--- ---- Proved
 
 -- Every system is well-formed or refused, and not both: there is no refusal exactly where it is well-formed, and a
 -- refusal names the least rule that a line breaks, and the first line that breaks it. No other does.
@@ -74,9 +72,7 @@ abbrev pub IsRefusedOnce : Type 0
 IsRefusedOnce =
     (text : List ℕ) (line by other rule : ℕ) → IsRefused text line by → IsRefused text other rule → (line ≡ other) × (by ≡ rule)
 
--- ---- Owed
-
--- A system has an order of all its outputs, or one output that is the first without an order.
+-- A system has an order of all its outputs, or one output that is the first without an order, and not both.
 pub record CyclesAreJudgedOnce : Type 0 where
   pub judged : (system : System) → HasNoCycle system ⊎ ((port : PortName) × IsFirstWithoutOrder system port)
   pub not_both : (system : System) (port : PortName) → HasNoCycle system → IsFirstWithoutOrder system port → ⊥

@@ -20,6 +20,10 @@ pub record IsNumbered (system : System) (instance output : ℕ) (port : PortName
   pub is_output : slice_get component.1.outputs output ≡ Some declared
   pub is : port_named component.0 declared.name ≡ port
 
+-- The numbers name some output.
+abbrev pub NamesOutput : System → ℕ → ℕ → Type 0
+NamesOutput system instance output = (port : PortName) × IsNumbered system instance output port
+
 -- The numbers name the first output of the plain form that has no order. Want of memory is free.
 abbrev pub IsRightFault : System → OrderFault → Type 0
 IsRightFault system (Loop instance output) = (port : PortName) × IsNumbered (plain_form system) instance output port × IsFirstWithoutOrder (plain_form system) port

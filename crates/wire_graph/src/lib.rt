@@ -5,7 +5,7 @@
 //! ports as numbers, so that whoever goes along the order looks no name up. Where some output lies on a cycle of needs,
 //! or needs one that does, [`OrderFault::Loop`] names the first such output.
 //!
-//! The layer above uses [`order`] and [`OrderFault`]. What an order and its routes are stands in `unit_tree`: `Routes`
+//! The layer above uses [`order`], [`OrderFault`] and [`output_names`]. What an order and its routes are stands in `unit_tree`: `Routes`
 //! (the routes of a composition, and an order of it), `Ports` (an order of places) and `Orders` (orderly lists of
 //! outputs, and the first output without one). `specs/Faults.antt` says which output two numbers name. How it is gone
 //! about stands in `specs/Wiring.antt` (components and their ports), `specs/Origins.antt` (where the word of an input
@@ -26,4 +26,4 @@ mod tests;
 
 pub use fault::OrderFault;
 pub use laws::cycles_are_judged_once;
-pub use ordering::order;
+pub use ordering::{order, output_names};

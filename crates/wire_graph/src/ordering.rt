@@ -1,12 +1,15 @@
 ghost use Rattle.std.specs.Prelude.{◌≡◌, ◌<◌, IfOk, IfErr, length};
 ghost use Rattle.unit_tree.specs.Compositions.{run_of};
 ghost use Rattle.unit_tree.specs.Routes.{IsOrderOf};
-ghost use Rattle.wire_graph.specs.Faults.{IsAtPlace, IsRightFault};
+ghost use Rattle.unit_tree.specs.Plain.{plain_form};
+ghost use Rattle.wire_graph.specs.Faults.{IsAtPlace, IsNumbered, IsRightFault, NamesOutput};
+ghost use Rattle.wire_graph.specs.Wiring.{port_with};
 
+use crate::components::{PortKey, components};
 use crate::fault::OrderFault;
 use crate::routing::system_routes;
 use crate::sorting::{Sorting, first_left, sort};
-use fixed_words::List;
+use fixed_words::{List, NoMemory};
 use std::alloc::Global;
 use unit_tree::{Checked, Order, Routes};
 
@@ -40,4 +43,20 @@ pub fn order(alloc: Global, checked: &Checked) -> Result<Order, OrderFault>
         None => Ok(Order::new(List::from_vec(places), routes, checked)),
         Some(place) => Err(loop_at(&routes, place)),
     }
+}
+
+/// The names of the output that [`OrderFault::Loop`] tells by numbers: that of its instance, and its own in the plain form.
+pub fn output_names(
+    alloc: Global,
+    checked: &Checked,
+    instance: u32,
+    output: u32,
+) -> Result<PortKey<'_>, NoMemory>
+    requires { NamesOutput (plain_form checked.now) instance output }
+    ensures { IfOk result (λ names. IsNumbered (plain_form checked.now) instance output (port_with names)) }
+{
+    let components = components(alloc, checked.system())?;
+    let component = components[instance as usize];
+    let declared = &component.unit.outputs.as_slice()[output as usize];
+    Ok((component.name, declared.name.as_slice()))
 }

@@ -1,5 +1,6 @@
 use Rattle.std.proofs.Common.{rules}
-use Rattle.cosim_app.proofs.JudgeLaws.{puts_answer, puts_front, puts_front_of, ends_own, ends_unrefused}
+use Rattle.cosim_app.proofs.CommandLaws.{ends_unrefused}
+use Rattle.cosim_app.proofs.JudgeLaws.{puts_answer, puts_front, puts_front_of, ends_own}
 use Rattle.cosim_app.proofs.judge.judge_system.Goals as goal
 
 pub returns-in-Ok-ending : goal.returns-in-Ok-ending

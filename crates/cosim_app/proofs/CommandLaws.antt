@@ -1,0 +1,161 @@
+-- Each command has exactly one answer for each text.
+use Rattle.std.proofs.Common.{◌≡◌, ℕ, ◌+◌, ◌≤◌, ◌⊎◌, Bool, true, false, List, [], ◌∷◌, Some, refl, sym, ap, subst, ◌∙◌, inl, inr, arith}
+use Rattle.std.specs.Prelude.{codes}
+use Rattle.std.specs.Str.{bytes_eq}
+use Rattle.first_form.specs.Reading.{IsAnswered}
+use Rattle.first_form.proofs.AnswerLemmas.{answered, says_one, not_both, refused_once}
+use Rattle.text_laws.proofs.ReadIsPrintable.{read_is_printable}
+use Rattle.unit_accept.specs.Accepting.{IsAcceptedAs, IsRefusedAt, source_line}
+use Rattle.unit_accept.proofs.Acceptance.{judged_once, has_source}
+use Rattle.unit_tree.specs.Sites.{sites_of}
+use Rattle.unit_tree.specs.Trace.{IsTraceOf}
+use Rattle.unit_tree.specs.declared.ending.Ending.{Ending}
+use Rattle.unit_tree.specs.declared.ending.Ending.TheVariants.{Completed, RowBudget, ZeroBudget, UnitFault, StepRefused}
+use Rattle.unit_tree.specs.declared.system.System.{System}
+use Rattle.unit_tree.proofs.EventLaws.{one_or_two}
+use Rattle.cosim_app.specs.Answer.{Answer, AnswersRun, IsOfUnservedVersion, AnswersCheck, AnswersPrint, AnswersRefusal, Serves, RefusedBy, CommandAnswers, run_answer, refused_answer, accepted_answer, printed_answer, status_of}
+use Rattle.cosim_app.specs.Commands.{words_of}
+use Rattle.cosim_app.specs.declared.command_words.Command.{Command}
+use Rattle.cosim_app.specs.declared.command_words.Command.TheVariants.{Run, Check, Print}
+use Rattle.cosim_app.specs.declared.status.Status.{Status}
+use Rattle.cosim_app.specs.declared.status.Status.TheVariants as status
+use Rattle.cosim_app.proofs.FormLaws.{runnable}
+use Rattle.cosim_app.proofs.TraceExists.{trace_of_runnable, traces_same}
+
+-- ---- Words
+
+-- whether words are one word of these bytes
+abbrev is_word : List ℕ → List (List ℕ) → Bool
+is_word word (one ∷ []) = bytes_eq one word
+is_word word words = false
+
+told_apart : (word : List ℕ) (one other : Command) → words_of one ≡ words_of other → is_word word (words_of one) ≡ true → is_word word (words_of other) ≡ false → ⊥
+told_apart word one other is first second = let same = sym first ∙ ap (is_word word) is ∙ second in true_is_not_false same
+  where
+    true_is_not_false : true ≡ false → ⊥
+    true_is_not_false same = cc
+
+-- commands of the same words are one
+pub one_command : (one other : Command) → words_of one ≡ words_of other → one ≡ other
+one_command Run Run is = refl
+one_command Run Check is = absurd (told_apart (codes "run") Run Check is refl refl)
+one_command Run Print is = absurd (told_apart (codes "run") Run Print is refl refl)
+one_command Check Run is = absurd (told_apart (codes "check") Check Run is refl refl)
+one_command Check Check is = refl
+one_command Check Print is = absurd (told_apart (codes "check") Check Print is refl refl)
+one_command Print Run is = absurd (told_apart (codes "print") Print Run is refl refl)
+one_command Print Check is = absurd (told_apart (codes "print") Print Check is refl refl)
+one_command Print Print is = refl
+
+-- ---- Statuses
+
+-- the statuses of a trace's ends are no refusal
+pub ends_unrefused : (ending : Ending) (given : Status) → given ≡ status_of ending → given ≡ status.Refused → ⊥
+ends_unrefused Completed given is refused = cc
+ends_unrefused RowBudget given is refused = cc
+ends_unrefused ZeroBudget given is refused = cc
+ends_unrefused (StepRefused instance asked accepted) given is refused = cc
+ends_unrefused (UnitFault instance place fault) given is refused = cc
+
+done_is_no_refusal : status.Done ≡ status.Refused → ⊥
+done_is_no_refusal is = cc
+
+-- nor is that of a text that is served
+pub served_unrefused : (command : Command) (text : List ℕ) (answer : Answer) → Serves command text answer → answer.status ≡ status.Refused → ⊥
+served_unrefused Run text answer serves is = ends_unrefused serves.ending answer.status (ap (λ (x : Answer). x.status) serves.is) is
+served_unrefused Check text answer serves is = done_is_no_refusal (sym (ap (λ (x : Answer). x.status) serves.is) ∙ is)
+served_unrefused Print text answer serves is = done_is_no_refusal (sym (ap (λ (x : Answer). x.status) serves.is) ∙ is)
+
+-- ---- Some answer
+
+run_answered_by : (text : List ℕ) → IsAnswered text → (answer : Answer) × CommandAnswers Run text answer
+run_answered_by text (inl (system, accepted)) =
+    let trace = trace_of_runnable system (runnable text system accepted) in
+    (run_answer system trace.rows trace.last trace.ending, inr (record { system = system; accepted = accepted; rows = trace.rows; last = trace.last; ending = trace.ending; trace = trace.is_trace; is = refl }))
+run_answered_by text (inr refusal) =
+    (refused_answer refusal.0 refusal.1, inl (record { line = refusal.0; rule = refusal.1; refused = refusal.2; is = refl }))
+
+-- the version of what is accepted is 1, or the text is of the version that is not run yet
+header_line : (text : List ℕ) (system : System) (lines : List ℕ) → IsAcceptedAs text system lines → system.version ≡ 2 → (line : ℕ) × IsOfUnservedVersion text line 25
+header_line text system lines accepted version =
+    let source = has_source text system lines 1 accepted.reads (omega arith) (omega arith) in
+    (source.0, record { system = system; lines = lines; accepted = accepted; version = version; at = source.1; by = refl })
+
+check_answered : (text : List ℕ) (system : System) (lines : List ℕ) → IsAcceptedAs text system lines → (system.version ≡ 1) ⊎ (system.version ≡ 2) → (answer : Answer) × CommandAnswers Check text answer
+check_answered text system lines accepted (inl version) =
+    (accepted_answer, inr (record { system = system; lines = lines; accepted = accepted; version = version; is = refl }))
+check_answered text system lines accepted (inr version) =
+    let at = header_line text system lines accepted version in
+    (refused_answer at.0 25, inl (record { line = at.0; rule = 25; refused = inr at.1; is = refl }))
+
+judged_answered : (command : Command) (text : List ℕ) → ((line rule : ℕ) → IsRefusedAt text line rule → RefusedBy command text line rule) → ((system : System) (lines : List ℕ) → IsAcceptedAs text system lines → (answer : Answer) × CommandAnswers command text answer) → (answer : Answer) × CommandAnswers command text answer
+judged_answered command text refuses serves = by (judged_once text).judged
+  where
+    by : ((system : System) × (lines : List ℕ) × IsAcceptedAs text system lines) ⊎ ((line : ℕ) × (rule : ℕ) × IsRefusedAt text line rule) → (answer : Answer) × CommandAnswers command text answer
+    by (inl (system, lines, accepted)) = serves system lines accepted
+    by (inr (line, rule, refused)) = (refused_answer line rule, inl (record { line = line; rule = rule; refused = refuses line rule refused; is = refl }))
+
+-- a command has an answer for each text
+pub command_answered : (command : Command) (text : List ℕ) → (answer : Answer) × CommandAnswers command text answer
+command_answered Run text = run_answered_by text (answered text)
+command_answered Check text =
+    judged_answered Check text (λ line rule refused. inl refused) (λ system lines accepted.
+    let version = (read_is_printable text system accepted.reads.reads).ranged.version in
+    check_answered text system lines accepted (one_or_two system.version version.0 version.1))
+command_answered Print text =
+    judged_answered Print text (λ line rule refused. refused)
+    (λ system lines accepted. (printed_answer system, inr (record { system = system; lines = lines; accepted = accepted; is = refl })))
+
+-- ---- No two answers
+
+-- two runs of a text answer the same
+runs_same : (text : List ℕ) (one other : Answer) (a : AnswersRun text one) (b : AnswersRun text other) → one ≡ other
+runs_same text one other a b =
+    let same_system : a.system ≡ b.system = says_one text a.system b.system a.accepted b.accepted in
+    let trace : IsTraceOf b.system a.rows a.last a.ending = subst (λ (s : System). IsTraceOf s a.rows a.last a.ending) same_system a.trace in
+    let same = traces_same b.system (runnable text b.system b.accepted) a.rows b.rows a.last b.last a.ending b.ending trace b.trace in
+    a.is ∙ ap (λ s. run_answer s a.rows a.last a.ending) same_system ∙ ap (λ rows. run_answer b.system rows a.last a.ending) same.0 ∙ ap (λ last. run_answer b.system b.rows last a.ending) same.1 ∙ ap (run_answer b.system b.rows b.last) same.2 ∙ sym b.is
+
+-- texts are served with one answer
+served_same : (command : Command) (text : List ℕ) (one other : Answer) → Serves command text one → Serves command text other → one ≡ other
+served_same Run text one other a b = runs_same text one other a b
+served_same Check text one other a b = a.is ∙ sym b.is
+served_same Print text one other a b =
+    a.is ∙ ap printed_answer ((judged_once text).one_system a.system b.system a.lines b.lines a.accepted b.accepted).0 ∙ sym b.is
+
+some_is : (one other : ℕ) → Some one ≡ Some other → one ≡ other
+some_is one other same = cc
+
+unserved_same : (text : List ℕ) (line by other rule : ℕ) → IsOfUnservedVersion text line by → IsOfUnservedVersion text other rule → (line ≡ other) × (by ≡ rule)
+unserved_same text line by other rule a b =
+    let same = (judged_once text).one_system a.system b.system a.lines b.lines a.accepted b.accepted in
+    (some_is line other (sym a.at ∙ ap (λ lines. source_line lines 1) same.1 ∙ b.at), a.by ∙ sym b.by)
+
+-- and refused at one line by one rule
+refused_same : (command : Command) (text : List ℕ) (line by other rule : ℕ) → RefusedBy command text line by → RefusedBy command text other rule → (line ≡ other) × (by ≡ rule)
+refused_same Run text line by other rule a b = refused_once text line by other rule a b
+refused_same Print text line by other rule a b = (judged_once text).one_refusal line by other rule a b
+refused_same Check text line by other rule (inl a) (inl b) = (judged_once text).one_refusal line by other rule a b
+refused_same Check text line by other rule (inl a) (inr b) = absurd ((judged_once text).not_both b.system b.lines line by b.accepted a)
+refused_same Check text line by other rule (inr a) (inl b) = absurd ((judged_once text).not_both a.system a.lines other rule a.accepted b)
+refused_same Check text line by other rule (inr a) (inr b) = unserved_same text line by other rule a b
+
+one_and_two : (one other : ℕ) → one ≡ other → one ≡ 1 → other ≡ 2 → ⊥
+one_and_two one other same first second = omega (arith, same, first, second)
+
+refused_or_served : (command : Command) (text : List ℕ) (line rule : ℕ) (answer : Answer) → RefusedBy command text line rule → Serves command text answer → ⊥
+refused_or_served Run text line rule answer refused serves = not_both text serves.system line rule serves.accepted refused
+refused_or_served Print text line rule answer refused serves = (judged_once text).not_both serves.system serves.lines line rule serves.accepted refused
+refused_or_served Check text line rule answer (inl refused) serves = (judged_once text).not_both serves.system serves.lines line rule serves.accepted refused
+refused_or_served Check text line rule answer (inr unserved) serves =
+    let same = ((judged_once text).one_system serves.system unserved.system serves.lines unserved.lines serves.accepted unserved.accepted).0 in
+    one_and_two serves.system.version unserved.system.version (ap (λ (s : System). s.version) same) serves.version unserved.version
+
+-- a command has no two answers for a text
+pub answers_same : (command : Command) (text : List ℕ) (one other : Answer) → CommandAnswers command text one → CommandAnswers command text other → one ≡ other
+answers_same command text one other (inl a) (inl b) =
+    let same = refused_same command text a.line a.rule b.line b.rule a.refused b.refused in
+    a.is ∙ ap (λ l. refused_answer l a.rule) same.0 ∙ ap (refused_answer b.line) same.1 ∙ sym b.is
+answers_same command text one other (inl a) (inr b) = absurd (refused_or_served command text a.line a.rule other a.refused b)
+answers_same command text one other (inr a) (inl b) = absurd (refused_or_served command text b.line b.rule one b.refused a)
+answers_same command text one other (inr a) (inr b) = served_same command text one other a b

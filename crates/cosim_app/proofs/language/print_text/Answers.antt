@@ -1,0 +1,22 @@
+use Rattle.std.proofs.Common.{Err, refl, subst}
+use Rattle.unit_accept.specs.Accepting.{AnswersText}
+use Rattle.unit_text.specs.declared.fault.TextFault.{TextFault}
+use Rattle.unit_tree.specs.declared.system.System.{System}
+use Rattle.cosim_app.specs.Answer.{printed_text}
+use Rattle.cosim_app.specs.Judgement.{PutsPiece}
+use Rattle.cosim_app.specs.declared.command_words.Command.TheVariants.{Print}
+use Rattle.cosim_app.proofs.JudgeLaws.{puts_nothing, refuses, prints_accepted}
+use Rattle.cosim_app.proofs.language.print_text.Goals as goal
+
+pub returns-in-Ok : goal.returns-in-Ok
+returns-in-Ok g c =
+    prints_accepted c.args.text.now c.in-Ok.read.checked c.in-Ok.read.lines (g.O.Sink.held c.args.out.now) (g.O.Sink.held c.put_canonical.new.out) (g.O.Sink.faults c.args.out.now) (g.O.Sink.faults c.put_canonical.new.out) c.put_canonical.result c.in-Ok.ensures
+    (subst (λ (s : System). PutsPiece (g.O.Sink.held c.args.out.now) (g.O.Sink.held c.put_canonical.new.out) (g.O.Sink.faults c.args.out.now) (g.O.Sink.faults c.put_canonical.new.out) (printed_text s) c.put_canonical.result) c.source.ensures c.put_canonical.ensures)
+
+pub returns-in-Err-Line : goal.returns-in-Err-Line
+returns-in-Err-Line g c =
+    refuses Print c.args.text.now (g.O.Sink.held c.args.out.now) (g.O.Sink.faults c.args.out.now) c.in-Err-Line.line c.in-Err-Line.rule c.refuse.result
+    (subst (λ (why : TextFault). AnswersText c.args.text.now (Err why)) c.in-Err-Line.field-0-is c.in-Err-Line.ensures) c.refuse.ensures
+
+pub returns-in-Err-NoMemory : goal.returns-in-Err-NoMemory
+returns-in-Err-NoMemory g c = (puts_nothing Print c.args.text.now (g.O.Sink.held c.args.out.now), refl)

@@ -1,0 +1,14 @@
+pub mod Answered
+pub mod Ends
+pub mod Faults
+pub mod Fronts
+pub mod InputPlaces
+pub mod Judged
+pub mod Linked
+pub mod Loop
+pub mod OutputPlaces
+pub mod PlainLinks
+pub mod PlainUses
+pub mod SetWords
+pub mod Setting
+pub mod SoundRuns

@@ -1,0 +1,19 @@
+-- What is run of a judged system is sound.
+use Rattle.std.proofs.Common.{inl, inr, sym, subst}
+use Rattle.std.specs.Prelude.{◌==◌, if◌then◌else◌}
+use Rattle.port_solve.specs.Sound.{IsSound, RunsAreSound}
+use Rattle.unit_tree.specs.Compositions.{composition_of}
+use Rattle.unit_tree.proofs.EventLaws.{version_1_without_events, plain_form_1, plain_of_without_events, one_or_two}
+use Rattle.unit_tree.proofs.PlainOrders.{plain_of}
+use Rattle.port_solve.proofs.Linked.{is_sound}
+use Rattle.port_solve.proofs.PlainLinks.{links_without_events, plain_links}
+
+pub runs_are_sound : RunsAreSound
+runs_are_sound system ranged kept = elim (one_or_two system.version ranged.version.0 ranged.version.1) [
+  | inl first ↦
+      subst (λ run. IsSound (composition_of run)) (sym (plain_form_1 system first))
+      (is_sound system (version_1_without_events system ranged first) (links_without_events system ranged kept))
+  | inr second ↦
+      subst (λ version. IsSound (composition_of (if version == 2 then plain_of system else system))) (sym second)
+      (is_sound (plain_of system) (plain_of_without_events system) (plain_links system ranged kept))
+]

@@ -1,0 +1,3 @@
+pub mod Solved
+pub mod Sound
+pub mod Steps

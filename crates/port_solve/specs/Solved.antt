@@ -1,0 +1,47 @@
+-- Solved ports: what is asked of components whose ports are to be solved, and what is told of the answer.
+use Rattle.std.specs.Prelude.{◌≡◌, Bool, ℤ, pos, List, [], map, length, zip, slice_index_or, if◌then◌else◌, Option, Some, None, IfSome, Result, Ok, Err}
+use Rattle.std.specs.List.{AllByRecursion, AllZip}
+use Rattle.port_solve.specs.declared.solving.PortFault.{PortFault}
+use Rattle.unit_tree.specs.Compositions.{Source, Composition}
+use Rattle.unit_tree.specs.Ports.{Ports, input_word}
+use Rattle.unit_tree.specs.Routes.{inputs_of}
+use Rattle.unit_tree.specs.declared.ending.Ending.{Ending}
+use Rattle.unit_tree.specs.declared.ending.Ending.TheVariants.{UnitFault}
+use Rattle.unit_tree.specs.declared.ending.Place.TheVariants as place
+use Rattle.unit_tree.specs.declared.order.InputAt.{InputAt}
+
+-- ---- The components
+
+-- There is a state for each member, with one word for each of its states.
+abbrev pub HaveStates : Composition → List (List ℤ) → Type 0
+HaveStates run states = AllZip (λ member state. length state ≡ length member.component.unit.states) run.members states
+
+-- The inputs of each member have one word each.
+abbrev pub HaveInputs : Composition → List (List ℤ) → Type 0
+HaveInputs run inputs = AllZip (λ member words. length words ≡ length member.component.unit.inputs) run.members inputs
+
+-- The word of an input.
+abbrev pub word_in : List (List ℤ) → InputAt → ℤ
+word_in inputs at = slice_index_or (slice_index_or inputs at.instance []) at.input (pos 0)
+
+-- An input has its word, where this is defined.
+abbrev pub HasItsWord : Ports → List (List ℤ) → InputAt × Source → Type 0
+HasItsWord ports inputs (at, source) = IfSome (input_word ports source) (λ word. word_in inputs at ≡ word)
+
+-- Each input whose word is defined has it.
+abbrev pub HaveTheirWords : Composition → Ports → List (List ℤ) → Type 0
+HaveTheirWords run ports inputs = AllByRecursion (HasItsWord ports inputs) (inputs_of run)
+
+-- ---- The answer
+
+-- The ports that are told by whether each is known, and by its word where it is.
+abbrev pub port_told : Bool × ℤ → Option ℤ
+port_told (known, word) = if known then Some word else None
+
+abbrev pub ports_told : List Bool → List ℤ → Ports
+ports_told known words = map port_told (zip known words)
+
+-- The end of a run that an answer tells.
+abbrev pub ending_told : Result (Unit {0}) PortFault → Option Ending
+ending_told (Ok done) = None
+ending_told (Err fault) = Some (UnitFault fault.instance (place.Output fault.output) fault.fault)

@@ -1,0 +1,38 @@
+-- Sound runs: connections give words of the type that is asked for, and outputs use the inputs in their needs alone. What is
+-- run of a well-formed system is sound.
+use Rattle.std.specs.Prelude.{◌≡◌, true, false, List, map, length, zip, slice_get, Some}
+use Rattle.std.specs.List.{AllByRecursion, flat_map}
+use Rattle.fixed_words.specs.Types.{lowest, highest, is_word_of}
+use Rattle.fixed_words.specs.declared.types.Ty.{Ty}
+use Rattle.unit_tree.specs.Compositions.{Source, Start, AtPlace, Member, Composition, run_of}
+use Rattle.unit_tree.specs.Printable.{IsRanged}
+use Rattle.unit_tree.specs.WellFormed.{IsWellFormed, uses_other_input}
+use Rattle.unit_tree.specs.declared.system.System.{System}
+use Rattle.unit_tree.specs.declared.unit.Input.{Input}
+
+-- The types of all outputs by their places.
+abbrev pub types_of_places : Composition → List Ty
+types_of_places run = flat_map (λ member. map (λ output. output.ty) member.component.unit.outputs) run.members
+
+-- Two types have the same words.
+abbrev pub HaveSameWords : Ty → Ty → Type 0
+HaveSameWords one other = (lowest one ≡ lowest other) × (highest one ≡ highest other)
+
+-- The source of an input gives words of its type: its start word is one, and so are those of the output that it is connected
+-- to.
+abbrev pub Suits : List Ty → Input × Source → Type 0
+Suits types (input, Start word) = is_word_of input.ty word ≡ true
+Suits types (input, AtPlace place) = (ty : Ty) × (slice_get types place ≡ Some ty) × HaveSameWords ty input.ty
+
+pub record IsSoundMember (types : List Ty) (member : Member) : Type 0 where
+  pub params : length member.component.params ≡ length member.component.unit.params
+  pub sources : length member.sources ≡ length member.component.unit.inputs
+  pub suits : AllByRecursion (Suits types) (zip member.component.unit.inputs member.sources)
+  pub needs : AllByRecursion (λ output. uses_other_input member.component.unit output.needs output.value ≡ false) member.component.unit.outputs
+
+abbrev pub IsSound : Composition → Type 0
+IsSound run = AllByRecursion (IsSoundMember (types_of_places run)) run.members
+
+-- What is run of a system in range that is well-formed is sound.
+abbrev pub RunsAreSound : Type 0
+RunsAreSound = (system : System) → IsRanged system → IsWellFormed system → IsSound (run_of system)

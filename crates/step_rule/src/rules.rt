@@ -1,0 +1,89 @@
+ghost use Rattle.std.specs.Prelude.{◌≡◌, ◌≤◌, ◌<◌, ◌+◌, ◌^◌, ℕ, length, min};
+ghost use Rattle.step_rule.specs.AfterStep.{after_step};
+ghost use Rattle.super_time.specs.LocalTime.{local_step};
+ghost use Rattle.unit_tree.specs.Negotiation.{agreed_step, proposal_of, reply_of};
+
+use super_time::{Point, limit, local_step};
+
+/// Where a run goes on after a step.
+#[derive(Clone, Copy, Debug, PartialEq, Eq)]
+pub enum NextPoint {
+    Next(Point),
+    /// The step has length zero, and no more of those may follow.
+    ZeroBudget,
+}
+
+/// The step that is proposed at `t`: the greatest that passes neither the stop, `longest` nor a limit.
+pub fn propose(stop: u64, longest: u64, t: u64, limits: &[u128]) -> u64
+    requires before_stop { t ≤ stop }
+    requires stop { stop ≤ 10 ^ 15 }
+    ensures { result ≡ proposal_of stop longest t limits.now }
+{
+    let mut least = (stop - t).min(longest);
+    for limit in limits {
+        least = capped(least, *limit);
+    }
+    least
+}
+
+/// The lesser of two lengths.
+fn capped(length: u64, limit: u128) -> u64
+    ensures { result ≡ min length limit }
+{
+    if limit < u128::from(length) {
+        limit as u64
+    } else {
+        length
+    }
+}
+
+/// The reply to a step of `h` from `t` of a component that accepted so many local ticks of it, of which one is `factor`
+/// ticks: the whole step where it accepted all of its local step, and else the ticks until those that it accepted have
+/// passed. A held component, whose local step is 0, replies the whole step.
+pub fn reply(factor: u64, t: u64, h: u64, accepted: u64) -> u64
+    requires factor { 1 ≤ factor }
+    requires coarsest { factor ≤ 10 ^ 9 }
+    requires end { t + h ≤ 10 ^ 15 }
+    requires accepted { accepted ≤ local_step factor t h }
+    ensures reply { result ≡ reply_of factor t h accepted }
+    ensures at_most { result ≤ h }
+{
+    if accepted == local_step(factor, t, h) {
+        return h;
+    }
+    limit(factor, t, accepted) as u64
+}
+
+/// The step that is agreed on: the least reply.
+pub fn agree(replies: &[u64]) -> u64
+    requires some { 0 < length replies.now }
+    ensures { (h : ℕ) → result ≡ agreed_step h replies.now }
+{
+    let mut least = replies[0];
+    for reply in &replies[1..] {
+        least = least.min(*reply);
+    }
+    least
+}
+
+/// The point after a step of `h`; or that this is one step of length zero too many, where `zero` may follow each other.
+pub fn after(point: Point, h: u64, zero: u64) -> NextPoint
+    requires end { point.t + h ≤ 10 ^ 15 }
+    requires zeros { point.n ≤ zero }
+    requires budget { zero ≤ 10000 }
+    ensures { result ≡ after_step zero point h }
+{
+    if h > 0 {
+        return NextPoint::Next(Point {
+            t: point.t + h,
+            n: 0,
+        });
+    }
+    if point.n == zero {
+        return NextPoint::ZeroBudget;
+    }
+    NextPoint::Next(Point {
+        t: point.t,
+        n: point.n + 1,
+    })
+}

@@ -1,0 +1,21 @@
+ghost use Rattle.text_laws.specs.Laws.{CanonicalLinesAreShortest, CanonicalTextIsReadBack, SourceLinesAreOneForOne, WhatIsReadIsPrintable};
+
+/// A law: what a text says has a canonical text, and is in range.
+pub fn what_is_read_is_printable()
+    ensures { WhatIsReadIsPrintable }
+{}
+
+/// A law: reading the canonical text of a system gives this system.
+pub fn canonical_text_is_read_back()
+    ensures { CanonicalTextIsReadBack }
+{}
+
+/// A law: a canonical line is never longer than a line that it came from.
+pub fn canonical_lines_are_shortest()
+    ensures { CanonicalLinesAreShortest }
+{}
+
+/// A law: each canonical line of what a text says has the line of the text that it came from, one for one.
+pub fn source_lines_are_one_for_one()
+    ensures { SourceLinesAreOneForOne }
+{}

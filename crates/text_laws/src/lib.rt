@@ -1,0 +1,17 @@
+//! Laws of model texts, without code: what is read is printable ([`what_is_read_is_printable`]), a canonical text is read
+//! back ([`canonical_text_is_read_back`]), no canonical line is longer than a line that it came from
+//! ([`canonical_lines_are_shortest`]), each canonical line has the line that it came from
+//! ([`source_lines_are_one_for_one`]), and texts that were worked out by hand ([`texts_are_worked`]).
+//!
+//! Definitions: `Texts`, `Canonical` and `Printable` of `unit_tree`; `specs/Laws.antt` states the laws. The reader and the
+//! printer meet them by their own clauses.
+#![tactic(auto)]
+
+mod laws;
+mod worked;
+
+pub use laws::{
+    canonical_lines_are_shortest, canonical_text_is_read_back, source_lines_are_one_for_one,
+    what_is_read_is_printable,
+};
+pub use worked::texts_are_worked;

@@ -1,0 +1,75 @@
+ghost use Rattle.std.specs.Prelude.{◌≡◌, [], List, ℕ, Some, OnOk, OnErr, IsSome};
+ghost use Rattle.std.specs.List.{AllByRecursion};
+ghost use Rattle.std.specs.Option.{option_map};
+ghost use Rattle.trace_csv.specs.Columns.{port_title, title_in, IsOutput};
+ghost use Rattle.trace_csv.specs.TraceText.{header_line};
+ghost use Rattle.unit_tree.specs.Names.{unit_named};
+
+use crate::line::{end_line, new_line, put_field};
+use csv::QuoteStyle;
+use fixed_words::NoMemory;
+use std::alloc::Global;
+use unit_tree::{Checked, Column, Instance, Output, System, Unit};
+
+/// The first unit of a name. There are few units, so it goes through them.
+fn unit_of_name<'a>(units: &'a [Unit], name: &[u8]) -> Option<&'a Unit>
+    ensures { option_map (λ unit. unit.now) result ≡ unit_named units.now name.now }
+{
+    for unit in units {
+        if unit.name.as_slice() == name {
+            return Some(unit);
+        }
+    }
+    None
+}
+
+/// The output that a column shows, with its instance.
+fn shown_by<'a>(system: &'a System, column: Column) -> Option<(&'a Instance, &'a Output)>
+    ensures { option_map (λ shown. port_title shown.0.now shown.1.now) result ≡ title_in system.now column }
+{
+    let instance = system.instances.get(column.instance as usize)?;
+    let unit = unit_of_name(system.units.as_slice(), instance.unit.as_slice())?;
+    let output = unit.outputs.get(column.output as usize)?;
+    Some((instance, output))
+}
+
+/// Puts the title of a column in the place of what `title` holds.
+fn write_title(system: &System, column: Column, title: &mut Vec<u8>) -> Result<(), NoMemory>
+    requires { IsSome (title_in system.now column) }
+    ensures { OnOk result (title_in system.now column ≡ Some title.new.items) }
+{
+    let Some((instance, output)) = shown_by(system, column) else {
+        unreachable!()
+    };
+    title.clear();
+    title.extend_from_slice(instance.name.as_slice())?;
+    title.push(b'.')?;
+    title.extend_from_slice(output.name.as_slice())
+}
+
+/// Puts the header of a trace in the place of what `out` holds: one line with `time`, `index` and the columns as
+/// `instance.output`. An event output has its own name.
+///
+/// Where there is no memory `out` is empty.
+pub fn header_text(
+    alloc: Global,
+    checked: &Checked,
+    columns: &[Column],
+    out: &mut Vec<u8>,
+) -> Result<(), NoMemory>
+    requires { AllByRecursion (IsOutput checked.now) columns.now }
+    ensures ok { OnOk result (out.new.items ≡ header_line checked.now columns.now) }
+    ensures err { OnErr result (out.new.items ≡ []) }
+{
+    out.clear();
+    let mut line = new_line(alloc, QuoteStyle::Never);
+    put_field(&mut line, b"time")?;
+    put_field(&mut line, b"index")?;
+    let system = checked.system();
+    let mut title = Vec::new(alloc);
+    for column in columns {
+        write_title(system, *column, &mut title)?;
+        put_field(&mut line, title.as_slice())?;
+    }
+    end_line(&mut line, out)
+}

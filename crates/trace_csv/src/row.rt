@@ -1,0 +1,116 @@
+ghost use Rattle.std.specs.Prelude.{◌≡◌, ◌≤◌, ◌<◌, ◌++◌, ◌∷◌, [], List, ℕ, Some, OnOk, OnErr, true};
+ghost use Rattle.std.specs.Fmt.{decimal};
+ghost use Rattle.std.specs.List.{AllByRecursion};
+ghost use Rattle.csv.specs.declared.writer.QuoteStyle.TheVariants as style;
+ghost use Rattle.fixed_words.specs.Texts.{text_of};
+ghost use Rattle.fixed_words.specs.Types.{is_word_of, AreDecimals};
+ghost use Rattle.super_time.specs.Seconds.{seconds_text_of};
+ghost use Rattle.trace_csv.specs.TraceText.{field_of, row_fields, row_line, HasWord};
+ghost use Rattle.trace_csv.specs.Writers.{HasFields};
+
+use crate::line::{LineWriter, end_line, new_line, put_field};
+use csv::QuoteStyle;
+use fixed_words::{NoMemory, Ty, word_text};
+use itoa::Buffer;
+use std::alloc::Global;
+use super_time::{Point, seconds_text};
+use unit_tree::Column;
+
+/// Adds the time and the index of a point. `text` is room for the text of a field.
+fn put_point(
+    line: &mut LineWriter,
+    text: &mut Vec<u8>,
+    resolution: u8,
+    point: Point,
+) -> Result<(), NoMemory>
+    requires { resolution ≤ 9 }
+    ensures { HasFields (λ v. Some v.items) style.Necessary line.old []
+        → OnOk result (HasFields (λ v. Some v.items) style.Necessary line.new (seconds_text_of resolution point.t ∷ decimal point.n ∷ [])) }
+{
+    text.clear();
+    seconds_text(resolution, point.t, text)?;
+    put_field(line, text.as_slice())?;
+    put_field(line, Buffer::new().format(point.n).as_bytes())
+}
+
+/// Adds a word of the type. Integers, which need no room, go by way of the stack.
+fn put_word(line: &mut LineWriter, text: &mut Vec<u8>, ty: Ty, word: i64) -> Result<(), NoMemory>
+    requires is_word { is_word_of ty word ≡ true }
+    requires decimals { AreDecimals ty }
+    ensures { (fields : List (List ℕ)) → HasFields (λ v. Some v.items) style.Necessary line.old fields
+        → OnOk result (HasFields (λ v. Some v.items) style.Necessary line.new (fields ++ text_of ty word ∷ [])) }
+{
+    match ty {
+        Ty::Bool | Ty::Fixed(_) => {
+            text.clear();
+            word_text(ty, word, text)?;
+            put_field(line, text.as_slice())
+        }
+        _ => put_field(line, Buffer::new().format(word).as_bytes()),
+    }
+}
+
+/// Adds the field of a column, which is empty where no event occurs.
+fn put_column(
+    line: &mut LineWriter,
+    text: &mut Vec<u8>,
+    column: Column,
+    ports: &[i64],
+) -> Result<(), NoMemory>
+    requires { HasWord ports.now column }
+    ensures { (fields : List (List ℕ)) → HasFields (λ v. Some v.items) style.Necessary line.old fields
+        → OnOk result (HasFields (λ v. Some v.items) style.Necessary line.new (fields ++ field_of ports.now column ∷ [])) }
+{
+    let place = column.place as usize;
+    if column.event && ports[place - 1] == 0 {
+        return put_field(line, b"");
+    }
+    put_word(line, text, column.ty, ports[place])
+}
+
+/// Adds the fields of a row. `text` is room for the text of one field.
+fn put_fields(
+    line: &mut LineWriter,
+    text: &mut Vec<u8>,
+    resolution: u8,
+    point: Point,
+    columns: &[Column],
+    ports: &[i64],
+) -> Result<(), NoMemory>
+    requires resolution { resolution ≤ 9 }
+    requires words { AllByRecursion (HasWord ports.now) columns.now }
+    ensures { HasFields (λ v. Some v.items) style.Necessary line.old []
+        → OnOk result (HasFields (λ v. Some v.items) style.Necessary line.new (row_fields resolution columns.now point ports.now)) }
+{
+    put_point(line, text, resolution, point)?;
+    for column in columns {
+        put_column(line, text, *column, ports)?;
+    }
+    Ok(())
+}
+
+/// Puts a row of a trace in the place of what `out` holds: one line with the time of the point in seconds, its index and
+/// the words of the columns. `ports` has the words of all outputs by their places, `resolution` the decimals of a tick.
+///
+/// The field of an event output is empty where the word before its own tells that no event occurs. Where there is no
+/// memory `out` is empty.
+pub fn row_text(
+    alloc: Global,
+    resolution: u8,
+    point: Point,
+    columns: &[Column],
+    ports: &[i64],
+    out: &mut Vec<u8>,
+) -> Result<(), NoMemory>
+    requires resolution { resolution ≤ 9 }
+    requires words { AllByRecursion (HasWord ports.now) columns.now }
+    ensures ok { OnOk result (out.new.items ≡ row_line resolution columns.now point ports.now) }
+    ensures err { OnErr result (out.new.items ≡ []) }
+{
+    let mut line = new_line(alloc, QuoteStyle::Necessary);
+    // Until the line is whole, `out` is room for the text of each field.
+    let written = put_fields(&mut line, out, resolution, point, columns, ports);
+    out.clear();
+    written?;
+    end_line(&mut line, out)
+}

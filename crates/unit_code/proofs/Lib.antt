@@ -1,0 +1,9 @@
+pub mod Means
+pub mod NamesInSlots
+pub mod LinesMean
+pub mod FitPieces
+pub mod FitLines
+pub mod FitUnits
+pub mod UnitsCompute
+pub mod ScopeLaws
+pub mod CheapUnits

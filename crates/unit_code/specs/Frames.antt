@@ -1,0 +1,24 @@
+-- The words of a component as it runs, seen by names and seen in slots.
+use Rattle.std.specs.Prelude.{ℕ, ℤ, pos, List, [], ◌∷◌, ◌++◌}
+use Rattle.unit_tree.specs.Components.{Component, variables_of}
+use Rattle.unit_tree.specs.declared.environment.Environment.{Environment}
+use Rattle.unit_vm.specs.Machine.{Work}
+
+-- The words of states, inputs and locals, in this order, and the accepted length.
+pub record Held : Type 0 where
+  pub words : List ℤ
+  pub accepted : ℕ
+
+-- Under names they stand behind the words of the parameters.
+abbrev pub environment_at : Component → ℕ → ℕ → Held → Environment
+environment_at component time step held = record {
+  variables = variables_of component.unit;
+  words = component.params ++ held.words;
+  time = time;
+  step = step;
+  accepted = held.accepted;
+}
+
+-- In slots the local time and the step stand behind them.
+abbrev pub work_at : ℕ → ℕ → List ℤ → Held → Work
+work_at time step stack held = record { stack = stack; slots = held.words ++ (pos time ∷ pos step ∷ []); accepted = held.accepted }

@@ -1,0 +1,7 @@
+pub mod Scopes
+pub mod Expressions
+pub mod StepLines
+pub mod Frames
+pub mod UnitPrograms
+pub mod Calls
+pub mod Laws

@@ -1,0 +1,14 @@
+pub mod UnitSites
+pub mod Declarations
+pub mod NamesOfUnits
+pub mod KindsOfRuns
+pub mod EventChoices
+pub mod TargetsOfUnits
+pub mod LinesOfRuns
+pub mod CompilableUnits
+pub mod FirstVersion
+pub mod CheckedUnits
+pub mod ImageLaws
+pub mod SlotLaws
+pub mod GivenAnswers
+pub mod ValidAnswers

@@ -1,0 +1,150 @@
+ghost use Rattle.std.specs.Prelude.{◌≡◌, ◌≤◌, map, length, IsSome, IfOk};
+ghost use Rattle.fixed_words.specs.Types.{AreDecimals};
+ghost use Rattle.unit_tree.specs.Components.{start_word};
+ghost use Rattle.unit_vm.specs.Checking.{IsValid};
+ghost use Rattle.std.specs.List.{AllByRecursion};
+ghost use Rattle.unit_code.specs.UnitPrograms.{IsCompilable};
+ghost use Rattle.unit_exec.specs.Images.{IsImageOf, unit_run, HasParams, IsCompiled};
+ghost use Rattle.unit_tree.specs.declared.unit.Input.{Input};
+ghost use Rattle.unit_tree.specs.declared.unit.State.{State};
+
+use fixed_words::{List, Literal, NoMemory, Ty, literal_word};
+use std::alloc::Global;
+use std::marker::Model;
+use unit_code::program;
+use unit_tree::{Checked, Input, State, Unit};
+use unit_vm::{Code, Program};
+
+/// A unit with words of its parameters, as code, and the words with which its states and inputs begin.
+#[derive(Drop)]
+pub struct Image {
+    code: Code,
+    start: List<i64>,
+    start_inputs: List<i64>,
+}
+
+impl Model for Image {
+    ghost use Rattle.unit_exec.specs.Images.{Compiled, HasStarts};
+
+    ghost Value = { Compiled };
+
+    ghost view = { λ i. record { program = i.code; start = i.start; start_inputs = i.start_inputs } };
+
+    ghost invariant = { λ i. HasStarts (record { program = i.code; start = i.start; start_inputs = i.start_inputs }) };
+}
+
+impl Image {
+    /// The code. No memory is taken.
+    pub fn code(&self) -> &Code
+        ensures { result.now ≡ self.now.program }
+    {
+        &self.code
+    }
+
+    /// How many states it has.
+    pub fn states(&self) -> u32
+        ensures { result ≡ self.now.program.sizes.states }
+    {
+        self.code.program().sizes.states
+    }
+
+    /// How many inputs it has.
+    pub fn inputs(&self) -> u32
+        ensures { result ≡ self.now.program.sizes.inputs }
+    {
+        self.code.program().sizes.inputs
+    }
+
+    /// The words with which the states begin.
+    pub fn start(&self) -> &[i64]
+        ensures value { result.now ≡ self.now.start }
+        ensures each { length self.now.start ≡ self.now.program.sizes.states }
+    {
+        self.start.as_slice()
+    }
+
+    /// The words with which the inputs begin.
+    pub fn start_inputs(&self) -> &[i64]
+        ensures value { result.now ≡ self.now.start_inputs }
+        ensures each { length self.now.start_inputs ≡ self.now.program.sizes.inputs }
+    {
+        self.start_inputs.as_slice()
+    }
+}
+
+/// The word that is declared by a literal; 0 where it has none.
+fn start_word(ty: Ty, literal: Literal) -> i64
+    requires { AreDecimals ty }
+    ensures { result ≡ start_word ty literal }
+{
+    match literal_word(ty, literal) {
+        Ok(word) => word,
+        Err(_) => 0,
+    }
+}
+
+/// The code of a valid program: its words are valid code.
+fn valid_code(alloc: Global, program: &Program) -> Result<Code, NoMemory>
+    requires { IsValid program.now }
+    ensures { IfOk result (λ code. code ≡ program.now) }
+{
+    let words = program.words(alloc)?;
+    let found = Code::new(alloc, words)?;
+    Ok(found.unwrap())
+}
+
+/// The words with which states begin.
+fn start_states(alloc: Global, states: &[State]) -> Result<List<i64>, NoMemory>
+    requires { AllByRecursion (λ (state : State). AreDecimals state.ty) states.now }
+    ensures { IfOk result (λ words. words ≡ map (λ state. start_word state.ty state.start) states.now) }
+{
+    let mut words = List::new(alloc);
+    for state in states {
+        words.push(start_word(state.ty, state.start))?;
+    }
+    Ok(words)
+}
+
+/// The words with which inputs begin.
+fn start_inputs(alloc: Global, inputs: &[Input]) -> Result<List<i64>, NoMemory>
+    requires { AllByRecursion (λ (input : Input). AreDecimals input.ty) inputs.now }
+    ensures { IfOk result (λ words. words ≡ map (λ input. start_word input.ty input.start) inputs.now) }
+{
+    let mut words = List::new(alloc);
+    for input in inputs {
+        words.push(start_word(input.ty, input.start))?;
+    }
+    Ok(words)
+}
+
+/// The image of a unit that may be compiled.
+fn image_of(alloc: Global, unit: &Unit, params: &[i64]) -> Result<Image, NoMemory>
+    requires { IsCompilable unit.now params.now }
+    ensures { IfOk result (λ image. IsImageOf (record { unit = unit.now; params = params.now }) image) }
+{
+    let program = program(alloc, unit, params)?;
+    let code = valid_code(alloc, &program)?;
+    Ok(Image {
+        code,
+        start: start_states(alloc, unit.states.as_slice())?,
+        start_inputs: start_inputs(alloc, unit.inputs.as_slice())?,
+    })
+}
+
+/// The image of a unit of what is run of a checked system, by its number there, with words of its parameters. Its code
+/// is the unit's program, which computes the calls of the component and, by `codes_cost_what_trees_do` of `unit_code`, costs
+/// at most what they cost by their trees.
+pub fn compile(
+    alloc: Global,
+    checked: &Checked,
+    unit: u32,
+    params: &[i64],
+) -> Result<Image, NoMemory>
+    requires there { IsSome (unit_run checked.now unit) }
+    requires one_each { HasParams checked.now unit params.now }
+    ensures { IfOk result (λ image. IsCompiled checked.now unit params.now image) }
+{
+    let system = checked.system();
+    let unit = system.units.get(unit as usize).unwrap();
+    image_of(alloc, unit, params)
+}

@@ -1,0 +1,137 @@
+ghost use Rattle.std.specs.Prelude.{◌≡◌, ◌+◌, ◌≤◌, ◌<◌, ◌^◌, length, Some, IfOk, slice_set};
+ghost use Rattle.unit_code.specs.Calls.{output_by, limit_by};
+ghost use Rattle.unit_exec.specs.Running.{opened, Steps};
+
+use crate::calls::{put, run_on, take_first};
+use crate::image::Image;
+use fixed_words::{Fault, NoMemory};
+use std::alloc::Global;
+use std::marker::Model;
+use std::sync::Arc;
+use unit_vm::{Entry, Frame};
+
+/// A unit that runs: its image, its state, and the words of its inputs.
+///
+/// Each call is a run of the image's code for them, in one frame that was made with the unit. No call takes memory.
+#[derive(Drop)]
+pub struct Unit {
+    image: Arc<Image>,
+    frame: Frame,
+    state: Vec<i64>,
+    inputs: Vec<i64>,
+}
+
+impl Model for Unit {
+    ghost use Rattle.unit_exec.specs.Running.{Running, IsReady};
+
+    ghost Value = { Running };
+
+    ghost view = { λ u. record { image = u.image.value; state = u.state.items; inputs = u.inputs.items } };
+
+    ghost invariant = { λ u. IsReady u.image.value u.frame u.state.items u.inputs.items };
+}
+
+impl Unit {
+    /// A unit at its start: with the start words of its states and inputs.
+    pub fn new(alloc: Global, image: Arc<Image>) -> Result<Unit, NoMemory>
+        ensures { IfOk result (λ unit. unit ≡ opened image.value) }
+    {
+        let frame = Frame::new(alloc, image.code().facts())?;
+        let state = Vec::from_slice(alloc, image.start())?;
+        let inputs = Vec::from_slice(alloc, image.start_inputs())?;
+        Ok(Unit {
+            image,
+            frame,
+            state,
+            inputs,
+        })
+    }
+
+    /// Sets the word of an input.
+    pub fn set(&mut self, input: u32, word: i64)
+        requires { input < length self.old.inputs }
+        ensures { self.new ≡ record self.old { inputs = slice_set self.old.inputs input word } }
+    {
+        self.inputs[input as usize] = word;
+    }
+
+    /// The word of an output, or its fault. State and inputs stay.
+    pub fn get(&mut self, output: u32) -> Result<i64, Fault>
+        requires { output < length self.old.image.program.outputs }
+        ensures gives { output_by self.old.image.program self.old.state self.old.inputs output ≡ Some result }
+        ensures kept { self.new ≡ self.old }
+    {
+        let image: &Image = &self.image;
+        run_on(
+            image.code(),
+            Entry::Output(output),
+            &mut self.frame,
+            self.state.as_slice(),
+            self.inputs.as_slice(),
+            0,
+            0,
+        )?;
+        Ok(self.frame.result())
+    }
+
+    /// The longest step that the unit will accept at the local time `t`, in local ticks, or the fault of telling it; none
+    /// where the unit has no `max`. State and inputs stay.
+    pub fn max_step(&mut self, t: u64) -> Result<Option<u64>, Fault>
+        requires { t ≤ 10 ^ 15 }
+        ensures gives { limit_by self.old.image.program self.old.state self.old.inputs t ≡ Some result }
+        ensures kept { self.new ≡ self.old }
+    {
+        let image: &Image = &self.image;
+        if image.code().program().limit.is_none() {
+            return Ok(None);
+        }
+        run_on(
+            image.code(),
+            Entry::Limit,
+            &mut self.frame,
+            self.state.as_slice(),
+            self.inputs.as_slice(),
+            t,
+            0,
+        )?;
+        Ok(Some(self.frame.result().unsigned_abs()))
+    }
+
+    /// Steps at the local time `t` by `h` local ticks. The result is the length that was accepted, in local ticks. After a
+    /// fault the state is as before. The inputs stay.
+    pub fn do_step(&mut self, t: u64, h: u64) -> Result<u64, Fault>
+        requires { t + h ≤ 10 ^ 15 }
+        ensures steps { Steps self.old t h result self.new }
+        ensures each_state { length self.new.state ≡ length self.old.state }
+    {
+        let image: &Image = &self.image;
+        let ended = run_on(
+            image.code(),
+            Entry::Step,
+            &mut self.frame,
+            self.state.as_slice(),
+            self.inputs.as_slice(),
+            t,
+            h,
+        );
+        ended?;
+        take_first(self.state.as_mut_slice(), self.frame.slots());
+        Ok(self.frame.accepted())
+    }
+
+    /// Writes the state into `into`.
+    pub fn save(&self, into: &mut [i64])
+        requires { length into.old ≡ length self.now.state }
+        ensures { into.new ≡ self.now.state }
+    {
+        put(into, 0, self.state.as_slice());
+    }
+
+    /// Makes `from` the state.
+    pub fn restore(&mut self, from: &[i64])
+        requires { length from.now ≡ length self.old.state }
+        ensures { self.new ≡ record self.old { state = from.now } }
+    {
+        put(self.state.as_mut_slice(), 0, from);
+    }
+}

@@ -1,0 +1,20 @@
+//! Structured code for the stack machine: pieces, which stand one behind the other, in choices and in loops.
+//!
+//! What a piece does is said without places, counters or a bound on instructions. The laws are that the
+//! machine does the same ([`pieces_are_followed`]), and that parts made of pieces are valid code
+//! ([`piece_parts_are_valid`], [`piece_programs_have_facts`]). The layer above makes the code of pieces
+//! by [`joined`], [`choice`], [`when`] and [`turns`]: jumps are relative, so code is joined as it is.
+//!
+//! Definitions: `specs/Pieces.antt` (pieces: their code, what they do, cost and need), `specs/Laws.antt`,
+//! `specs/Worked.antt`.
+#![tactic(auto)]
+
+mod joining;
+mod laws;
+#[cfg(test)]
+mod tests;
+
+pub use joining::{choice, joined, turns, when};
+pub use laws::{
+    piece_parts_are_valid, piece_programs_have_facts, pieces_are_followed, pieces_are_worked,
+};
