@@ -1,3 +1,4 @@
+use crate::question::Question;
 use crate::rules::Rule;
 use crate::tables::Tables;
 use crate::walk::{Stop, past_all};
@@ -268,7 +269,7 @@ fn broken(alloc: Global, rule: Rule) -> Result<System, NoMemory> {
 fn refusal(alloc: Global, system: &System) -> Result<Option<(u8, u32)>, NoMemory> {
     let tables = Tables::new(alloc, system)?;
     for (rule, _) in LINES {
-        if let Err(Stop::At(line)) = past_all(rule, &tables) {
+        if let Err(Stop::At(line)) = past_all(Question::Breaks(rule), &tables) {
             return Ok(Some((rule.number(), line)));
         }
     }
