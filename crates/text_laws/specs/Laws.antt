@@ -16,11 +16,11 @@ WhatIsReadIsPrintable = (text : List ℕ) (system : System) → Reads text syste
 abbrev pub CanonicalTextIsReadBack : Type 0
 CanonicalTextIsReadBack = (system : System) → IsPrintable system → Reads (canonical_text system) system
 
--- Each canonical line of what a text says has the line of the text that it came from.
+-- What a text says has as many canonical lines as there are lines that they came from.
 abbrev pub SourceLinesAreOneForOne : Type 0
 SourceLinesAreOneForOne =
     (text : List ℕ) (system : System) (lines : List ℕ) → ReadsFrom text system lines → length lines ≡ length (canonical_forms system)
 
--- A canonical line is never longer than a line that it came from.
+-- A canonical line is never longer than a line that has its form.
 abbrev pub CanonicalLinesAreShortest : Type 0
 CanonicalLinesAreShortest = (some : LineForm) (line : List ℕ) → HasForm some line → length (line_text some) ≤ length line

@@ -10,12 +10,13 @@ pub fn canonical_text_is_read_back()
     ensures { CanonicalTextIsReadBack }
 {}
 
-/// A law: a canonical line is never longer than a line that it came from.
+/// A law: a canonical line is never longer than a line that has its form, as the line that it came from has.
 pub fn canonical_lines_are_shortest()
     ensures { CanonicalLinesAreShortest }
 {}
 
-/// A law: each canonical line of what a text says has the line of the text that it came from, one for one.
+/// A law: what a text says has as many canonical lines as there are lines that they came from. Which line each came from is
+/// the definition's own (`SourceLines` of `unit_tree`).
 pub fn source_lines_are_one_for_one()
     ensures { SourceLinesAreOneForOne }
 {}

@@ -1,6 +1,6 @@
 //! Laws of model texts, without code: what is read is printable ([`what_is_read_is_printable`]), a canonical text is read
-//! back ([`canonical_text_is_read_back`]), no canonical line is longer than a line that it came from
-//! ([`canonical_lines_are_shortest`]), each canonical line has the line that it came from
+//! back ([`canonical_text_is_read_back`]), no canonical line is longer than any line that has its form
+//! ([`canonical_lines_are_shortest`]), there are as many canonical lines as lines that they came from
 //! ([`source_lines_are_one_for_one`]), and texts that were worked out by hand ([`texts_are_worked`]).
 //!
 //! Definitions: `Texts`, `Canonical` and `Printable` of `unit_tree`; `specs/Laws.antt` states the laws. The reader and the

@@ -3,32 +3,19 @@ ghost use Rattle.std.specs.List.{AllByRecursion};
 ghost use Rattle.std.specs.Option.{option_map};
 ghost use Rattle.trace_csv.specs.Columns.{port_title, title_in, IsOutput};
 ghost use Rattle.trace_csv.specs.TraceText.{header_line};
-ghost use Rattle.unit_tree.specs.Names.{unit_named};
 
 use crate::line::{end_line, new_line, put_field};
 use csv::QuoteStyle;
 use fixed_words::NoMemory;
 use std::alloc::Global;
-use unit_tree::{Checked, Column, Instance, Output, System, Unit};
-
-/// The first unit of a name. There are few units, so it goes through them.
-fn unit_of_name<'a>(units: &'a [Unit], name: &[u8]) -> Option<&'a Unit>
-    ensures { option_map (λ unit. unit.now) result ≡ unit_named units.now name.now }
-{
-    for unit in units {
-        if unit.name.as_slice() == name {
-            return Some(unit);
-        }
-    }
-    None
-}
+use unit_tree::{Checked, Column, Instance, Output, System};
 
 /// The output that a column shows, with its instance.
 fn shown_by<'a>(system: &'a System, column: Column) -> Option<(&'a Instance, &'a Output)>
     ensures { option_map (λ shown. port_title shown.0.now shown.1.now) result ≡ title_in system.now column }
 {
     let instance = system.instances.get(column.instance as usize)?;
-    let unit = unit_of_name(system.units.as_slice(), instance.unit.as_slice())?;
+    let unit = system.unit_of(instance)?;
     let output = unit.outputs.get(column.output as usize)?;
     Some((instance, output))
 }

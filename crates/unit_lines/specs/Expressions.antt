@@ -18,8 +18,8 @@ use Rattle.unit_tree.specs.declared.token.Token.{Token}
 use Rattle.unit_tree.specs.declared.token.Token.TheVariants as token
 use Rattle.unit_tokens.specs.declared.fault.Unread.{Unread}
 use Rattle.unit_tokens.specs.declared.fault.Unread.TheVariants as unread
-use Rattle.unit_lines.specs.Levels.{grammar_level}
-use Rattle.unit_lines.specs.declared.levels.Level as levels
+use Rattle.unit_tree.specs.Levels.{grammar_level}
+use Rattle.unit_tree.specs.declared.levels.Level as levels
 
 -- The tokens write the expression, or none.
 abbrev pub ExpressionIs : List Token → Option Expr → Type 0

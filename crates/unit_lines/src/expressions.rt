@@ -2,12 +2,12 @@
 ghost use Rattle.std.specs.Prelude.{◌≡◌};
 ghost use Rattle.unit_tokens.specs.Scanning.{Gives, GivesFront, ReadsAs};
 ghost use Rattle.unit_lines.specs.Expressions.{GivesExpression, GivesInfix, GivesRest, WritesOneTree, ExpressionIs, after_symbol, after_then, after_else, name_at, decimals_at, grouped_at, call_at, fix_at, prefix_at, pair_at, clamp_at, choice_at, present_at, keyword_operand, symbol_operand, operand_at, infix_symbol, infix_keyword, infix_of, infix_at, climb, read, deeper, whole_tree, read_expression};
-ghost use Rattle.unit_lines.specs.Levels.{grammar_level};
+ghost use Rattle.unit_tree.specs.Levels.{grammar_level};
 
-use crate::levels::{Level, allows, binary_level, left_level, right_level, unary_level};
 use fixed_words::{Boxed, List};
 use std::alloc::Global;
 use unit_tokens::Unread;
+use unit_tree::levels::{Level, allows, binary_level, left_level, right_level, unary_level};
 use unit_tree::{BinOp, Expr, Keyword, Name, Symbol, Token, UnOp};
 
 /// How many levels deep the parts of an expression may be nested.

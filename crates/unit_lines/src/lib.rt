@@ -10,7 +10,6 @@
 
 mod expressions;
 mod laws;
-mod levels;
 mod line_forms;
 mod lines;
 #[cfg(test)]

@@ -24,7 +24,7 @@ use Rattle.unit_tree.specs.declared.token.Symbol.TheVariants as sign
 use Rattle.unit_tree.specs.declared.token.Token.{Token}
 use Rattle.unit_tree.specs.declared.token.Token.TheVariants as token
 use Rattle.unit_print.specs.Growing.{with_token, with_tokens, with_lines, with_unit_parts, with_parts, with_step_lines, with_settings, others_tokens}
-use Rattle.unit_print.specs.Levels.{is_call}
+use Rattle.unit_print.specs.Calls.{is_call}
 
 -- ---- The last byte
 

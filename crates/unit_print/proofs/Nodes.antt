@@ -13,7 +13,7 @@ use Rattle.unit_tree.specs.declared.token.Symbol.TheVariants as sign
 use Rattle.unit_tree.specs.declared.token.Token.{Token}
 use Rattle.unit_tree.proofs.FoldLemmas.{fold-Binary, fold-Clamp, fold-Choose}
 use Rattle.unit_print.specs.Growing.{with_token, with_tokens}
-use Rattle.unit_print.specs.Levels.{is_call}
+use Rattle.unit_print.specs.Calls.{is_call}
 use Rattle.unit_print.proofs.Growth.{tokens_append, infix_tokens}
 
 pub on_ok : {T E : Type 0} (result : Result T E) (P Q : Type 0) → (P → Q) → OnOk result P → OnOk result Q

@@ -4,11 +4,13 @@ ghost use Rattle.unit_tree.specs.Canonical.{canonical_phrase, placed, token_text
 ghost use Rattle.unit_tree.specs.Phrases as phrase;
 ghost use Rattle.unit_tree.specs.Phrases.{phrase_tokens, binary_level, left_level, right_level, unary_level, operand_level, in_parens, keyword, symbol, operation, truth_word};
 ghost use Rattle.unit_print.specs.Growing.{with_token, with_tokens};
-ghost use Rattle.unit_print.specs.Levels.{grammar_level, is_call};
+ghost use Rattle.unit_print.specs.Calls.{is_call};
+ghost use Rattle.unit_tree.specs.Levels.{grammar_level};
 
-use crate::levels::{Level, allows, binary_level, is_call, left_level, level_of, right_level};
+use crate::levels::{is_call, level_of};
 use crate::tokens::{keyword, name, number, symbol};
 use fixed_words::NoMemory;
+use unit_tree::levels::{Level, allows, binary_level, left_level, right_level};
 use unit_tree::{BinOp, Expr, Keyword, Symbol, UnOp};
 
 fn truth_word(told: bool) -> Keyword

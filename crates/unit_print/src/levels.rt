@@ -1,98 +1,12 @@
-//! Levels of the grammar of expressions.
+//! The levels on which expressions stand in the grammar.
 ghost use Rattle.std.specs.Prelude.{◌≡◌};
 ghost use Rattle.unit_tree.specs.Canonical.{canonical_phrase};
-ghost use Rattle.unit_tree.specs.Phrases.{strength, level_of, unary_level, binary_level, left_level, right_level, allows};
-ghost use Rattle.unit_print.specs.Levels.{grammar_level, is_call};
+ghost use Rattle.unit_tree.specs.Levels.{grammar_level};
+ghost use Rattle.unit_tree.specs.Phrases.{level_of};
+ghost use Rattle.unit_print.specs.Calls.{is_call};
 
-use unit_tree::{BinOp, Expr, UnOp};
-
-/// A level of the grammar, from the weakest to the strongest.
-#[derive(Clone, Copy, Debug, PartialEq, Eq)]
-pub(crate) enum Level {
-    Whole,
-    Or,
-    And,
-    Not,
-    Comparison,
-    Sum,
-    Product,
-    Negation,
-    Primary,
-}
-
-fn strength(level: Level) -> u8
-    ensures { result ≡ strength (grammar_level level) }
-{
-    match level {
-        Level::Whole => 0,
-        Level::Or => 1,
-        Level::And => 2,
-        Level::Not => 3,
-        Level::Comparison => 4,
-        Level::Sum => 5,
-        Level::Product => 6,
-        Level::Negation => 7,
-        Level::Primary => 8,
-    }
-}
-
-/// Whether what is of `level` may stand where the grammar asks for `asked`.
-pub(crate) fn allows(asked: Level, level: Level) -> bool
-    ensures { result ≡ allows (grammar_level asked) (grammar_level level) }
-{
-    strength(asked) <= strength(level)
-}
-
-fn unary_level(op: UnOp) -> Level
-    ensures { grammar_level result ≡ unary_level op }
-{
-    match op {
-        UnOp::Neg => Level::Negation,
-        UnOp::Not => Level::Not,
-        UnOp::Abs | UnOp::ToInt | UnOp::ToFix(_) => Level::Primary,
-    }
-}
-
-/// The level of an operation's own production.
-pub(crate) fn binary_level(op: BinOp) -> Level
-    ensures { grammar_level result ≡ binary_level op }
-{
-    match op {
-        BinOp::Or => Level::Or,
-        BinOp::And => Level::And,
-        BinOp::Add | BinOp::Sub => Level::Sum,
-        BinOp::Mul | BinOp::Slash | BinOp::Div | BinOp::Mod => Level::Product,
-        BinOp::Min | BinOp::Max => Level::Primary,
-        BinOp::Eq | BinOp::Ne | BinOp::Lt | BinOp::Le | BinOp::Gt | BinOp::Ge => Level::Comparison,
-    }
-}
-
-/// The level that a production asks of its left operand.
-pub(crate) fn left_level(level: Level) -> Level
-    ensures { grammar_level result ≡ left_level (grammar_level level) }
-{
-    match level {
-        Level::Or => Level::Or,
-        Level::And => Level::And,
-        Level::Comparison | Level::Sum => Level::Sum,
-        Level::Product => Level::Product,
-        Level::Whole | Level::Not | Level::Negation | Level::Primary => Level::Whole,
-    }
-}
-
-/// The level that a production asks of its right operand.
-pub(crate) fn right_level(level: Level) -> Level
-    ensures { grammar_level result ≡ right_level (grammar_level level) }
-{
-    match level {
-        Level::Or => Level::And,
-        Level::And => Level::Not,
-        Level::Comparison => Level::Sum,
-        Level::Sum => Level::Product,
-        Level::Product => Level::Negation,
-        Level::Whole | Level::Not | Level::Negation | Level::Primary => Level::Whole,
-    }
-}
+use unit_tree::levels::{Level, allows, binary_level, unary_level};
+use unit_tree::{BinOp, Expr};
 
 /// Whether the operation is written as a call, `min(a, b)`, which may stand everywhere.
 pub(crate) fn is_call(op: BinOp) -> bool

@@ -9,6 +9,7 @@ pub mod Given
 pub mod Judged
 pub mod Kinds
 pub mod Language
+pub mod Levels
 pub mod LineForms
 pub mod Lines
 pub mod Names

@@ -10,7 +10,7 @@
 //! it is: `Compositions` (what is run, by numbers), `Ports` (port assignment), `Negotiation` (proposal, reply, agreed
 //! step), `Successor` and `Trace` (the one trace of a system); `Routes` and `Given` say it of calls by numbers, and
 //! `RunLaws` has the laws. How a system is written: `Lines` and `Tokens` (how a text is cut), `Phrases` (the grammar of
-//! expressions), `LineForms` (the forms of lines, each a [`LineForm`]), `Blocks` (where a form may stand),
+//! expressions, whose levels are [`levels`] to code), `LineForms` (the forms of lines, each a [`LineForm`]), `Blocks` (where a form may stand),
 //! `Parts` and `Texts` (which text says which system, and where any other is refused), `Canonical` and
 //! `Printable` (the one printed text of a system). Which systems may run: `Names`, `Sites` and `WellFormed`
 //! (the lines that break each rule), and `Orders` (outputs without a cycle).
@@ -27,6 +27,7 @@ mod evaluate;
 mod expr;
 mod gets;
 mod laws;
+pub mod levels;
 mod line;
 mod line_form;
 mod order;

@@ -1,3 +1,7 @@
+ghost use Rattle.std.specs.Prelude.{◌≡◌};
+ghost use Rattle.std.specs.Option.{option_map};
+ghost use Rattle.unit_tree.specs.Names.{unit_of_instance};
+
 use crate::{Name, Unit};
 use fixed_words::{List, Literal, Ty};
 
@@ -50,6 +54,22 @@ pub struct System {
     pub rows: Option<u32>,
     /// The outputs that the trace shows; all of them where none is sampled.
     pub samples: List<PortName>,
+}
+
+impl System {
+    /// The unit of an instance: the first one of its name. There are few units, so it goes through them.
+    pub fn unit_of(&self, instance: &Instance) -> Option<&Unit>
+        ensures { option_map (λ unit. unit.now) result ≡ unit_of_instance self.now instance.now }
+    {
+        let units = self.units.as_slice();
+        let name = instance.unit.as_slice();
+        for unit in units {
+            if unit.name.as_slice() == name {
+                return Some(unit);
+            }
+        }
+        None
+    }
 }
 
 /// An output as a column of the trace: its instance and its number there, its place among all outputs

@@ -16,10 +16,6 @@ the_first (Some x) other = Some x
 
 -- ---- Components and their ports
 
--- The unit that is lent.
-abbrev pub unit_behind : Bor Unit → Unit
-unit_behind unit = unit.now
-
 -- A component: the name of an instance, with its unit.
 abbrev pub Named : Type 0
 Named = List ℕ × Unit

@@ -1,7 +1,5 @@
 ghost use Rattle.std.specs.Prelude.{◌≡◌, ◌++◌, ◌∷◌, [], IfOk, OnOk, map};
-ghost use Rattle.std.specs.Option.{option_map};
-ghost use Rattle.unit_tree.specs.Names.{unit_named};
-ghost use Rattle.wire_graph.specs.Wiring.{unit_behind, named_of, port_with, components_in, outputs_named, output_ports_of, targets_of};
+ghost use Rattle.wire_graph.specs.Wiring.{named_of, port_with, components_in, outputs_named, output_ports_of, targets_of};
 
 use fixed_words::NoMemory;
 use std::alloc::Global;
@@ -17,18 +15,6 @@ pub(crate) struct Component<'a> {
     pub(crate) unit: &'a Unit,
 }
 
-/// The first unit of a name. There are few units, so it goes through them.
-fn unit_of_name<'a>(units: &'a [Unit], name: &[u8]) -> Option<&'a Unit>
-    ensures { option_map unit_behind result ≡ unit_named units.now name.now }
-{
-    for unit in units {
-        if unit.name.as_slice() == name {
-            return Some(unit);
-        }
-    }
-    None
-}
-
 /// The instances that are run, in their order.
 pub(crate) fn components<'a>(
     alloc: Global,
@@ -38,7 +24,7 @@ pub(crate) fn components<'a>(
 {
     let mut components = Vec::new(alloc);
     for instance in system.instances.as_slice() {
-        if let Some(unit) = unit_of_name(system.units.as_slice(), instance.unit.as_slice()) {
+        if let Some(unit) = system.unit_of(instance) {
             components.push(Component {
                 name: instance.name.as_slice(),
                 unit,

@@ -1,6 +1,6 @@
 use Rattle.std.proofs.Common.{◌≡◌, ap, ◌∙◌, arith}
 use Rattle.unit_tree.specs.Phrases.{strength, binary_level, right_level}
-use Rattle.unit_lines.specs.Levels.{grammar_level}
+use Rattle.unit_tree.specs.Levels.{grammar_level}
 use Rattle.unit_lines.proofs.Infix.{infix_at_rises, strongest}
 use Rattle.unit_lines.proofs.expressions.+reading.Goals as goal
 

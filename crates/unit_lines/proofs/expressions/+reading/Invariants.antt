@@ -1,7 +1,7 @@
 use Rattle.std.proofs.Common.{◌≡◌, ◌+◌, ◌-◌, ◌*◌, drop}
 use Rattle.unit_tree.specs.Phrases.{strength}
 use Rattle.unit_lines.specs.Expressions.{read, climb}
-use Rattle.unit_lines.specs.Levels.{grammar_level}
+use Rattle.unit_tree.specs.Levels.{grammar_level}
 use Rattle.unit_lines.proofs.expressions.+reading.Given as goal
 
 abbrev pub decreases-read : goal.decreases-read

@@ -1,5 +1,5 @@
 use Rattle.std.proofs.Common.{◌≡◌, false, sym, ◌∙◌}
-use Rattle.unit_print.specs.Levels.{is_call}
+use Rattle.unit_print.specs.Calls.{is_call}
 use Rattle.unit_print.proofs.Nodes.{on_ok, call_done, infix_done, clamp_done, choose_done}
 use Rattle.unit_print.proofs.expressions.+expression.Goals as goal
 

@@ -1,9 +1,9 @@
 -- Levels of the grammar.
 use Rattle.unit_tree.specs.Phrases as phrases
-use Rattle.unit_lines.specs.declared.levels.Level.{Level}
-use Rattle.unit_lines.specs.declared.levels.Level.TheVariants as level
+use Rattle.unit_tree.specs.declared.levels.Level.{Level}
+use Rattle.unit_tree.specs.declared.levels.Level.TheVariants as level
 
--- The level of the grammar that a level of the reader is.
+-- The level of the grammar that a level of the code is.
 abbrev pub grammar_level : Level → phrases.Level
 grammar_level level.Whole = phrases.Whole
 grammar_level level.Or = phrases.Or

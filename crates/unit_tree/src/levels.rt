@@ -1,13 +1,13 @@
-//! Levels of the grammar of expressions.
+//! Levels of the grammar of expressions, by which a reader knows where an operand ends and a printer where parentheses stand.
 ghost use Rattle.std.specs.Prelude.{◌≡◌};
 ghost use Rattle.unit_tree.specs.Phrases.{strength, unary_level, binary_level, left_level, right_level, allows};
-ghost use Rattle.unit_lines.specs.Levels.{grammar_level};
+ghost use Rattle.unit_tree.specs.Levels.{grammar_level};
 
-use unit_tree::{BinOp, UnOp};
+use crate::{BinOp, UnOp};
 
 /// A level of the grammar, from the weakest to the strongest.
 #[derive(Clone, Copy, Debug, PartialEq, Eq)]
-pub(crate) enum Level {
+pub enum Level {
     Whole,
     Or,
     And,
@@ -36,14 +36,14 @@ fn strength(level: Level) -> u8
 }
 
 /// Whether what is of `level` may stand where the grammar asks for `asked`.
-pub(crate) fn allows(asked: Level, level: Level) -> bool
+pub fn allows(asked: Level, level: Level) -> bool
     ensures { result ≡ allows (grammar_level asked) (grammar_level level) }
 {
     strength(asked) <= strength(level)
 }
 
 /// The level of the production of an operation on one operand.
-pub(crate) fn unary_level(op: UnOp) -> Level
+pub fn unary_level(op: UnOp) -> Level
     ensures { grammar_level result ≡ unary_level op }
 {
     match op {
@@ -54,7 +54,7 @@ pub(crate) fn unary_level(op: UnOp) -> Level
 }
 
 /// The level of the production of an operation on two operands.
-pub(crate) fn binary_level(op: BinOp) -> Level
+pub fn binary_level(op: BinOp) -> Level
     ensures { grammar_level result ≡ binary_level op }
 {
     match op {
@@ -68,7 +68,7 @@ pub(crate) fn binary_level(op: BinOp) -> Level
 }
 
 /// The level that a production asks of its left operand.
-pub(crate) fn left_level(level: Level) -> Level
+pub fn left_level(level: Level) -> Level
     ensures { grammar_level result ≡ left_level (grammar_level level) }
 {
     match level {
@@ -81,7 +81,7 @@ pub(crate) fn left_level(level: Level) -> Level
 }
 
 /// The level that a production asks of its right operand.
-pub(crate) fn right_level(level: Level) -> Level
+pub fn right_level(level: Level) -> Level
     ensures { grammar_level result ≡ right_level (grammar_level level) }
 {
     match level {

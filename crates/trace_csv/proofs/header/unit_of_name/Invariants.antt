@@ -1,6 +1,0 @@
-use Rattle.std.proofs.Common.{◌≡◌, drop}
-use Rattle.unit_tree.specs.Names.{unit_named}
-use Rattle.trace_csv.proofs.header.unit_of_name.Given as goal
-
-abbrev pub invariant-loop-unit : goal.invariant-loop-unit
-invariant-loop-unit l = unit_named (drop l.unit-index l.units) l.name ≡ unit_named l.units l.name
