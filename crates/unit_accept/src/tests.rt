@@ -1,8 +1,8 @@
 use crate::accept_text;
 use crate::texts::{
-    BOTH, CONNECTED_TWICE, COSTS, COUNTS, CYCLES, EQUAL_NAMES, FAULTY_LINES, FORMS, Frame, MISSING,
-    NEEDS, OPERANDS, OTHER_TYPES, RANGES, RESULTS, Row, TARGETS, TIMES, TOLD, TWICE,
-    UNKNOWN_IN_UNITS, UNKNOWN_OUTSIDE,
+    BOTH, CONNECTED_TWICE, COSTS, COUNTS, CYCLES, EQUAL_NAMES, FAULTY_LINES, FORMS, FaultyLine,
+    Frame, MISSING, NEEDS, OPERANDS, OTHER_TYPES, RANGES, RESULTS, Row, TARGETS, TIMES, TOLD,
+    TWICE, UNKNOWN_IN_UNITS, UNKNOWN_OUTSIDE,
 };
 use std::alloc::Global;
 use std::test::Fail;
@@ -112,17 +112,27 @@ fn turn(rule: u8) -> u8 {
     if rule == 15 { 25 } else { rule }
 }
 
-/// The faulty lines, those as they should be that break a rule before this one.
+fn push_line(text: &mut String, line: &str) -> Result<(), Fail> {
+    text.push_str(line)?;
+    text.push_str("\n")?;
+    Ok(())
+}
+
+/// Appends lines, those as they should be that break a rule before this one.
+fn push_partly_mended(text: &mut String, lines: &[FaultyLine], rule: u8) -> Result<(), Fail> {
+    for (faulty, right, broken) in lines {
+        if turn(*broken) < turn(rule) {
+            push_line(text, right)?;
+        } else {
+            push_line(text, faulty)?;
+        }
+    }
+    Ok(())
+}
+
 fn partly_mended(alloc: Global, rule: u8) -> Result<String, Fail> {
     let mut text = String::new(alloc);
-    for (faulty, right, broken) in FAULTY_LINES {
-        text.push_str(if turn(broken) < turn(rule) {
-            right
-        } else {
-            faulty
-        })?;
-        text.push_str("\n")?;
-    }
+    push_partly_mended(&mut text, &FAULTY_LINES, rule)?;
     Ok(text)
 }
 
@@ -142,9 +152,13 @@ fn as_many_as_may_be_are_accepted(rt: HostRuntime) -> Result<(), Fail> {
     let alloc = rt.alloc();
     for (frame, lines, most, line, rule) in COUNTS {
         let [_, each, _] = lines;
-        assert_eq!(rt; told_of_many(alloc, frame, &lines, most)?, (0, 0), "{each}");
         assert_eq!(rt;
-            told_of_many(alloc, frame, &lines, most + 1)?,
+            told_of_many(alloc, frame, &lines, u32::from(most))?,
+            (0, 0),
+            "{each}"
+        );
+        assert_eq!(rt;
+            told_of_many(alloc, frame, &lines, u32::from(most) + 1)?,
             (line, rule),
             "{each}"
         );

@@ -200,7 +200,7 @@ pub(crate) const UNKNOWN_IN_UNITS: [Row; 29] = [
 ];
 
 /// Rule 9 between units: units of instances, settings, connections and samples.
-pub(crate) const UNKNOWN_OUTSIDE: [Row; 18] = [
+pub(crate) const UNKNOWN_OUTSIDE: [Row; 20] = [
     (
         Frame::Whole,
         "cosim 1\ninstance a : B\nend\nunit A\nend\nstop 1\n",
@@ -249,6 +249,18 @@ pub(crate) const UNKNOWN_OUTSIDE: [Row; 18] = [
     (Frame::Ports, "sample a.x\n", 9, 9),
     (Frame::Ports, "sample b.y\n", 9, 9),
     (Frame::Ports, "sample a.y\n", 0, 0),
+    (
+        Frame::Whole,
+        "cosim 2\nstop 1\nunit A\nevent input u : Int8\nevent output y : Int8 = 1\nend\ninstance a : A\nend\nsample a.u\n",
+        9,
+        9,
+    ),
+    (
+        Frame::Whole,
+        "cosim 2\nstop 1\nunit A\nevent input u : Int8\nevent output y : Int8 = 1\nend\ninstance a : A\nend\nsample a.y\n",
+        0,
+        0,
+    ),
 ];
 
 /// Rule 10 in expressions: the operands of each operation, and what may stand with what.
@@ -909,7 +921,7 @@ pub(crate) const BOTH: [Row; 7] = [
 
 /// Lines of which some stand many times: what stands before them, the lines with `#` for their number, and what stands behind.
 /// So often they may stand at most; once more, and the line breaks the rule.
-pub(crate) type Counted = (Frame, [&'static str; 3], u32, u32, u8);
+pub(crate) type Counted = (Frame, [&'static str; 3], u16, u32, u8);
 
 /// Rules 16, 17 and 21: how many there may be, how deep, and how many rows of how many instances.
 pub(crate) const COUNTS: [Counted; 23] = [
@@ -1087,8 +1099,11 @@ pub(crate) const COUNTS: [Counted; 23] = [
     ),
 ];
 
-/// Lines in the reverse of their canonical order, most of which break a rule: each as it is, as it should be, and the rule.
-pub(crate) const FAULTY_LINES: [(&'static str, &'static str, u8); 28] = [
+/// A line as it is, as it should be, and the rule that it breaks, if any.
+pub(crate) type FaultyLine = (&'static str, &'static str, u8);
+
+/// Lines in the reverse of their canonical order, of which many break a rule.
+pub(crate) const FAULTY_LINES: [FaultyLine; 28] = [
     ("cosim 1", "cosim 1", 0),
     ("", "stop 1", 19),
     ("longest 0.5", "longest 1", 20),
