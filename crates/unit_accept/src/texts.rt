@@ -92,7 +92,7 @@ pub(crate) const EQUAL_NAMES: [Row; 9] = [
 ];
 
 /// Rule 9 in units: a name that isn't declared or that may not be used there, a target, a need, and a name in `present`.
-pub(crate) const UNKNOWN_IN_UNITS: [Row; 29] = [
+pub(crate) const UNKNOWN_IN_UNITS: [Row; 30] = [
     (Frame::Unit, "output y : Int8 = x\n", 3, 9),
     (Frame::Unit, "local x : Int8\noutput y : Int8 = x\n", 4, 9),
     (
@@ -196,6 +196,12 @@ pub(crate) const UNKNOWN_IN_UNITS: [Row; 29] = [
         "event input u : Int8\nmax int(present(u)) + u\nstep\nif present(u)\naccept u\nend\nend\n",
         0,
         0,
+    ),
+    (
+        Frame::Events,
+        "event output y : Int64 = if true then t else absent\n",
+        3,
+        9,
     ),
 ];
 
@@ -602,7 +608,7 @@ pub(crate) const CONNECTED_TWICE: [Row; 4] = [
 ];
 
 /// Rule 14: the types of a connection aren't equal, or one end alone is an event port.
-pub(crate) const OTHER_TYPES: [Row; 8] = [
+pub(crate) const OTHER_TYPES: [Row; 9] = [
     (
         Frame::Whole,
         "cosim 1\nunit A\ninput u : Int16 = 0\noutput y : Int8 = 1\nend\ninstance a : A\nend\nconnect a.y -> a.u\nstop 1\n",
@@ -650,6 +656,12 @@ pub(crate) const OTHER_TYPES: [Row; 8] = [
         "cosim 2\nunit A\nevent input u : Fixed 0\nevent output y : Fixed 0 = absent\nend\ninstance a : A\nend\nconnect a.y -> a.u\nstop 1\n",
         0,
         0,
+    ),
+    (
+        Frame::Whole,
+        "cosim 2\nunit A\nevent input u : Int16\nevent output y : Int8 = 1\nend\ninstance a : A\nend\nconnect a.y -> a.u\nstop 1\n",
+        8,
+        14,
     ),
 ];
 
