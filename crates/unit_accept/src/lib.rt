@@ -10,6 +10,8 @@ mod accepting;
 mod laws;
 #[cfg(test)]
 mod tests;
+#[cfg(test)]
+mod texts;
 
 pub use accepting::{AcceptedText, accept_text};
 pub use laws::texts_are_judged_once;

@@ -1,7 +1,32 @@
 use crate::accept_text;
+use crate::texts::{
+    BOTH, CONNECTED_TWICE, COSTS, COUNTS, CYCLES, EQUAL_NAMES, FAULTY_LINES, FORMS, FaultyLine,
+    Frame, MISSING, NEEDS, OPERANDS, OTHER_TYPES, RANGES, RESULTS, Row, TARGETS, TIMES, TOLD,
+    TWICE, UNKNOWN_IN_UNITS, UNKNOWN_OUTSIDE,
+};
 use std::alloc::Global;
 use std::test::Fail;
 use unit_text::TextFault;
+
+const TABLES: [&[Row]; 17] = [
+    &EQUAL_NAMES,
+    &UNKNOWN_IN_UNITS,
+    &UNKNOWN_OUTSIDE,
+    &OPERANDS,
+    &RESULTS,
+    &FORMS,
+    &RANGES,
+    &NEEDS,
+    &CONNECTED_TWICE,
+    &OTHER_TYPES,
+    &CYCLES,
+    &COSTS,
+    &TIMES,
+    &TARGETS,
+    &MISSING,
+    &TWICE,
+    &BOTH,
+];
 
 /// The line and the rule by which a text is refused; zeros where it is accepted.
 fn place(alloc: Global, text: &str) -> Result<(u32, u8), Fail> {
@@ -12,193 +37,156 @@ fn place(alloc: Global, text: &str) -> Result<(u32, u8), Fail> {
     }
 }
 
-/// A text behind the header, and the line and rule that are told of it.
-type Row = (&'static str, u32, u8);
+/// What is told of lines in their frame.
+fn told(alloc: Global, frame: Frame, lines: &str) -> Result<(u32, u8), Fail> {
+    let (before, after) = frame.around();
+    let mut text = String::new(alloc);
+    text.push_str(before)?;
+    text.push_str(lines)?;
+    text.push_str(after)?;
+    place(alloc, text.as_str())
+}
 
-/// Rules on the system, each at its causes; the lines of declarations stand in another order than the canonical one in some.
-const TEXTS: [Row; 36] = [
-    ("unit A\nend\ninstance a : A\nend\nstop 1\n", 0, 0),
-    (
-        "instance a : A\nend\nstop 1\nunit A\nend\nunit A\nend\n",
-        7,
-        8,
-    ),
-    (
-        "unit A\nend\ninstance a : A\nend\ninstance a : A\nend\nstop 1\n",
-        6,
-        8,
-    ),
-    (
-        "unit A\noutput x : Bool = true\ninput x : Bool = true\nend\ninstance a : A\nend\nstop 1\n",
-        3,
-        8,
-    ),
-    (
-        "unit A\noutput y : Int8 = x\nend\ninstance a : A\nend\nstop 1\n",
-        3,
-        9,
-    ),
-    (
-        "unit A\noutput y : Int64 = t\nend\ninstance a : A\nend\nstop 1\n",
-        3,
-        9,
-    ),
-    (
-        "unit A\nlocal x : Int64\nmax x\nend\ninstance a : A\nend\nstop 1\n",
-        4,
-        9,
-    ),
-    (
-        "unit A\nstep\nx := 1\nend\nend\ninstance a : A\nend\nstop 1\n",
-        4,
-        9,
-    ),
-    ("instance a : B\nend\nunit A\nend\nstop 1\n", 2, 9),
-    ("unit A\nend\ninstance a : A\np = 1\nend\nstop 1\n", 5, 9),
-    (
-        "unit A\nend\ninstance a : A\nend\nsample a.y\nstop 1\n",
-        6,
-        9,
-    ),
-    (
-        "unit A\noutput y : Bool = 1\nend\ninstance a : A\nend\nstop 1\n",
-        3,
-        10,
-    ),
-    (
-        "unit A\nparam p : Int8 = 1.0\nend\ninstance a : A\nend\nstop 1\n",
-        3,
-        10,
-    ),
-    (
-        "unit A\nmax true\nend\ninstance a : A\nend\nstop 1\n",
-        3,
-        10,
-    ),
-    (
-        "unit A\nstate s : Int8 = 128\nend\ninstance a : A\nend\nstop 1\n",
-        3,
-        11,
-    ),
-    (
-        "unit A\nstate s : Int8 = -128\nend\ninstance a : A\nend\nstop 1\n",
-        0,
-        0,
-    ),
-    (
-        "unit A\nparam p : Bool = true\nend\ninstance a : A\np = 2\nend\nstop 1\n",
-        6,
-        10,
-    ),
-    (
-        "unit A\nparam p : UInt8 = 1\nend\ninstance a : A\np = 256\nend\nstop 1\n",
-        6,
-        11,
-    ),
-    (
-        "unit A\noutput y : Int8 = u\ninput u : Int8 = 0\nend\ninstance a : A\nend\nstop 1\n",
-        3,
-        12,
-    ),
-    (
-        "unit A\ninput u : Int8 = 0\noutput y : Int8 = 1\nend\ninstance a : A\nend\nconnect a.y -> a.u\nconnect a.y -> a.u\nstop 1\n",
-        9,
-        13,
-    ),
-    (
-        "unit A\ninput u : Int16 = 0\noutput y : Int8 = 1\nend\ninstance a : A\nend\nconnect a.y -> a.u\nstop 1\n",
-        8,
-        14,
-    ),
-    (
-        "unit A\nstep\nrepeat 1000\nrepeat 1000\nx := x + 1\nend\nend\nend\nstate x : Int64 = 0\nend\ninstance a : A\nend\nstop 1\n",
-        3,
-        18,
-    ),
-    (
-        "unit A\nstep\nrepeat 1000\nx := x + 1\nend\nend\nstate x : Int64 = 0\nend\ninstance a : A\nend\nstop 1\n",
-        0,
-        0,
-    ),
-    ("unit A\nend\n\ninstance a : A\nend\n", 1, 19),
-    (
-        "unit A\nresolution 1\nend\ninstance a : A\nend\nstop 0.55\n",
-        7,
-        20,
-    ),
-    (
-        "unit A\nresolution 2\nend\ninstance a : A\nend\nlongest 0\nstop 0.55\n",
-        7,
-        20,
-    ),
-    (
-        "unit A\nend\ninstance a : A\nend\ninstance b : A\nend\n\nstop 1\n",
-        0,
-        0,
-    ),
-    (
-        "unit A\nparam p : Int64 = 1\nstep\np := 2\nend\nend\ninstance a : A\nend\nstop 1\n",
-        5,
-        22,
-    ),
-    ("stop 1\n", 1, 23),
-    (
-        "unit A\nparam p : Int8 = 1\nend\ninstance a : A\np = 1\np = 2\nend\nstop 1\n",
-        7,
-        24,
-    ),
-    (
-        "unit A\noutput y : Int8 = 1\nend\ninstance a : A\nend\nsample a.y\nstop 1\nsample a.y\n",
-        9,
-        24,
-    ),
-    (
-        "unit A\ninput u : Int8 = 1\noutput y : Int8 needs u, u = u\nend\ninstance a : A\nend\nstop 1\n",
-        4,
-        24,
-    ),
-    // Two rules are broken: the lesser one counts, also at a later line.
-    (
-        "unit A\nstate s : Int8 = 128\noutput y : Int8 = x\nend\ninstance a : A\nend\nstop 1\n",
-        4,
-        9,
-    ),
-    (
-        "unit A\ninput u : Int8 = 0\noutput y : Int8 needs u = u\nend\ninstance a : A\nend\nconnect a.y -> a.u\nstop 1\n",
-        4,
-        15,
-    ),
-    // A ring of components that is none of ports, and one that is: the first output by instance is named.
-    (
-        "unit P\nstate n : Int64 = 10\ninput v : Int64 = 0\noutput x : Int64 = n\nend\nunit Q\ninput u : Int64 = 0\noutput y : Int64 needs u = u + 1\nend\ninstance b : Q\nend\ninstance a : P\nend\nconnect a.x -> b.u\nconnect b.y -> a.v\nstop 2\n",
-        0,
-        0,
-    ),
-    (
-        "unit P\nstate n : Int64 = 10\ninput v : Int64 = 0\noutput x : Int64 needs v = n + v\nend\nunit Q\ninput u : Int64 = 0\noutput y : Int64 needs u = u + 1\nend\ninstance b : Q\nend\ninstance a : P\nend\nconnect a.x -> b.u\nconnect b.y -> a.v\nstop 2\n",
-        9,
-        15,
-    ),
-];
+/// Appends lines, with their number in place of `#`.
+fn push_numbered(alloc: Global, text: &mut String, lines: &str, number: u32) -> Result<(), Fail> {
+    match lines.split_once('#') {
+        Some((front, rest)) => {
+            let digits = format!(in alloc; "{number}")?;
+            text.push_str(front)?;
+            text.push_str(digits.as_str())?;
+            text.push_str(rest)?;
+        }
+        None => text.push_str(lines)?,
+    }
+    Ok(())
+}
 
-/// A cycle of event ports is named at the line of the event output.
-const EVENT_CYCLE: &str =
-    "cosim 2\nunit A\nevent input u : Int8\noutput z : Bool = true\nevent output y : Int8 needs u = if present(u) then u else absent\nend\ninstance a : A\nend\nconnect a.y -> a.u\nstop 1\n";
+/// What is told of a text in which lines stand so often.
+fn told_of_many(
+    alloc: Global,
+    frame: Frame,
+    lines: &[&'static str; 3],
+    count: u32,
+) -> Result<(u32, u8), Fail> {
+    let [before, each, after] = *lines;
+    let mut text = String::new(alloc);
+    text.push_str(before)?;
+    for number in 0..count {
+        push_numbered(alloc, &mut text, each, number)?;
+    }
+    text.push_str(after)?;
+    told(alloc, frame, text.as_str())
+}
+
+/// Instances of a unit with as many inputs and outputs as there may be, each input connected, and each output sampled: 4,292
+/// lines with as many connections and samples as there may be.
+fn full_text(alloc: Global) -> Result<String, Fail> {
+    let mut text = String::new(alloc);
+    text.push_str("cosim 1\nstop 1\nunit A\n")?;
+    for port in 0..32 {
+        push_numbered(alloc, &mut text, "input u# : Int8 = 0\n", port)?;
+    }
+    for port in 0..32 {
+        push_numbered(alloc, &mut text, "output y# : Int8 = 1\n", port)?;
+    }
+    text.push_str("end\n")?;
+    for instance in 0..64 {
+        push_numbered(alloc, &mut text, "instance a# : A\nend\n", instance)?;
+    }
+    push_ports(alloc, &mut text, "connect a0.y0 -> a#", ".u#\n")?;
+    push_ports(alloc, &mut text, "sample a#", ".y#\n")?;
+    Ok(text)
+}
+
+/// Appends a line for each port of each instance.
+fn push_ports(alloc: Global, text: &mut String, front: &str, rest: &str) -> Result<(), Fail> {
+    for number in 0..2048 {
+        push_numbered(alloc, text, front, number / 32)?;
+        push_numbered(alloc, text, rest, number % 32)?;
+    }
+    Ok(())
+}
+
+/// When a rule is judged: that on cycles is the last one.
+fn turn(rule: u8) -> u8 {
+    if rule == 15 { 25 } else { rule }
+}
+
+fn push_line(text: &mut String, line: &str) -> Result<(), Fail> {
+    text.push_str(line)?;
+    text.push_str("\n")?;
+    Ok(())
+}
+
+/// Appends lines, those as they should be that break a rule before this one.
+fn push_partly_mended(text: &mut String, lines: &[FaultyLine], rule: u8) -> Result<(), Fail> {
+    for (faulty, right, broken) in lines {
+        if turn(*broken) < turn(rule) {
+            push_line(text, right)?;
+        } else {
+            push_line(text, faulty)?;
+        }
+    }
+    Ok(())
+}
+
+fn partly_mended(alloc: Global, rule: u8) -> Result<String, Fail> {
+    let mut text = String::new(alloc);
+    push_partly_mended(&mut text, &FAULTY_LINES, rule)?;
+    Ok(text)
+}
 
 #[test]
-fn a_cycle_of_events_is_named_at_its_line(rt: HostRuntime) -> Result<(), Fail> {
-    assert_eq!(rt; place(rt.alloc(), EVENT_CYCLE)?, (5, 15));
+fn each_rule_is_told_at_its_line(rt: HostRuntime) -> Result<(), Fail> {
+    let alloc = rt.alloc();
+    for table in TABLES {
+        for (frame, lines, line, rule) in table {
+            assert_eq!(rt; told(alloc, *frame, lines)?, (*line, *rule), "{lines}");
+        }
+    }
     Ok(())
 }
 
 #[test]
-fn systems_are_judged_at_their_lines(rt: HostRuntime) -> Result<(), Fail> {
+fn as_many_as_may_be_are_accepted(rt: HostRuntime) -> Result<(), Fail> {
     let alloc = rt.alloc();
-    for (lines, line, rule) in TEXTS.iter() {
-        let mut text = String::new(alloc);
-        text.push_str("cosim 1\n")?;
-        text.push_str(lines)?;
-        assert_eq!(rt; place(alloc, text.as_str())?, (*line, *rule));
+    for (frame, lines, most, line, rule) in COUNTS {
+        let [_, each, _] = lines;
+        assert_eq!(rt;
+            told_of_many(alloc, frame, &lines, u32::from(most))?,
+            (0, 0),
+            "{each}"
+        );
+        assert_eq!(rt;
+            told_of_many(alloc, frame, &lines, u32::from(most) + 1)?,
+            (line, rule),
+            "{each}"
+        );
     }
+    Ok(())
+}
+
+#[test]
+fn as_many_ports_as_may_be_are_joined_and_sampled(rt: HostRuntime) -> Result<(), Fail> {
+    let alloc = rt.alloc();
+    let mut text = full_text(alloc)?;
+    assert_eq!(rt; place(alloc, text.as_str())?, (0, 0));
+    text.push_str("sample a0.y0\n")?;
+    assert_eq!(rt; place(alloc, text.as_str())?, (4293, 16));
+    // With so many ports each further connection is the second of its input, whose rule is judged before.
+    text.push_str("connect a0.y0 -> a0.u0\n")?;
+    assert_eq!(rt; place(alloc, text.as_str())?, (4294, 13));
+    Ok(())
+}
+
+#[test]
+fn the_least_rule_is_told_first(rt: HostRuntime) -> Result<(), Fail> {
+    let alloc = rt.alloc();
+    for (line, rule) in TOLD {
+        let text = partly_mended(alloc, rule)?;
+        assert_eq!(rt; place(alloc, text.as_str())?, (line, rule));
+    }
+    let text = partly_mended(alloc, 26)?;
+    assert_eq!(rt; place(alloc, text.as_str())?, (0, 0));
     Ok(())
 }
