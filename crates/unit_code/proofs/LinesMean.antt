@@ -9,7 +9,7 @@ use Rattle.fixed_words.specs.Types.{is_between}
 use Rattle.fixed_words.specs.declared.types.Fault.{Fault}
 use Rattle.fixed_words.specs.declared.types.Fault.TheVariants as fault
 use Rattle.unit_code.specs.Expressions.{code_of}
-use Rattle.unit_code.specs.Frames.{Held, environment_at, work_at}
+use Rattle.unit_code.specs.Frames.{CallWords, environment_at, work_at}
 use Rattle.unit_code.specs.Scopes.{scope_of, named}
 use Rattle.unit_code.specs.StepLines.{LineCoded, LineCoding, is_right_in, nothing, behind, target_coded, value_coded, if_coded, repeat_coded, all_coded, node_line_code, line_code, lines_code}
 use Rattle.unit_code.specs.declared.scope.Scope.{Scope}
@@ -48,7 +48,7 @@ module _ (component : Component) (time step : ℕ) where
 
   -- Work that was done from held words to others.
   pub record Reaches (stack : List ℤ) (did : Did) (after : Environment) : Type 0 where
-    pub held : Held
+    pub held : CallWords
     pub fits : Fits component held
     pub by_names : after ≡ environment_at component time step held
     pub in_slots : did ≡ Does (work_at time step stack held)
@@ -61,12 +61,12 @@ module _ (component : Component) (time step : ℕ) where
   -- Code does what lines mean, from all held words and on every stack.
   abbrev pub Follows : LineCoded → Effect → Type 0
   Follows coded effect =
-      coded.is_right ≡ true → (held : Held) → Fits component held → (stack : List ℤ)
+      coded.is_right ≡ true → (held : CallWords) → Fits component held → (stack : List ℤ)
       → Leaves stack (does coded.piece (work_at time step stack held)) (effect (environment_at component time step held))
 
   -- ---- One after the other
 
-  then_leaves : (next : Piece) (effect : Effect) (stack : List ℤ) (did : Did) (result : Result Environment Fault) → Leaves stack did result → ((held : Held) → Fits component held → Leaves stack (does next (work_at time step stack held)) (effect (environment_at component time step held))) → Leaves stack (and_then did (does next)) (result >>= effect)
+  then_leaves : (next : Piece) (effect : Effect) (stack : List ℤ) (did : Did) (result : Result Environment Fault) → Leaves stack did result → ((held : CallWords) → Fits component held → Leaves stack (does next (work_at time step stack held)) (effect (environment_at component time step held))) → Leaves stack (and_then did (does next)) (result >>= effect)
   then_leaves next effect stack did (Ok after) one other =
       subst (λ d. Leaves stack (and_then d (does next)) (effect after)) (sym one.in_slots)
       (subst (λ env. Leaves stack (does next (work_at time step stack one.held)) (effect env)) (sym one.by_names) (other one.held one.fits))
@@ -83,7 +83,7 @@ module _ (component : Component) (time step : ℕ) where
   -- ---- Values
 
   -- What a value on the stack leads to.
-  value_leads : (value : Expr) (next : LineCoded) (effect : Value → Effect) → ((v : Value) (held : Held) → Fits component held → (stack : List ℤ) → next.is_right ≡ true → Leaves stack (does next.piece (work_at time step (v.word ∷ stack) held)) (effect v (environment_at component time step held))) → Follows (behind (value_coded value scope) next) (λ env. value_of value env >>= λ v. effect v env)
+  value_leads : (value : Expr) (next : LineCoded) (effect : Value → Effect) → ((v : Value) (held : CallWords) → Fits component held → (stack : List ℤ) → next.is_right ≡ true → Leaves stack (does next.piece (work_at time step (v.word ∷ stack) held)) (effect v (environment_at component time step held))) → Follows (behind (value_coded value scope) next) (λ env. value_of value env >>= λ v. effect v env)
   value_leads value next effect leads right held fits stack =
       let parts = and_parts (is_right_in scope value) next.is_right right in
       let agrees : (code_of value scope).agrees ≡ true = (and_parts (code_of value scope).agrees _ parts.0).0 in
@@ -97,7 +97,7 @@ module _ (component : Component) (time step : ℕ) where
 
   -- ---- Assignments
 
-  assigned_leaves : (name : List ℕ) (word : ℤ) (held : Held) (stack : List ℤ) (did : Did) (changed : Result (List ℤ) Fault) → Fits component held → ChangesBehind component.params (pos time ∷ pos step ∷ []) held.accepted stack (length held.words) did changed → Leaves stack did (changed >>= λ words. Ok (record (environment_at component time step held) { words = words }))
+  assigned_leaves : (name : List ℕ) (word : ℤ) (held : CallWords) (stack : List ℤ) (did : Did) (changed : Result (List ℤ) Fault) → Fits component held → ChangesBehind component.params (pos time ∷ pos step ∷ []) held.accepted stack (length held.words) did changed → Leaves stack did (changed >>= λ words. Ok (record (environment_at component time step held) { words = words }))
   assigned_leaves name word held stack did (Ok changed) fits is = record {
     held = record { words = is.0; accepted = held.accepted };
     fits = record { params = fits.params; words = is.3 ∙ fits.words };
@@ -113,7 +113,7 @@ module _ (component : Component) (time step : ℕ) where
 
   -- ---- Accepted lengths
 
-  accept_leaves : (inside : Bool) (word : ℤ) (held : Held) (stack : List ℤ) → Fits component held → Leaves stack (if inside then Does (work_at time step stack (record { words = held.words; accepted = unsigned_abs word })) else Fails fault.Accept) (if inside then Ok (record (environment_at component time step held) { accepted = unsigned_abs word }) else Err fault.Accept)
+  accept_leaves : (inside : Bool) (word : ℤ) (held : CallWords) (stack : List ℤ) → Fits component held → Leaves stack (if inside then Does (work_at time step stack (record { words = held.words; accepted = unsigned_abs word })) else Fails fault.Accept) (if inside then Ok (record (environment_at component time step held) { accepted = unsigned_abs word }) else Err fault.Accept)
   accept_leaves true word held stack fits = record {
     held = record { words = held.words; accepted = unsigned_abs word };
     fits = record { params = fits.params; words = fits.words };
@@ -134,11 +134,11 @@ module _ (component : Component) (time step : ℕ) where
 
   -- ---- Blocks
 
-  when_leaves : (zero : Bool) (body : LineCoded) (effect : Effect) (held : Held) (stack : List ℤ) → Fits component held → body.is_right ≡ true → Follows body effect → Leaves stack ((if zero then (λ rest. Does rest) else does body.piece) (work_at time step stack held)) (if not zero then effect (environment_at component time step held) else Ok (environment_at component time step held))
+  when_leaves : (zero : Bool) (body : LineCoded) (effect : Effect) (held : CallWords) (stack : List ℤ) → Fits component held → body.is_right ≡ true → Follows body effect → Leaves stack ((if zero then (λ rest. Does rest) else does body.piece) (work_at time step stack held)) (if not zero then effect (environment_at component time step held) else Ok (environment_at component time step held))
   when_leaves true body effect held stack fits right follows = record { held = held; fits = fits; by_names = refl; in_slots = refl }
   when_leaves false body effect held stack fits right follows = follows right held fits stack
 
-  choice_leaves : (zero : Bool) (a b : LineCoded) (one other : Effect) (held : Held) (stack : List ℤ) → Fits component held → a.is_right ≡ true → b.is_right ≡ true → Follows a one → Follows b other → Leaves stack ((if zero then does b.piece else does a.piece) (work_at time step stack held)) (if not zero then one (environment_at component time step held) else other (environment_at component time step held))
+  choice_leaves : (zero : Bool) (a b : LineCoded) (one other : Effect) (held : CallWords) (stack : List ℤ) → Fits component held → a.is_right ≡ true → b.is_right ≡ true → Follows a one → Follows b other → Leaves stack ((if zero then does b.piece else does a.piece) (work_at time step stack held)) (if not zero then one (environment_at component time step held) else other (environment_at component time step held))
   choice_leaves true a b one other held stack fits right also f g = g also held fits stack
   choice_leaves false a b one other held stack fits right also f g = f right held fits stack
 
@@ -154,13 +154,13 @@ module _ (component : Component) (time step : ℕ) where
       let parts = and_parts then_lines.is_right else_lines.is_right right in
       choice_leaves (is_zero c.word) then_lines else_lines one other held stack fits parts.0 parts.1 f g)
 
-  turns_leave : (count : ℕ) (body : LineCoded) (effect : Effect) (held : Held) (stack : List ℤ) → Fits component held → body.is_right ≡ true → Follows body effect → Leaves stack (repeated count (does body.piece) (work_at time step stack held)) (times count effect (environment_at component time step held))
+  turns_leave : (count : ℕ) (body : LineCoded) (effect : Effect) (held : CallWords) (stack : List ℤ) → Fits component held → body.is_right ≡ true → Follows body effect → Leaves stack (repeated count (does body.piece) (work_at time step stack held)) (times count effect (environment_at component time step held))
   turns_leave zero body effect held stack fits right follows = record { held = held; fits = fits; by_names = refl; in_slots = refl }
   turns_leave (suc count) body effect held stack fits right follows =
       once (does body.piece (work_at time step stack held)) (effect (environment_at component time step held)) (follows right held fits stack)
       (λ later fit. turns_leave count body effect later stack fit right follows)
     where
-      once : (did : Did) (result : Result Environment Fault) → Leaves stack did result → ((later : Held) → Fits component later → Leaves stack (repeated count (does body.piece) (work_at time step stack later)) (times count effect (environment_at component time step later))) → Leaves stack (and_then did (repeated count (does body.piece))) (result >>= times count effect)
+      once : (did : Did) (result : Result Environment Fault) → Leaves stack did result → ((later : CallWords) → Fits component later → Leaves stack (repeated count (does body.piece) (work_at time step stack later)) (times count effect (environment_at component time step later))) → Leaves stack (and_then did (repeated count (does body.piece))) (result >>= times count effect)
       once did (Ok after) one others =
           subst (λ d. Leaves stack (and_then d (repeated count (does body.piece))) (times count effect after)) (sym one.in_slots)
           (subst (λ env. Leaves stack (repeated count (does body.piece) (work_at time step stack one.held)) (times count effect env)) (sym one.by_names) (others one.held one.fits))

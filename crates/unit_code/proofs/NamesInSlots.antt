@@ -10,7 +10,7 @@ use Rattle.fixed_words.specs.declared.types.Fault.{Fault}
 use Rattle.fixed_words.specs.declared.types.Fault.TheVariants.{Range}
 use Rattle.fixed_words.specs.declared.types.Ty.{Ty}
 use Rattle.unit_code.specs.Expressions.{name_code}
-use Rattle.unit_code.specs.Frames.{Held, environment_at, work_at}
+use Rattle.unit_code.specs.Frames.{CallWords, environment_at, work_at}
 use Rattle.unit_code.specs.Scopes.{constants, slots_from, slot_variables, scope_of, named}
 use Rattle.unit_code.specs.StepLines.{target_coded}
 use Rattle.unit_code.specs.declared.scope.Named.{Named}
@@ -80,7 +80,7 @@ variables_are unit =
     append_assoc (param_variables unit.params ++ states) inputs locals ∙ append_assoc (param_variables unit.params) states (inputs ++ locals)
 
 -- A component with a word for each parameter, and held words, one for each slot.
-pub record Fits (component : Component) (held : Held) : Type 0 where
+pub record Fits (component : Component) (held : CallWords) : Type 0 where
   pub params : length component.params ≡ length component.unit.params
   pub words : length held.words ≡ length (slot_variables component.unit)
 
@@ -88,7 +88,7 @@ second : (words : List ℤ) (one other : ℤ) → slice_get (words ++ (one ∷ o
 second [] one other = refl
 second (word ∷ words) one other = second words one other
 
-pub sees : (component : Component) (time step : ℕ) (held : Held) → Fits component held → Sees (held.words ++ (pos time ∷ pos step ∷ [])) held.accepted (scope_of component.unit component.params) (environment_at component time step held)
+pub sees : (component : Component) (time step : ℕ) (held : CallWords) → Fits component held → Sees (held.words ++ (pos time ∷ pos step ∷ [])) held.accepted (scope_of component.unit component.params) (environment_at component time step held)
 sees component time step held fits = record {
   time = ap (slice_get (held.words ++ (pos time ∷ pos step ∷ []))) (sym fits.words) ∙ seam held.words (pos step ∷ []) (pos time);
   step = ap (λ n. slice_get (held.words ++ (pos time ∷ pos step ∷ [])) (suc n)) (sym fits.words) ∙ second held.words (pos time) (pos step);
@@ -166,7 +166,7 @@ constants_change sizes (param ∷ params) (first ∷ consts) known variables wor
     right
 
 -- A word that is stored under a name is stored in the slot that its code stores it in.
-pub stores : (component : Component) (time step : ℕ) (held : Held) (name : List ℕ) (word : ℤ) (stack : List ℤ) → Fits component held → (target_coded (scope_of component.unit component.params).sizes (named (scope_of component.unit component.params).names name)).is_right ≡ true → ChangesBehind component.params (pos time ∷ pos step ∷ []) held.accepted stack (length held.words) (does (target_coded (scope_of component.unit component.params).sizes (named (scope_of component.unit component.params).names name)).piece (work_at time step (word ∷ stack) held)) (stored (variables_of component.unit) (component.params ++ held.words) name word)
+pub stores : (component : Component) (time step : ℕ) (held : CallWords) (name : List ℕ) (word : ℤ) (stack : List ℤ) → Fits component held → (target_coded (scope_of component.unit component.params).sizes (named (scope_of component.unit component.params).names name)).is_right ≡ true → ChangesBehind component.params (pos time ∷ pos step ∷ []) held.accepted stack (length held.words) (does (target_coded (scope_of component.unit component.params).sizes (named (scope_of component.unit component.params).names name)).piece (work_at time step (word ∷ stack) held)) (stored (variables_of component.unit) (component.params ++ held.words) name word)
 stores component time step held name word stack fits right =
     let behind : List ℤ = pos time ∷ pos step ∷ [] in
     let scope = scope_of component.unit component.params in

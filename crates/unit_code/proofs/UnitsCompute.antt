@@ -12,9 +12,9 @@ use Rattle.fixed_words.specs.declared.types.Fault.{Fault}
 use Rattle.fixed_words.specs.declared.types.Fault.TheVariants as fault
 use Rattle.fixed_words.specs.declared.types.Kind.{Kind}
 use Rattle.fixed_words.specs.declared.types.Ty.{Ty}
-use Rattle.unit_code.specs.Calls.{slots_with, word_given, limit_given, moved_given, output_by, limit_with, meaning_of, HasWordsFor, Computes}
+use Rattle.unit_code.specs.Calls.{slots_with, word_given, limit_given, moved_given, output_by, greatest_step_with, meaning_of, HasWordsFor, Computes}
 use Rattle.unit_code.specs.Expressions.{code_of}
-use Rattle.unit_code.specs.Frames.{Held, environment_at, work_at}
+use Rattle.unit_code.specs.Frames.{CallWords, environment_at, work_at}
 use Rattle.unit_code.specs.Scopes.{slot_variables, scope_of}
 use Rattle.unit_code.specs.StepLines.{lines_code}
 use Rattle.unit_code.specs.UnitPrograms.{output_code, limit_code, step_piece, program_of, IsCallable, IsRunnable, IsCompilable}
@@ -27,7 +27,7 @@ use Rattle.unit_code.proofs.NamesInSlots.{Fits, sees}
 use Rattle.unit_pieces.specs.Pieces.{Piece, does, finished, part_code, is_made}
 use Rattle.unit_pieces.proofs.Following.{pieces_are_followed_lem}
 use Rattle.unit_pieces.proofs.WholePrograms.{piece_programs_have_facts_lem}
-use Rattle.unit_tree.specs.Components.{Component, environment_of, given_as, get_of, as_limit, limit_by as tree_limit_by, state_in, moved_by, step_of, words_of}
+use Rattle.unit_tree.specs.Components.{Component, environment_of, given_as, get_of, as_limit, limit_by, state_in, moved_by, step_of, words_of}
 use Rattle.unit_tree.specs.Effects.{effect_of_lines}
 use Rattle.unit_tree.specs.Values.{◌>>=◌, value_of}
 use Rattle.unit_tree.specs.declared.environment.Environment.{Environment}
@@ -93,7 +93,7 @@ module _ (component : Component) (fits : IsCompilable component.unit component.p
   has_facts = (piece_programs_have_facts_lem program (made_of_pieces component.unit component.params fits)).1
 
   module _ (state inputs : List ℤ) (words : HasWordsFor program state inputs) where
-    abbrev held : ℕ → Held
+    abbrev held : ℕ → CallWords
     held step = record { words = state ++ (inputs ++ replicate scope.sizes.locals (pos 0)); accepted = step }
 
     abbrev slots : ℕ → ℕ → List ℤ
@@ -199,7 +199,7 @@ module _ (component : Component) (fits : IsCompilable component.unit component.p
 
     -- ---- The greatest step
 
-    limits_by : (time : ℕ) (limit : Option Expr) → component.unit.max ≡ limit → IfSome limit (λ value. IsCallable scope value) → limit_with (option_map (limit_code scope) limit) program state inputs time ≡ Some (tree_limit_by limit (environment_of component state inputs time 0))
+    limits_by : (time : ℕ) (limit : Option Expr) → component.unit.max ≡ limit → IfSome limit (λ value. IsCallable scope value) → greatest_step_with (option_map (limit_code scope) limit) program state inputs time ≡ Some (limit_by limit (environment_of component state inputs time 0))
     limits_by time None is callable = refl
     limits_by time (Some value) is callable =
         let piece : Piece = (code_of value scope).piece in

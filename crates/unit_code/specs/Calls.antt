@@ -36,12 +36,12 @@ abbrev pub output_by : Program → List ℤ → List ℤ → ℕ → Option Outc
 output_by program state inputs number = word_given (run_of program (entry.Output number) (slots_with program.sizes state inputs 0 0))
 
 -- What the entry of the greatest step gives at a local time; without one there is no limit.
-abbrev pub limit_with : Option (List Instruction) → Program → List ℤ → List ℤ → ℕ → Option (Result (Option ℕ) Fault)
-limit_with None program state inputs time = Some (Ok None)
-limit_with (Some code) program state inputs time = limit_given (run_of program entry.Limit (slots_with program.sizes state inputs time 0))
+abbrev pub greatest_step_with : Option (List Instruction) → Program → List ℤ → List ℤ → ℕ → Option (Result (Option ℕ) Fault)
+greatest_step_with None program state inputs time = Some (Ok None)
+greatest_step_with (Some code) program state inputs time = limit_given (run_of program entry.Limit (slots_with program.sizes state inputs time 0))
 
-abbrev pub limit_by : Program → List ℤ → List ℤ → ℕ → Option (Result (Option ℕ) Fault)
-limit_by program state inputs time = limit_with program.limit program state inputs time
+abbrev pub greatest_step_by : Program → List ℤ → List ℤ → ℕ → Option (Result (Option ℕ) Fault)
+greatest_step_by program state inputs time = greatest_step_with program.limit program state inputs time
 
 -- The meaning of a step's key: what the step's entry gives of a state and words of inputs, at a local time, by a local step.
 abbrev pub meaning_of : Program → List ℤ → List ℤ → ℕ → ℕ → Option (Result Moved Fault)
@@ -58,6 +58,6 @@ pub record Computes (program : Program) (component : Component) : Type 0 where
   pub get : (state inputs : List ℤ) → HasWordsFor program state inputs → (number : ℕ) (output : Output) → slice_get component.unit.outputs number ≡ Some output
       → output_by program state inputs number ≡ Some (get_of component state inputs output)
   pub max : (state inputs : List ℤ) → HasWordsFor program state inputs → (time : ℕ)
-      → limit_by program state inputs time ≡ Some (max_of component state inputs time)
+      → greatest_step_by program state inputs time ≡ Some (max_of component state inputs time)
   pub step : (state inputs : List ℤ) → HasWordsFor program state inputs → (time step : ℕ)
       → meaning_of program state inputs time step ≡ Some (step_of component state inputs time step)

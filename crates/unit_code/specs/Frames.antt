@@ -4,13 +4,13 @@ use Rattle.unit_tree.specs.Components.{Component, variables_of}
 use Rattle.unit_tree.specs.declared.environment.Environment.{Environment}
 use Rattle.unit_vm.specs.Machine.{Work}
 
--- The words of states, inputs and locals, in this order, and the accepted length.
-pub record Held : Type 0 where
+-- What a call works on: the words of states, inputs and locals, in this order, and the accepted length.
+pub record CallWords : Type 0 where
   pub words : List ℤ
   pub accepted : ℕ
 
 -- Under names they stand behind the words of the parameters.
-abbrev pub environment_at : Component → ℕ → ℕ → Held → Environment
+abbrev pub environment_at : Component → ℕ → ℕ → CallWords → Environment
 environment_at component time step held = record {
   variables = variables_of component.unit;
   words = component.params ++ held.words;
@@ -20,5 +20,5 @@ environment_at component time step held = record {
 }
 
 -- In slots the local time and the step stand behind them.
-abbrev pub work_at : ℕ → ℕ → List ℤ → Held → Work
+abbrev pub work_at : ℕ → ℕ → List ℤ → CallWords → Work
 work_at time step stack held = record { stack = stack; slots = held.words ++ (pos time ∷ pos step ∷ []); accepted = held.accepted }

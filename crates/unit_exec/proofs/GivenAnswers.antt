@@ -4,7 +4,7 @@ use Rattle.std.proofs.lemmas.Option.{get_or_from_slice_get, slice_get_within}
 use Rattle.std.specs.Prelude.{All, IsTrue, is_some, take, if◌then◌else◌, unsigned_abs, ⊤}
 use Rattle.fixed_words.specs.Operations.{Outcome}
 use Rattle.fixed_words.specs.declared.types.Fault.{Fault}
-use Rattle.unit_code.specs.Calls.{word_given, limit_given, moved_given, slots_with, output_by, limit_with, limit_by}
+use Rattle.unit_code.specs.Calls.{word_given, limit_given, moved_given, slots_with, output_by, greatest_step_with, greatest_step_by}
 use Rattle.unit_exec.specs.Images.{Compiled}
 use Rattle.unit_tree.specs.Components.{Moved}
 use Rattle.unit_vm.specs.Frames.{Held, Leaves}
@@ -194,7 +194,7 @@ module _ (image : Compiled) (facts : CodeFacts) (has : HasFacts image.program fa
       word_is _ before (Ok done) behind (subst (λ course. Leaves course before (Ok done) behind) alike leaves) (output_well image.program facts has number (slots_with image.program.sizes state fed 0 0))
       ∙ ap (λ w. Some (Ok w)) (sym is)
 
-  pub limited : (time : ℕ) → is_some image.program.limit ≡ true → Leaves (run_of code entry.Limit (slots_with code.sizes words put time 0)) before (Ok done) behind → (length : ℕ) → length ≡ unsigned_abs behind.result → limit_by image.program state fed time ≡ Some (Ok (Some length))
+  pub limited : (time : ℕ) → is_some image.program.limit ≡ true → Leaves (run_of code entry.Limit (slots_with code.sizes words put time 0)) before (Ok done) behind → (length : ℕ) → length ≡ unsigned_abs behind.result → greatest_step_by image.program state fed time ≡ Some (Ok (Some length))
   limited time there leaves length is =
       let alike : run_of code entry.Limit (slots_with code.sizes words put time 0) ≡ run_of image.program entry.Limit (slots_with image.program.sizes state fed time 0) =
       ap (λ (p : Program). run_of p entry.Limit (slots_with p.sizes words put time 0)) same ∙ ap (λ xs. run_of image.program entry.Limit (slots_with image.program.sizes xs put time 0)) one ∙ ap (λ xs. run_of image.program entry.Limit (slots_with image.program.sizes state xs time 0)) other in
@@ -202,6 +202,6 @@ module _ (image : Compiled) (facts : CodeFacts) (has : HasFacts image.program fa
       ∙ limit_is _ before (Ok done) behind (subst (λ course. Leaves course before (Ok done) behind) alike leaves) (limit_well image.program facts has (slots_with image.program.sizes state fed time 0))
       ∙ ap (λ n. Some (Ok (Some n))) (sym is)
     where
-      by_limit : (given : Option (List Instruction)) → is_some given ≡ true → limit_with given image.program state fed time ≡ limit_given (run_of image.program entry.Limit (slots_with image.program.sizes state fed time 0))
+      by_limit : (given : Option (List Instruction)) → is_some given ≡ true → greatest_step_with given image.program state fed time ≡ limit_given (run_of image.program entry.Limit (slots_with image.program.sizes state fed time 0))
       by_limit None there = absurd (cc)
       by_limit (Some code) there = refl

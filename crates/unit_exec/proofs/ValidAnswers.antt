@@ -4,7 +4,7 @@ use Rattle.std.proofs.lemmas.List.{length-append}
 use Rattle.std.proofs.lemmas.Option.{slice_get-get_or}
 use Rattle.fixed_words.specs.Operations.{Outcome}
 use Rattle.fixed_words.specs.declared.types.Fault.{Fault}
-use Rattle.unit_code.specs.Calls.{word_given, limit_given, moved_given, slots_with, output_by, limit_with, limit_by, meaning_of, HasWordsFor}
+use Rattle.unit_code.specs.Calls.{word_given, limit_given, moved_given, slots_with, output_by, greatest_step_with, greatest_step_by, meaning_of, HasWordsFor}
 use Rattle.unit_code.proofs.UnitsCompute.{zeros_count}
 use Rattle.unit_exec.specs.Laws.{Answers, ValidProgramsAnswer}
 use Rattle.unit_exec.proofs.GivenAnswers.{GivesResult, output_well, limit_well}
@@ -57,7 +57,7 @@ module _ (program : Program) (facts : CodeFacts) (has : HasFacts program facts) 
       word_there _ (valid_runs_end_lem program facts has (entry.Output number) (get_or program.outputs number []) (slice_get-get_or program.outputs number [] within) (slots_with program.sizes state inputs 0 0) (slots_count 0 0)).over
       (output_well program facts has number (slots_with program.sizes state inputs 0 0))
 
-  limit_answer : (given : Option (List Instruction)) → program.limit ≡ given → (time : ℕ) → (told : Result (Option ℕ) Fault) × (limit_with given program state inputs time ≡ Some told)
+  limit_answer : (given : Option (List Instruction)) → program.limit ≡ given → (time : ℕ) → (told : Result (Option ℕ) Fault) × (greatest_step_with given program state inputs time ≡ Some told)
   limit_answer None is time = (Ok None, refl)
   limit_answer (Some code) is time =
       limit_there _ (valid_runs_end_lem program facts has entry.Limit code is (slots_with program.sizes state inputs time 0) (slots_count time 0)).over

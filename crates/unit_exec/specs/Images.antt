@@ -35,14 +35,14 @@ pub record HasStarts (image : Compiled) : Type 0 where
   pub each_state : length image.start ≡ image.program.sizes.states
   pub each_input : length image.start_inputs ≡ image.program.sizes.inputs
 
--- The unit of a number in what is run of a system.
-abbrev pub unit_run : System → ℕ → Option Unit
-unit_run system number = slice_get (plain_form system).units number
+-- The unit of a number in the plain form of a system, which is what is run of it.
+abbrev pub unit_of_plain_form : System → ℕ → Option Unit
+unit_of_plain_form system number = slice_get (plain_form system).units number
 
 -- There is a word for each parameter of the unit.
 abbrev pub HasParams : System → ℕ → List ℤ → Type 0
-HasParams system number params = IfSome (unit_run system number) (λ unit. length params ≡ length unit.params)
+HasParams system number params = IfSome (unit_of_plain_form system number) (λ unit. length params ≡ length unit.params)
 
 -- The image is that of the unit of a number, with words of its parameters.
 abbrev pub IsCompiled : System → ℕ → List ℤ → Compiled → Type 0
-IsCompiled system number params image = IfSome (unit_run system number) (λ unit. IsImageOf (record { unit = unit; params = params }) image)
+IsCompiled system number params image = IfSome (unit_of_plain_form system number) (λ unit. IsImageOf (record { unit = unit; params = params }) image)

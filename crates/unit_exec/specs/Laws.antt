@@ -2,7 +2,7 @@
 use Rattle.std.specs.Prelude.{◌<◌, Option, Result, ◌≡◌, ℕ, ℤ, List, length, Some, slice_get}
 use Rattle.fixed_words.specs.Operations.{Outcome}
 use Rattle.fixed_words.specs.declared.types.Fault.{Fault}
-use Rattle.unit_code.specs.Calls.{output_by, limit_by, meaning_of, HasWordsFor}
+use Rattle.unit_code.specs.Calls.{output_by, greatest_step_by, meaning_of, HasWordsFor}
 use Rattle.unit_code.specs.UnitPrograms.{IsCompilable}
 use Rattle.unit_tree.specs.Components.{Moved}
 use Rattle.unit_tree.specs.Plain.{plain_form}
@@ -22,7 +22,7 @@ CheckedUnitsAreCompilable =
 -- What runs of a program give of a state and of words of inputs: each of its entries an answer.
 pub record Answers (program : Program) (state inputs : List ℤ) : Type 0 where
   pub output : (number : ℕ) → number < length program.outputs → (outcome : Outcome) × (output_by program state inputs number ≡ Some outcome)
-  pub limit : (time : ℕ) → (told : Result (Option ℕ) Fault) × (limit_by program state inputs time ≡ Some told)
+  pub limit : (time : ℕ) → (told : Result (Option ℕ) Fault) × (greatest_step_by program state inputs time ≡ Some told)
   pub step : (time step : ℕ) → (moved : Result Moved Fault) × (meaning_of program state inputs time step ≡ Some moved)
 
 -- A valid program has an answer to each call, for all words of states and inputs, one each, and all times and steps.

@@ -4,7 +4,7 @@ ghost use Rattle.unit_tree.specs.Components.{start_word};
 ghost use Rattle.unit_vm.specs.Checking.{IsValid};
 ghost use Rattle.std.specs.List.{AllByRecursion};
 ghost use Rattle.unit_code.specs.UnitPrograms.{IsCompilable};
-ghost use Rattle.unit_exec.specs.Images.{IsImageOf, unit_run, HasParams, IsCompiled};
+ghost use Rattle.unit_exec.specs.Images.{IsImageOf, unit_of_plain_form, HasParams, IsCompiled};
 ghost use Rattle.unit_tree.specs.declared.unit.Input.{Input};
 ghost use Rattle.unit_tree.specs.declared.unit.State.{State};
 
@@ -140,7 +140,7 @@ pub fn compile(
     unit: u32,
     params: &[i64],
 ) -> Result<Image, NoMemory>
-    requires there { IsSome (unit_run checked.now unit) }
+    requires there { IsSome (unit_of_plain_form checked.now unit) }
     requires one_each { HasParams checked.now unit params.now }
     ensures { IfOk result (λ image. IsCompiled checked.now unit params.now image) }
 {

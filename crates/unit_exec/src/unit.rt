@@ -1,5 +1,5 @@
 ghost use Rattle.std.specs.Prelude.{◌≡◌, ◌+◌, ◌≤◌, ◌<◌, ◌^◌, length, Some, IfOk, slice_set};
-ghost use Rattle.unit_code.specs.Calls.{output_by, limit_by};
+ghost use Rattle.unit_code.specs.Calls.{output_by, greatest_step_by};
 ghost use Rattle.unit_exec.specs.Running.{opened, Steps};
 
 use crate::calls::{put, run_on, take_first};
@@ -78,7 +78,7 @@ impl Unit {
     /// where the unit has no `max`. State and inputs stay.
     pub fn max_step(&mut self, t: u64) -> Result<Option<u64>, Fault>
         requires { t ≤ 10 ^ 15 }
-        ensures gives { limit_by self.old.image.program self.old.state self.old.inputs t ≡ Some result }
+        ensures gives { greatest_step_by self.old.image.program self.old.state self.old.inputs t ≡ Some result }
         ensures kept { self.new ≡ self.old }
     {
         let image: &Image = &self.image;

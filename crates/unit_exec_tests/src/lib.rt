@@ -4,4 +4,12 @@
 #![tactic(auto)]
 
 #[cfg(test)]
-mod tests;
+mod expression_rows;
+#[cfg(test)]
+mod expressions;
+#[cfg(test)]
+mod images;
+#[cfg(test)]
+mod step_rows;
+#[cfg(test)]
+mod steps;

@@ -27,7 +27,8 @@ choice_code first second = JumpFalse (length first + 2) ∷ (first ++ (Jump (len
 abbrev pub when_code : List Instruction → List Instruction
 when_code body = JumpFalse (length body + 1) ∷ body
 
--- A loop of so many turns: its `next` goes back to the first instruction of the code.
+-- A loop of so many turns: its `next` goes back to the place behind the `loop`, where the body begins, and where the
+-- `next` itself stands if the body is empty.
 abbrev pub turns_code : ℕ → List Instruction → List Instruction
 turns_code count body = Loop count ∷ (body ++ (Next (length body) ∷ []))
 

@@ -1,0 +1,162 @@
+//! Expressions and their values, worked out by hand, where `p` is 2.50, `k` 11, `n` 7, `f` 1.50, `b` true and `u` 5.
+use fixed_words::Fault;
+
+/// The type of an output, its expression, and the word or the fault that it gives.
+pub(crate) type Row = (&'static str, &'static str, Result<i64, Fault>);
+
+const OVERFLOW: Result<i64, Fault> = Err(Fault::Overflow);
+
+const OUT_OF_RANGE: Result<i64, Fault> = Err(Fault::Range);
+
+const BY_ZERO: Result<i64, Fault> = Err(Fault::ZeroDivisor);
+
+/// Operations on integers, at the ends of a word too. Where two operands fault, the first one counts.
+pub(crate) const INTEGERS: [Row; 37] = [
+    ("Int64", "n + 1", Ok(8)),
+    ("Int64", "n - 8", Ok(-1)),
+    ("Int64", "n * 3", Ok(21)),
+    ("Int64", "n div (-2)", Ok(-4)),
+    ("Int64", "n mod (-2)", Ok(-1)),
+    ("Int64", "-n", Ok(-7)),
+    ("Int64", "abs(n - 9)", Ok(2)),
+    ("Int64", "min(n, u)", Ok(5)),
+    ("Int64", "max(n, u)", Ok(7)),
+    ("Int64", "clamp(n, 0, 5)", Ok(5)),
+    ("Int64", "clamp(n, 9, 5)", Ok(9)),
+    ("Int64", "k + u", Ok(16)),
+    ("Int64", "int(f)", Ok(1)),
+    ("Int64", "int(-f)", Ok(-2)),
+    ("Int64", "int(b) + int(n)", Ok(8)),
+    ("Int64", "if b then n else n div 0", Ok(7)),
+    ("Int64", "if not b then n div 0 else u", Ok(5)),
+    ("Int64", "9223372036854775807 + n", OVERFLOW),
+    ("Int64", "-9223372036854775807 - 2", OVERFLOW),
+    ("Int64", "9223372036854775806 - (-1)", Ok(i64::MAX)),
+    ("Int64", "9223372036854775807 - (-1)", OVERFLOW),
+    ("Int64", "n * 9223372036854775807", OVERFLOW),
+    ("Int64", "-(-9223372036854775807)", Ok(i64::MAX)),
+    ("Int64", "-(-9223372036854775807 - 1)", OVERFLOW),
+    ("Int64", "abs(-9223372036854775807)", Ok(i64::MAX)),
+    ("Int64", "abs(-9223372036854775807 - 1)", OVERFLOW),
+    ("Int64", "(-9223372036854775807 - 1) div (-1)", OVERFLOW),
+    ("Int64", "(-9223372036854775807 - 1) mod (-1)", Ok(0)),
+    ("Int64", "n div (u - 5)", BY_ZERO),
+    ("Int64", "n mod 0 + 9223372036854775807 * n", BY_ZERO),
+    ("Int64", "9223372036854775807 * n + n mod 0", OVERFLOW),
+    ("Int64", "min(n, n div 0)", BY_ZERO),
+    ("Int64", "min(n div 0, 9223372036854775807 + n)", BY_ZERO),
+    ("Int64", "max(9223372036854775807 + n, n div 0)", OVERFLOW),
+    ("Int64", "clamp(n, 0, n div 0)", BY_ZERO),
+    (
+        "Int64",
+        "clamp(n, 9223372036854775807 + n, n div 0)",
+        OVERFLOW,
+    ),
+    (
+        "Int64",
+        "clamp(n div 0, 9223372036854775807 + n, 9)",
+        BY_ZERO,
+    ),
+];
+
+/// Numbers with decimals: rounded down, also below zero; only the result has to fit a word.
+pub(crate) const FIXED_POINT: [Row; 21] = [
+    ("Fixed 2", "f * f", Ok(225)),
+    ("Fixed 2", "-0.01 * 0.01", Ok(-1)),
+    ("Fixed 2", "92233720368547758.07 * 1.00", Ok(i64::MAX)),
+    ("Fixed 2", "92233720368547758.07 * 1.01", OVERFLOW),
+    ("Fixed 2", "f / p", Ok(60)),
+    ("Fixed 2", "-18.20 / 1.50", Ok(-1_214)),
+    ("Fixed 2", "92233720368547758.07 / 1.00", Ok(i64::MAX)),
+    ("Fixed 2", "92233720368547758.07 / 0.99", OVERFLOW),
+    (
+        "Fixed 2",
+        "(-92233720368547758.07 - 0.01) / (-1.00)",
+        OVERFLOW,
+    ),
+    ("Fixed 2", "f / 0.00", BY_ZERO),
+    ("Fixed 2", "p - f + 0.25", Ok(125)),
+    ("Fixed 2", "clamp(f, 0.00, 1.00)", Ok(100)),
+    ("Fixed 2", "fix 2 (n)", Ok(700)),
+    ("Fixed 0", "fix 0 (f)", Ok(1)),
+    ("Fixed 0", "fix 0 (-f)", Ok(-2)),
+    ("Fixed 1", "fix 1 (-0.51)", Ok(-6)),
+    ("Fixed 4", "fix 4 (f)", Ok(15_000)),
+    ("Fixed 3", "fix 3 (92233720368547758.07)", OVERFLOW),
+    (
+        "Fixed 9",
+        "fix 9 (9223372036)",
+        Ok(9_223_372_036_000_000_000),
+    ),
+    ("Fixed 9", "fix 9 (9223372037)", OVERFLOW),
+    ("Fixed 9", "fix 9 (9223372036854775807)", OVERFLOW),
+];
+
+/// Comparisons, and operations on truth values, which take both sides.
+pub(crate) const TRUTHS: [Row; 27] = [
+    ("Bool", "n == 7", Ok(1)),
+    ("Bool", "n != 7", Ok(0)),
+    ("Bool", "n < 7", Ok(0)),
+    ("Bool", "n <= 7", Ok(1)),
+    ("Bool", "n >= 7", Ok(1)),
+    ("Bool", "f == 1.50", Ok(1)),
+    ("Bool", "f == p", Ok(0)),
+    ("Bool", "f != 1.50", Ok(0)),
+    ("Bool", "f != p", Ok(1)),
+    ("Bool", "-f < f", Ok(1)),
+    ("Bool", "f < p", Ok(1)),
+    ("Bool", "f < 1.50", Ok(0)),
+    ("Bool", "f <= 1.50", Ok(1)),
+    ("Bool", "p <= f", Ok(0)),
+    ("Bool", "f > p", Ok(0)),
+    ("Bool", "p > f", Ok(1)),
+    ("Bool", "f > 1.50", Ok(0)),
+    ("Bool", "f >= 1.50", Ok(1)),
+    ("Bool", "f >= p", Ok(0)),
+    ("Bool", "b == true", Ok(1)),
+    ("Bool", "b == false", Ok(0)),
+    ("Bool", "b != true", Ok(0)),
+    ("Bool", "b != false", Ok(1)),
+    ("Bool", "b and n == 7", Ok(1)),
+    ("Bool", "not b or n < u", Ok(0)),
+    ("Bool", "b or n div 0 == 1", BY_ZERO),
+    ("Bool", "not b and n div 0 == 1", BY_ZERO),
+];
+
+/// The least and the greatest word of each type, and the words beside them.
+pub(crate) const RANGES: [Row; 34] = [
+    ("Int8", "n * 18", Ok(126)),
+    ("Int8", "n * 19", OUT_OF_RANGE),
+    ("UInt8", "n - 8", OUT_OF_RANGE),
+    ("Int8", "-128", Ok(-128)),
+    ("Int8", "-129", OUT_OF_RANGE),
+    ("Int8", "127", Ok(127)),
+    ("Int8", "128", OUT_OF_RANGE),
+    ("UInt8", "0", Ok(0)),
+    ("UInt8", "-1", OUT_OF_RANGE),
+    ("UInt8", "255", Ok(255)),
+    ("UInt8", "256", OUT_OF_RANGE),
+    ("Int16", "-32768", Ok(-32_768)),
+    ("Int16", "-32769", OUT_OF_RANGE),
+    ("Int16", "32767", Ok(32_767)),
+    ("Int16", "32768", OUT_OF_RANGE),
+    ("UInt16", "0", Ok(0)),
+    ("UInt16", "-1", OUT_OF_RANGE),
+    ("UInt16", "65535", Ok(65_535)),
+    ("UInt16", "65536", OUT_OF_RANGE),
+    ("Int32", "-2147483648", Ok(-2_147_483_648)),
+    ("Int32", "-2147483649", OUT_OF_RANGE),
+    ("Int32", "2147483647", Ok(2_147_483_647)),
+    ("Int32", "2147483648", OUT_OF_RANGE),
+    ("UInt32", "0", Ok(0)),
+    ("UInt32", "-1", OUT_OF_RANGE),
+    ("UInt32", "4294967295", Ok(4_294_967_295)),
+    ("UInt32", "4294967295 + 1", OUT_OF_RANGE),
+    ("Int64", "-9223372036854775807 - 1", Ok(i64::MIN)),
+    ("Int64", "9223372036854775807", Ok(i64::MAX)),
+    ("Bool", "false", Ok(0)),
+    ("Bool", "true", Ok(1)),
+    ("Fixed 0", "fix 0 (-9223372036854775807 - 1)", Ok(i64::MIN)),
+    ("Fixed 2", "-92233720368547758.07 - 0.01", Ok(i64::MIN)),
+    ("Fixed 9", "9223372036.854775807", Ok(i64::MAX)),
+];
