@@ -1,7 +1,7 @@
 //! The units of a system as the components whose ports are solved.
 ghost use Rattle.std.specs.Prelude.{IfOk, IfSome, IsSome};
 ghost use Rattle.port_tests.specs.Bench.{IsRunOfSome, IsUnitNamed, RunMembers};
-ghost use Rattle.unit_exec.specs.Images.{unit_run};
+ghost use Rattle.unit_exec.specs.Images.{unit_of_plain_form};
 ghost use Rattle.unit_tree.specs.Compositions.{run_of};
 ghost use Rattle.unit_tree.specs.Names.{unit_of_instance};
 ghost use Rattle.unit_tree.specs.Plain.{plain_form};
@@ -73,8 +73,8 @@ pub(crate) fn number_of(units: &[unit_tree::Unit], name: &[u8]) -> Option<u32>
 
 /// The unit of a number at its start, but that each of its inputs has another word. It has no parameters.
 fn unit_numbered(alloc: Global, checked: &Checked, number: u32) -> Result<Unit, Fail>
-    requires { IsSome (unit_run checked.now number) }
-    ensures { IfOk result (λ running. IsRunOfSome (unit_run checked.now number) running) }
+    requires { IsSome (unit_of_plain_form checked.now number) }
+    ensures { IfOk result (λ running. IsRunOfSome (unit_of_plain_form checked.now number) running) }
 {
     let declared = checked.system().units.get(number as usize).unwrap();
     if !declared.params.is_empty() {
