@@ -2,7 +2,7 @@
 ghost use Rattle.unit_tree.specs.Compositions.{run_of};
 ghost use Rattle.unit_tree.specs.Routes.{IsOrderOf};
 
-use crate::units::Units;
+use crate::units::{STALE, Units};
 use fixed_words::Fault;
 use port_solve::{PortFault, solve};
 use std::alloc::Global;
@@ -54,14 +54,14 @@ fn fault_told(answer: Result<(), PortFault>) -> Option<(u32, u32, Fault)> {
     }
 }
 
-/// Solves the ports of a system along an order, from inputs that have other words.
+/// Solves the ports of a system along an order, where all inputs and outputs have a word that is left from before.
 pub(crate) fn solved_along(alloc: Global, order: &Order, checked: &Checked) -> Result<Solved, Fail>
     requires { IsOrderOf (run_of checked.now) order.now }
 {
     let mut units = Units::new(alloc, checked)?;
     let places = order.routes().outputs.len();
-    let mut ports = vec![in alloc; 0i64; places]?;
-    let mut known = vec![in alloc; false; places]?;
+    let mut ports = vec![in alloc; STALE; places]?;
+    let mut known = vec![in alloc; true; places]?;
     let answer = solve(order, checked, &mut units, &mut ports, &mut known);
     Ok(Solved {
         order: first_of(order.places()),

@@ -120,16 +120,21 @@ fn column(instance: u32, output: u32, place: u32, event: bool) -> Column {
     }
 }
 
+/// The header of these columns of the system of a text.
+fn header(alloc: Global, text: &str, columns: &[Column]) -> Result<String, Fail> {
+    let checked = checked_text(alloc, text)?;
+    header_of(alloc, &checked, columns)
+}
+
 /// The columns in the order of the samples. An event output is one column, of the second of its two places.
 #[test]
 fn headers_name_the_columns(rt: HostRuntime) -> Result<(), Fail> {
-    let checked = checked_text(rt.alloc(), EVENTS)?;
     let columns = [
         column(4, 1, 6, true),
         column(0, 0, 0, false),
         column(3, 1, 4, true),
     ];
-    let header = header_of(rt.alloc(), &checked, &columns)?;
-    assert_eq!(rt; header.as_str(), "time,index,even.e,one.k,odd.e\n");
+    let made = header(rt.alloc(), EVENTS, &columns)?;
+    assert_eq!(rt; made.as_str(), "time,index,even.e,one.k,odd.e\n");
     Ok(())
 }

@@ -14,8 +14,8 @@ use std::test::Fail;
 use unit_exec::{Unit, compile};
 use unit_tree::{Checked, Gets, Instance};
 
-/// The word that each input has before ports are solved, as if it were left from before. No test expects it.
-const STALE: i64 = 99;
+/// The word that each input and each output has before ports are solved, as if it were left from before. No test expects it.
+pub(crate) const STALE: i64 = 99;
 
 /// A unit for each instance of a system.
 #[derive(Drop)]
