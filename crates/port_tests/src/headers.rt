@@ -3,7 +3,6 @@ ghost use Rattle.std.specs.Prelude.{◌≡◌, true};
 ghost use Rattle.std.specs.List.{AllByRecursion};
 ghost use Rattle.trace_csv.specs.Columns.{IsOutput};
 
-use crate::units::number_of;
 use std::alloc::Global;
 use std::test::Fail;
 use trace_csv::header_text;
@@ -16,10 +15,7 @@ fn is_output(checked: &Checked, column: Column) -> bool
     let Some(instance) = system.instances.get(column.instance as usize) else {
         return false;
     };
-    let Some(number) = number_of(system.units.as_slice(), instance.unit.as_slice()) else {
-        return false;
-    };
-    match system.units.get(number as usize) {
+    match system.unit_of(instance) {
         Some(unit) => (column.output as usize) < unit.outputs.len(),
         None => false,
     }

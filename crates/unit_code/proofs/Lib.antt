@@ -1,3 +1,4 @@
+pub mod Frames
 pub mod Means
 pub mod NamesInSlots
 pub mod LinesMean

@@ -9,7 +9,7 @@ use Rattle.fixed_words.specs.Types.{is_between}
 use Rattle.fixed_words.specs.declared.types.Fault.{Fault}
 use Rattle.fixed_words.specs.declared.types.Fault.TheVariants as fault
 use Rattle.unit_code.specs.Expressions.{code_of}
-use Rattle.unit_code.specs.Frames.{CallWords, environment_at, work_at}
+use Rattle.unit_code.proofs.Frames.{CallWords, environment_at, work_at}
 use Rattle.unit_code.specs.Scopes.{scope_of, named}
 use Rattle.unit_code.specs.StepLines.{LineCoded, LineCoding, is_right_in, nothing, behind, target_coded, value_coded, if_coded, repeat_coded, all_coded, node_line_code, line_code, lines_code}
 use Rattle.unit_code.specs.declared.scope.Scope.{Scope}

@@ -10,7 +10,7 @@ use Rattle.fixed_words.specs.declared.types.Fault.{Fault}
 use Rattle.fixed_words.specs.declared.types.Fault.TheVariants.{Range}
 use Rattle.fixed_words.specs.declared.types.Ty.{Ty}
 use Rattle.unit_code.specs.Expressions.{name_code}
-use Rattle.unit_code.specs.Frames.{CallWords, environment_at, work_at}
+use Rattle.unit_code.proofs.Frames.{CallWords, environment_at, work_at}
 use Rattle.unit_code.specs.Scopes.{constants, slots_from, slot_variables, scope_of, named}
 use Rattle.unit_code.specs.StepLines.{target_coded}
 use Rattle.unit_code.specs.declared.scope.Named.{Named}

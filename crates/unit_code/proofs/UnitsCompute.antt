@@ -14,7 +14,7 @@ use Rattle.fixed_words.specs.declared.types.Kind.{Kind}
 use Rattle.fixed_words.specs.declared.types.Ty.{Ty}
 use Rattle.unit_code.specs.Calls.{slots_with, word_given, limit_given, moved_given, output_by, greatest_step_with, meaning_of, HasWordsFor, Computes}
 use Rattle.unit_code.specs.Expressions.{code_of}
-use Rattle.unit_code.specs.Frames.{CallWords, environment_at, work_at}
+use Rattle.unit_code.proofs.Frames.{CallWords, environment_at, work_at}
 use Rattle.unit_code.specs.Scopes.{slot_variables, scope_of}
 use Rattle.unit_code.specs.StepLines.{lines_code}
 use Rattle.unit_code.specs.UnitPrograms.{output_code, limit_code, step_piece, program_of, IsCallable, IsRunnable, IsCompilable}

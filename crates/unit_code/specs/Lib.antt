@@ -1,7 +1,6 @@
 pub mod Scopes
 pub mod Expressions
 pub mod StepLines
-pub mod Frames
 pub mod UnitPrograms
 pub mod Calls
 pub mod Laws

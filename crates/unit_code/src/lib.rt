@@ -3,9 +3,9 @@
 //!
 //! The layer above uses [`program`], which gives the program of a unit with the words of its parameters. Expressions and
 //! lines become pieces of structured code by folds over their trees: `specs/Expressions.antt` and
-//! `specs/StepLines.antt`. A name is a constant or a slot (`Scopes`), and words are seen under names and in slots
-//! (`Frames`). `UnitPrograms` has the program of a unit and which units may be compiled, and `Calls` what runs of it
-//! give and when a program computes a component. The laws are [`programs_compute_units`],
+//! `specs/StepLines.antt`. A name is a constant or a slot (`Scopes`). `UnitPrograms` has the program of a unit
+//! and which units may be compiled, and `Calls` what runs of it give and when a program computes a component. That words
+//! under names and words in slots agree is said once, in `proofs/Frames.antt`. The laws are [`programs_compute_units`],
 //! [`unit_programs_are_valid`] and [`codes_cost_what_trees_do`].
 #![tactic(auto)]
 

@@ -21,7 +21,8 @@ pub(crate) fn put(slots: &mut [i64], first: usize, words: &[i64])
     }
 }
 
-/// Puts the words of a call into slots: the state, the inputs, the local time and the step. Locals stay.
+/// Puts the words of a call into slots: the state, the inputs, the local time and the step. Locals are left to the run, which
+/// begins by making them 0.
 fn fill(slots: &mut [i64], state: &[i64], inputs: &[i64], time: i64, step: i64)
     requires { length state.now + length inputs.now + 2 ≤ length slots.old }
     ensures { slots.new ≡ overwritten (overwritten (overwritten slots.old 0 state.now) (length state.now) inputs.now) (length slots.old - 2) (time ∷ step ∷ []) }

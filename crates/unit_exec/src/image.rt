@@ -131,7 +131,8 @@ fn image_of(alloc: Global, unit: &Unit, params: &[i64]) -> Result<Image, NoMemor
     })
 }
 
-/// The image of a unit of what is run of a checked system, by its number there, with words of its parameters. Its code
+/// The image of a unit with words of its parameters. The unit is told by its number in the plain form of the system, which is
+/// what is run. The code of the image
 /// is the unit's program, which computes the calls of the component and, by `codes_cost_what_trees_do` of `unit_code`, costs
 /// at most what they cost by their trees.
 pub fn compile(

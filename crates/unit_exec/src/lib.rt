@@ -3,6 +3,7 @@
 //! [`compile`] gives the [`Image`] of a unit with words of its parameters, and a [`Unit`] runs it: [`Unit::get`],
 //! [`Unit::max_step`] and [`Unit::do_step`] are runs of the image's code for the unit's state and inputs, and by the
 //! clause of [`compile`] the calls of the component that they are defined as. No call of [`Unit`] but `new` takes memory.
+//! A [`Want`] names a step by what it depends on, for whoever is to make it.
 //!
 //! Definitions: `specs/Images.antt` (when an image is a component's), `specs/Running.antt` (a unit as it runs). What a
 //! run of code gives, and `meaning_of` a step, stand in `Calls` of `unit_code`. The law

@@ -12,7 +12,8 @@ use unit_vm::{Entry, Frame};
 
 /// A unit that runs: its image, its state, and the words of its inputs.
 ///
-/// Each call is a run of the image's code for them, in one frame that was made with the unit. No call takes memory.
+/// [`Unit::get`], [`Unit::max_step`] and [`Unit::do_step`] are runs of the image's code for them, in one frame that is made
+/// with the unit. No call but [`Unit::new`] takes memory.
 #[derive(Drop)]
 pub struct Unit {
     image: Arc<Image>,
@@ -74,7 +75,7 @@ impl Unit {
         Ok(self.frame.result())
     }
 
-    /// The longest step that the unit will accept at the local time `t`, in local ticks, or the fault of telling it; none
+    /// The greatest step that the unit will accept at the local time `t`, in local ticks, or the fault of telling it; none
     /// where the unit has no `max`. State and inputs stay.
     pub fn max_step(&mut self, t: u64) -> Result<Option<u64>, Fault>
         requires { t ≤ 10 ^ 15 }

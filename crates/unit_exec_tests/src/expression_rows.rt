@@ -11,13 +11,14 @@ const OUT_OF_RANGE: Result<i64, Fault> = Err(Fault::Range);
 const BY_ZERO: Result<i64, Fault> = Err(Fault::ZeroDivisor);
 
 /// Operations on integers, at the ends of a word too. Where two operands fault, the first one counts.
-pub(crate) const INTEGERS: [Row; 37] = [
+pub(crate) const INTEGERS: [Row; 38] = [
     ("Int64", "n + 1", Ok(8)),
     ("Int64", "n - 8", Ok(-1)),
     ("Int64", "n * 3", Ok(21)),
     ("Int64", "n div (-2)", Ok(-4)),
     ("Int64", "n mod (-2)", Ok(-1)),
     ("Int64", "-n", Ok(-7)),
+    ("Int64", "abs(n)", Ok(7)),
     ("Int64", "abs(n - 9)", Ok(2)),
     ("Int64", "min(n, u)", Ok(5)),
     ("Int64", "max(n, u)", Ok(7)),
@@ -93,12 +94,14 @@ pub(crate) const FIXED_POINT: [Row; 21] = [
 ];
 
 /// Comparisons, and operations on truth values, which take both sides.
-pub(crate) const TRUTHS: [Row; 27] = [
+pub(crate) const TRUTHS: [Row; 31] = [
     ("Bool", "n == 7", Ok(1)),
     ("Bool", "n != 7", Ok(0)),
     ("Bool", "n < 7", Ok(0)),
     ("Bool", "n <= 7", Ok(1)),
+    ("Bool", "n <= 8", Ok(1)),
     ("Bool", "n >= 7", Ok(1)),
+    ("Bool", "n >= 6", Ok(1)),
     ("Bool", "f == 1.50", Ok(1)),
     ("Bool", "f == p", Ok(0)),
     ("Bool", "f != 1.50", Ok(0)),
@@ -118,6 +121,8 @@ pub(crate) const TRUTHS: [Row; 27] = [
     ("Bool", "b != true", Ok(0)),
     ("Bool", "b != false", Ok(1)),
     ("Bool", "b and n == 7", Ok(1)),
+    ("Bool", "b and n == 8", Ok(0)),
+    ("Bool", "b or n == 8", Ok(1)),
     ("Bool", "not b or n < u", Ok(0)),
     ("Bool", "b or n div 0 == 1", BY_ZERO),
     ("Bool", "not b and n div 0 == 1", BY_ZERO),

@@ -10,7 +10,7 @@ use std::test::Fail;
 use unit_exec::{Image, Unit};
 
 /// What an output of an image gives at the start; none where it is not there.
-fn value_at_start(
+pub(crate) fn value_at_start(
     alloc: Global,
     image: Image,
     output: u32,

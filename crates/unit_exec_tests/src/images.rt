@@ -15,23 +15,34 @@ fn checked_text(alloc: Global, text: &str) -> Result<Checked, Fail> {
     Ok(check(alloc, read.system)?)
 }
 
-/// The image of the first unit with these words of its parameters; none where there is no unit, or not a word for
+/// The image of the unit of a number with these words of its parameters; none where there is no such unit, or not a word for
 /// each parameter.
-fn first_image(
+fn image_at(
     alloc: Global,
     checked: &Checked,
+    number: u32,
     params: &[i64],
 ) -> Result<Option<Image>, NoMemory> {
-    match checked.system().units.get(0) {
+    match checked.system().units.get(number as usize) {
         Some(unit) if unit.params.len() == params.len() => {
-            Ok(Some(compile(alloc, checked, 0, params)?))
+            Ok(Some(compile(alloc, checked, number, params)?))
         }
         _ => Ok(None),
     }
 }
 
-/// The image of the first unit of a text with these words of its parameters.
-pub(crate) fn image_with(alloc: Global, text: &str, params: &[i64]) -> Result<Image, Fail> {
+/// The image of the unit of a number in a text, with these words of its parameters.
+pub(crate) fn image_of(
+    alloc: Global,
+    text: &str,
+    number: u32,
+    params: &[i64],
+) -> Result<Image, Fail> {
     let checked = checked_text(alloc, text)?;
-    Ok(first_image(alloc, &checked, params)?.ok_or("there is no such unit")?)
+    Ok(image_at(alloc, &checked, number, params)?.ok_or("there is no such unit")?)
+}
+
+/// The image of the first unit of a text.
+pub(crate) fn image_with(alloc: Global, text: &str, params: &[i64]) -> Result<Image, Fail> {
+    image_of(alloc, text, 0, params)
 }

@@ -16,6 +16,11 @@ pub(crate) const CLAMPED: &str =
 pub(crate) const STEPS: &str =
     "cosim 1\nunit A\nstate n : Int64 = 0\nstate m : Int8 = 0\nlocal k : Int64\ninput u : Int64 = 3\noutput y : Int64 = n\noutput z : Int64 needs u = u\nmax 10 - t\nstep\nrepeat 3\nk := k + 2\nrepeat 2\nn := n + k\nend\nend\nif n > 100\nm := m + 100\nend\nif u == 3\naccept 2\nelse\naccept 1\nend\nif t > 0\naccept h - 1\nend\nend\nend\ninstance a : A\nend\nstop 1\n";
 
+/// Of two units the first has an event input and neither `max` nor steps. The second has its parameter in an output, in `max`
+/// and in its step, and lines in lines.
+pub(crate) const TWO_UNITS: &str =
+    "cosim 2\nunit A\nevent input e : Int64\noutput y : Int64 needs e = if present(e) then e else -1\nend\nunit B\nparam p : Int64 = 4\nstate n : Int64 = 5\nstate m : Int64 = 0\ninput u : Int64 = 2\noutput y : Int64 = n\noutput z : Int64 needs u = u + p\nmax p - t\nstep\nif n > p\nif u == 2\nn := n + p\nelse\nn := 0\nend\nelse\nrepeat 2\nm := m + p\nend\nend\nend\nend\ninstance a : A\nend\ninstance b : B\nend\nstop 1\n";
+
 /// Lines of a step; the states `n` and `m` before it and the input `u`; the length `h` of the step, which is made at the
 /// time 3; the length that it accepts, or the fault; the states behind it.
 pub(crate) type StepRow = (&'static str, [i64; 3], u8, Result<u64, Fault>, [i64; 2]);

@@ -1,8 +1,9 @@
 //! Tests of units that step, and of what they tell at a state: each is read, checked and compiled.
 ghost use Rattle.std.specs.Prelude.{◌≡◌, ◌+◌, ◌≤◌, length, IfOk, IfSome};
 
-use crate::images::image_with;
-use crate::step_rows::{CLAMPED, COUNTER, LINES, REPEATED, STEPS};
+use crate::expressions::value_at_start;
+use crate::images::{image_of, image_with};
+use crate::step_rows::{CLAMPED, COUNTER, LINES, REPEATED, STEPS, TWO_UNITS};
 use fixed_words::{Fault, NoMemory};
 use std::alloc::Global;
 use std::sync::Arc;
@@ -38,6 +39,13 @@ fn counters_count(rt: HostRuntime) -> Result<(), Fail> {
         let values = outputs_along(rt.alloc(), image_with(rt.alloc(), text, &[])?)?;
         assert_eq!(rt; values.as_slice(), expected);
     }
+    Ok(())
+}
+
+#[test]
+fn thirty_nested_clamps_need_61_words(rt: HostRuntime) -> Result<(), Fail> {
+    let image = image_with(rt.alloc(), CLAMPED, &[])?;
+    assert_eq!(rt; image.code().facts().stack, 61);
     Ok(())
 }
 
@@ -168,5 +176,32 @@ fn outputs_limits_and_inputs_are_told(rt: HostRuntime) -> Result<(), Fail> {
         Arc::new(rt.alloc(), image_with(rt.alloc(), COUNTER, &[])?)?,
     )?;
     assert_eq!(rt; counter.max_step(3), Ok(None));
+    Ok(())
+}
+
+/// The second unit of the text, where its parameter is 3.
+#[test]
+fn units_are_told_by_their_numbers(rt: HostRuntime) -> Result<(), Fail> {
+    let image = image_of(rt.alloc(), TWO_UNITS, 1, &[3])?;
+    let mut unit = two_states(rt.alloc(), image)?.ok_or("not of this form")?;
+    assert_eq!(rt; unit.get(1), Ok(5));
+    assert_eq!(rt; unit.max_step(1), Ok(Some(2)));
+    assert_eq!(rt; unit.max_step(4), Err(Fault::Max));
+    assert_eq!(rt; step_from(&mut unit, [5, 0], 0, 5), left(Ok(5), 8, 0));
+    assert_eq!(rt; step_from(&mut unit, [3, 0], 0, 5), left(Ok(5), 3, 6));
+    unit.set(0, 1);
+    assert_eq!(rt; step_from(&mut unit, [5, 0], 0, 5), left(Ok(5), 0, 0));
+    Ok(())
+}
+
+/// The first unit of the text. Without an event its output is -1, and without steps it accepts each length.
+#[test]
+fn units_without_steps_accept_each_length(rt: HostRuntime) -> Result<(), Fail> {
+    let image = image_of(rt.alloc(), TWO_UNITS, 0, &[])?;
+    assert_eq!(rt; value_at_start(rt.alloc(), image, 0)?, Some(Ok(-1)));
+    let image = image_of(rt.alloc(), TWO_UNITS, 0, &[])?;
+    let mut unit = Unit::new(rt.alloc(), Arc::new(rt.alloc(), image)?)?;
+    assert_eq!(rt; unit.max_step(3), Ok(None));
+    assert_eq!(rt; unit.do_step(3, 7), Ok(7));
     Ok(())
 }
