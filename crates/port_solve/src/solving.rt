@@ -67,8 +67,8 @@ fn fault_at(routes: &Routes, faulted: Faulted) -> PortFault
     }
 }
 
-/// Solves the ports of a system for the states that its components have: each output is worked out once, in the order, and
-/// each input whose word is defined is set to it, one that nothing is connected to to its start word.
+/// Solves the ports of a system for the states that its components have: each output is worked out once, in the order. Each
+/// input whose word is defined is set to it; where nothing is connected to an input, its word is its start word.
 ///
 /// `ports` and `known` have one place for each output. Whether an output is defined is put into `known`, and where it is
 /// its word into `ports`. [`PortFault`] where some output is undefined: it is the fault of the first one, by instance and
@@ -95,7 +95,7 @@ pub fn solve<G: Gets>(
     ensures states { G.states gets.new ≡ G.states gets.old }
     ensures system { G.system gets.new ≡ G.system gets.old }
 {
-    // Only for what a judged system keeps.
+    // What a judged system keeps is known by the clauses of this call alone.
     let _ = checked.system();
     let routes = order.routes();
     set_starts(gets, routes.starts.as_slice());

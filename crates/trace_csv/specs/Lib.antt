@@ -1,4 +1,5 @@
 pub mod Columns
 pub mod Lines
 pub mod TraceText
+pub mod WorkedText
 pub mod Writers
