@@ -52,7 +52,7 @@ pub record AnswersRun (text : List ℕ) (answer : Answer) : Type 0 where
   pub trace : IsTraceOf system rows last ending
   pub is : answer ≡ run_answer system rows last ending
 
--- The text keeps all rules, and is of the version whose systems can't be run yet, which is said of its header.
+-- The text keeps all rules, and is of the version that is not served yet, which is said of its header.
 pub record IsOfUnservedVersion (text : List ℕ) (line rule : ℕ) : Type 0 where
   pub system : System
   pub lines : List ℕ

@@ -157,6 +157,7 @@ fn texts_are_checked_and_printed(rt: HostRuntime) -> Result<(), Fail> {
     let undeclared = "cosim 1\n\ninstance a : B\nend\nstop 1\n";
     let second = "\ncosim 2\nunit A\nend\ninstance a : A\nend\nstop 1\n";
     let printed = "cosim 2\nunit A\nend\ninstance a:A\nend\nstop 1\n";
+    let unnamed = "cosim 2\nunit A\noutput y : Int8 = x\nend\ninstance a : A\nend\nstop 1\n";
     for (word, text, puts, status, put, note) in [
         ("check", COUNTER, 0, Status::Done, "accepted\n", ""),
         ("print", COUNTER, 0, Status::Done, CANONICAL, ""),
@@ -200,6 +201,23 @@ fn texts_are_checked_and_printed(rt: HostRuntime) -> Result<(), Fail> {
             Status::WriteFault,
             "acce",
             "cosim: write fault\n",
+        ),
+        // It is put in one piece, of which the put that fails appends the first half.
+        (
+            "print",
+            COUNTER,
+            1,
+            Status::WriteFault,
+            "cosim 1\nunit Counter\nstate n:Int64=0\noutput y:Int64=n\nste",
+            "cosim: write fault\n",
+        ),
+        (
+            "check",
+            unnamed,
+            0,
+            Status::Refused,
+            "",
+            "cosim: line 3: rule 9\n",
         ),
     ] {
         let (given, out, notes) = call(rt.alloc(), &[word], text, &[], &[puts], &[])?;

@@ -23,8 +23,8 @@ pub(crate) struct CheckedText {
     pub(crate) lines: List<u32>,
 }
 
-/// A text that keeps all rules: its system, whose outputs have an order, and for each canonical line of it the number of the
-/// line of the text that it came from.
+/// What [`crate::accept_text`] gives of a text that keeps all rules: its system, and for each canonical line of it the number
+/// of the line of the text that it came from. By its clause the outputs of the system have an order.
 #[derive(Debug, Drop)]
 pub struct AcceptedText {
     pub checked: Checked,

@@ -39,7 +39,7 @@ pub(crate) type Row = (Frame, &'static str, u32, u8);
 
 /// Rule 8: two units, two instances, or two names of one unit are equal. Of three the second is named, and where the first of
 /// two stands behind the other in the canonical order, it is the second. These are three spaces of names.
-pub(crate) const EQUAL_NAMES: [Row; 9] = [
+pub(crate) const EQUAL_NAMES: [Row; 10] = [
     (
         Frame::Whole,
         "cosim 1\ninstance a : A\nend\nstop 1\nunit A\nend\nunit A\nend\n",
@@ -89,10 +89,16 @@ pub(crate) const EQUAL_NAMES: [Row; 9] = [
         0,
         0,
     ),
+    (
+        Frame::Whole,
+        "cosim 1\nunit A\nend\ninstance A : A\nend\nstop 1\n",
+        0,
+        0,
+    ),
 ];
 
 /// Rule 9 in units: a name that isn't declared or that may not be used there, a target, a need, and a name in `present`.
-pub(crate) const UNKNOWN_IN_UNITS: [Row; 30] = [
+pub(crate) const UNKNOWN_IN_UNITS: [Row; 36] = [
     (Frame::Unit, "output y : Int8 = x\n", 3, 9),
     (Frame::Unit, "local x : Int8\noutput y : Int8 = x\n", 4, 9),
     (
@@ -203,10 +209,41 @@ pub(crate) const UNKNOWN_IN_UNITS: [Row; 30] = [
         3,
         9,
     ),
+    (
+        Frame::Events,
+        "event output x : Int8 = absent\nlocal l : Int8\nstep\nl := x\nend\n",
+        6,
+        9,
+    ),
+    (
+        Frame::Unit,
+        "local l : Int8\noutput y : Int8 needs l = 1\n",
+        4,
+        9,
+    ),
+    (
+        Frame::Events,
+        "input u : Int8 = 0\nmax int(present(u))\n",
+        4,
+        9,
+    ),
+    (
+        Frame::Unit,
+        "step\nrepeat 1\nif true\nelse\nend\nend\nx := 1\nend\n",
+        9,
+        9,
+    ),
+    (Frame::Unit, "output y : Int64 = min(t, 1)\n", 3, 9),
+    (
+        Frame::Whole,
+        "cosim 1\nunit A\nend\nunit B\noutput y : Int8 = x\nend\ninstance a : A\nend\nstop 1\n",
+        5,
+        9,
+    ),
 ];
 
 /// Rule 9 between units: units of instances, settings, connections and samples.
-pub(crate) const UNKNOWN_OUTSIDE: [Row; 20] = [
+pub(crate) const UNKNOWN_OUTSIDE: [Row; 22] = [
     (
         Frame::Whole,
         "cosim 1\ninstance a : B\nend\nunit A\nend\nstop 1\n",
@@ -264,6 +301,18 @@ pub(crate) const UNKNOWN_OUTSIDE: [Row; 20] = [
     (
         Frame::Whole,
         "cosim 2\nstop 1\nunit A\nevent input u : Int8\nevent output y : Int8 = 1\nend\ninstance a : A\nend\nsample a.y\n",
+        0,
+        0,
+    ),
+    (
+        Frame::Whole,
+        "cosim 1\r\n\r\ninstance a : B\r\nend\r\nstop 1\r\n",
+        3,
+        9,
+    ),
+    (
+        Frame::Whole,
+        "cosim 2\ninstance a : A\nend\nsample a.y\nsample a.z\nstop 1\nunit A\nevent output y : Int8 = 1\noutput z : Int8 = 1\nend\n",
         0,
         0,
     ),
@@ -347,7 +396,7 @@ pub(crate) const OPERANDS: [Row; 33] = [
 ];
 
 /// Rule 10 at lines: what an expression has to be where it stands, also where what is assigned may not be, and `absent`.
-pub(crate) const RESULTS: [Row; 27] = [
+pub(crate) const RESULTS: [Row; 34] = [
     (Frame::Unit, "output y : Int8 = 1.0\n", 3, 10),
     (Frame::Unit, "output y : Bool = 1\n", 3, 10),
     (Frame::Unit, "output y : Fixed 1 = 1.00\n", 3, 10),
@@ -430,6 +479,28 @@ pub(crate) const RESULTS: [Row; 27] = [
         0,
     ),
     (Frame::Events, "event output y : Int8 = 1\n", 0, 0),
+    (Frame::Events, "max absent\n", 3, 10),
+    (Frame::Events, "step\naccept absent\nend\n", 4, 10),
+    (Frame::Events, "step\nif absent\nend\nend\n", 4, 10),
+    (Frame::Events, "event output y : Fixed 0 = 1\n", 3, 10),
+    (
+        Frame::Events,
+        "event output y : Fixed 0 = fix 0 (1)\n",
+        0,
+        0,
+    ),
+    (
+        Frame::Events,
+        "event input u : Int8\noutput z : Bool needs u = present(u) and absent\n",
+        4,
+        10,
+    ),
+    (
+        Frame::Events,
+        "event input u : Bool\nevent output y : Bool needs u = if present(u) then u else absent\n",
+        0,
+        0,
+    ),
 ];
 
 /// Rule 10 on literals: a truth value for a number, a number for Bool, and decimals that the type doesn't have.
@@ -461,7 +532,7 @@ pub(crate) const FORMS: [Row; 9] = [
 ];
 
 /// Rule 11: a literal beyond either end of its type; a number that is scaled beyond; both ends of each type are inside.
-pub(crate) const RANGES: [Row; 22] = [
+pub(crate) const RANGES: [Row; 23] = [
     (Frame::Unit, "param p : Int8 = -129\n", 3, 11),
     (Frame::Unit, "state s : Int8 = 128\n", 3, 11),
     (Frame::Unit, "input u : UInt8 = -1\n", 3, 11),
@@ -525,10 +596,16 @@ pub(crate) const RANGES: [Row; 22] = [
     ),
     // A number in an expression has no type yet.
     (Frame::Unit, "output y : Int8 = 300\n", 0, 0),
+    (
+        Frame::Whole,
+        "cosim 1\nunit A\nparam p : Fixed 9 = 1\nend\ninstance a : A\np = 9223372037\nend\nstop 1\n",
+        6,
+        11,
+    ),
 ];
 
 /// Rule 12: an output uses an input that isn't among its needs. A need may be unused, and `max` and steps have none.
-pub(crate) const NEEDS: [Row; 8] = [
+pub(crate) const NEEDS: [Row; 9] = [
     (
         Frame::Unit,
         "input u : Int8 = 0\noutput y : Int8 = u\n",
@@ -576,6 +653,12 @@ pub(crate) const NEEDS: [Row; 8] = [
         "event input u : Int8\nevent output y : Int8 needs u = if present(u) then u else absent\n",
         0,
         0,
+    ),
+    (
+        Frame::Events,
+        "event input u : Int8\nevent output y : Int8 = if u > 0 then absent else absent\n",
+        4,
+        12,
     ),
 ];
 
@@ -667,7 +750,7 @@ pub(crate) const OTHER_TYPES: [Row; 9] = [
 
 /// Rule 15: outputs on a cycle, by what they need and not by what they use. The first that lies on one or depends on one is
 /// named, by instance and then by declaration. A ring of instances is right where its ports form none.
-pub(crate) const CYCLES: [Row; 7] = [
+pub(crate) const CYCLES: [Row; 10] = [
     (
         Frame::Whole,
         "cosim 1\nunit P\nstate n : Int64 = 10\ninput v : Int64 = 0\noutput x : Int64 needs v = n + v\nstep\nn := v\nend\nend\nunit Q\ninput u : Int64 = 0\noutput y : Int64 needs u = u + 1\nend\ninstance b : Q\nend\ninstance a : P\nend\nconnect a.x -> b.u\nconnect b.y -> a.v\nstop 2\nlongest 1\n",
@@ -707,6 +790,24 @@ pub(crate) const CYCLES: [Row; 7] = [
     (
         Frame::Whole,
         "cosim 2\nunit A\nevent input u : Int8\nevent output y : Int8 = 1\nend\ninstance a : A\nend\nconnect a.y -> a.u\nstop 1\n",
+        0,
+        0,
+    ),
+    (
+        Frame::Whole,
+        "cosim 2\nunit A\nevent input u : Int8\nevent output y : Int8 needs u = u\noutput z : Bool needs u = present(u)\nend\ninstance a : A\nend\nconnect a.y -> a.u\nstop 1\n",
+        5,
+        15,
+    ),
+    (
+        Frame::Whole,
+        "cosim 2\nunit A\nevent input u : Int8\nevent output y : Int8 needs u = 1\nend\nunit B\noutput z : Int8 = 1\nend\ninstance b : B\nend\ninstance c : A\nend\ninstance a : A\nend\nconnect a.y -> c.u\nconnect a.y -> a.u\nstop 1\n",
+        4,
+        15,
+    ),
+    (
+        Frame::Whole,
+        "cosim 1\nunit A\nend\nunit B\ninput u : Int8 = 0\noutput y : Int8 needs u = u\nend\ninstance a : A\nend\nstop 1\nlongest 5\n",
         0,
         0,
     ),
@@ -762,7 +863,7 @@ pub(crate) const COSTS: [Row; 7] = [
 
 /// Rule 20: a time that isn't a whole number of ticks, above 10^15 of them, or a longest step of 0. A tick is as fine as the
 /// finest unit that has an instance asks, and a time counts by its value.
-pub(crate) const TIMES: [Row; 14] = [
+pub(crate) const TIMES: [Row; 17] = [
     (Frame::Times, "stop 0.55\n", 7, 20),
     (Frame::Times, "stop 0.500\n", 0, 0),
     (Frame::Times, "stop 100000000000000.1\n", 7, 20),
@@ -786,6 +887,24 @@ pub(crate) const TIMES: [Row; 14] = [
         "cosim 1\nunit A\nresolution 2\nend\nunit B\nresolution 1\nend\ninstance a : A\nend\ninstance b : B\nend\nstop 0.55\n",
         0,
         0,
+    ),
+    (
+        Frame::Whole,
+        "cosim 1\nunit A\nresolution 9\nend\ninstance a : A\nend\nstop 1000000\n",
+        0,
+        0,
+    ),
+    (
+        Frame::Whole,
+        "cosim 1\nunit A\nresolution 9\nend\ninstance a : A\nend\nstop 1000000.000000001\n",
+        7,
+        20,
+    ),
+    (
+        Frame::Whole,
+        "cosim 1\nunit A\nresolution 9\nend\ninstance a : A\nend\nstop 9223372036.854775807\n",
+        7,
+        20,
     ),
 ];
 
@@ -854,7 +973,7 @@ pub(crate) const MISSING: [Row; 5] = [
 ];
 
 /// Rule 24: a parameter is set twice, a port is sampled twice, or a need is named twice.
-pub(crate) const TWICE: [Row; 7] = [
+pub(crate) const TWICE: [Row; 8] = [
     (
         Frame::Whole,
         "cosim 1\nunit A\nparam p : Int8 = 1\nparam q : Int8 = 1\nend\ninstance a : A\np = 1\nq = 1\np = 2\nend\nstop 1\n",
@@ -892,10 +1011,16 @@ pub(crate) const TWICE: [Row; 7] = [
         4,
         24,
     ),
+    (
+        Frame::Events,
+        "event input u : Int8\nevent output y : Int8 needs u, u = if present(u) then u else absent\n",
+        4,
+        24,
+    ),
 ];
 
 /// Texts that break two rules: the lesser one counts, also at a later line.
-pub(crate) const BOTH: [Row; 7] = [
+pub(crate) const BOTH: [Row; 10] = [
     (Frame::Whole, "cosim 1\nunit A\nend\n", 1, 19),
     (Frame::Whole, "cosim 1\nunit A\nend\nstop 0.5\n", 4, 20),
     (
@@ -929,6 +1054,19 @@ pub(crate) const BOTH: [Row; 7] = [
         4,
         10,
     ),
+    (
+        Frame::Whole,
+        "cosim 1\nunit A\nparam p : Int8 = 1\nend\ninstance a : A\np = 300\np = true\nend\nstop 1\n",
+        7,
+        10,
+    ),
+    (Frame::Whole, "cosim 1\nstop 0.5\nunit A\nend\n", 2, 20),
+    (
+        Frame::Unit,
+        "state s : Int8 = 1\nstep\ns := s + 1.0\nx := 1\nend\n",
+        6,
+        9,
+    ),
 ];
 
 /// Lines of which some stand many times: what stands before them, the lines with `#` for their number, and what stands behind.
@@ -936,7 +1074,7 @@ pub(crate) const BOTH: [Row; 7] = [
 pub(crate) type Counted = (Frame, [&'static str; 3], u16, u32, u8);
 
 /// Rules 16, 17 and 21: how many there may be, how deep, and how many rows of how many instances.
-pub(crate) const COUNTS: [Counted; 23] = [
+pub(crate) const COUNTS: [Counted; 24] = [
     (
         Frame::Whole,
         [
@@ -1108,6 +1246,13 @@ pub(crate) const COUNTS: [Counted; 23] = [
         63,
         2,
         21,
+    ),
+    (
+        Frame::Events,
+        ["event output e : Int8 = 1\n", "output y# : Int8 = 0\n", ""],
+        30,
+        3,
+        16,
     ),
 ];
 

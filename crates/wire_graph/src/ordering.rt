@@ -31,8 +31,9 @@ fn loop_at(routes: &Routes, place: usize) -> OrderFault
 /// [`OrderFault::Loop`] where some output lies on a cycle of needs, or needs one that does: it names the first of
 /// them. [`OrderFault::NoMemory`] is a free answer.
 ///
-/// Each port is looked up in a table, and connections are gone through once: the work grows with the connections, and
-/// with the outputs times the inputs and needs of one component, of which there are few.
+/// Each port is looked up in a table, and connections are gone through once, so the work is meant to grow with the
+/// connections, and with the outputs times the inputs and needs of one component, of which there are few. No clause speaks of
+/// it.
 pub fn order(alloc: Global, checked: &Checked) -> Result<Order, OrderFault>
     ensures ordered { IfOk result (IsOrderOf (run_of checked.now)) }
     ensures fault { IfErr result (IsRightFault checked.now) }
