@@ -2,7 +2,8 @@
 //!
 //! The layer above walks the lines of a system and asks. [`SystemNames`] finds units, instances and ports by name;
 //! [`UnitNames`] finds what a unit declares, and says which names an expression uses and of which kind it is. Both are
-//! made once, are seen by contracts as the system and the unit themselves, and answer without going through a list.
+//! made once, are seen by contracts as the system and the unit themselves, and find a name without going through a list;
+//! the needs of one output, which are few, are gone through.
 //! How deep an expression is, what a call costs, and whether a name is said twice, need no table. Of an event output
 //! they are answered for the two plain outputs that it becomes ([`presence_cost`], [`word_cost`] and their like),
 //! without making these; any other line of the plain form is as deep and as dear as its source.
