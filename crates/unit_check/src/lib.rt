@@ -4,6 +4,8 @@
 //! rule of cycles names an output. The rules are defined in `unit_tree`, in its `WellFormed` and `Orders`; how they are judged
 //! along a walk stands in `specs/Walks.antt` (the walk by the parts of a system), `specs/Rules.antt` (the tests) and
 //! `specs/Questions.antt` (what a walk asks).
+//!
+//! A system in range comes of a text, so the tests of these calls stand above the reader, in `unit_accept`.
 #![tactic(auto)]
 
 mod checking;
@@ -18,8 +20,6 @@ mod question;
 mod rules;
 mod run_lines;
 mod tables;
-#[cfg(test)]
-mod tests;
 mod walk;
 
 pub use checking::{CheckFault, check, judge};
