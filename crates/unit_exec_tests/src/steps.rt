@@ -189,6 +189,14 @@ fn units_are_told_by_their_numbers(rt: HostRuntime) -> Result<(), Fail> {
     assert_eq!(rt; unit.max_step(4), Err(Fault::Max));
     assert_eq!(rt; step_from(&mut unit, [5, 0], 0, 5), left(Ok(5), 8, 0));
     assert_eq!(rt; step_from(&mut unit, [3, 0], 0, 5), left(Ok(5), 3, 6));
+    Ok(())
+}
+
+/// The same unit, where its input is 1.
+#[test]
+fn lines_in_lines_are_chosen(rt: HostRuntime) -> Result<(), Fail> {
+    let image = image_of(rt.alloc(), TWO_UNITS, 1, &[3])?;
+    let mut unit = two_states(rt.alloc(), image)?.ok_or("not of this form")?;
     unit.set(0, 1);
     assert_eq!(rt; step_from(&mut unit, [5, 0], 0, 5), left(Ok(5), 0, 0));
     Ok(())
