@@ -45,7 +45,8 @@ JudgesText command text held held' faults faults' verdict.WriteFault = PutsFront
 JudgesText command text held held' faults faults' verdict.NoMemory = PutsFront command text held held' × (faults' ≡ faults)
 JudgesText command text held held' faults faults' verdict.ReadFault = ⊥
 
--- The bytes were put in one piece, and there is no note; or the put failed; or there was no memory, and nothing was put.
+-- The bytes were put, and there is no note; or a put failed, and what was put begins them; or there was no memory, and nothing
+-- was put.
 abbrev pub PutsPiece : Option (List ℕ) → Option (List ℕ) → ℕ → ℕ → List ℕ → Verdict → Type 0
 PutsPiece held held' faults faults' bytes (verdict.Answered given note) =
     (given ≡ status.Done) × Appends held held' bytes × (note.items ≡ []) × (faults' ≡ faults)

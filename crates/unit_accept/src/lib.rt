@@ -7,11 +7,17 @@
 #![tactic(auto)]
 
 mod accepting;
+#[cfg(test)]
+mod counted_texts;
+#[cfg(test)]
+mod frames;
 mod laws;
 #[cfg(test)]
-mod tests;
+mod name_texts;
 #[cfg(test)]
-mod texts;
+mod system_texts;
+#[cfg(test)]
+mod tests;
 
 pub use accepting::{AcceptedText, accept_text};
 pub use laws::texts_are_judged_once;

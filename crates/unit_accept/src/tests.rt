@@ -1,8 +1,11 @@
 use crate::accept_text;
-use crate::texts::{
-    BOTH, CONNECTED_TWICE, COSTS, COUNTS, CYCLES, EQUAL_NAMES, FAULTY_LINES, FORMS, FaultyLine,
-    Frame, MISSING, NEEDS, OPERANDS, OTHER_TYPES, RANGES, RESULTS, Row, TARGETS, TIMES, TOLD,
-    TWICE, UNKNOWN_IN_UNITS, UNKNOWN_OUTSIDE,
+use crate::counted_texts::{COUNTS, FAULTY_LINES, FaultyLine, TOLD};
+use crate::frames::{Frame, Row};
+use crate::name_texts::{
+    EQUAL_NAMES, FORMS, OPERANDS, RANGES, RESULTS, UNKNOWN_IN_UNITS, UNKNOWN_OUTSIDE,
+};
+use crate::system_texts::{
+    BOTH, CONNECTED_TWICE, COSTS, CYCLES, MISSING, NEEDS, OTHER_TYPES, TARGETS, TIMES, TWICE,
 };
 use std::alloc::Global;
 use std::test::Fail;
