@@ -94,6 +94,14 @@ impl Snaps {
         into.copy_from_slice(&self.slots[id.key]);
     }
 
+    /// The words of a live id.
+    pub fn words(&self, id: SnapId) -> &[i64]
+        requires live { IsLive self.now id }
+        ensures words { words_of self.now id ≡ Some result.now }
+    {
+        &self.slots[id.key]
+    }
+
     /// Lets go of a live id and of its words.
     pub fn release(&mut self, id: SnapId)
         requires live { IsLive self.old id }

@@ -48,6 +48,22 @@ impl Unit {
         })
     }
 
+    /// The state. No memory is taken.
+    pub fn state(&self) -> &[i64]
+        ensures value { result.now ≡ self.now.state }
+        ensures each { length self.now.state ≡ self.now.image.program.sizes.states }
+    {
+        self.state.as_slice()
+    }
+
+    /// The words of the inputs. No memory is taken.
+    pub fn inputs(&self) -> &[i64]
+        ensures value { result.now ≡ self.now.inputs }
+        ensures each { length self.now.inputs ≡ self.now.image.program.sizes.inputs }
+    {
+        self.inputs.as_slice()
+    }
+
     /// Sets the word of an input.
     pub fn set(&mut self, input: u32, word: i64)
         requires { input < length self.old.inputs }

@@ -1,0 +1,175 @@
+-- Runs: what contracts see of one, and what all of them keep.
+use Rattle.std.specs.Prelude.{◌≡◌, ◌≤◌, ◌<◌, ◌↔◌, ℕ, suc, ◌+◌, ◌*◌, Bool, true, false, ℤ, List, [], ◌∷◌, map, length, slice_get, slice_set, if◌then◌else◌, Option, Some, None}
+use Rattle.std.specs.List.{count_by}
+use Rattle.super_time.specs.LocalTime.{local_time, local_step}
+use Rattle.trace_core.specs.declared.phase.Phase.{Phase}
+use Rattle.trace_core.specs.declared.phase.Phase.TheVariants.{Trial, Redo, Ended}
+use Rattle.trace_core.specs.declared.phase.Row as lent
+use Rattle.trace_plan.specs.Plans.{Planned}
+use Rattle.unit_exec.specs.Images.{IsImageOf}
+use Rattle.unit_exec.specs.declared.want.Want.{Want}
+use Rattle.unit_tree.specs.Compositions.{Member, Composition}
+use Rattle.unit_tree.specs.Negotiation.{is_held, all_inputs}
+use Rattle.unit_tree.specs.Ports.{Ports, first_some, port_fault}
+use Rattle.unit_tree.specs.RunLaws.{IsInBounds, IsInRows}
+use Rattle.unit_tree.specs.Successor.{Position, ends, proposed, agreed, is_redone, stop_end, row_end, max_end, trial_end, successor}
+use Rattle.unit_tree.specs.Trace.{Stand, IsStand, IsGoing, Reaches, Row, HasWords, cells_of_trial, cells_at}
+use Rattle.unit_tree.specs.declared.ending.Ending.{Ending}
+
+-- The step of an instance in a phase: the instance is held in it, the step is not there yet, or it is.
+pub data Cell : Type 0 where
+  Held : Cell
+  Empty : Cell
+  Filled : Cell
+
+-- A run: its plan, the position at which it was opened, where it stands, its phase there with the cells of all instances, the
+-- words of all inputs at the row before, and how many cells were filled from answers, and by its own steps.
+pub record RunState : Type 0 where
+  pub plan : Planned
+  pub opened : Position
+  pub stand : Stand
+  pub phase : Phase
+  pub cells : List Cell
+  pub before : List (List ℤ)
+  pub found : ℕ
+  pub own : ℕ
+
+-- ---- Where a run comes to
+
+-- How a run ends at a stand before a trial, if it does.
+abbrev pub first_end : Composition → Stand → Option Ending
+first_end run stand =
+    first_some (port_fault run stand.at.states stand.ports ∷ stop_end run stand.at ∷ row_end run stand.at ∷ max_end run stand.at stand.ports ∷ [])
+
+abbrev pub phase_or : Option Ending → ℕ → Phase
+phase_or (Some ending) h = Ended ending
+phase_or None h = Trial h
+
+-- The phase at a stand that a run comes to: the trial of the proposal, or the end.
+abbrev pub phase_at : Composition → Stand → Phase
+phase_at run stand = phase_or (first_end run stand) (proposed run stand.at stand.ports)
+
+-- The cell of a member at the beginning of a step of h from t.
+abbrev pub cell_of : ℕ → ℕ → Member → Cell
+cell_of t h member = if is_held member.factor t h then Held else Empty
+
+abbrev pub cells_of : Composition → ℕ → Phase → List Cell
+cells_of run t (Trial h) = map (cell_of t h) run.members
+cells_of run t (Redo h) = map (cell_of t h) run.members
+cells_of run t (Ended ending) = []
+
+-- A run that has come to a stand, with these inputs at the row before, and these counts.
+abbrev pub arrived : Planned → Position → Stand → List (List ℤ) → ℕ → ℕ → RunState
+arrived plan opened stand before found own = record {
+  plan = plan;
+  opened = opened;
+  stand = stand;
+  phase = phase_at plan.run stand;
+  cells = cells_of plan.run stand.at.point.t (phase_at plan.run stand);
+  before = before;
+  found = found;
+  own = own;
+}
+
+-- All ports of a stand have words.
+abbrev pub ArePortsKnown : Composition → Stand → Type 0
+ArePortsKnown run stand = port_fault run stand.at.states stand.ports ≡ None
+
+-- The run was opened at the position, and has made no step yet. The inputs before it are those there.
+pub record IsOpened (plan : Planned) (at : Position) (r : RunState) : Type 0 where
+  pub is : r ≡ arrived plan at (record { at = at; ports = r.stand.ports }) r.before 0 0
+  pub before : ArePortsKnown plan.run r.stand → r.before ≡ all_inputs plan.run r.stand.ports
+
+-- ---- What a run keeps
+
+abbrev pub is_held_cell : Cell → Bool
+is_held_cell Held = true
+is_held_cell _ = false
+
+abbrev pub is_filled : Cell → Bool
+is_filled Filled = true
+is_filled _ = false
+
+-- There is a cell for each member, and those are held whose members are in a step of h from t.
+abbrev pub FitCells : Composition → ℕ → ℕ → List Cell → Type 0
+FitCells run t h cells = map is_held_cell cells ≡ map (λ member. is_held member.factor t h) run.members
+
+-- The run goes on, and tries the proposal.
+pub record IsTrial (run : Composition) (stand : Stand) (h : ℕ) (cells : List Cell) : Type 0 where
+  pub going : IsGoing run stand
+  pub is : h ≡ proposed run stand.at stand.ports
+  pub cells_fit : FitCells run stand.at.point.t h cells
+
+-- No step of the trial faulted, and the step is made anew by the shorter one that is agreed on.
+pub record IsRedo (run : Composition) (stand : Stand) (h : ℕ) (cells : List Cell) : Type 0 where
+  pub going : IsGoing run stand
+  pub no_fault : trial_end run stand.at stand.ports ≡ None
+  pub shorter : is_redone run stand.at stand.ports ≡ true
+  pub is : h ≡ agreed run stand.at stand.ports
+  pub cells_fit : FitCells run stand.at.point.t h cells
+
+-- The run ended, and has no cells.
+pub record IsEnd (run : Composition) (stand : Stand) (ending : Ending) (cells : List Cell) : Type 0 where
+  pub is : successor run stand.at stand.ports ≡ ends ending
+  pub none : cells ≡ []
+
+abbrev pub IsPhase : Composition → Stand → Phase → List Cell → Type 0
+IsPhase run stand (Trial h) cells = IsTrial run stand h cells
+IsPhase run stand (Redo h) cells = IsRedo run stand h cells
+IsPhase run stand (Ended ending) cells = IsEnd run stand ending cells
+
+-- How many cells were filled at the stand.
+abbrev pub cells_now : Composition → Stand → Phase → List Cell → ℕ
+cells_now run stand (Trial h) cells = count_by is_filled cells
+cells_now run stand (Redo h) cells = cells_of_trial run stand + count_by is_filled cells
+cells_now run stand (Ended ending) cells = cells_at run stand
+
+-- The run stands where the successor leads from the position at which it was opened, by as many steps as its number has
+-- risen; its ports are the port assignment there; its phase is the one that the stand asks for.
+pub record Stands (r : RunState) : Type 0 where
+  pub words : HasWords r.plan.run r.stand.at
+  pub is_stand : IsStand r.plan.run r.stand
+  pub in_bounds : IsInBounds r.plan.run r.stand.at
+  pub in_rows : IsInRows r.plan.run r.stand.at
+  pub from : Stand
+  pub count : ℕ
+  pub last : Stand
+  pub opened : from.at ≡ r.opened
+  pub from_stand : IsStand r.plan.run from
+  pub reached : Reaches r.plan.run count from last r.stand
+  pub numbered : r.stand.at.number ≡ r.opened.number + count
+  pub before : ArePortsKnown r.plan.run r.stand → r.before ≡ all_inputs r.plan.run last.ports
+  pub phase_is : IsPhase r.plan.run r.stand r.phase r.cells
+  pub counted : r.found + r.own ≤ 2 * length r.plan.run.members * count + cells_now r.plan.run r.stand r.phase r.cells
+
+-- ---- Wants
+
+-- The cell of an instance is empty.
+abbrev pub IsWanted : RunState → ℕ → Type 0
+IsWanted r instance = slice_get r.cells instance ≡ Some Empty
+
+abbrev pub step_length : Phase → ℕ
+step_length (Trial h) = h
+step_length (Redo h) = h
+step_length (Ended ending) = 0
+
+-- What is wanted of an instance: its step of the phase, by its clock.
+pub record IsWantOf (r : RunState) (instance : ℕ) (want : Want) : Type 0 where
+  pub member : Member
+  pub is_there : slice_get r.plan.run.members instance ≡ Some member
+  pub row : want.row ≡ r.stand.at.number
+  pub image : IsImageOf member.component want.image.now.value
+  pub state : slice_get r.stand.at.states instance ≡ Some want.state.now
+  pub inputs : slice_get (all_inputs r.plan.run r.stand.ports) instance ≡ Some want.inputs.now
+  pub time : want.time ≡ local_time member.factor r.stand.at.point.t
+  pub step : want.step ≡ local_step member.factor r.stand.at.point.t (step_length r.phase)
+
+-- The cell of an instance was filled by the run's own step.
+abbrev pub with_own : RunState → ℕ → RunState
+with_own r instance = record r { cells = slice_set r.cells instance Filled; own = suc r.own }
+
+-- ---- Rows
+
+-- A row that is lent.
+abbrev pub row_told : lent.Row → Row
+row_told row = record { point = row.point; words = row.ports.now }

@@ -1,0 +1,148 @@
+-- Seats: what a run keeps of each instance beside its unit, and what that stands for.
+use Rattle.std.specs.Prelude.{◌≡◌, ◌≢◌, ◌<◌, ℕ, Bool, true, false, ℤ, List, [], map, zip, length, get_or, if◌then◌else◌, nat_lt, Option, Some, None, Result, Ok, Err}
+use Rattle.std.specs.List.{AllZip, AllByRecursion, enumerate_from}
+use Rattle.std.specs.Option.{unwrap_or}
+use Rattle.fixed_words.specs.declared.types.Fault.{Fault}
+use Rattle.snap_store.specs.Store.{Store, words_of}
+use Rattle.super_time.specs.LocalTime.{local_time, local_step}
+use Rattle.trace_core.specs.Runs.{Cell, Held, Empty, Filled}
+use Rattle.trace_core.specs.declared.seat.Seat.{Seat}
+use Rattle.trace_core.specs.declared.seat.Slot.{Slot}
+use Rattle.trace_core.specs.declared.seat.Slot.TheVariants as slot
+use Rattle.unit_tree.specs.Components.{Moved, max_of}
+use Rattle.unit_tree.specs.Compositions.{Member, Composition}
+use Rattle.unit_tree.specs.Negotiation.{is_held, step_at, reply_of, limit_told, proposal_of}
+use Rattle.unit_tree.specs.Ports.{Ports, Standing, first_some}
+use Rattle.unit_tree.specs.Successor.{when, first_told, max_end_of}
+use Rattle.unit_tree.specs.declared.ending.Ending.{Ending}
+use Rattle.unit_tree.specs.declared.ending.Ending.TheVariants.{UnitFault, StepRefused}
+use Rattle.unit_tree.specs.declared.ending.Place.TheVariants as place
+use Rattle.std.specs.List.{filter_map}
+
+-- ---- Slots
+
+-- What contracts see of a slot.
+abbrev pub cell_in : Slot → Cell
+cell_in slot.Held = Held
+cell_in slot.Empty = Empty
+cell_in (slot.Took accepted) = Filled
+cell_in (slot.Failed fault) = Filled
+
+-- A slot stands for the step of its member, which is nothing where the member is held. The unit holds the new state where
+-- the step was made, and else the committed one.
+abbrev pub SlotIs : Option (Result Moved Fault) → Slot → List ℤ → List ℤ → Type 0
+SlotIs step slot.Held unit committed = (step ≡ None) × (unit ≡ committed)
+SlotIs None slot.Empty unit committed = ⊥
+SlotIs (Some step) slot.Empty unit committed = unit ≡ committed
+SlotIs step (slot.Took accepted) unit committed = step ≡ Some (Ok (record { state = unit; accepted = accepted }))
+SlotIs step (slot.Failed fault) unit committed = (step ≡ Some (Err fault)) × (unit ≡ committed)
+
+abbrev pub is_empty : Slot → Bool
+is_empty slot.Empty = true
+is_empty _ = false
+
+abbrev pub AreFull : List Seat → Type 0
+AreFull seats = AllByRecursion (λ seat. is_empty seat.slot ≡ false) seats
+
+-- ---- Clocks
+
+-- The seat has the local time of its member at t, and the local step of h from there.
+pub record HasClock (t h : ℕ) (member : Member) (seat : Seat) : Type 0 where
+  pub time : seat.time ≡ local_time member.factor t
+  pub step : seat.step ≡ local_step member.factor t h
+
+-- A seat with its member, the committed state, and what the unit holds, in a step of h from t.
+pub record IsSeat (t h : ℕ) (ports : Ports) (standing : Standing) (unit : List ℤ × Seat) : Type 0 where
+  pub clock : HasClock t h standing.0 unit.1
+  pub slot : SlotIs (step_at t h ports standing) unit.1.slot unit.0 standing.1
+
+-- There is a seat for each member with its state, and a unit.
+abbrev pub AreSeats : ℕ → ℕ → Ports → List Standing → List (List ℤ) → List Seat → Type 0
+AreSeats t h ports standings units seats = AllZip (IsSeat t h ports) standings (zip units seats)
+
+-- ---- The beginning of a step
+
+-- The slot of a member at the beginning of a step.
+abbrev pub fresh_slot : ℕ → ℕ → Member → Slot
+fresh_slot t h member = if is_held member.factor t h then slot.Held else slot.Empty
+
+-- The seat of a member is made ready for a step of h from t.
+pub record IsBegun (t h : ℕ) (member : Member) (old new : Seat) : Type 0 where
+  pub clock : HasClock t h member new
+  pub slot : new.slot ≡ fresh_slot t h member
+  pub id : new.id ≡ old.id
+  pub before : new.before ≡ old.before
+
+pub record AreBegun (t h : ℕ) (members : List Member) (old new : List Seat) : Type 0 where
+  pub as_many : length new ≡ length old
+  pub each : AllZip (λ member pair. IsBegun t h member pair.0 pair.1) members (zip old new)
+
+-- ---- Reading a step whose cells are full
+
+-- How the step of a seat ends the run, in the trial: by its fault.
+abbrev pub slot_end : ℕ × Seat → Option Ending
+slot_end (instance, seat) = end_by seat.slot
+  where
+    end_by : Slot → Option Ending
+    end_by (slot.Failed fault) = Some (UnitFault instance place.Step fault)
+    end_by _ = None
+
+-- In a step that is made anew: by its fault, or where it accepted less than was asked.
+abbrev pub redo_slot_end : ℕ × Seat → Option Ending
+redo_slot_end (instance, seat) = end_by seat.slot
+  where
+    end_by : Slot → Option Ending
+    end_by (slot.Failed fault) = Some (UnitFault instance place.Step fault)
+    end_by (slot.Took accepted) = when (nat_lt accepted seat.step) (StepRefused instance seat.step accepted)
+    end_by _ = None
+
+-- The reply of a seat's member to a step of h from t.
+abbrev pub slot_reply : ℕ → ℕ → Member × Seat → ℕ
+slot_reply t h (member, seat) = reply_by seat.slot
+  where
+    reply_by : Slot → ℕ
+    reply_by (slot.Took accepted) = reply_of member.factor t h accepted
+    reply_by _ = h
+
+-- ---- Limits
+
+-- What the `max` of a member with its state and the words of its inputs gives at t.
+abbrev pub max_told : ℕ → Member × (List ℤ × List ℤ) → Result (Option ℕ) Fault
+max_told t (member, (state, inputs)) = max_of member.component state inputs (local_time member.factor t)
+
+abbrev pub all_told : ℕ → List Member → List (List ℤ) → List (List ℤ) → List (Result (Option ℕ) Fault)
+all_told t members states inputs = map (max_told t) (zip members (zip states inputs))
+
+abbrev pub limits_told : ℕ → List Member → List (Result (Option ℕ) Fault) → List ℕ
+limits_told t members told = filter_map (λ one. limit_told one.0.factor t one.1) (zip members told)
+
+-- The step that is proposed at t, or how a `max` ends the run.
+abbrev pub asked : Composition → ℕ → List (Result (Option ℕ) Fault) → Result ℕ Ending
+asked run t told = or_end (first_told max_end_of told)
+  where
+    or_end : Option Ending → Result ℕ Ending
+    or_end (Some ending) = Err ending
+    or_end None = Ok (proposal_of run.stop run.longest t (limits_told t run.members told))
+
+-- ---- Snapshots
+
+-- The snapshots of seats hold these states.
+abbrev pub AreSaved : Store → List Seat → List (List ℤ) → Type 0
+AreSaved store seats states = AllZip (λ seat state. words_of store seat.id ≡ Some state) seats states
+
+-- The states that a store holds for seats.
+abbrev pub saved : Store → List Seat → List (List ℤ)
+saved store seats = map (λ seat. unwrap_or (words_of store seat.id) []) seats
+
+-- The ids of different seats differ.
+abbrev pub HaveOwnIds : List Seat → Type 0
+HaveOwnIds seats = (default : Seat) (one other : ℕ) → one < other → other < length seats → (get_or seats one default).id ≢ (get_or seats other default).id
+
+-- The lists are as long, one by one.
+abbrev pub AreAsLong : List (List ℤ) → List (List ℤ) → Type 0
+AreAsLong ones others = map length ones ≡ map length others
+
+-- What a commit leaves of a seat: the words of its inputs at the row before are those that its unit has.
+pub record IsCommitted (inputs : List ℤ) (old new : Seat) : Type 0 where
+  pub before : new.before.items ≡ inputs
+  pub id : new.id ≡ old.id

@@ -1,0 +1,28 @@
+use fixed_words::Fault;
+use snap_store::SnapId;
+
+/// The step of an instance in a phase. Where it was made, the unit of the instance holds the state after it.
+#[derive(Clone, Copy, Debug, PartialEq, Eq)]
+pub(crate) enum Slot {
+    /// The instance is held.
+    Held,
+    /// The step is not there yet.
+    Empty,
+    /// The step was made, and accepted so many local ticks.
+    Took(u64),
+    /// The step met a fault, and moved nothing.
+    Failed(Fault),
+}
+
+/// What a run keeps of an instance beside its unit: the snapshot of its committed state, the words of its inputs at the row
+/// before, the local time and the local step of the phase, and its slot.
+#[derive(Drop)]
+pub(crate) struct Seat {
+    pub(crate) id: SnapId,
+    pub(crate) before: Vec<i64>,
+    /// In local ticks.
+    pub(crate) time: u64,
+    /// In local ticks.
+    pub(crate) step: u64,
+    pub(crate) slot: Slot,
+}

@@ -1,0 +1,25 @@
+use fixed_words::NoMemory;
+use thiserror::Error;
+use wire_graph::OrderFault;
+
+/// Why there is no plan of a system.
+#[derive(Clone, Copy, Debug, PartialEq, Eq, Error)]
+pub enum PlanFault {
+    /// The first output that stands in no orderly list, told by the number of its instance and its own number there, as
+    /// [`OrderFault::Loop`] tells it.
+    #[error("output {output} of instance {instance} has no order")]
+    Loop { instance: u32, output: u32 },
+    #[error("no memory")]
+    NoMemory,
+}
+
+impl From<NoMemory> for PlanFault {
+    ghost use Rattle.std.specs.Prelude.{◌≡◌};
+    ghost use Rattle.trace_plan.specs.declared.fault.PlanFault.TheVariants.{NoMemory};
+
+    ghost from_gives = { λ _ fault. fault ≡ NoMemory };
+
+    fn from(_: NoMemory) -> PlanFault {
+        PlanFault::NoMemory
+    }
+}

@@ -1,0 +1,14 @@
+//! Plans of runs: a judged system with all that its run needs, worked out once.
+//!
+//! [`Plan::new`] gives the plan of a checked system: an order of its outputs, an image for each instance, the columns of its
+//! trace, and its numbers in ticks. Where some output has no order, [`PlanFault::Loop`] names the first one.
+//!
+//! The layer above sees a plan as its system with what is run of it (`Planned` of `specs/Plans.antt`), and uses the calls of
+//! [`Plan`], each of which gives what that says. None but [`Plan::new`] takes memory.
+#![tactic(auto)]
+
+mod fault;
+mod plan;
+
+pub use fault::PlanFault;
+pub use plan::Plan;

@@ -1,0 +1,159 @@
+ghost use Rattle.std.specs.Prelude.{◌≡◌, ◌<◌, ◌≤◌, ◌^◌, length, IfOk, IfErr};
+ghost use Rattle.std.specs.List.{AllByRecursion};
+ghost use Rattle.trace_csv.specs.Columns.{IsOutput, columns_of};
+ghost use Rattle.trace_plan.specs.Keeps.{IsBounded};
+ghost use Rattle.trace_plan.specs.Plans.{ForMember, lowest_words, highest_words};
+ghost use Rattle.unit_exec.specs.Images.{IsImageOf};
+ghost use Rattle.unit_tree.specs.Compositions.{run_of};
+ghost use Rattle.unit_tree.specs.Routes.{IsOrderOf};
+ghost use Rattle.unit_tree.specs.WellFormed.{resolution_of};
+
+use crate::fault::PlanFault;
+use std::alloc::Global;
+use std::marker::Model;
+use std::sync::Arc;
+use unit_exec::Image;
+use unit_tree::{Checked, Column, Order};
+
+/// The lowest and the highest words of the inputs of an instance.
+#[derive(Drop)]
+pub(crate) struct Ends {
+    pub(crate) low: Vec<i64>,
+    pub(crate) high: Vec<i64>,
+}
+
+/// A system that can be run, with all that its run needs.
+#[derive(Drop)]
+pub struct Plan {
+    checked: Checked,
+    order: Order,
+    images: Vec<Arc<Image>>,
+    factors: Vec<u64>,
+    ends: Vec<Ends>,
+    columns: Vec<Column>,
+    resolution: u8,
+    stop: u64,
+    longest: u64,
+    zero_budget: u64,
+    row_limit: u64,
+}
+
+impl Model for Plan {
+    ghost use Rattle.trace_plan.specs.Plans.{Planned};
+
+    ghost Value = { Planned };
+
+    ghost use Rattle.trace_plan.specs.Keeps.{planned, IsPlan};
+
+    ghost view = { planned };
+
+    ghost invariant = { IsPlan };
+}
+
+impl Plan {
+    /// The plan of a system. [`PlanFault::Loop`] where the outputs have no order. Want of memory is a free answer.
+    pub fn new(alloc: Global, checked: Checked) -> Result<Plan, PlanFault>
+        ensures plan { IfOk result (λ plan. plan.system ≡ checked) }
+    {
+        let _ = (alloc, checked);
+        Err(PlanFault::NoMemory)
+    }
+
+    /// The system.
+    pub fn checked(&self) -> &Checked
+        ensures system { result.now ≡ self.now.system }
+        ensures run { self.now.run ≡ run_of self.now.system }
+    {
+        &self.checked
+    }
+
+    /// An order of its outputs, with the routes of all ports.
+    pub fn order(&self) -> &Order
+        ensures { IsOrderOf self.now.run result.now }
+    {
+        &self.order
+    }
+
+    /// How many instances there are: from 1 to 64.
+    pub fn instances(&self) -> u32
+        ensures count { result ≡ length self.now.run.members }
+        ensures bounded { IsBounded self.now.run }
+    {
+        self.images.len() as u32
+    }
+
+    /// The image of an instance.
+    pub fn image(&self, instance: u32) -> &Arc<Image>
+        requires there { instance < length self.now.run.members }
+        ensures { ForMember self.now.run instance (λ member. IsImageOf member.component result.value) }
+    {
+        &self.images[instance as usize]
+    }
+
+    /// How many ticks of the system one local tick of an instance is.
+    pub fn factor(&self, instance: u32) -> u64
+        requires there { instance < length self.now.run.members }
+        ensures factor { ForMember self.now.run instance (λ member. result ≡ member.factor) }
+        ensures least { 1 ≤ result }
+        ensures coarsest { result ≤ 10 ^ 9 }
+    {
+        self.factors[instance as usize]
+    }
+
+    /// The lowest and the highest words of the types of an instance's inputs, in their order.
+    pub fn input_ends(&self, instance: u32) -> (&[i64], &[i64])
+        requires there { instance < length self.now.run.members }
+        ensures low { ForMember self.now.run instance (λ member. result.0.now ≡ lowest_words member) }
+        ensures high { ForMember self.now.run instance (λ member. result.1.now ≡ highest_words member) }
+    {
+        let ends = &self.ends[instance as usize];
+        (&ends.low, &ends.high)
+    }
+
+    /// The columns of the trace.
+    pub fn columns(&self) -> &[Column]
+        ensures columns { result.now ≡ columns_of self.now.system }
+    {
+        &self.columns
+    }
+
+    /// The resolution of the system: a tick is ten to the power of minus this many seconds.
+    pub fn resolution(&self) -> u8
+        ensures value { result ≡ resolution_of self.now.system }
+        ensures most { result ≤ 9 }
+    {
+        self.resolution
+    }
+
+    /// Where the run ends, in ticks.
+    pub fn stop(&self) -> u64
+        ensures value { result ≡ self.now.run.stop }
+        ensures bounded { IsBounded self.now.run }
+    {
+        self.stop
+    }
+
+    /// The longest step, in ticks.
+    pub fn longest(&self) -> u64
+        ensures value { result ≡ self.now.run.longest }
+        ensures bounded { IsBounded self.now.run }
+    {
+        self.longest
+    }
+
+    /// How many steps of length zero may follow each other.
+    pub fn zero_budget(&self) -> u64
+        ensures value { result ≡ self.now.run.zero_budget }
+        ensures bounded { IsBounded self.now.run }
+    {
+        self.zero_budget
+    }
+
+    /// How many rows the trace has at most.
+    pub fn row_limit(&self) -> u64
+        ensures value { result ≡ self.now.run.row_budget }
+        ensures bounded { IsBounded self.now.run }
+    {
+        self.row_limit
+    }
+}

@@ -1,0 +1,30 @@
+-- The units of a plan as they stand: what contracts see of them, and what one of them does.
+use Rattle.std.specs.Prelude.{◌≡◌, ℕ, ℤ, List, [], slice_get, slice_set, slice_index_or, Some, Result, Ok, Err}
+use Rattle.fixed_words.specs.declared.types.Fault.{Fault}
+use Rattle.trace_plan.specs.Plans.{Planned}
+use Rattle.unit_tree.specs.Components.{max_of, step_of}
+use Rattle.unit_tree.specs.Compositions.{Member}
+
+-- A plan, and the state of each instance and the words of its inputs.
+pub record Fleet : Type 0 where
+  pub plan : Planned
+  pub states : List (List ℤ)
+  pub inputs : List (List ℤ)
+
+-- The fact holds of the member, the state and the inputs of the instance with a number.
+abbrev pub ForUnit : Fleet → ℕ → (Member → List ℤ → List ℤ → Type 0) → Type 0
+ForUnit fleet instance Holds =
+    (member : Member) (state inputs : List ℤ) → slice_get fleet.plan.run.members instance ≡ Some member → slice_get fleet.states instance ≡ Some state → slice_get fleet.inputs instance ≡ Some inputs
+    → Holds member state inputs
+
+-- An instance has another state.
+abbrev pub with_state : Fleet → ℕ → List ℤ → Fleet
+with_state fleet instance state = record fleet { states = slice_set fleet.states instance state }
+
+-- An instance made its step: it moved to the state that it has now and accepted a length, or met the fault and moved not.
+abbrev pub Steps : Fleet → ℕ → ℕ → ℕ → Result ℕ Fault → Fleet → Type 0
+Steps old instance time step (Ok accepted) new =
+    ForUnit old instance (λ member state inputs. step_of member.component state inputs time step ≡ Ok (record { state = slice_index_or new.states instance []; accepted = accepted }))
+    × (new ≡ with_state old instance (slice_index_or new.states instance []))
+Steps old instance time step (Err fault) new =
+    ForUnit old instance (λ member state inputs. step_of member.component state inputs time step ≡ Err fault) × (new ≡ old)
