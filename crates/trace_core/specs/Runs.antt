@@ -1,6 +1,6 @@
 -- Runs: what contracts see of one, and what all of them keep.
 use Rattle.std.specs.Prelude.{◌≡◌, ◌≤◌, ◌<◌, ◌↔◌, ℕ, suc, ◌+◌, ◌*◌, Bool, true, false, ℤ, List, [], ◌∷◌, map, length, slice_get, slice_set, if◌then◌else◌, Option, Some, None}
-use Rattle.std.specs.List.{count_by}
+use Rattle.std.specs.List.{AllByRecursion, count_by}
 use Rattle.super_time.specs.LocalTime.{local_time, local_step}
 use Rattle.trace_core.specs.declared.phase.Phase.{Phase}
 use Rattle.trace_core.specs.declared.phase.Phase.TheVariants.{Trial, Redo, Ended}
@@ -90,6 +90,10 @@ abbrev pub is_filled : Cell → Bool
 is_filled Filled = true
 is_filled _ = false
 
+abbrev pub is_empty_cell : Cell → Bool
+is_empty_cell Empty = true
+is_empty_cell _ = false
+
 -- There is a cell for each member, and those are held whose members are in a step of h from t.
 abbrev pub FitCells : Composition → ℕ → ℕ → List Cell → Type 0
 FitCells run t h cells = map is_held_cell cells ≡ map (λ member. is_held member.factor t h) run.members
@@ -147,6 +151,14 @@ pub record Stands (r : RunState) : Type 0 where
 -- The cell of an instance is empty.
 abbrev pub IsWanted : RunState → ℕ → Type 0
 IsWanted r instance = slice_get r.cells instance ≡ Some Empty
+
+-- No cell is empty.
+abbrev pub AreCellsFull : List Cell → Type 0
+AreCellsFull cells = AllByRecursion (λ cell. is_empty_cell cell ≡ false) cells
+
+abbrev pub is_ended : Phase → Bool
+is_ended (Ended ending) = true
+is_ended _ = false
 
 abbrev pub step_length : Phase → ℕ
 step_length (Trial h) = h
