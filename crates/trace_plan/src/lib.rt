@@ -8,6 +8,8 @@
 #![tactic(auto)]
 
 mod fault;
+mod fitting;
+mod numbers;
 mod plan;
 
 pub use fault::PlanFault;
