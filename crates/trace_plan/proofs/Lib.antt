@@ -1,1 +1,4 @@
+pub mod FittingLaws
+pub mod PlainRuns
 pub mod PlanLaws
+pub mod SystemLines

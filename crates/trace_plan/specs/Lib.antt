@@ -1,2 +1,4 @@
+pub mod Fitting
 pub mod Keeps
+pub mod Lengths
 pub mod Plans
