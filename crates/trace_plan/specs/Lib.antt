@@ -2,3 +2,4 @@ pub mod Fitting
 pub mod Keeps
 pub mod Lengths
 pub mod Plans
+pub mod Shown
