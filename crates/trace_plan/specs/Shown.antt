@@ -1,16 +1,20 @@
 -- Outputs of what is run, by their numbers and places.
-use Rattle.std.specs.Prelude.{◌≡◌, Bool, ℕ, ◌+◌, ◌≤◌, ◌<◌, ◌^◌, List, [], ◌∷◌, length, Option, Some, None, slice_get}
+use Rattle.std.specs.Prelude.{◌≡◌, Bool, ℕ, ◌+◌, ◌≤◌, ◌<◌, ◌^◌, List, [], ◌∷◌, map, length, Option, Some, None, slice_get}
 use Rattle.std.specs.List.{position_or_len}
 use Rattle.std.specs.Str.{bytes_eq}
 use Rattle.fixed_words.specs.declared.types.Ty.{Ty}
 use Rattle.trace_csv.specs.Columns.{instance_number, output_number}
 use Rattle.unit_tree.specs.Compositions.{place_of}
-use Rattle.unit_tree.specs.Names.{unit_of_instance}
+use Rattle.unit_tree.specs.Names.{Port, unit_of_instance}
+use Rattle.unit_tree.specs.Orders.{port_of, outputs_in}
 use Rattle.unit_tree.specs.declared.system.Column.{Column}
 use Rattle.unit_tree.specs.declared.system.Instance.{Instance}
 use Rattle.unit_tree.specs.declared.system.PortName.{PortName}
 use Rattle.unit_tree.specs.declared.system.System.{System}
+use Rattle.unit_tree.specs.declared.unit.EventOut.{EventOut}
+use Rattle.unit_tree.specs.declared.unit.Output.{Output}
 use Rattle.unit_tree.specs.declared.unit.Unit.{Unit}
+use Rattle.wire_graph.specs.Wiring.{port_named}
 
 -- How many outputs a unit has, where it is declared. It has no event ports.
 abbrev pub output_count : Option Unit → ℕ
@@ -51,3 +55,18 @@ plain_column system port ty event = record {
   ty = ty;
   event = event;
 }
+
+-- The outputs of an instance by its name, plain ones and event outputs.
+abbrev pub outputs_called : List ℕ → List Output → List PortName
+outputs_called instance outputs = map (λ output. port_named instance output.name) outputs
+
+abbrev pub events_called : List ℕ → List EventOut → List PortName
+events_called instance events = map (λ event. port_named instance event.name) events
+
+-- All outputs of an instance, by declaration.
+abbrev pub ports_of : System → Instance → List PortName
+ports_of system instance = map (λ output. port_of instance output.name) (outputs_in (unit_of_instance system instance))
+
+-- The type of a port, and whether it is an event port.
+abbrev pub type_and_event : Port → Ty × Bool
+type_and_event port = (port.ty, port.is_event)

@@ -7,6 +7,7 @@
 //! [`Plan`], each of which gives what that says. None but [`Plan::new`] takes memory.
 #![tactic(auto)]
 
+mod columns;
 mod fault;
 mod fitting;
 mod numbers;
