@@ -1,7 +1,7 @@
 -- The columns of a judged system are outputs, and have words where the ports do.
-use Rattle.std.proofs.Common.{◌≡◌, ◌<◌, ◌≤◌, ℕ, zero, suc, ◌+◌, true, false, ℤ, pos, List, [], ◌∷◌, map, length, Option, Some, None, refl, ap, sym, subst, ◌∙◌, arith}
+use Rattle.std.proofs.Common.{◌≡◌, ◌<◌, ℕ, zero, suc, true, ℤ, pos, List, [], ◌∷◌, length, Option, Some, None, refl, ap, sym, subst, ◌∙◌, arith}
 use Rattle.std.proofs.lemmas.Option.{slice_get-map, slice_get_within}
-use Rattle.std.specs.Prelude.{slice_get, is_some, IsSome, slice_index_or, Result, Ok, Err}
+use Rattle.std.specs.Prelude.{slice_get, is_some, IsSome, slice_index_or, Ok, Err}
 use Rattle.std.specs.List.{AllByRecursion, filter_map, cons_option, list_all}
 use Rattle.std.specs.Option.{option_map, option_and_then}
 use Rattle.std.specs.Result.{result_ok}
@@ -10,14 +10,14 @@ use Rattle.fixed_words.specs.Types.{is_word_of, AreDecimals}
 use Rattle.fixed_words.specs.declared.types.Ty.{Ty}
 use Rattle.port_solve.specs.Sound.{types_of_places}
 use Rattle.port_solve.proofs.OutputPlaces.{type_is, types_count}
-use Rattle.trace_csv.specs.Columns.{instance_number, output_number, column_of, columns_of, port_title, title_in, title_of, IsOutput}
+use Rattle.trace_csv.specs.Columns.{output_number, column_of, columns_of, port_title, title_in, IsOutput}
 use Rattle.trace_csv.specs.TraceText.{HasWord}
 use Rattle.trace_plan.specs.Laws.{HeadersCanBePrinted, RowsCanBePrinted}
 use Rattle.unit_tree.specs.Components.{get_of}
 use Rattle.unit_tree.specs.Compositions.{Composition, run_of, place_of}
 use Rattle.unit_tree.specs.Names.{Port, unit_of_instance, output_at}
 use Rattle.unit_tree.specs.Plain.{plain_form, samples_or_all}
-use Rattle.unit_tree.specs.Ports.{Ports, Outlet, outlets, inputs_for, given_at, word_at, IsAssignment}
+use Rattle.unit_tree.specs.Ports.{Ports, Outlet, outlets, inputs_for, word_at, IsAssignment}
 use Rattle.unit_tree.specs.Printable.{IsRanged}
 use Rattle.unit_tree.specs.WellFormed.{IsWellFormed}
 use Rattle.unit_tree.specs.declared.system.Column.{Column}
@@ -30,7 +30,7 @@ use Rattle.unit_tree.proofs.PlaceOrders.{at_place, has_at}
 use Rattle.unit_tree.proofs.PlainNames.{each_has}
 use Rattle.unit_tree.proofs.PlainOrders.{named_has}
 use Rattle.unit_tree.proofs.SeenLaws.{get_fits}
-use Rattle.trace_plan.proofs.ShownOutputs.{ShownOf, shown_of, unit_limited}
+use Rattle.trace_plan.proofs.ShownOutputs.{shown_of, unit_limited}
 
 -- ---- Each column by its port
 

@@ -1,5 +1,5 @@
 -- What is worked out for one instance after the other is what the members ask.
-use Rattle.std.proofs.Common.{◌≡◌, ◌≤◌, ◌^◌, ◌-◌, ℕ, zero, suc, ◌+◌, ◌<◌, ℤ, pos, List, [], ◌∷◌, ◌++◌, length, map, drop, get_or, true, false, Option, Some, None, refl, ap, sym, subst, ◌∙◌, arith, append_assoc, append-nil}
+use Rattle.std.proofs.Common.{◌≡◌, ◌≤◌, ◌^◌, ◌-◌, ℕ, zero, suc, ◌+◌, ◌<◌, ℤ, pos, List, [], ◌∷◌, ◌++◌, length, map, drop, get_or, true, Some, None, refl, ap, sym, subst, ◌∙◌, arith, append_assoc, append-nil}
 use Rattle.std.proofs.lemmas.List.{length-map}
 use Rattle.std.proofs.lemmas.Option.{slice_get_read}
 use Rattle.std.specs.Prelude.{slice_get, unwrap_or, cond}
@@ -13,8 +13,8 @@ use Rattle.trace_plan.specs.Keeps.{IsFitted}
 use Rattle.trace_plan.specs.declared.fitting.Fitted.{Fitted}
 use Rattle.unit_exec.specs.Images.{Compiled, IsImageOf, IsCompiled, HasParams}
 use Rattle.unit_exec.proofs.CheckedUnits.{checked_units}
-use Rattle.unit_tree.specs.Components.{Component, variable, variables_of, start_word}
-use Rattle.unit_tree.specs.Compositions.{Member, literal_set, component_with, member_with, members_of, source_of, factor_of}
+use Rattle.unit_tree.specs.Components.{variable, start_word}
+use Rattle.unit_tree.specs.Compositions.{Member, literal_set, component_with, member_with, source_of, factor_of}
 use Rattle.unit_tree.specs.Names.{unit_named, unit_of_instance}
 use Rattle.unit_tree.specs.Plain.{plain_form}
 use Rattle.unit_tree.specs.Printable.{IsRanged}
@@ -90,16 +90,17 @@ module _ (system : System) (instances : List Instance) (place : ℕ) (instance :
   abbrev others : List Member
   others = members_from system (drop (place + 1) instances)
 
-  pub one_more : (one : Fitted) → IsFittedFor system instance one → IsFront system instances (place + 1) (all ++ one ∷ [])
-  one_more one fits rest each =
-      subst (AllZip IsFitted (members_from system instances)) (sym (append_assoc all (one ∷ []) rest))
+  pub one_more : (one : Fitted) → IsFittedFor system instance one → (grown now : List Fitted) → grown ≡ all ++ one ∷ [] → now ≡ grown → IsFront system instances (place + 1) now
+  one_more one fits grown now grown_is now_is rest each =
+      subst (AllZip IsFitted (members_from system instances)) (sym (ap (λ some. some ++ rest) (now_is ∙ grown_is) ∙ append_assoc all (one ∷ []) rest))
       (front (one ∷ rest) (subst (λ (some : List Instance). AllZip IsFitted (members_from system some) (one ∷ rest)) (sym from_here)
       (subst (λ found. AllZip IsFitted (cons_option found others) (one ∷ rest)) (sym fits.is) (fits.fits, each))))
 
-  pub left_out : unit_named system.units instance.unit ≡ None → IsFront system instances (place + 1) all
-  left_out none rest each =
-      front rest (subst (λ (some : List Instance). AllZip IsFitted (members_from system some) rest) (sym from_here)
-      (subst (λ found. AllZip IsFitted (cons_option (member_with system instance found) others) rest) (sym none) each))
+  pub left_out : unit_named system.units instance.unit ≡ None → (now : List Fitted) → now ≡ all → IsFront system instances (place + 1) now
+  left_out none now now_is rest each =
+      subst (λ some. AllZip IsFitted (members_from system instances) (some ++ rest)) (sym now_is)
+      (front rest (subst (λ (some : List Instance). AllZip IsFitted (members_from system some) rest) (sym from_here)
+      (subst (λ found. AllZip IsFitted (cons_option (member_with system instance found) others) rest) (sym none) each)))
 
 drop_past : (all : List Instance) (k : ℕ) → length all ≤ k → drop k all ≡ []
 drop_past [] zero past = refl

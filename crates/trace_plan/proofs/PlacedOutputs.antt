@@ -1,8 +1,8 @@
 -- Outputs of a system without event ports, whose names differ: their numbers, their places and their types.
-use Rattle.std.proofs.Common.{◌≡◌, ◌≤◌, ◌<◌, ℕ, zero, suc, ◌+◌, ◌-◌, ◌*◌, true, false, Bool, cond, List, [], ◌∷◌, ◌++◌, map, length, Option, Some, None, refl, ap, sym, subst, ◌∙◌, arith}
-use Rattle.std.proofs.lemmas.List.{length-map, map-append}
+use Rattle.std.proofs.Common.{◌≡◌, ◌≤◌, ℕ, zero, suc, ◌+◌, ◌-◌, Bool, cond, List, [], ◌∷◌, ◌++◌, map, length, Option, Some, None, refl, ap, sym, ◌∙◌, arith}
+use Rattle.std.proofs.lemmas.List.{length-map}
 use Rattle.std.proofs.lemmas.List.Folds.{find_at}
-use Rattle.std.proofs.lemmas.Option.{slice_get-map, slice_get_within}
+use Rattle.std.proofs.lemmas.Option.{slice_get-map}
 use Rattle.std.specs.Prelude.{slice_get, not}
 use Rattle.std.specs.List.{AllByRecursion, flat_map, filter_map, cons_option, find, position_or_len}
 use Rattle.std.specs.Option.{option_map, option_and_then}
@@ -10,16 +10,16 @@ use Rattle.std.specs.Str.{bytes_eq}
 use Rattle.fixed_words.specs.declared.types.Ty.{Ty}
 use Rattle.port_solve.specs.Sound.{types_of_places}
 use Rattle.trace_csv.specs.Columns.{instance_number, output_number}
-use Rattle.trace_plan.specs.Shown.{output_count, starts_from, FewOutputs}
-use Rattle.unit_tree.specs.Compositions.{Member, HasNoEvents, member_with, members_of, composition_of, place_of}
-use Rattle.unit_tree.specs.Names.{Port, output_ports, unit_of_instance, unit_at}
+use Rattle.trace_plan.specs.Shown.{output_count, starts_from}
+use Rattle.unit_tree.specs.Compositions.{Member, HasNoEvents, member_with, composition_of, place_of}
+use Rattle.unit_tree.specs.Names.{Port, unit_of_instance, unit_at}
 use Rattle.unit_tree.specs.Orders.{port_of, outputs_in, outputs_of}
 use Rattle.unit_tree.specs.declared.system.Instance.{Instance}
 use Rattle.unit_tree.specs.declared.system.PortName.{PortName}
 use Rattle.unit_tree.specs.declared.system.System.{System}
 use Rattle.unit_tree.specs.declared.unit.Output.{Output}
 use Rattle.unit_tree.specs.declared.unit.Unit.{Unit}
-use Rattle.unit_tree.proofs.NameLaws.{Has, Distinct, NamesDiffer, found}
+use Rattle.unit_tree.proofs.NameLaws.{Has, NamesDiffer, found}
 use Rattle.unit_tree.proofs.PlaceOrders.{Known, all_known, named_holds, plain_port, ports_plain, outputs_apart, place_is}
 
 -- ---- Lists

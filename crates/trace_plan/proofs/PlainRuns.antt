@@ -1,31 +1,29 @@
 -- What is run of a judged system has its numbers within their bounds.
-use Rattle.std.proofs.Common.{◌≡◌, ◌≤◌, ◌<◌, ◌^◌, ◌⊎◌, ℕ, zero, suc, ◌+◌, Bool, true, false, cond, List, [], ◌∷◌, map, length, Option, Some, None, inl, inr, refl, ap, sym, subst, ◌∙◌, arith}
+use Rattle.std.proofs.Common.{◌≡◌, ◌≤◌, ◌^◌, ℕ, ◌+◌, Bool, true, false, cond, List, [], ◌∷◌, map, length, Option, Some, None, refl, ap, sym, subst, ◌∙◌, arith}
 use Rattle.std.proofs.lemmas.Bool.Decides.{nat_tests}
 use Rattle.std.proofs.lemmas.Nat.{le-div}
-use Rattle.std.specs.Prelude.{is_none, nat_lt, ◌==◌, ◌/◌, min, max, not, ◌&&◌, unsigned_abs, IsSome, unwrap_or, Result, Ok, Err}
+use Rattle.std.specs.Prelude.{is_none, nat_lt, ◌==◌, ◌/◌, min, max, unwrap_or, Ok, Err}
 use Rattle.std.specs.Int.{is_negative}
 use Rattle.std.specs.List.{AllByRecursion, filter_map, cons_option, fold}
 use Rattle.std.specs.Option.{option_map, IfSome}
 use Rattle.fixed_words.specs.declared.types.Literal.{Literal}
 use Rattle.fixed_words.specs.declared.types.Literal.TheVariants as literal
 use Rattle.super_time.specs.Seconds.{ticks_in, within_run, seconds_of, AreDecimalsOf}
-use Rattle.super_time.specs.declared.seconds.SecondsFault.{SecondsFault}
 use Rattle.super_time.specs.declared.seconds.SecondsFault.TheVariants.{NotDecimal}
 use Rattle.trace_plan.specs.Keeps.{IsBounded, AreNumbersOf}
 use Rattle.trace_plan.specs.Lengths.{IsLengthOf, IsReadable}
 use Rattle.trace_plan.specs.declared.numbers.Numbers.{Numbers}
-use Rattle.unit_tree.specs.Compositions.{Member, member_with, members_of, ticks_or, default_zeros, default_rows, composition_of, run_of}
-use Rattle.unit_tree.specs.Names.{unit_named, unit_of_instance}
+use Rattle.unit_tree.specs.Compositions.{Member, member_with, members_of, ticks_or, default_zeros, default_rows, run_of}
+use Rattle.unit_tree.specs.Names.{unit_of_instance}
 use Rattle.unit_tree.specs.Plain.{plain_unit, plain_form}
 use Rattle.unit_tree.specs.Printable.{IsRanged, IsLiteralInRange}
 use Rattle.unit_tree.specs.WellFormed.{IsWellFormed, unit_resolution, resolution_of, is_length}
 use Rattle.unit_tree.specs.declared.system.Instance.{Instance}
 use Rattle.unit_tree.specs.declared.system.System.{System}
 use Rattle.unit_tree.specs.declared.unit.Unit.{Unit}
-use Rattle.unit_tree.proofs.PlainNames.{each_has}
 use Rattle.unit_tree.proofs.PlainOrders.{plain_of, plain_named, named_has}
 use Rattle.unit_tree.proofs.NameLaws.{Has}
-use Rattle.trace_plan.proofs.SystemLines.{unit_decimals, zero_count, row_count, stop_in_range, longest_in_range, stop_length, longest_length, stop_there, instance_there, units_declared, few_instances}
+use Rattle.trace_plan.proofs.SystemLines.{unit_decimals, zero_count, row_count, stop_in_range, longest_in_range, stop_length, longest_length, instance_there, units_declared, few_instances}
 
 -- ---- The plain form keeps the numbers and the instances
 

@@ -1,6 +1,6 @@
 -- An output of a judged system, and what it is in what is run of it.
-use Rattle.std.proofs.Common.{◌≡◌, ◌≤◌, ◌<◌, ◌⊎◌, ℕ, zero, suc, ◌+◌, ◌*◌, ◌^◌, true, false, Bool, cond, ℤ, pos, List, [], ◌∷◌, ◌++◌, map, length, Option, Some, None, inl, inr, refl, ap, sym, subst, ◌∙◌, arith}
-use Rattle.std.proofs.lemmas.List.{length-map, length-append}
+use Rattle.std.proofs.Common.{◌≡◌, ◌≤◌, ◌<◌, ℕ, zero, suc, ◌+◌, ◌*◌, true, false, cond, ℤ, pos, List, [], ◌∷◌, ◌++◌, map, length, Option, Some, None, inl, inr, refl, ap, sym, subst, ◌∙◌, arith}
+use Rattle.std.proofs.lemmas.List.{length-map}
 use Rattle.std.proofs.lemmas.Option.{slice_get_within}
 use Rattle.std.specs.Prelude.{slice_get, is_none, ◌==◌}
 use Rattle.std.specs.List.{AllByRecursion, flat_map, find}
@@ -9,9 +9,9 @@ use Rattle.fixed_words.specs.Types.{AreDecimals}
 use Rattle.trace_csv.specs.Columns.{instance_number, output_number}
 use Rattle.trace_plan.specs.Shown.{output_count, starts_from, FewOutputs, IsPlaced}
 use Rattle.unit_exec.proofs.CheckedUnits.{checked_units}
-use Rattle.unit_tree.specs.Compositions.{HasNoEvents, place_of}
-use Rattle.unit_tree.specs.Names.{Port, output_ports, output_names, unit_named, unit_of_instance, output_at}
-use Rattle.unit_tree.specs.Orders.{port_of, outputs_in, outputs_of}
+use Rattle.unit_tree.specs.Compositions.{HasNoEvents}
+use Rattle.unit_tree.specs.Names.{Port, output_ports, output_names, unit_of_instance, output_at}
+use Rattle.unit_tree.specs.Orders.{port_of, outputs_of}
 use Rattle.unit_tree.specs.Plain.{presence_name, plain_output, plain_outputs, plain_unit, plain_form}
 use Rattle.unit_tree.specs.Printable.{IsRanged}
 use Rattle.unit_tree.specs.WellFormed.{IsWellFormed}
@@ -24,8 +24,8 @@ use Rattle.unit_tree.specs.declared.unit.Param.{Param}
 use Rattle.unit_tree.specs.declared.unit.Unit.{Unit}
 use Rattle.unit_tree.proofs.EventLaws.{version_1_without_events, plain_form_1, plain_of_without_events, one_or_two}
 use Rattle.unit_tree.proofs.NameLaws.{Has, Distinct, NamesDiffer, PortsDiffer, ports_differ, names_differ, found, has_front, has_map}
-use Rattle.unit_tree.proofs.PlaceOrders.{has_in, has_at, at_place, plain_port}
-use Rattle.unit_tree.proofs.PlainNames.{each_has, map_has, of_output, of_event, IsPlain, plain_port_names}
+use Rattle.unit_tree.proofs.PlaceOrders.{has_in}
+use Rattle.unit_tree.proofs.PlainNames.{each_has, map_has, of_output, of_event, plain_port_names}
 use Rattle.unit_tree.proofs.PlainOrders.{Declared, declared, output_is, named_has, plain_of, plain_one, ones, twos, plain_ports, becomes, plain_unit_is, plain_names_differ}
 use Rattle.unit_tree.proofs.PortLaws.{output_has}
 use Rattle.trace_plan.proofs.PlacedOutputs.{Placed, placed}

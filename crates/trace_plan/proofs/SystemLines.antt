@@ -1,10 +1,10 @@
 -- What the rules and the ranges say of single lines of a system that is in range and well-formed.
-use Rattle.std.proofs.Common.{◌≡◌, ◌≤◌, ℕ, zero, suc, ◌+◌, false, List, [], ◌∷◌, ◌++◌, map, length, Option, Some, None, inl, inr, refl, ap, sym, subst, ◌∙◌, arith, append-nil}
+use Rattle.std.proofs.Common.{◌≡◌, ◌≤◌, ℕ, ◌+◌, false, List, [], ◌∷◌, ◌++◌, map, length, Option, Some, None, inl, inr, refl, ap, subst, ◌∙◌, arith}
 use Rattle.std.proofs.lemmas.Bool.Decides.{nat_tests}
 use Rattle.std.proofs.lemmas.Grind.{flat_map-append}
-use Rattle.std.proofs.lemmas.List.Sums.{sum_by-cons, sum_by-append}
-use Rattle.std.specs.Prelude.{is_none, nat_lt, cond, count_by, Bool, true, ◌||◌}
-use Rattle.std.specs.List.{AllByRecursion, filter_map, flat_map, enumerate_from, list_any}
+use Rattle.std.proofs.lemmas.List.Sums.{sum_by-append}
+use Rattle.std.specs.Prelude.{is_none, nat_lt, cond, count_by, Bool, true}
+use Rattle.std.specs.List.{AllByRecursion, filter_map, flat_map, enumerate_from}
 use Rattle.fixed_words.specs.declared.types.Literal.{Literal}
 use Rattle.unit_tree.specs.Canonical.{optional, unit_parts, canonical_parts, canonical_forms}
 use Rattle.unit_tree.specs.LineForms.{are_alike}
@@ -14,7 +14,7 @@ use Rattle.unit_tree.specs.Parts.{Part, UnitPart, unit_part_forms, part_forms}
 use Rattle.unit_tree.specs.Plain.{plain_forms}
 use Rattle.unit_tree.specs.Printable.{IsRanged, IsInRange}
 use Rattle.unit_tree.specs.Sites.{TopScope, Site, sites_of}
-use Rattle.unit_tree.specs.WellFormed.{IsWellFormed, misnames, exceeds, is_length, number_where, lacks_stop, mistimes, lacks_instance, is_one_too_many}
+use Rattle.unit_tree.specs.WellFormed.{IsWellFormed, misnames, exceeds, is_length, number_where, lacks_stop, mistimes, lacks_instance}
 use Rattle.super_time.specs.Seconds.{seconds_of}
 use Rattle.unit_tree.specs.WellFormed.{resolution_of}
 use Rattle.unit_tree.specs.declared.line_form.LineForm.{LineForm}

@@ -1,3 +1,4 @@
+pub mod Faults
 pub mod Fitting
 pub mod Keeps
 pub mod Laws

@@ -203,13 +203,7 @@ fn starts(alloc: Global, system: &System) -> Result<Vec<u32>, NoMemory>
 }
 
 /// The column of an output of what is run.
-fn placed(
-    system: &System,
-    starts: &[u32],
-    port: PortKey<'_>,
-    ty: Ty,
-    event: bool,
-) -> Column
+fn placed(system: &System, starts: &[u32], port: PortKey<'_>, ty: Ty, event: bool) -> Column
     requires { IsPlaced system.now starts.now (port_with port) }
     ensures { result ≡ plain_column system.now (port_with port.entry) ty event }
 {

@@ -91,11 +91,7 @@ fn start_word(ty: Ty, literal: Literal) -> i64
 }
 
 /// The words of parameters, with what an instance sets.
-fn param_words(
-    alloc: Global,
-    settings: &[Setting],
-    params: &[Param],
-) -> Result<Vec<i64>, NoMemory>
+fn param_words(alloc: Global, settings: &[Setting], params: &[Param]) -> Result<Vec<i64>, NoMemory>
     requires { AllByRecursion (λ (param : Param). AreDecimals param.ty) params.now }
     ensures { IfOk result (λ words. words.items ≡ map (λ param. start_word param.ty (literal_set settings.now param)) params.now) }
 {

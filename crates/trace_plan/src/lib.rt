@@ -10,8 +10,11 @@
 mod columns;
 mod fault;
 mod fitting;
+mod laws;
 mod numbers;
+mod ordering;
 mod plan;
 
 pub use fault::PlanFault;
+pub use laws::{headers_can_be_printed, rows_can_be_printed};
 pub use plan::Plan;

@@ -1,16 +1,19 @@
 ghost use Rattle.std.specs.Prelude.{◌≡◌, ◌<◌, ◌≤◌, ◌^◌, length, IfOk, IfErr};
-ghost use Rattle.std.specs.List.{AllByRecursion};
-ghost use Rattle.trace_csv.specs.Columns.{IsOutput, columns_of};
+ghost use Rattle.trace_csv.specs.Columns.{columns_of};
+ghost use Rattle.trace_plan.specs.Faults.{IsRightPlanFault};
 ghost use Rattle.trace_plan.specs.Keeps.{IsBounded};
+ghost use Rattle.trace_plan.specs.Laws.{HasTitles, HasRows};
 ghost use Rattle.trace_plan.specs.Plans.{ForMember, lowest_words, highest_words};
 ghost use Rattle.unit_exec.specs.Images.{IsImageOf};
 ghost use Rattle.unit_tree.specs.Compositions.{run_of};
 ghost use Rattle.unit_tree.specs.Routes.{IsOrderOf};
 ghost use Rattle.unit_tree.specs.WellFormed.{resolution_of};
 
+use crate::columns::columns;
 use crate::fault::PlanFault;
-use crate::fitting::Fitted;
-use crate::numbers::Numbers;
+use crate::fitting::{Fitted, all_fitted};
+use crate::numbers::{Numbers, numbers_of};
+use crate::ordering::order_of;
 use std::alloc::Global;
 use std::marker::Model;
 use std::sync::Arc;
@@ -45,12 +48,27 @@ impl Model for Plan {
 }
 
 impl Plan {
-    /// The plan of a system. [`PlanFault::Loop`] where the outputs have no order. Want of memory is a free answer.
+    /// The plan of a system. Want of memory is a free answer.
+    ///
+    /// # Errors
+    ///
+    /// [`PlanFault::Loop`] where some output has no order, since it lies on a cycle of needs or needs one that does: it names
+    /// the first of them.
     pub fn new(alloc: Global, checked: Checked) -> Result<Plan, PlanFault>
         ensures plan { IfOk result (λ plan. plan.system ≡ checked) }
+        ensures fault { IfErr result (IsRightPlanFault checked) }
     {
-        let _ = (alloc, checked);
-        Err(PlanFault::NoMemory)
+        let order = order_of(alloc, &checked)?;
+        let fitted = all_fitted(alloc, &checked)?;
+        let columns = columns(alloc, &checked)?;
+        let numbers = numbers_of(&checked);
+        Ok(Plan {
+            checked,
+            order,
+            fitted,
+            columns,
+            numbers,
+        })
     }
 
     /// The system.
@@ -104,10 +122,14 @@ impl Plan {
         (&fitted.low, &fitted.high)
     }
 
-    /// The columns of the trace.
+    /// The columns of the trace. Each is an output of the system, and has a word of its type where ports are right and all
+    /// have words, so that its header and its rows can be printed.
     pub fn columns(&self) -> &[Column]
         ensures columns { result.now ≡ columns_of self.now.system }
+        ensures titles { HasTitles self.now.system }
+        ensures rows { HasRows self.now.system }
     {
+        let _ = self.checked.system();
         &self.columns
     }
 

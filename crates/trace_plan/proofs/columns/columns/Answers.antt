@@ -1,4 +1,4 @@
-use Rattle.std.proofs.Common.{◌∙◌, ◌≤◌, length, ap, sym, subst}
+use Rattle.std.proofs.Common.{◌≤◌, length, sym, subst}
 use Rattle.trace_plan.specs.Shown.{FewOutputs}
 use Rattle.unit_tree.specs.declared.system.System.{System}
 use Rattle.trace_plan.proofs.ColumnsPut.{one_put}

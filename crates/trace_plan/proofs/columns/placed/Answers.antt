@@ -1,4 +1,4 @@
-use Rattle.std.proofs.Common.{◌∙◌, ◌<◌, ◌^◌, ap, sym, subst, arith}
+use Rattle.std.proofs.Common.{◌∙◌, ap, sym, arith}
 use Rattle.std.specs.Option.{option_map}
 use Rattle.wire_graph.specs.Wiring.{port_with}
 use Rattle.trace_plan.proofs.ColumnsPut.{unit_is, some_there, output_low, place_low, start_within, column_is}

@@ -1,5 +1,4 @@
-use Rattle.std.proofs.Common.{◌∙◌, ◌++◌, map, ap, sym, append_assoc}
-use Rattle.trace_plan.specs.Shown.{outputs_called, events_called}
+use Rattle.std.proofs.Common.{sym}
 use Rattle.trace_plan.proofs.PortsByName.{both_put}
 use Rattle.trace_plan.proofs.columns.put_all.Goals as goal
 

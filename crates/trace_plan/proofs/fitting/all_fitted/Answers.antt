@@ -1,10 +1,10 @@
-use Rattle.std.proofs.Common.{◌≡◌, ◌∙◌, ◌+◌, None, ap, sym, subst}
+use Rattle.std.proofs.Common.{◌≡◌, ◌∙◌, None, ap, sym, subst}
 use Rattle.std.specs.List.{AllZip}
 use Rattle.trace_plan.specs.Keeps.{IsFitted}
 use Rattle.unit_tree.specs.Names.{unit_named}
 use Rattle.unit_tree.specs.Plain.{plain_form}
 use Rattle.unit_tree.specs.declared.system.System.{System}
-use Rattle.trace_plan.proofs.FittingLaws.{members_from, IsFront, none_yet, one_more, left_out, all_there}
+use Rattle.trace_plan.proofs.FittingLaws.{members_from, one_more, left_out, all_there}
 use Rattle.trace_plan.proofs.fitting.all_fitted.Goals.{in-Some+in-Ok+in_ok-fit+in_ok-push, in_default}
 use Rattle.trace_plan.proofs.fitting.all_fitted.Goals as goal
 
@@ -22,11 +22,9 @@ loop-instance-preserved c =
     ∙ is in
     elim c.match-number_of.branch [
       | in-Some+in-Ok+in_ok-fit+in_ok-push w ↦
-          subst (IsFront system instances (place + 1)) (sym (ap (λ all. all.items) w.all-is ∙ w.in_ok-push.ensures.items))
-          (one_more system instances place instance c.loop-instance.all.items c.loop-instance-test.true c.instance-item.is c.loop-instance.invariant w.in_ok-fit.field-0 w.in_ok-fit.ensures)
+          one_more system instances place instance c.loop-instance.all.items c.loop-instance-test.true c.instance-item.is c.loop-instance.invariant w.in_ok-fit.field-0 w.in_ok-fit.ensures w.push.new.self.items c.match-number_of.all.items w.in_ok-push.ensures.items (ap (λ all. all.items) w.all-is)
       | in_default w ↦
-          subst (IsFront system instances (place + 1)) (sym (ap (λ all. all.items) w.all-is))
-          (left_out system instances place instance c.loop-instance.all.items c.loop-instance-test.true c.instance-item.is c.loop-instance.invariant (none w.in_default.ensures.none))
+          left_out system instances place instance c.loop-instance.all.items c.loop-instance-test.true c.instance-item.is c.loop-instance.invariant (none w.in_default.ensures.none) c.match-number_of.all.items (ap (λ all. all.items) w.all-is)
     ]
 
 pub returns : goal.returns

@@ -7,7 +7,7 @@ use Rattle.unit_exec.specs.Images.{IsImageOf}
 use Rattle.unit_tree.specs.declared.unit.Input.{Input}
 use Rattle.unit_tree.specs.Plain.{plain_form}
 use Rattle.unit_tree.specs.declared.unit.Param.{Param}
-use Rattle.trace_plan.proofs.FittingLaws.{unit_at, params_typed, image_of, has_params, fits_for}
+use Rattle.trace_plan.proofs.FittingLaws.{unit_at, params_typed, image_of, fits_for}
 use Rattle.trace_plan.proofs.PlainRuns.{plain_low}
 use Rattle.trace_plan.proofs.fitting.fit.Goals as goal
 
