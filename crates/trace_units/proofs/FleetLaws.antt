@@ -1,10 +1,9 @@
 -- Units that run as members: what one of them gives, what a change of one keeps, and units at their start.
-use Rattle.std.proofs.Common.{◌≡◌, ◌∙◌, ℕ, zero, suc, ◌+◌, ◌<◌, ◌≤◌, ℤ, List, [], ◌∷◌, ◌++◌, length, map, drop, get_or, set, Option, Some, None, refl, ap, sym, subst, arith, append_assoc, append-nil, length-set}
+use Rattle.std.proofs.Common.{◌≡◌, ◌∙◌, ℕ, zero, suc, ◌+◌, ◌<◌, ◌≤◌, ℤ, List, [], ◌∷◌, ◌++◌, length, map, drop, get_or, set, Option, Some, None, refl, ap, sym, subst, arith, append_assoc, append-nil}
 use Rattle.std.proofs.lemmas.List.{map-set, drop_more, drop_all, length-map}
-use Rattle.std.proofs.lemmas.Option.{slice_get-map, slice_get_within, slice_get_read, same_Some}
+use Rattle.std.proofs.lemmas.Option.{slice_get-map, slice_get_within, same_Some}
 use Rattle.std.proofs.lemmas.Slice.Zip.{AllZip-long}
-use Rattle.std.proofs.Math.Seq.{map-set_same}
-use Rattle.std.specs.Prelude.{slice_get, slice_set, slice_index_or, IsSome}
+use Rattle.std.specs.Prelude.{slice_get, slice_index_or, IsSome}
 use Rattle.std.specs.List.{AllZip}
 use Rattle.std.specs.Option.{option_map, option_and_then}
 use Rattle.fixed_words.specs.Operations.{Outcome}
@@ -15,10 +14,9 @@ use Rattle.unit_exec.specs.Images.{Compiled, IsImageOf}
 use Rattle.unit_exec.specs.Running.{Running, opened}
 use Rattle.unit_tree.specs.Components.{Component, get_of, initial}
 use Rattle.unit_tree.specs.Compositions.{Member, Composition}
-use Rattle.unit_tree.specs.Given.{given_by, with_input, IsInputWord}
+use Rattle.unit_tree.specs.Given.{given_by, IsInputWord}
 use Rattle.unit_tree.specs.declared.unit.Input.{Input}
 use Rattle.unit_tree.specs.declared.unit.Output.{Output}
-use Rattle.unit_tree.proofs.PlaceOrders.{zip_at}
 
 abbrev pub RunsMember : Member → Running → Type 0
 RunsMember member unit = IsRunOf member.component unit
