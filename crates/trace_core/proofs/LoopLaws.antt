@@ -180,9 +180,6 @@ pub record AskedSoFar (t : ℕ) (members : List Member) (told : List (Result (Op
   pub few : count ≤ place
 
 module _ (t : ℕ) (members : List Member) (told : List (Result (Option ℕ) Fault)) where
-  pub none_asked : (limits : List ℕ) → AskedSoFar t members told 0 0 limits
-  none_asked limits = record { no_end = refl; made = refl; few = omega arith }
-
   read_told : (place : ℕ) (one : Result (Option ℕ) Fault) → slice_get told place ≡ Some one → one ≡ get_or told place one
   read_told place one is = sym (get_or_from_slice_get told place one one is)
 
@@ -248,9 +245,6 @@ pub record ReadSoFar (t h : ℕ) (members : List Member) (seats : List Seat) (pl
   pub made : MadeSoFar replies place (map (slot_reply t h) (zip (drop place members) (drop place seats))) (map (slot_reply t h) (zip members seats))
 
 module _ (t h : ℕ) (members : List Member) (seats : List Seat) where
-  pub none_read : (replies : List ℕ) → ReadSoFar t h members seats 0 replies
-  none_read replies = record { no_end = refl; made = refl }
-
   next_reply : (place : ℕ) (member : Member) (seat : Seat) → place < length members → place < length seats → slice_get members place ≡ Some member → seat ≡ get_or seats place seat → map (slot_reply t h) (zip (drop place members) (drop place seats)) ≡ slot_reply t h (member, seat) ∷ map (slot_reply t h) (zip (drop (place + 1) members) (drop (place + 1) seats))
   next_reply place member seat in_members in_seats at is =
       ap (λ some. map (slot_reply t h) (zip some (drop place seats))) (drop_more members place member in_members ∙ ap (λ one. one ∷ drop (place + 1) members) (get_or_from_slice_get members place member member at))
@@ -287,11 +281,6 @@ restored_one saved_states old place words within long is =
     ∙ sym (append_assoc (take place saved_states) (words ∷ []) (drop (place + 1) old))
     ∙ ap (λ word. (take place saved_states ++ word ∷ []) ++ drop (place + 1) old) is
     ∙ ap (λ front. front ++ drop (place + 1) old) (sym (take_more saved_states place [] within))
-
-pub restored_all : (saved_states old : List (List ℤ)) (place : ℕ) → length saved_states ≤ place → AreAsLong saved_states old → take place saved_states ++ drop place old ≡ saved_states
-restored_all saved_states old place past long =
-    let many = long_as saved_states old long in
-    ap (λ front. front ++ drop place old) (take_all place saved_states past) ∙ ap (λ rest. saved_states ++ rest) (drop_all place old (omega arith)) ∙ append-nil saved_states
 
 -- The state that stands where one is to be restored is as long.
 pub restored_long : (saved_states old : List (List ℤ)) (place : ℕ) → place < length saved_states → AreAsLong saved_states old → length (get_or saved_states place []) ≡ length (get_or (take place saved_states ++ drop place old) place [])
