@@ -58,6 +58,8 @@ impl Units {
         ensures plan { IfOk result (λ units. units.plan ≡ plan.value) }
         ensures states { IfOk result (λ units. units.states ≡ (first_position plan.value.run).states) }
     {
+        // By this call's clause the plan's run is what is run of its system.
+        let _checked = plan.checked();
         let mut list = Vec::new(alloc);
         for instance in 0..plan.instances() {
             let image = Arc::clone(plan.image(instance))?;
