@@ -178,6 +178,7 @@ pub(crate) fn commit_all(snaps: &mut Snaps, seats: &mut [Seat], units: &Units)
     requires before { AreAsLong (map (λ seat. seat.before.items) seats.old) units.now.inputs }
     requires units { length seats.old ≡ length units.now.plan.run.members }
     ensures saved { AreSaved snaps.new seats.new units.now.states }
+    ensures as_many { length seats.new ≡ length seats.old }
     ensures own { HaveOwnIds seats.new }
     ensures before { map (λ seat. seat.before.items) seats.new ≡ units.now.inputs }
 {
