@@ -10,6 +10,8 @@
 #[cfg(test)]
 mod headers;
 #[cfg(test)]
+mod plans;
+#[cfg(test)]
 mod solved;
 #[cfg(test)]
 mod tests;

@@ -4,11 +4,21 @@
 //! trace, and its numbers in ticks. Where some output has no order, [`PlanFault::Loop`] names the first one.
 //!
 //! The layer above sees a plan as its system with what is run of it (`Planned` of `specs/Plans.antt`), and uses the calls of
-//! [`Plan`], each of which gives what that says. None but [`Plan::new`] takes memory.
+//! [`Plan`], each of which gives what that says. None but [`Plan::new`] takes memory. The laws [`headers_can_be_printed`] and
+//! [`rows_can_be_printed`] say that a trace can be printed by its columns; [`Plan::columns`] has them as clauses.
+//!
+//! Parts by file: `ordering` (the order, or the loop), `fitting` (what each instance needs), `numbers` (factors, lengths and
+//! budgets), `columns` (the columns). What a plan keeps stands in `specs/Keeps.antt`.
 #![tactic(auto)]
 
+mod columns;
 mod fault;
+mod fitting;
+mod laws;
+mod numbers;
+mod ordering;
 mod plan;
 
 pub use fault::PlanFault;
+pub use laws::{headers_can_be_printed, rows_can_be_printed};
 pub use plan::Plan;

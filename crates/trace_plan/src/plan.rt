@@ -1,47 +1,44 @@
 ghost use Rattle.std.specs.Prelude.{◌≡◌, ◌<◌, ◌≤◌, ◌^◌, length, IfOk, IfErr};
-ghost use Rattle.std.specs.List.{AllByRecursion};
-ghost use Rattle.trace_csv.specs.Columns.{IsOutput, columns_of};
+ghost use Rattle.trace_csv.specs.Columns.{columns_of};
+ghost use Rattle.trace_plan.specs.Faults.{IsRightPlanFault};
 ghost use Rattle.trace_plan.specs.Keeps.{IsBounded};
+ghost use Rattle.trace_plan.specs.Laws.{HasTitles, HasRows};
 ghost use Rattle.trace_plan.specs.Plans.{ForMember, lowest_words, highest_words};
 ghost use Rattle.unit_exec.specs.Images.{IsImageOf};
 ghost use Rattle.unit_tree.specs.Compositions.{run_of};
 ghost use Rattle.unit_tree.specs.Routes.{IsOrderOf};
 ghost use Rattle.unit_tree.specs.WellFormed.{resolution_of};
 
+use crate::columns::columns;
 use crate::fault::PlanFault;
+use crate::fitting::{Fitted, all_fitted};
+use crate::numbers::{Numbers, numbers_of};
+use crate::ordering::order_of;
 use std::alloc::Global;
 use std::marker::Model;
 use std::sync::Arc;
 use unit_exec::Image;
 use unit_tree::{Checked, Column, Order};
 
-/// The lowest and the highest words of the inputs of an instance.
-#[derive(Drop)]
-pub(crate) struct Ends {
-    pub(crate) low: Vec<i64>,
-    pub(crate) high: Vec<i64>,
-}
-
 /// A system that can be run, with all that its run needs.
 #[derive(Drop)]
 pub struct Plan {
     checked: Checked,
     order: Order,
-    images: Vec<Arc<Image>>,
-    factors: Vec<u64>,
-    ends: Vec<Ends>,
+    fitted: Vec<Fitted>,
     columns: Vec<Column>,
-    resolution: u8,
-    stop: u64,
-    longest: u64,
-    zero_budget: u64,
-    row_limit: u64,
+    numbers: Numbers,
 }
 
 impl Model for Plan {
+    ghost use Rattle.std.specs.Coded.{codes};
     ghost use Rattle.trace_plan.specs.Plans.{Planned};
+    ghost use Rattle.unit_tree.specs.contracts.expr.Expr as expr;
+    ghost use Rattle.unit_tree.specs.contracts.line.Line as line;
 
     ghost Value = { Planned };
+
+    ghost coded = { Prim.hlevel (codes, expr.the_row.coded, line.the_row.coded) };
 
     ghost use Rattle.trace_plan.specs.Keeps.{planned, IsPlan};
 
@@ -51,12 +48,27 @@ impl Model for Plan {
 }
 
 impl Plan {
-    /// The plan of a system. [`PlanFault::Loop`] where the outputs have no order. Want of memory is a free answer.
+    /// The plan of a system. Want of memory is a free answer.
+    ///
+    /// # Errors
+    ///
+    /// [`PlanFault::Loop`] where some output has no order, since it lies on a cycle of needs or needs one that does: it names
+    /// the first of them.
     pub fn new(alloc: Global, checked: Checked) -> Result<Plan, PlanFault>
         ensures plan { IfOk result (λ plan. plan.system ≡ checked) }
+        ensures fault { IfErr result (IsRightPlanFault checked) }
     {
-        let _ = (alloc, checked);
-        Err(PlanFault::NoMemory)
+        let order = order_of(alloc, &checked)?;
+        let fitted = all_fitted(alloc, &checked)?;
+        let columns = columns(alloc, &checked)?;
+        let numbers = numbers_of(&checked);
+        Ok(Plan {
+            checked,
+            order,
+            fitted,
+            columns,
+            numbers,
+        })
     }
 
     /// The system.
@@ -79,15 +91,15 @@ impl Plan {
         ensures count { result ≡ length self.now.run.members }
         ensures bounded { IsBounded self.now.run }
     {
-        self.images.len() as u32
+        self.fitted.len() as u32
     }
 
     /// The image of an instance.
     pub fn image(&self, instance: u32) -> &Arc<Image>
         requires there { instance < length self.now.run.members }
-        ensures { ForMember self.now.run instance (λ member. IsImageOf member.component result.value) }
+        ensures { ForMember self.now.run instance (λ member. IsImageOf member.component result.now.value) }
     {
-        &self.images[instance as usize]
+        &self.fitted[instance as usize].image
     }
 
     /// How many ticks of the system one local tick of an instance is.
@@ -97,7 +109,7 @@ impl Plan {
         ensures least { 1 ≤ result }
         ensures coarsest { result ≤ 10 ^ 9 }
     {
-        self.factors[instance as usize]
+        self.fitted[instance as usize].factor
     }
 
     /// The lowest and the highest words of the types of an instance's inputs, in their order.
@@ -106,14 +118,18 @@ impl Plan {
         ensures low { ForMember self.now.run instance (λ member. result.0.now ≡ lowest_words member) }
         ensures high { ForMember self.now.run instance (λ member. result.1.now ≡ highest_words member) }
     {
-        let ends = &self.ends[instance as usize];
-        (&ends.low, &ends.high)
+        let fitted = &self.fitted[instance as usize];
+        (&fitted.low, &fitted.high)
     }
 
-    /// The columns of the trace.
+    /// The columns of the trace. Each is an output of the system, and has a word of its type where ports are right and all
+    /// have words, so that its header and its rows can be printed.
     pub fn columns(&self) -> &[Column]
         ensures columns { result.now ≡ columns_of self.now.system }
+        ensures titles { HasTitles self.now.system }
+        ensures rows { HasRows self.now.system }
     {
+        let _ = self.checked.system();
         &self.columns
     }
 
@@ -122,7 +138,7 @@ impl Plan {
         ensures value { result ≡ resolution_of self.now.system }
         ensures most { result ≤ 9 }
     {
-        self.resolution
+        self.numbers.resolution
     }
 
     /// Where the run ends, in ticks.
@@ -130,7 +146,7 @@ impl Plan {
         ensures value { result ≡ self.now.run.stop }
         ensures bounded { IsBounded self.now.run }
     {
-        self.stop
+        self.numbers.stop
     }
 
     /// The longest step, in ticks.
@@ -138,7 +154,7 @@ impl Plan {
         ensures value { result ≡ self.now.run.longest }
         ensures bounded { IsBounded self.now.run }
     {
-        self.longest
+        self.numbers.longest
     }
 
     /// How many steps of length zero may follow each other.
@@ -146,7 +162,7 @@ impl Plan {
         ensures value { result ≡ self.now.run.zero_budget }
         ensures bounded { IsBounded self.now.run }
     {
-        self.zero_budget
+        self.numbers.zero_budget
     }
 
     /// How many rows the trace has at most.
@@ -154,6 +170,6 @@ impl Plan {
         ensures value { result ≡ self.now.run.row_budget }
         ensures bounded { IsBounded self.now.run }
     {
-        self.row_limit
+        self.numbers.row_limit
     }
 }

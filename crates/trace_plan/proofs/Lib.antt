@@ -1,0 +1,9 @@
+pub mod ColumnLaws
+pub mod ColumnsPut
+pub mod FittingLaws
+pub mod PlacedOutputs
+pub mod PlainRuns
+pub mod PlanLaws
+pub mod PortsByName
+pub mod ShownOutputs
+pub mod SystemLines

@@ -1,0 +1,217 @@
+-- What the rules and the ranges say of single lines of a system that is in range and well-formed.
+use Rattle.std.proofs.Common.{◌≡◌, ◌≤◌, ℕ, ◌+◌, false, List, [], ◌∷◌, ◌++◌, map, length, Option, Some, None, inl, inr, refl, ap, subst, ◌∙◌, arith}
+use Rattle.std.proofs.lemmas.Bool.Decides.{nat_tests}
+use Rattle.std.proofs.lemmas.Grind.{flat_map-append}
+use Rattle.std.proofs.lemmas.List.Sums.{sum_by-append}
+use Rattle.std.specs.Prelude.{is_none, nat_lt, cond, count_by, Bool, true}
+use Rattle.std.specs.List.{AllByRecursion, filter_map, flat_map, enumerate_from}
+use Rattle.fixed_words.specs.declared.types.Literal.{Literal}
+use Rattle.unit_tree.specs.Canonical.{optional, unit_parts, canonical_parts, canonical_forms}
+use Rattle.unit_tree.specs.LineForms.{are_alike}
+use Rattle.unit_tree.specs.Names.{unit_of_instance}
+use Rattle.unit_tree.specs.Parts as parts
+use Rattle.unit_tree.specs.Parts.{Part, UnitPart, unit_part_forms, part_forms}
+use Rattle.unit_tree.specs.Plain.{plain_forms}
+use Rattle.unit_tree.specs.Printable.{IsRanged, IsInRange}
+use Rattle.unit_tree.specs.Sites.{TopScope, Site, sites_of}
+use Rattle.unit_tree.specs.WellFormed.{IsWellFormed, misnames, exceeds, is_length, number_where, lacks_stop, mistimes, lacks_instance}
+use Rattle.super_time.specs.Seconds.{seconds_of}
+use Rattle.unit_tree.specs.WellFormed.{resolution_of}
+use Rattle.unit_tree.specs.declared.line_form.LineForm.{LineForm}
+use Rattle.unit_tree.specs.declared.line_form.LineForm.TheVariants as form
+use Rattle.unit_tree.specs.declared.system.Instance.{Instance}
+use Rattle.unit_tree.specs.declared.system.System.{System}
+use Rattle.unit_tree.specs.declared.unit.Unit.{Unit}
+use Rattle.unit_tree.proofs.NameLaws.{Has, has_front, has_behind, all_keep, or_false, Hold, instance_head, kept_parts, not_false}
+use Rattle.unit_tree.proofs.PlainNames.{each_has, has_flat, unit_line}
+use Rattle.unit_tree.proofs.SiteLaws.{line_at, sites_are}
+
+-- ---- A rule that looks at the line alone
+
+mapped : (Q : LineForm → Type 0) (all : List Site) → AllByRecursion (λ site. Q site.line) all → AllByRecursion Q (map line_at all)
+mapped Q [] each = tt
+mapped Q (site ∷ all) each = (each.0, mapped Q all each.1)
+
+module _ (system : System) where
+  kept_line : (test : LineForm → Bool) → filter_map (number_where (λ site. test site.line)) (enumerate_from 1 (sites_of system)) ≡ [] → (line : LineForm) → Has (canonical_forms system) line → test line ≡ false
+  kept_line test none line has =
+      let all = mapped (λ l. test l ≡ false) (sites_of system) (all_keep (λ site. test site.line) 1 (sites_of system) none) in
+      each_has (λ l. test l ≡ false) (canonical_forms system) line (subst (AllByRecursion (λ l. test l ≡ false)) (sites_are system) all) has
+
+  -- ---- The lines of the run's numbers
+
+  abbrev parts_to_wires : List Part
+  parts_to_wires = map (λ unit. parts.HasUnit unit.name (unit_parts unit)) system.units ++ map parts.HasInstance system.instances ++ map parts.Connects system.wires
+
+  abbrev stop : List Part
+  stop = optional parts.Stop system.stop
+
+  abbrev longest : List Part
+  longest = optional parts.Longest system.longest
+
+  abbrev zero_steps : List Part
+  zero_steps = optional parts.Zero system.zero
+
+  abbrev rows : List Part
+  rows = optional parts.Rows system.rows
+
+  abbrev samples : List Part
+  samples = map parts.Samples system.samples
+
+  top_line : (part : Part) (line : LineForm) → Has (canonical_parts system) part → Has (part_forms part) line → Has (canonical_forms system) line
+  top_line part line has inside = inr (has_flat part_forms (canonical_parts system) part line has inside)
+
+  -- A part that is there, behind others and before others.
+  given_has : {A : Type 0} (part : A → Part) (given : Option A) (one : A) → given ≡ Some one → Has (optional part given) (part one)
+  given_has part None one is = absurd (cc)
+  given_has part (Some other) one is = let same : other ≡ one = cc in inl (ap part same)
+
+  stop_line : (seconds : Literal) → system.stop ≡ Some seconds → Has (canonical_forms system) (form.Stop seconds)
+  stop_line seconds is =
+      let part : Part = parts.Stop seconds in
+      let a = has_behind parts_to_wires stop part (given_has parts.Stop system.stop seconds is) in
+      let b = has_front (parts_to_wires ++ stop) longest part a in
+      let c = has_front ((parts_to_wires ++ stop) ++ longest) zero_steps part b in
+      let d = has_front (((parts_to_wires ++ stop) ++ longest) ++ zero_steps) rows part c in
+      top_line part (form.Stop seconds) (has_front ((((parts_to_wires ++ stop) ++ longest) ++ zero_steps) ++ rows) samples part d) (inl refl)
+
+  longest_line : (seconds : Literal) → system.longest ≡ Some seconds → Has (canonical_forms system) (form.Longest seconds)
+  longest_line seconds is =
+      let part : Part = parts.Longest seconds in
+      let b = has_behind (parts_to_wires ++ stop) longest part (given_has parts.Longest system.longest seconds is) in
+      let c = has_front ((parts_to_wires ++ stop) ++ longest) zero_steps part b in
+      let d = has_front (((parts_to_wires ++ stop) ++ longest) ++ zero_steps) rows part c in
+      top_line part (form.Longest seconds) (has_front ((((parts_to_wires ++ stop) ++ longest) ++ zero_steps) ++ rows) samples part d) (inl refl)
+
+  zero_line : (count : ℕ) → system.zero ≡ Some count → Has (canonical_forms system) (form.Zero count)
+  zero_line count is =
+      let part : Part = parts.Zero count in
+      let c = has_behind ((parts_to_wires ++ stop) ++ longest) zero_steps part (given_has parts.Zero system.zero count is) in
+      let d = has_front (((parts_to_wires ++ stop) ++ longest) ++ zero_steps) rows part c in
+      top_line part (form.Zero count) (has_front ((((parts_to_wires ++ stop) ++ longest) ++ zero_steps) ++ rows) samples part d) (inl refl)
+
+  rows_line : (count : ℕ) → system.rows ≡ Some count → Has (canonical_forms system) (form.Rows count)
+  rows_line count is =
+      let part : Part = parts.Rows count in
+      let d = has_behind (((parts_to_wires ++ stop) ++ longest) ++ zero_steps) rows part (given_has parts.Rows system.rows count is) in
+      top_line part (form.Rows count) (has_front ((((parts_to_wires ++ stop) ++ longest) ++ zero_steps) ++ rows) samples part d) (inl refl)
+
+  module _ (ranged : IsRanged system) where
+    in_range : (line : LineForm) → Has (canonical_forms system) line → IsInRange line
+    in_range line has = each_has IsInRange (canonical_forms system) line ranged.numbers has
+
+    resolution_line : (unit : Unit) → Has system.units unit → (decimals : ℕ) → unit.resolution ≡ Some decimals → Has (canonical_forms system) (form.Resolution decimals)
+    resolution_line unit declared decimals is =
+        let part : UnitPart = parts.Resolution decimals in
+        let r : List UnitPart = optional parts.Resolution unit.resolution in
+        let p : List UnitPart = map parts.HasParam unit.params in
+        let s : List UnitPart = map parts.HasState unit.states in
+        let l : List UnitPart = map parts.HasLocal unit.locals in
+        let i : List UnitPart = map parts.HasInput unit.inputs in
+        let e : List UnitPart = map parts.HasEventIn unit.events_in in
+        let o : List UnitPart = map parts.HasOutput unit.outputs in
+        let f : List UnitPart = map parts.HasEventOut unit.events_out in
+        unit_line system ranged unit declared part (form.Resolution decimals)
+        (has_front ((((((r ++ p) ++ s) ++ l) ++ i) ++ e) ++ o) f part
+        (has_front (((((r ++ p) ++ s) ++ l) ++ i) ++ e) o part
+        (has_front ((((r ++ p) ++ s) ++ l) ++ i) e part
+        (has_front (((r ++ p) ++ s) ++ l) i part
+        (has_front ((r ++ p) ++ s) l part
+        (has_front (r ++ p) s part
+        (has_front r p part (resolution_has unit.resolution is))))))))
+        (inl refl)
+      where
+        resolution_has : (given : Option ℕ) → given ≡ Some decimals → Has (optional parts.Resolution given) (parts.Resolution decimals)
+        resolution_has None none = absurd (cc)
+        resolution_has (Some other) some = let same : other ≡ decimals = cc in inl (ap parts.Resolution same)
+
+    pub unit_decimals : (unit : Unit) → Has system.units unit → (decimals : ℕ) → unit.resolution ≡ Some decimals → decimals ≤ 9
+    unit_decimals unit declared decimals is = (in_range (form.Resolution decimals) (resolution_line unit declared decimals is)).0
+
+    pub zero_count : (count : ℕ) → system.zero ≡ Some count → count ≤ 10000
+    zero_count count is = (in_range (form.Zero count) (zero_line count is)).0
+
+    pub row_count : (count : ℕ) → system.rows ≡ Some count → (1 ≤ count) × (count ≤ 100000)
+    row_count count is = (in_range (form.Rows count) (rows_line count is)).0
+
+    pub stop_in_range : (seconds : Literal) → system.stop ≡ Some seconds → IsInRange (form.Stop seconds)
+    stop_in_range seconds is = in_range (form.Stop seconds) (stop_line seconds is)
+
+    pub longest_in_range : (seconds : Literal) → system.longest ≡ Some seconds → IsInRange (form.Longest seconds)
+    longest_in_range seconds is = in_range (form.Longest seconds) (longest_line seconds is)
+
+  module _ (kept : IsWellFormed system) where
+    timed : (line : LineForm) → Has (canonical_forms system) line → mistimes system line ≡ false
+    timed = kept_line (mistimes system) kept.1.1.1.1.1.1.1.1.1.1.1.0
+
+    pub stop_length : (seconds : Literal) → system.stop ≡ Some seconds → is_length 0 (seconds_of (resolution_of system) seconds) ≡ true
+    stop_length seconds is = not_false system _ (timed (form.Stop seconds) (stop_line seconds is))
+
+    pub longest_length : (seconds : Literal) → system.longest ≡ Some seconds → is_length 1 (seconds_of (resolution_of system) seconds) ≡ true
+    longest_length seconds is = not_false system _ (timed (form.Longest seconds) (longest_line seconds is))
+
+    pub stop_there : is_none system.stop ≡ false
+    stop_there = kept_line (lacks_stop system) kept.1.1.1.1.1.1.1.1.1.1.0 (form.Header system.version) (inl refl)
+
+    pub instance_there : lacks_instance system (form.Header system.version) ≡ false
+    instance_there = kept_line (lacks_instance system) kept.1.1.1.1.1.1.1.1.1.1.1.1.1.1.0 (form.Header system.version) (inl refl)
+
+    -- ---- Instances
+
+    abbrev Named : Site → Type 0
+    Named site = misnames system site.scope site.line ≡ false
+
+    all_named : (earlier : List LineForm) (instances : List Instance) → Hold Named TopScope earlier (map instance_head instances) → AllByRecursion (λ instance. is_none (unit_of_instance system instance) ≡ false) instances
+    all_named earlier [] hold = tt
+    all_named earlier (instance ∷ instances) hold = (hold.0, all_named (earlier ++ (form.Instance instance.name instance.unit ∷ [])) instances hold.2)
+
+    -- The unit of each instance is declared.
+    pub units_declared : AllByRecursion (λ instance. is_none (unit_of_instance system instance) ≡ false) system.instances
+    units_declared =
+        let parts_kept = kept_parts Named system (all_keep (λ site. misnames system site.scope site.line) 1 (sites_of system) kept.1.0) in
+        all_named parts_kept.before_instances system.instances parts_kept.instances
+
+    abbrev Few : Site → Type 0
+    Few site = exceeds system site.scope site.earlier site.line ≡ false
+
+    abbrev any_instance : LineForm
+    any_instance = form.Instance [] []
+
+    abbrev tally : List LineForm → ℕ
+    tally lines = count_by (are_alike any_instance) lines
+
+    abbrev becomes : LineForm → List LineForm
+    becomes line = plain_forms system TopScope line
+
+    below : (limit count : ℕ) → nat_lt limit count ≡ false → count ≤ limit
+    below limit count is = grind (arith, nat_tests)
+
+    tally_both : (one other : List LineForm) → tally (one ++ other) ≡ tally one + tally other
+    tally_both one other = sum_by-append (λ x. cond (are_alike any_instance x) 1 0) one other
+
+    -- The line of an instance counts as one.
+    next_tally : (earlier : List LineForm) (instance : Instance) → tally (flat_map becomes (earlier ++ (form.Instance instance.name instance.unit ∷ []))) ≡ tally (flat_map becomes earlier) + 1
+    next_tally earlier instance =
+        ap tally (flat_map-append becomes earlier (form.Instance instance.name instance.unit ∷ []))
+        ∙ tally_both (flat_map becomes earlier) (form.Instance instance.name instance.unit ∷ [])
+
+    counted : (earlier : List LineForm) (instances : List Instance) → tally (flat_map becomes earlier) ≤ 64 → Hold Few TopScope earlier (map instance_head instances) → tally (flat_map becomes earlier) + length instances ≤ 64
+    counted earlier [] low hold = omega (arith, low)
+    counted earlier (instance ∷ instances) low hold =
+        let line : LineForm = form.Instance instance.name instance.unit in
+        let here : tally (flat_map becomes (earlier ++ (line ∷ []))) ≤ 64 = below 64 (tally (flat_map becomes (earlier ++ (line ∷ [])))) (or_false _ _ hold.0).0 in
+        let rest = counted (earlier ++ (line ∷ [])) instances here hold.2 in
+        omega (arith, rest, next_tally earlier instance)
+
+    few_from : (earlier : List LineForm) (instances : List Instance) → Hold Few TopScope earlier (map instance_head instances) → length instances ≤ 64
+    few_from earlier [] hold = omega arith
+    few_from earlier (instance ∷ instances) hold =
+        let line : LineForm = form.Instance instance.name instance.unit in
+        let here : tally (flat_map becomes (earlier ++ (line ∷ []))) ≤ 64 = below 64 (tally (flat_map becomes (earlier ++ (line ∷ [])))) (or_false _ _ hold.0).0 in
+        let rest = counted (earlier ++ (line ∷ [])) instances here hold.2 in
+        omega (arith, rest, next_tally earlier instance)
+
+    pub few_instances : length system.instances ≤ 64
+    few_instances =
+        let parts_kept = kept_parts Few system (all_keep (λ site. exceeds system site.scope site.earlier site.line) 1 (sites_of system) kept.1.1.1.1.1.1.1.0) in
+        few_from parts_kept.before_instances system.instances parts_kept.instances

@@ -1,0 +1,21 @@
+-- What is worked out for one instance.
+use Rattle.std.specs.Prelude.{◌≡◌, ℕ, List, slice_get, Some}
+use Rattle.trace_plan.specs.Keeps.{IsFitted}
+use Rattle.trace_plan.specs.declared.fitting.Fitted.{Fitted}
+use Rattle.unit_tree.specs.Compositions.{Member, member_with}
+use Rattle.unit_tree.specs.Names.{unit_named, unit_of_instance}
+use Rattle.unit_tree.specs.declared.system.Instance.{Instance}
+use Rattle.unit_tree.specs.declared.system.System.{System}
+use Rattle.unit_tree.specs.declared.unit.Unit.{Unit}
+
+-- The unit of a number is the first one of the name.
+pub record IsUnitNamed (units : List Unit) (name : List ℕ) (number : ℕ) : Type 0 where
+  pub unit : Unit
+  pub at : slice_get units number ≡ Some unit
+  pub is : unit_named units name ≡ Some unit
+
+-- The instance of a system without event ports is fitted out as the member that it is.
+pub record IsFittedFor (system : System) (instance : Instance) (fitted : Fitted) : Type 0 where
+  pub member : Member
+  pub is : member_with system instance (unit_of_instance system instance) ≡ Some member
+  pub fits : IsFitted member fitted

@@ -1,0 +1,157 @@
+//! What each instance needs to run.
+ghost use Rattle.std.specs.Prelude.{◌≡◌, ◌≤◌, length, map, slice_get, IfOk, IfSome, IfNone, None};
+ghost use Rattle.std.specs.List.{AllByRecursion, AllZip};
+ghost use Rattle.fixed_words.specs.Types.{lowest, highest, AreDecimals};
+ghost use Rattle.trace_plan.specs.Fitting.{IsUnitNamed, IsFittedFor};
+ghost use Rattle.trace_plan.specs.Keeps.{IsFitted};
+ghost use Rattle.unit_tree.specs.Components.{start_word};
+ghost use Rattle.unit_tree.specs.Compositions.{literal_set, run_of};
+ghost use Rattle.unit_tree.specs.Names.{unit_named};
+ghost use Rattle.unit_tree.specs.Plain.{plain_form};
+ghost use Rattle.unit_tree.specs.WellFormed.{resolution_of};
+ghost use Rattle.unit_tree.specs.declared.unit.Param.{Param};
+
+use crate::numbers::{factor, resolution};
+use fixed_words::{Literal, NoMemory, Ty, literal_word};
+use std::alloc::{AllocError, Global};
+use std::sync::Arc;
+use unit_exec::{Image, compile};
+use unit_tree::{Checked, Input, Instance, Param, Setting, Unit};
+
+/// What an instance needs to run: its image, how many ticks of the system one of its local ticks is, and the lowest and the
+/// highest words of its inputs' types.
+#[derive(Drop)]
+pub(crate) struct Fitted {
+    pub(crate) image: Arc<Image>,
+    pub(crate) factor: u64,
+    pub(crate) low: Vec<i64>,
+    pub(crate) high: Vec<i64>,
+}
+
+/// The lowest and the highest word of a type.
+fn ends_of(ty: Ty) -> (i64, i64)
+    ensures low { result.0 ≡ lowest ty }
+    ensures high { result.1 ≡ highest ty }
+{
+    match ty {
+        Ty::Int8 => (-128, 127),
+        Ty::UInt8 => (0, 255),
+        Ty::Int16 => (-32_768, 32_767),
+        Ty::UInt16 => (0, 65_535),
+        Ty::Int32 => (-2_147_483_648, 2_147_483_647),
+        Ty::UInt32 => (0, 4_294_967_295),
+        Ty::Bool => (0, 1),
+        Ty::Int64 | Ty::Fixed(_) => (i64::MIN, i64::MAX),
+    }
+}
+
+/// The lowest words of the types of inputs.
+fn lowest_words(alloc: Global, inputs: &[Input]) -> Result<Vec<i64>, NoMemory>
+    ensures { IfOk result (λ words. words.items ≡ map (λ input. lowest input.ty) inputs.now) }
+{
+    let mut words = Vec::with_capacity(alloc, inputs.len())?;
+    for input in inputs {
+        words.push(ends_of(input.ty).0)?;
+    }
+    Ok(words)
+}
+
+/// The highest words of the types of inputs.
+fn highest_words(alloc: Global, inputs: &[Input]) -> Result<Vec<i64>, NoMemory>
+    ensures { IfOk result (λ words. words.items ≡ map (λ input. highest input.ty) inputs.now) }
+{
+    let mut words = Vec::with_capacity(alloc, inputs.len())?;
+    for input in inputs {
+        words.push(ends_of(input.ty).1)?;
+    }
+    Ok(words)
+}
+
+/// The literal that a parameter has: the first that is set, else its start.
+fn literal_set(settings: &[Setting], param: &Param) -> Literal
+    ensures { result ≡ literal_set settings.now param.now }
+{
+    for setting in settings {
+        if setting.name.as_slice() == param.name.as_slice() {
+            return setting.value;
+        }
+    }
+    param.start
+}
+
+/// The word that a literal stands for; 0 where it has none.
+fn start_word(ty: Ty, literal: Literal) -> i64
+    requires { AreDecimals ty }
+    ensures { result ≡ start_word ty literal }
+{
+    match literal_word(ty, literal) {
+        Ok(word) => word,
+        Err(_) => 0,
+    }
+}
+
+/// The words of parameters, with what an instance sets.
+fn param_words(alloc: Global, settings: &[Setting], params: &[Param]) -> Result<Vec<i64>, NoMemory>
+    requires { AllByRecursion (λ (param : Param). AreDecimals param.ty) params.now }
+    ensures { IfOk result (λ words. words.items ≡ map (λ param. start_word param.ty (literal_set settings.now param)) params.now) }
+{
+    let mut words = Vec::with_capacity(alloc, params.len())?;
+    for param in params {
+        words.push(start_word(param.ty, literal_set(settings, param)))?;
+    }
+    Ok(words)
+}
+
+/// The number of the first unit of a name.
+fn number_of(units: &[Unit], name: &[u8]) -> Option<usize>
+    ensures some { IfSome result (IsUnitNamed units.now name.now) }
+    ensures none { IfNone result (unit_named units.now name.now ≡ None) }
+{
+    for (number, unit) in units.iter().enumerate() {
+        if unit.name.as_slice() == name {
+            return Some(number);
+        }
+    }
+    None
+}
+
+/// What an instance of a checked system needs, where its unit is declared.
+fn fit(
+    alloc: Global,
+    checked: &Checked,
+    resolution: u8,
+    instance: &Instance,
+    number: u32,
+) -> Result<Fitted, NoMemory>
+    requires resolution { resolution ≡ resolution_of (plain_form checked.now) }
+    requires unit { IsUnitNamed (plain_form checked.now).units instance.now.unit number }
+    ensures { IfOk result (IsFittedFor (plain_form checked.now) instance.now) }
+{
+    let unit = checked.system().units.get(number as usize).unwrap();
+    let params = param_words(alloc, instance.settings.as_slice(), unit.params.as_slice())?;
+    let image = compile(alloc, checked, number, &params)?;
+    Ok(Fitted {
+        image: Arc::new(alloc, image)?,
+        factor: factor(resolution, unit),
+        low: lowest_words(alloc, unit.inputs.as_slice())?,
+        high: highest_words(alloc, unit.inputs.as_slice())?,
+    })
+}
+
+/// What each instance of a checked system needs, in their order.
+pub(crate) fn all_fitted(alloc: Global, checked: &Checked) -> Result<Vec<Fitted>, NoMemory>
+    ensures { IfOk result (λ all. AllZip IsFitted (run_of checked.now).members all.items) }
+{
+    let system = checked.system();
+    let resolution = resolution(system);
+    let mut all = Vec::new(alloc);
+    for instance in system.instances.as_slice() {
+        if let Some(number) = number_of(system.units.as_slice(), instance.unit.as_slice()) {
+            let Ok(number) = u32::try_from(number) else {
+                return Err(AllocError);
+            };
+            all.push(fit(alloc, checked, resolution, instance, number)?)?;
+        }
+    }
+    Ok(all)
+}

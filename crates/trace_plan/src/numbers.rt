@@ -1,0 +1,136 @@
+//! The numbers of a run, in ticks of its system.
+ghost use Rattle.std.specs.Prelude.{◌≡◌, ◌≤◌, ◌^◌, ◌-◌, length, unwrap_or};
+ghost use Rattle.std.specs.Option.{IfSome, option_map};
+ghost use Rattle.trace_plan.specs.Keeps.{AreNumbersOf};
+ghost use Rattle.trace_plan.specs.Lengths.{IsReadable};
+ghost use Rattle.unit_tree.specs.Compositions.{ticks_or, default_zeros, default_rows, factor_of, run_of};
+ghost use Rattle.unit_tree.specs.WellFormed.{unit_resolution, resolution_of};
+
+use fixed_words::Literal;
+use super_time::read_seconds;
+use unit_tree::{Checked, System, Unit};
+
+/// The resolution of a system, and its other numbers: where the run ends and its longest step, in ticks, and its two budgets.
+#[derive(Clone, Copy, Drop)]
+pub(crate) struct Numbers {
+    pub(crate) resolution: u8,
+    pub(crate) stop: u64,
+    pub(crate) longest: u64,
+    pub(crate) zero_budget: u64,
+    pub(crate) row_limit: u64,
+}
+
+/// The power of ten, for at most 9 decimals.
+fn ten_to_the(decimals: u8) -> u64
+    requires { decimals ≤ 9 }
+    ensures power { result ≡ 10 ^ decimals }
+    ensures least { 1 ≤ result }
+    ensures greatest { result ≤ 10 ^ 9 }
+{
+    match decimals {
+        0 => 1,
+        1 => 10,
+        2 => 100,
+        3 => 1_000,
+        4 => 10_000,
+        5 => 100_000,
+        6 => 1_000_000,
+        7 => 10_000_000,
+        8 => 100_000_000,
+        _ => 1_000_000_000,
+    }
+}
+
+/// How many ticks of a system of a resolution one local tick of a unit is.
+pub(crate) fn factor(resolution: u8, unit: &Unit) -> u64
+    requires { resolution ≤ 9 }
+    ensures power { result ≡ 10 ^ (resolution - unwrap_or unit.now.resolution 0) }
+    ensures least { 1 ≤ result }
+    ensures greatest { result ≤ 10 ^ 9 }
+{
+    let own = unit.resolution.unwrap_or(0);
+    ten_to_the(resolution.saturating_sub(own))
+}
+
+/// The resolution of a unit that may be there: 0 where it has none.
+fn unit_resolution(unit: Option<&Unit>) -> u8
+    ensures { result ≡ unit_resolution (option_map (λ unit. unit.now) unit.entry) }
+{
+    match unit {
+        Some(unit) => unit.resolution.unwrap_or(0),
+        None => 0,
+    }
+}
+
+/// The resolution of a system: the greatest of its instances' units.
+pub(crate) fn resolution(system: &System) -> u8
+    ensures { result ≡ resolution_of system.now }
+{
+    let mut most = 0;
+    for instance in system.instances.as_slice() {
+        most = most.max(unit_resolution(system.unit_of(instance)));
+    }
+    most
+}
+
+/// A length that was judged, in ticks, or the default where none is given.
+fn ticks_or(default: u64, resolution: u8, seconds: Option<Literal>) -> u64
+    requires decimals { resolution ≤ 9 }
+    requires readable { IfSome seconds (IsReadable resolution) }
+    ensures { result ≡ ticks_or default resolution seconds }
+{
+    match seconds {
+        None => default,
+        Some(seconds) => read_seconds(resolution, seconds).unwrap_or(0),
+    }
+}
+
+/// How many steps of length zero may follow each other.
+fn zero_budget(system: &System) -> u64
+    ensures { result ≡ unwrap_or system.now.zero (default_zeros system.now.version) }
+{
+    match system.zero {
+        Some(count) => u64::from(count),
+        None if system.version == 2 => 1_000,
+        None => 100,
+    }
+}
+
+/// How many rows a trace has at most where that is not given.
+fn default_rows(version: u8, instances: u64) -> u64
+    requires { 1 ≤ instances }
+    ensures { result ≡ default_rows version instances }
+{
+    let most: u64 = if version == 2 { 10_000 } else { 100_000 };
+    most.min(1_000_000 / instances)
+}
+
+/// How many rows the trace has at most.
+fn row_limit(system: &System) -> u64
+    requires { 1 ≤ length system.now.instances }
+    ensures { result ≡ unwrap_or system.now.rows (default_rows system.now.version (length system.now.instances)) }
+{
+    match system.rows {
+        Some(count) => u64::from(count),
+        None => default_rows(system.version, system.instances.len() as u64),
+    }
+}
+
+/// The numbers of the run of a checked system.
+pub(crate) fn numbers_of(checked: &Checked) -> Numbers
+    ensures { AreNumbersOf checked.now (run_of checked.now) result }
+{
+    let system = checked.system();
+    let resolution = resolution(system);
+    let stop = ticks_or(0, resolution, system.stop);
+    let longest = ticks_or(stop, resolution, system.longest);
+    let zero_budget = zero_budget(system);
+    let row_limit = row_limit(system);
+    Numbers {
+        resolution,
+        stop,
+        longest,
+        zero_budget,
+        row_limit,
+    }
+}
