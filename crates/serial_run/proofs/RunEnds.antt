@@ -1,6 +1,6 @@
 -- What a run has put and reports when it is over, or given up.
 use Rattle.std.proofs.Common.{◌≡◌, ℕ, suc, ◌+◌, ◌*◌, ◌<◌, ◌≤◌, ◌⊎◌, Bool, true, false, List, [], ◌∷◌, ◌++◌, length, Option, Some, None, Result, Ok, Err, inl, inr, refl, sym, ap, subst, ◌∙◌, append-nil, arith}
-use Rattle.std.specs.List.{cons_option}
+use Rattle.std.specs.List.{AllByRecursion, cons_option, filter_map}
 use Rattle.std.specs.Prelude.{IsErr, OnErr}
 use Rattle.std.specs.Io.KnownBytes.{Appends}
 use Rattle.std.proofs.lemmas.List.Elements.{filter_map-append}
@@ -11,23 +11,25 @@ use Rattle.super_time.specs.declared.point.Point.{Point}
 use Rattle.trace_core.specs.Runs.{IsOpened, RunState, Stands, IsPhase, ArePortsKnown, first_end}
 use Rattle.trace_core.specs.declared.phase.Phase.{Phase}
 use Rattle.trace_core.specs.declared.phase.Phase.TheVariants.{Ended}
-use Rattle.trace_csv.specs.TraceText.{header_line, row_line, trace_text}
+use Rattle.trace_csv.specs.TraceText.{HasWord, header_line, row_line, trace_text}
 use Rattle.trace_csv.specs.Columns.{columns_of}
 use Rattle.trace_plan.specs.Keeps.{IsBounded}
+use Rattle.trace_plan.specs.Laws.{HasRows}
 use Rattle.trace_plan.specs.Plans.{Planned}
 use Rattle.unit_tree.specs.Compositions.{Composition, AreMembers, run_of}
 use Rattle.unit_tree.specs.Plain.{plain_form}
-use Rattle.unit_tree.specs.Ports.{IsPlaceOrder, first_some, port_fault}
+use Rattle.unit_tree.specs.Ports.{Ports, IsAssignment, IsPlaceOrder, first_some, port_fault}
 use Rattle.unit_tree.specs.Successor.{ends, first_position, max_end, row_end, stop_end, successor}
-use Rattle.unit_tree.specs.Trace.{Stand, IsTrace, Row, row_at, row_unless, rows_of, last_point, IsTraceOf, HasCells, cells_at, cells_of}
+use Rattle.unit_tree.specs.Trace.{Stand, IsStand, IsTrace, Row, row_at, row_unless, rows_of, last_point, IsTraceOf, HasCells, cells_at, cells_of, AreWordsOf, HasWords}
 use Rattle.unit_tree.specs.WellFormed.{resolution_of}
 use Rattle.unit_tree.specs.declared.ending.Ending.{Ending}
 use Rattle.unit_tree.specs.declared.system.Column.{Column}
 use Rattle.unit_tree.specs.declared.system.System.{System}
+use Rattle.unit_tree.proofs.AssignmentLaws.{undefined_faults}
 use Rattle.unit_tree.proofs.PositionLaws.{system_has_members}
-use Rattle.unit_tree.proofs.RunTraces.{one_trace}
+use Rattle.unit_tree.proofs.RunTraces.{one_each, one_trace}
 use Rattle.serial_run.specs.Advances.{Moved, EndsThere, Advanced}
-use Rattle.serial_run.specs.Lines.{PutsRow, header_of, lines_of, rows_here}
+use Rattle.serial_run.specs.Lines.{PutsRow, ShowsWords, header_of, lines_of, rows_here}
 use Rattle.serial_run.specs.Reports.{ReportsTrace, PutsFront, TellsFault}
 use Rattle.serial_run.specs.Sums.{sum_shown}
 use Rattle.serial_run.specs.declared.fault.CrewFault.{CrewFault}
@@ -220,3 +222,22 @@ going_on old new came is advanced = (subst (Advanced old new) is advanced).0
 
 pub ended_by : (old new : RunState) (came : Bool) → came ≡ false → Advanced old new came → Advanced old new false
 ended_by old new came is advanced = subst (Advanced old new) is advanced
+
+-- ---- The words of rows
+
+row_of_none : (point : Point) (ports : Ports) (row : Row) → row_unless None point ports ≡ Some row → filter_map (λ word. word) ports ≡ row.words
+row_of_none point ports row is = let same : record { point = point; words = filter_map (λ word. word) ports } ≡ row = cc in ap (λ (r : Row). r.words) same
+
+words_by : (plan : Planned) (stand : Stand) (row : Row) (fault : Option Ending) → Given plan → HasRows plan.system → HasWords plan.run stand.at → IsStand plan.run stand → port_fault plan.run stand.at.states stand.ports ≡ fault → row_unless fault stand.at.point stand.ports ≡ Some row → AllByRecursion (HasWord row.words) (columns_of plan.system)
+words_by plan stand row (Some ending) given rows words is_stand fault is = absurd (cc)
+words_by plan stand row None given rows words is_stand fault is =
+    let as_many = one_each (λ member state. AreWordsOf member.component.unit.states state) plan.run.members stand.at.states words in
+    let there = (undefined_faults plan.run given.order stand.at.states stand.ports given.ordered as_many is_stand).0 fault in
+    subst (λ words. AllByRecursion (HasWord words) (columns_of plan.system)) (row_of_none stand.at.point stand.ports row is)
+    (rows stand.at.states stand.ports (as_many ∙ ap (λ (run : Composition). length run.members) given.run) (subst (λ run. IsAssignment run stand.at.states stand.ports) given.run is_stand) there)
+
+shows_words : (plan : Planned) → Given plan → HasRows plan.system → ShowsWords plan
+shows_words plan given rows stand row words is_stand is = words_by plan stand row (port_fault plan.run stand.at.states stand.ports) given rows words is_stand refl is
+
+pub shows_lent : (plan lent other : Planned) → Given plan → lent ≡ plan → other ≡ plan → HasRows other.system → ShowsWords lent
+shows_lent plan lent other given lent_is other_is rows = subst ShowsWords (sym lent_is) (shows_words plan given (subst (λ (p : Planned). HasRows p.system) other_is rows))

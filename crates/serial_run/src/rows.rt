@@ -3,7 +3,7 @@ ghost use Rattle.std.specs.Prelude.{◌≡◌, ◌<◌, ◌≤◌, ◌^◌, leng
 ghost use Rattle.std.specs.List.{AllByRecursion};
 ghost use Rattle.std.specs.Io.KnownBytes.{Appends};
 ghost use Rattle.cosim_io.specs.Pieces.{AppendsPrefix};
-ghost use Rattle.serial_run.specs.Lines.{PutsRow};
+ghost use Rattle.serial_run.specs.Lines.{PutsRow, ShowsWords};
 ghost use Rattle.serial_run.specs.Reports.{TellsFault};
 ghost use Rattle.serial_run.specs.Sums.{IsWithin, word_shown, row_sum};
 ghost use Rattle.trace_core.specs.Runs.{Stands};
@@ -77,6 +77,7 @@ pub(crate) fn put_row<O: Sink>(
     requires stands { Stands run.now }
     requires rows { tally.old.rows < 100000 }
     requires few { length (columns_of plan.now.system) ≤ 2 ^ 32 }
+    requires words { ShowsWords plan.now }
     ensures { PutsRow plan.now run.now.stand (O.held out.old) (O.held out.new) (O.faults out.old) (O.faults out.new) tally.old tally.new result }
 {
     let Some(row) = run.row() else {

@@ -4,7 +4,7 @@ use Rattle.cosim_io.specs.Pieces.{AppendsPrefix}
 use Rattle.serial_run.specs.Lines.{header_of}
 use Rattle.serial_run.specs.Reports.{ReportsTrace}
 use Rattle.serial_run.specs.declared.report.Report.{Report}
-use Rattle.serial_run.proofs.RunEnds.{done_by, ended_by, front_come, front_header, front_none, given_of, going_on, header_is, on_err, opened_in, reports, row_put_in, work_bounded}
+use Rattle.serial_run.proofs.RunEnds.{done_by, ended_by, front_come, front_header, front_none, given_of, going_on, header_is, on_err, opened_in, reports, row_put_in, shows_lent, work_bounded}
 use Rattle.serial_run.proofs.RunKept.{Given, come_first, come_next, fewer_left, kept_by, number_within}
 use Rattle.serial_run.proofs.run.run_alone.Goals as goal
 
@@ -107,3 +107,15 @@ returns-clause-bounded g c =
     let done = done_by c.args.plan.value c.rows.run c.advance.new.run (g.O.Sink.held c.args.out.now) (g.O.Sink.held c.rows.out) (g.O.Sink.faults c.args.out.now) (g.O.Sink.faults c.rows.out) c.rows.tally given c.rows.invariant (ended_by c.rows.run c.advance.new.run c.advance.result c.rows-test.false c.advance.ensures.advanced) c.advance.ensures.stands in
     subst (λ (report : Report). report.own ≤ 2 * length c.args.plan.value.run.members * report.rows) (sym c.report.ensures)
     (work_bounded c.args.plan.value c.advance.new.run (g.O.Sink.held c.args.out.now) (g.O.Sink.held c.rows.out) c.rows.tally done)
+
+pub put_row-requires-clause-words : goal.put_row-requires-clause-words
+put_row-requires-clause-words g c =
+    let given : Given c.args.plan.value =
+    given_of c.args.plan.value c.deref-2.result.now c.deref-3.result.now c.deref-4.result.now c.order.result.now.places c.deref-2.ensures c.deref-3.ensures c.deref-4.ensures c.order.ensures.places c.instances-instances.ensures.bounded c.checked.ensures.run in
+    shows_lent c.args.plan.value c.deref-7.result.now c.deref.result.now given c.deref-7.ensures c.deref.ensures c.columns.ensures.rows
+
+pub put_row-requires-in-rows-clause-words : goal.put_row-requires-in-rows-clause-words
+put_row-requires-in-rows-clause-words g c =
+    let given : Given c.args.plan.value =
+    given_of c.args.plan.value c.deref-2.result.now c.deref-3.result.now c.deref-4.result.now c.order.result.now.places c.deref-2.ensures c.deref-3.ensures c.deref-4.ensures c.order.ensures.places c.instances-instances.ensures.bounded c.checked.ensures.run in
+    shows_lent c.args.plan.value c.deref-in-rows.result.now c.deref.result.now given c.deref-in-rows.ensures c.deref.ensures c.columns.ensures.rows
