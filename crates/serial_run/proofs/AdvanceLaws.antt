@@ -1,0 +1,206 @@
+-- How a run gets from one row to the next.
+use Rattle.std.proofs.Common.{◌≡◌, ◌⊎◌, ℕ, ◌+◌, Bool, true, false, List, [], ◌++◌, length, map, Option, Some, None, inl, inr, refl, sym, ap, subst, ◌∙◌, arith}
+use Rattle.std.specs.List.{count_by}
+use Rattle.std.proofs.lemmas.List.{length-map}
+use Rattle.trace_core.specs.Runs.{Cell, RunState, Stands, IsPhase, arrived, cells_of, cell_of, first_end, phase_at, phase_or, is_empty_cell, is_ended, ArePortsKnown}
+use Rattle.trace_core.specs.Settling.{IsRedoDue, Moves, Ends, Settled, with_redo}
+use Rattle.trace_core.specs.declared.phase.Phase.{Phase}
+use Rattle.trace_core.specs.declared.phase.Phase.TheVariants.{Trial, Redo, Ended}
+use Rattle.trace_core.specs.declared.phase.Settle.{Settle}
+use Rattle.trace_core.specs.declared.phase.Settle.TheVariants as settle
+use Rattle.unit_tree.specs.Compositions.{Composition}
+use Rattle.unit_tree.specs.Negotiation.{all_inputs}
+use Rattle.unit_tree.specs.Successor.{Position, proposed, agreed, trial_end, is_redone, successor, ends}
+use Rattle.unit_tree.specs.Trace.{Stand, AreWordsOf, cells_of_trial, cells_of_redo, cells_at}
+use Rattle.unit_tree.specs.declared.ending.Ending.{Ending}
+use Rattle.unit_tree.proofs.RunTraces.{one_each}
+use Rattle.serial_run.specs.Advances.{IsFresh, Moved, EndsThere, Advanced, filled, with_filled}
+use Rattle.serial_run.proofs.CellLaws.{wanted_are_steps, cells_ended, cells_redone, cells_tried}
+
+-- ---- The phase of a run that has made no step where it stands
+
+-- a trial of the proposal
+pub record IsTried (r : RunState) : Type 0 where
+  pub going : first_end r.plan.run r.stand ≡ None
+  pub phase : r.phase ≡ Trial (proposed r.plan.run r.stand.at r.stand.ports)
+  pub cells : r.cells ≡ map (cell_of r.stand.at.point.t (proposed r.plan.run r.stand.at r.stand.ports)) r.plan.run.members
+
+-- or the end
+pub record IsOver (r : RunState) (ending : Ending) : Type 0 where
+  pub over : first_end r.plan.run r.stand ≡ Some ending
+  pub phase : r.phase ≡ Ended ending
+  pub none : r.cells ≡ []
+
+abbrev pub By : RunState → Option Ending → Type 0
+By r (Some ending) = IsOver r ending
+By r None = IsTried r
+
+pub phase_by : (r : RunState) (end : Option Ending) → IsFresh r → first_end r.plan.run r.stand ≡ end → By r end
+phase_by r (Some ending) fresh is =
+    let phase : r.phase ≡ Ended ending = ap (λ (s : RunState). s.phase) fresh ∙ ap (λ end. phase_or end (proposed r.plan.run r.stand.at r.stand.ports)) is in
+    record { over = is; phase = phase; none = ap (λ (s : RunState). s.cells) fresh ∙ ap (cells_of r.plan.run r.stand.at.point.t) (ap (λ end. phase_or end (proposed r.plan.run r.stand.at r.stand.ports)) is) }
+phase_by r None fresh is =
+    let phase : r.phase ≡ Trial (proposed r.plan.run r.stand.at r.stand.ports) = ap (λ (s : RunState). s.phase) fresh ∙ ap (λ end. phase_or end (proposed r.plan.run r.stand.at r.stand.ports)) is in
+    record { going = is; phase = phase; cells = ap (λ (s : RunState). s.cells) fresh ∙ ap (cells_of r.plan.run r.stand.at.point.t) (ap (λ end. phase_or end (proposed r.plan.run r.stand.at r.stand.ports)) is) }
+
+tried_from : (r : RunState) (end : Option Ending) → By r end → ((ending : Ending) → r.phase ≡ Ended ending → ⊥) → IsTried r
+tried_from r None by not = by
+tried_from r (Some ending) by not = absurd (not ending by.phase)
+
+pub fresh_tried : (r : RunState) → IsFresh r → ((ending : Ending) → r.phase ≡ Ended ending → ⊥) → IsTried r
+fresh_tried r fresh not = tried_from r (first_end r.plan.run r.stand) (phase_by r (first_end r.plan.run r.stand) fresh refl) not
+
+pub trial_going : (r : RunState) → IsFresh r → ((ending : Ending) → r.phase ≡ Ended ending → ⊥) → is_ended r.phase ≡ false
+trial_going r fresh not = ap is_ended (fresh_tried r fresh not).phase
+
+over_from : (r : RunState) (end : Option Ending) (ending : Ending) → By r end → r.phase ≡ Ended ending → IsOver r ending
+over_from r None ending by is = absurd (differ (sym by.phase ∙ is))
+  where
+    differ : Trial (proposed r.plan.run r.stand.at r.stand.ports) ≡ Ended ending → ⊥
+    differ e = cc
+over_from r (Some end) ending by is = subst (IsOver r) (same (sym by.phase ∙ is)) by
+  where
+    same : Ended end ≡ Ended ending → end ≡ ending
+    same e = cc
+
+-- ---- The run is at its end already
+
+pub ended_as : (run : Composition) (stand : Stand) (phase : Phase) (ending : Ending) → IsPhase run stand phase [] → phase ≡ Ended ending → successor run stand.at stand.ports ≡ ends ending
+ended_as run stand (Ended end) ending is same = is.is ∙ ap ends (ending_same same)
+  where
+    ending_same : Ended end ≡ Ended ending → end ≡ ending
+    ending_same e = cc
+ended_as run stand (Trial h) ending is same = absurd (cc)
+ended_as run stand (Redo h) ending is same = absurd (cc)
+
+pub ends_already : (r : RunState) (ending : Ending) → IsFresh r → Stands r → r.phase ≡ Ended ending → Advanced r r false
+ends_already r ending fresh stands phase =
+    let over = over_from r (first_end r.plan.run r.stand) ending (phase_by r (first_end r.plan.run r.stand) fresh refl) phase in
+    let none : 0 ≡ cells_at r.plan.run r.stand = sym (cells_ended r.plan.run r.stand ending over.over) in
+    inr (record {
+      ending = ending;
+      ended = ended_as r.plan.run r.stand r.phase ending (subst (IsPhase r.plan.run r.stand r.phase) over.none stands.phase_is) phase;
+      is =
+          ap (λ phase. record r { phase = phase }) phase
+          ∙ ap (λ cells. record r { phase = Ended ending; cells = cells }) over.none
+          ∙ ap (λ own. record r { phase = Ended ending; cells = []; own = own }) (add-zero ∙ ap (λ n. r.own + n) none);
+    })
+  where
+    add-zero : r.own ≡ r.own + 0
+    add-zero = omega arith
+
+-- ---- From a phase whose steps are there
+
+-- a run at the stand of another, whose cells there are all made, comes from it
+moved_by : (r next : RunState) (phase : Phase) (cells : List Cell) (own : ℕ) → own ≡ r.own + cells_at r.plan.run r.stand → Moves (record r { phase = phase; cells = cells; own = own }) next → Moved r next
+moved_by r next phase cells own all moves = record {
+  goes = moves.goes;
+  is =
+      moves.is
+      ∙ ap (λ before. arrived r.plan r.opened next.stand before r.found own) (sym (ap (λ (s : RunState). s.before) moves.is))
+      ∙ ap (arrived r.plan r.opened next.stand next.before r.found) all;
+}
+
+ends_by : (r next : RunState) (phase : Phase) (cells : List Cell) (own : ℕ) → own ≡ r.own + cells_at r.plan.run r.stand → Ends (record r { phase = phase; cells = cells; own = own }) next → EndsThere r next
+ends_by r next phase cells own all end = record {
+  ending = end.ending;
+  ended = end.ended;
+  is = end.is ∙ ap (λ own. record r { phase = Ended end.ending; cells = []; own = own }) all;
+}
+
+-- a run where it stands, with all cells of the trial there, and the step to be made anew
+abbrev redo : RunState → RunState
+redo r = record r {
+  phase = Redo (agreed r.plan.run r.stand.at r.stand.ports);
+  cells = cells_of r.plan.run r.stand.at.point.t (Redo (agreed r.plan.run r.stand.at r.stand.ports));
+  own = r.own + cells_of_trial r.plan.run r.stand;
+}
+
+-- the step is made anew where a run stands
+pub record IsRedoneAt (r : RunState) : Type 0 where
+  pub going : first_end r.plan.run r.stand ≡ None
+  pub no_fault : trial_end r.plan.run r.stand.at r.stand.ports ≡ None
+  pub shorter : is_redone r.plan.run r.stand.at r.stand.ports ≡ true
+
+pub record IsRedone (r next : RunState) : Type 0 where
+  pub going : first_end r.plan.run r.stand ≡ None
+  pub no_fault : trial_end r.plan.run r.stand.at r.stand.ports ≡ None
+  pub shorter : is_redone r.plan.run r.stand.at r.stand.ports ≡ true
+  pub is : next ≡ redo r
+
+-- what settling tells of the next row
+abbrev pub ToRow : RunState → RunState → Settle → Type 0
+ToRow r next settle.Row = Advanced r next true
+ToRow r next settle.Ended = Advanced r next false
+ToRow r next settle.Redo = IsRedone r next
+
+abbrev pub ToEnd : RunState → RunState → Settle → Type 0
+ToEnd r next settle.Row = Advanced r next true
+ToEnd r next settle.Ended = Advanced r next false
+ToEnd r next settle.Redo = ⊥
+
+as_many : (r : RunState) → Stands r → length r.stand.at.states ≡ length r.plan.run.members
+as_many r stands = one_each (λ member state. AreWordsOf member.component.unit.states state) r.plan.run.members r.stand.at.states stands.words
+
+-- ---- The trial
+
+trial_cells : (r : RunState) → IsTried r → Stands r → r.own + count_by is_empty_cell r.cells ≡ r.own + cells_of_trial r.plan.run r.stand
+trial_cells r tried stands =
+    ap (λ cells. r.own + count_by is_empty_cell cells) tried.cells
+    ∙ ap (λ n. r.own + n) (wanted_are_steps r.plan.run r.stand (proposed r.plan.run r.stand.at r.stand.ports) (as_many r stands))
+
+all_tried : (r : RunState) → IsTried r → Stands r → (IsRedoDue (with_filled r r.cells []) → ⊥) → r.own + count_by is_empty_cell r.cells ≡ r.own + cells_at r.plan.run r.stand
+all_tried r tried stands no_redo =
+    trial_cells r tried stands
+    ∙ ap (λ n. r.own + n) (sym (cells_tried r.plan.run r.stand tried.going (λ no_fault shorter. no_redo (record { h = proposed r.plan.run r.stand.at r.stand.ports; trial = tried.phase; no_fault = no_fault; shorter = shorter }))))
+
+from_trial : (r next : RunState) (told : Settle) → IsTried r → Stands r → Settled (with_filled r r.cells []) next told → ToRow r next told
+from_trial r next settle.Row tried stands (moves, known) =
+    (moved_by r next r.phase (map filled r.cells ++ []) (r.own + count_by is_empty_cell r.cells) (all_tried r tried stands moves.no_redo) moves, known)
+from_trial r next settle.Ended tried stands (inl (moves, unknown)) =
+    inl (moved_by r next r.phase (map filled r.cells ++ []) (r.own + count_by is_empty_cell r.cells) (all_tried r tried stands moves.no_redo) moves, unknown)
+from_trial r next settle.Ended tried stands (inr end) =
+    inr (ends_by r next r.phase (map filled r.cells ++ []) (r.own + count_by is_empty_cell r.cells) (all_tried r tried stands end.no_redo) end)
+from_trial r next settle.Redo tried stands (due, is) = record {
+  going = tried.going;
+  no_fault = due.no_fault;
+  shorter = due.shorter;
+  is = is ∙ ap (λ own. record r { phase = Redo (agreed r.plan.run r.stand.at r.stand.ports); cells = cells_of r.plan.run r.stand.at.point.t (Redo (agreed r.plan.run r.stand.at r.stand.ports)); own = own }) (trial_cells r tried stands);
+}
+
+pub settled_trial : (r now next : RunState) (told : Settle) → IsFresh r → ((ending : Ending) → r.phase ≡ Ended ending → ⊥) → Stands r → now ≡ with_filled r r.cells [] → Settled now next told → ToRow r next told
+settled_trial r now next told fresh going stands is settled =
+    from_trial r next told (fresh_tried r fresh going) stands (subst (λ now. Settled now next told) is settled)
+
+-- ---- The step made anew
+
+redo_cells : (r : RunState) → IsRedoneAt r → Stands r → r.own + cells_of_trial r.plan.run r.stand + count_by is_empty_cell (redo r).cells ≡ r.own + cells_at r.plan.run r.stand
+redo_cells r redone stands =
+    ap (λ n. r.own + cells_of_trial r.plan.run r.stand + n) (wanted_are_steps r.plan.run r.stand (agreed r.plan.run r.stand.at r.stand.ports) (as_many r stands))
+    ∙ omega (arith, cells_redone r.plan.run r.stand redone.going redone.no_fault redone.shorter)
+
+no_second : (r : RunState) → IsRedoDue (with_filled (redo r) (redo r).cells []) → ⊥
+no_second r due = differ due.trial
+  where
+    differ : Redo (agreed r.plan.run r.stand.at r.stand.ports) ≡ Trial due.h → ⊥
+    differ e = cc
+
+from_redo : (r next : RunState) (told : Settle) → IsRedoneAt r → Stands r → Settled (with_filled (redo r) (redo r).cells []) next told → ToEnd r next told
+from_redo r next settle.Row redone stands (moves, known) =
+    (moved_by r next (redo r).phase (map filled (redo r).cells ++ []) ((redo r).own + count_by is_empty_cell (redo r).cells) (redo_cells r redone stands) moves, known)
+from_redo r next settle.Ended redone stands (inl (moves, unknown)) =
+    inl (moved_by r next (redo r).phase (map filled (redo r).cells ++ []) ((redo r).own + count_by is_empty_cell (redo r).cells) (redo_cells r redone stands) moves, unknown)
+from_redo r next settle.Ended redone stands (inr end) =
+    inr (ends_by r next (redo r).phase (map filled (redo r).cells ++ []) ((redo r).own + count_by is_empty_cell (redo r).cells) (redo_cells r redone stands) end)
+from_redo r next settle.Redo redone stands (due, is) = no_second r due
+
+pub settled_redo : (r second now next : RunState) (told : Settle) → IsRedone r second → Stands r → now ≡ with_filled second second.cells [] → Settled now next told → ToEnd r next told
+settled_redo r second now next told redone stands is settled =
+    from_redo r next told (record { going = redone.going; no_fault = redone.no_fault; shorter = redone.shorter }) stands
+    (subst (λ second. Settled (with_filled second second.cells []) next told) redone.is (subst (λ now. Settled now next told) is settled))
+
+-- and where no row is told, it has ended
+pub no_row : (r next : RunState) (told : Settle) → ToEnd r next told → (told ≡ settle.Row → ⊥) → Advanced r next false
+no_row r next settle.Row to not = absurd (not refl)
+no_row r next settle.Ended to not = to
+no_row r next settle.Redo to not = absurd to

@@ -1,0 +1,5 @@
+pub mod Advances
+pub mod Bounds
+pub mod Lines
+pub mod Reports
+pub mod Sums

@@ -1,0 +1,40 @@
+//! From one row to the next.
+ghost use Rattle.std.specs.Prelude.{◌≡◌, [], length};
+ghost use Rattle.serial_run.specs.Advances.{Advanced, IsFresh, with_filled};
+ghost use Rattle.trace_core.specs.Runs.{Stands};
+
+use trace_core::{Phase, Run, Settle};
+
+/// Makes all steps that the phase wants.
+fn step_all(run: &mut Run, instances: u32)
+    requires { instances ≡ length run.old.cells }
+    ensures { run.new ≡ with_filled run.old run.old.cells [] }
+{
+    for instance in 0..instances {
+        if run.wants(instance).is_some() {
+            run.compute(instance);
+        }
+    }
+}
+
+/// Goes on from a row: makes the step, and makes it anew where this is asked. The answer tells whether there is a next row.
+pub(crate) fn advance(run: &mut Run, instances: u32) -> bool
+    requires instances { instances ≡ length run.old.plan.run.members }
+    requires fresh { IsFresh run.old }
+    requires stands { Stands run.old }
+    ensures advanced { Advanced run.old run.new result }
+    ensures stands { Stands run.new }
+{
+    if let Phase::Ended(_) = run.phase() {
+        return false;
+    }
+    step_all(run, instances);
+    match run.settle() {
+        Settle::Row => true,
+        Settle::Ended => false,
+        Settle::Redo => {
+            step_all(run, instances);
+            matches!(run.settle(), Settle::Row)
+        }
+    }
+}

@@ -1,0 +1,22 @@
+use unit_tree::{Ending, Point};
+
+/// What a run that came to its end reports. The counts behind `own` are those of a run with threads, and 0 without.
+#[derive(Clone, Copy, Debug, PartialEq, Eq)]
+pub struct Report {
+    /// How the trace ended.
+    pub outcome: Ending,
+    /// The last point of the trace, its time in ticks.
+    pub last: Point,
+    /// How many rows were put.
+    pub rows: u64,
+    /// The sum of all words that were put. A truth value counts 0 or 1.
+    pub sum: i128,
+    /// How many steps of instances were taken from answers of others.
+    pub found: u64,
+    /// How many steps of instances the run made itself.
+    pub own: u64,
+    pub tickets: u64,
+    pub posted: u64,
+    pub back: u64,
+    pub lapsed: u64,
+}

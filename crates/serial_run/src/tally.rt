@@ -1,0 +1,32 @@
+ghost use Rattle.std.specs.Prelude.{◌≡◌, ◌<◌, ◌+◌, ◌*◌, ◌^◌, pos, ◌+ℤ◌};
+ghost use Rattle.serial_run.specs.Sums.{IsWithin};
+
+/// How many rows were put, and the sum of the words that they show.
+#[derive(Clone, Copy, Debug)]
+pub(crate) struct Tally {
+    pub(crate) rows: u64,
+    pub(crate) sum: i128,
+    ghost in_bounds: { IsWithin (rows * 2 ^ 95) sum },
+}
+
+impl Tally {
+    pub(crate) fn new() -> Tally
+        ensures rows { result.rows ≡ 0 }
+        ensures sum { result.sum ≡ pos 0 }
+    {
+        Tally { rows: 0, sum: 0 }
+    }
+
+    /// Counts a row, whose words have this sum.
+    pub(crate) fn count(&mut self, sum: i128)
+        requires rows { self.old.rows < 100000 }
+        requires bound { IsWithin (2 ^ 95) sum }
+        ensures rows { self.new.rows ≡ self.old.rows + 1 }
+        ensures sum { self.new.sum ≡ self.old.sum +ℤ sum }
+    {
+        *self = Tally {
+            rows: self.rows + 1,
+            sum: self.sum + sum,
+        };
+    }
+}
