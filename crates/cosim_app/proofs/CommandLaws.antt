@@ -2,9 +2,6 @@
 use Rattle.std.proofs.Common.{◌≡◌, ℕ, ◌+◌, ◌≤◌, ◌⊎◌, Bool, true, false, List, [], ◌∷◌, Some, refl, sym, ap, subst, ◌∙◌, inl, inr, arith}
 use Rattle.std.specs.Prelude.{codes}
 use Rattle.std.specs.Str.{bytes_eq}
-use Rattle.first_form.specs.Reading.{IsAnswered}
-use Rattle.first_form.proofs.AnswerLemmas.{answered, says_one, not_both, refused_once}
-use Rattle.text_laws.proofs.ReadIsPrintable.{read_is_printable}
 use Rattle.unit_accept.specs.Accepting.{IsAcceptedAs, IsRefusedAt, source_line}
 use Rattle.unit_accept.proofs.Acceptance.{judged_once, has_source}
 use Rattle.unit_tree.specs.Sites.{sites_of}
@@ -19,8 +16,7 @@ use Rattle.cosim_app.specs.declared.command_words.Command.{Command}
 use Rattle.cosim_app.specs.declared.command_words.Command.TheVariants.{Run, Check, Print}
 use Rattle.cosim_app.specs.declared.status.Status.{Status}
 use Rattle.cosim_app.specs.declared.status.Status.TheVariants as status
-use Rattle.cosim_app.proofs.FormLaws.{runnable}
-use Rattle.cosim_app.proofs.TraceExists.{trace_of_runnable, traces_same}
+use Rattle.cosim_app.proofs.TraceLaws.{one_outcome, whole_of}
 
 -- ---- Words
 
@@ -68,13 +64,6 @@ served_unrefused Print text answer serves is = done_is_no_refusal (sym (ap (λ (
 
 -- ---- Some answer
 
-run_answered_by : (text : List ℕ) → IsAnswered text → (answer : Answer) × CommandAnswers Run text answer
-run_answered_by text (inl (system, accepted)) =
-    let trace = trace_of_runnable system (runnable text system accepted) in
-    (run_answer system trace.rows trace.last trace.ending, inr (record { system = system; accepted = accepted; rows = trace.rows; last = trace.last; ending = trace.ending; trace = trace.is_trace; is = refl }))
-run_answered_by text (inr refusal) =
-    (refused_answer refusal.0 refusal.1, inl (record { line = refusal.0; rule = refusal.1; refused = refusal.2; is = refl }))
-
 -- the version of what is accepted is 1, or the text is of the version that is not run yet
 header_line : (text : List ℕ) (system : System) (lines : List ℕ) → IsAcceptedAs text system lines → system.version ≡ 2 → (line : ℕ) × IsOfUnservedVersion text line 25
 header_line text system lines accepted version =
@@ -88,6 +77,14 @@ check_answered text system lines accepted (inr version) =
     let at = header_line text system lines accepted version in
     (refused_answer at.0 25, inl (record { line = at.0; rule = 25; refused = inr at.1; is = refl }))
 
+run_answered : (text : List ℕ) (system : System) (lines : List ℕ) → IsAcceptedAs text system lines → (system.version ≡ 1) ⊎ (system.version ≡ 2) → (answer : Answer) × CommandAnswers Run text answer
+run_answered text system lines accepted (inl version) =
+    let trace = one_outcome system (record { whole = whole_of text system lines accepted; version = version }) in
+    (run_answer system trace.rows trace.last trace.ending, inr (record { system = system; lines = lines; accepted = accepted; version = version; rows = trace.rows; last = trace.last; ending = trace.ending; trace = trace.is_trace; is = refl }))
+run_answered text system lines accepted (inr version) =
+    let at = header_line text system lines accepted version in
+    (refused_answer at.0 25, inl (record { line = at.0; rule = 25; refused = inr at.1; is = refl }))
+
 judged_answered : (command : Command) (text : List ℕ) → ((line rule : ℕ) → IsRefusedAt text line rule → RefusedBy command text line rule) → ((system : System) (lines : List ℕ) → IsAcceptedAs text system lines → (answer : Answer) × CommandAnswers command text answer) → (answer : Answer) × CommandAnswers command text answer
 judged_answered command text refuses serves = by (judged_once text).judged
   where
@@ -97,10 +94,13 @@ judged_answered command text refuses serves = by (judged_once text).judged
 
 -- a command has an answer for each text
 pub command_answered : (command : Command) (text : List ℕ) → (answer : Answer) × CommandAnswers command text answer
-command_answered Run text = run_answered_by text (answered text)
+command_answered Run text =
+    judged_answered Run text (λ line rule refused. inl refused) (λ system lines accepted.
+    let version = (whole_of text system lines accepted).ranged.version in
+    run_answered text system lines accepted (one_or_two system.version version.0 version.1))
 command_answered Check text =
     judged_answered Check text (λ line rule refused. inl refused) (λ system lines accepted.
-    let version = (read_is_printable text system accepted.reads.reads).ranged.version in
+    let version = (whole_of text system lines accepted).ranged.version in
     check_answered text system lines accepted (one_or_two system.version version.0 version.1))
 command_answered Print text =
     judged_answered Print text (λ line rule refused. refused)
@@ -111,10 +111,13 @@ command_answered Print text =
 -- two runs of a text answer the same
 runs_same : (text : List ℕ) (one other : Answer) (a : AnswersRun text one) (b : AnswersRun text other) → one ≡ other
 runs_same text one other a b =
-    let same_system : a.system ≡ b.system = says_one text a.system b.system a.accepted b.accepted in
+    let same_system : a.system ≡ b.system = ((judged_once text).one_system a.system b.system a.lines b.lines a.accepted b.accepted).0 in
     let trace : IsTraceOf b.system a.rows a.last a.ending = subst (λ (s : System). IsTraceOf s a.rows a.last a.ending) same_system a.trace in
-    let same = traces_same b.system (runnable text b.system b.accepted) a.rows b.rows a.last b.last a.ending b.ending trace b.trace in
-    a.is ∙ ap (λ s. run_answer s a.rows a.last a.ending) same_system ∙ ap (λ rows. run_answer b.system rows a.last a.ending) same.0 ∙ ap (λ last. run_answer b.system b.rows last a.ending) same.1 ∙ ap (run_answer b.system b.rows b.last) same.2 ∙ sym b.is
+    let one = one_outcome b.system (record { whole = whole_of text b.system b.lines b.accepted; version = b.version }) in
+    let first = one.is_only a.rows a.last a.ending trace in
+    let second = one.is_only b.rows b.last b.ending b.trace in
+    a.is ∙ ap (λ s. run_answer s a.rows a.last a.ending) same_system ∙ ap (λ rows. run_answer b.system rows a.last a.ending) (first.0 ∙ sym second.0)
+    ∙ ap (λ last. run_answer b.system b.rows last a.ending) (first.1 ∙ sym second.1) ∙ ap (run_answer b.system b.rows b.last) (first.2 ∙ sym second.2) ∙ sym b.is
 
 -- texts are served with one answer
 served_same : (command : Command) (text : List ℕ) (one other : Answer) → Serves command text one → Serves command text other → one ≡ other
@@ -132,24 +135,30 @@ unserved_same text line by other rule a b =
     (some_is line other (sym a.at ∙ ap (λ lines. source_line lines 1) same.1 ∙ b.at), a.by ∙ sym b.by)
 
 -- and refused at one line by one rule
+served_or_refused : (text : List ℕ) (line by other rule : ℕ) → IsRefusedAt text line by ⊎ IsOfUnservedVersion text line by → IsRefusedAt text other rule ⊎ IsOfUnservedVersion text other rule → (line ≡ other) × (by ≡ rule)
+served_or_refused text line by other rule (inl a) (inl b) = (judged_once text).one_refusal line by other rule a b
+served_or_refused text line by other rule (inl a) (inr b) = absurd ((judged_once text).not_both b.system b.lines line by b.accepted a)
+served_or_refused text line by other rule (inr a) (inl b) = absurd ((judged_once text).not_both a.system a.lines other rule a.accepted b)
+served_or_refused text line by other rule (inr a) (inr b) = unserved_same text line by other rule a b
+
 refused_same : (command : Command) (text : List ℕ) (line by other rule : ℕ) → RefusedBy command text line by → RefusedBy command text other rule → (line ≡ other) × (by ≡ rule)
-refused_same Run text line by other rule a b = refused_once text line by other rule a b
+refused_same Run text line by other rule a b = served_or_refused text line by other rule a b
 refused_same Print text line by other rule a b = (judged_once text).one_refusal line by other rule a b
-refused_same Check text line by other rule (inl a) (inl b) = (judged_once text).one_refusal line by other rule a b
-refused_same Check text line by other rule (inl a) (inr b) = absurd ((judged_once text).not_both b.system b.lines line by b.accepted a)
-refused_same Check text line by other rule (inr a) (inl b) = absurd ((judged_once text).not_both a.system a.lines other rule a.accepted b)
-refused_same Check text line by other rule (inr a) (inr b) = unserved_same text line by other rule a b
+refused_same Check text line by other rule a b = served_or_refused text line by other rule a b
 
 one_and_two : (one other : ℕ) → one ≡ other → one ≡ 1 → other ≡ 2 → ⊥
 one_and_two one other same first second = omega (arith, same, first, second)
 
+unserved_or_served : (text : List ℕ) (line rule : ℕ) (system : System) (lines : List ℕ) → IsAcceptedAs text system lines → system.version ≡ 1 → IsRefusedAt text line rule ⊎ IsOfUnservedVersion text line rule → ⊥
+unserved_or_served text line rule system lines accepted version (inl refused) = (judged_once text).not_both system lines line rule accepted refused
+unserved_or_served text line rule system lines accepted version (inr unserved) =
+    let same = ((judged_once text).one_system system unserved.system lines unserved.lines accepted unserved.accepted).0 in
+    one_and_two system.version unserved.system.version (ap (λ (s : System). s.version) same) version unserved.version
+
 refused_or_served : (command : Command) (text : List ℕ) (line rule : ℕ) (answer : Answer) → RefusedBy command text line rule → Serves command text answer → ⊥
-refused_or_served Run text line rule answer refused serves = not_both text serves.system line rule serves.accepted refused
+refused_or_served Run text line rule answer refused serves = unserved_or_served text line rule serves.system serves.lines serves.accepted serves.version refused
 refused_or_served Print text line rule answer refused serves = (judged_once text).not_both serves.system serves.lines line rule serves.accepted refused
-refused_or_served Check text line rule answer (inl refused) serves = (judged_once text).not_both serves.system serves.lines line rule serves.accepted refused
-refused_or_served Check text line rule answer (inr unserved) serves =
-    let same = ((judged_once text).one_system serves.system unserved.system serves.lines unserved.lines serves.accepted unserved.accepted).0 in
-    one_and_two serves.system.version unserved.system.version (ap (λ (s : System). s.version) same) serves.version unserved.version
+refused_or_served Check text line rule answer refused serves = unserved_or_served text line rule serves.system serves.lines serves.accepted serves.version refused
 
 -- a command has no two answers for a text
 pub answers_same : (command : Command) (text : List ℕ) (one other : Answer) → CommandAnswers command text one → CommandAnswers command text other → one ≡ other

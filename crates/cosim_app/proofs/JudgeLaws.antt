@@ -3,81 +3,26 @@ use Rattle.std.proofs.Common.{◌≡◌, ℕ, ◌+◌, ◌<◌, ◌≤◌, ◌�
 use Rattle.std.specs.Prelude.{IfSome}
 use Rattle.std.specs.Io.KnownBytes.{Appends, IsAtEnd}
 use Rattle.std.proofs.KnownBytes.{Appends-nil}
-use Rattle.first_form.specs.Reading.{IsAccepted}
-use Rattle.first_form.proofs.ReadingLemmas.{refused_long}
 use Rattle.unit_accept.specs.Accepting.{IsAcceptedAs, source_line}
 use Rattle.unit_accept.proofs.Acceptance.{as_many}
-use Rattle.text_laws.proofs.ReadIsPrintable.{read_is_printable}
-use Rattle.unit_tree.proofs.EventLaws.{one_or_two}
 use Rattle.unit_text.proofs.ReadingLaws.{long_refused}
 use Rattle.unit_tree.specs.Texts.{text_limit}
 use Rattle.unit_tokens.proofs.LineLemmas.{length_le_size_of}
 use Rattle.unit_tree.specs.Lines.{size_of}
-use Rattle.unit_tree.specs.declared.ending.Ending.{Ending}
-use Rattle.unit_tree.specs.declared.ending.Ending.TheVariants.{Completed, RowBudget, ZeroBudget, UnitFault, StepRefused}
 use Rattle.unit_tree.specs.declared.system.System.{System}
 use Rattle.cosim_io.specs.Pieces.{AppendsPrefix, ConsumesExactly}
 use Rattle.cosim_io.proofs.PieceLemmas.{AppendsPrefix-nil, AppendsPrefix-whole}
-use Rattle.cosim_app.specs.Answer.{Answer, IsOfUnservedVersion, RefusedBy, Serves, run_answer, refused_answer, accepted_answer, printed_text, printed_answer, status_of}
+use Rattle.cosim_app.specs.Answer.{Answer, IsOfUnservedVersion, RefusedBy, Serves, refused_answer, accepted_answer, printed_text, printed_answer}
 use Rattle.cosim_app.specs.declared.command_words.Command.{Command}
 use Rattle.cosim_app.specs.declared.command_words.Command.TheVariants.{Run, Check, Print}
 use Rattle.cosim_app.specs.Judgement.{PutsAnswer, PutsFront, PutsPiece, TellsAccepted, IsOwn, JudgesText, JudgesInput, Refuses}
-use Rattle.cosim_app.specs.Notes.{ending_note, refused_note}
-use Rattle.cosim_app.proofs.CommandLaws.{command_answered, ends_unrefused}
-use Rattle.cosim_app.specs.Runnable.{PutsTrace}
-use Rattle.cosim_app.specs.declared.fault.RunEnd.{RunEnd}
-use Rattle.cosim_app.specs.declared.fault.RunFault.{RunFault}
+use Rattle.cosim_app.specs.Notes.{refused_note}
+use Rattle.cosim_app.proofs.CommandLaws.{command_answered}
 use Rattle.cosim_app.specs.declared.status.Status.{Status}
 use Rattle.cosim_app.specs.declared.status.Status.TheVariants as status
 use Rattle.cosim_app.specs.declared.verdict.Verdict.{Verdict}
 use Rattle.cosim_app.specs.declared.verdict.Verdict.TheVariants as verdict
-use Rattle.cosim_app.proofs.FormLaws.{runnable}
-use Rattle.cosim_app.proofs.TraceExists.{trace_of_runnable}
-
--- a run that ended has put the answer
-pub puts_answer : (text : List ℕ) (system : System) (held held' : Option (List ℕ)) (result : Result RunEnd RunFault) (end : RunEnd) (given : Status) (note : List ℕ) → IsAccepted text system → PutsTrace system held held' result → result ≡ Ok end → given ≡ status_of end.ending → note ≡ ending_note system end.ending end.last → PutsAnswer Run text held held' given note
-puts_answer text system held held' result end given note accepted puts is given_is note_is =
-    let trace = trace_of_runnable system (runnable text system accepted) in
-    let ended = subst (PutsTrace system held held') is puts in
-    let done = ended.whole trace.rows trace.last trace.ending trace.is_trace in
-    record {
-      answer = run_answer system trace.rows trace.last trace.ending;
-      is = inr (record { system = system; accepted = accepted; rows = trace.rows; last = trace.last; ending = trace.ending; trace = trace.is_trace; is = refl });
-      out = done.0;
-      notes = note_is ∙ ap (λ ending. ending_note system ending end.last) done.1 ∙ ap (ending_note system trace.ending) done.2;
-      same_status = given_is ∙ ap status_of done.1;
-    }
-
--- a run that was given up has put a front of the answer
-pub puts_front : (text : List ℕ) (system : System) (held held' : Option (List ℕ)) (result : Result RunEnd RunFault) (fault : RunFault) → IsAccepted text system → PutsTrace system held held' result → result ≡ Err fault → PutsFront Run text held held'
-puts_front text system held held' result fault accepted puts is =
-    let trace = trace_of_runnable system (runnable text system accepted) in
-    let given_up = subst (PutsTrace system held held') is puts in
-    record {
-      answer = run_answer system trace.rows trace.last trace.ending;
-      is = inr (record { system = system; accepted = accepted; rows = trace.rows; last = trace.last; ending = trace.ending; trace = trace.is_trace; is = refl });
-      front = given_up.front trace.rows trace.last trace.ending trace.is_trace;
-    }
-
--- and so has one that ended, as far as its output goes
-pub puts_front_of : (text : List ℕ) (system : System) (held held' : Option (List ℕ)) (result : Result RunEnd RunFault) (end : RunEnd) → IsAccepted text system → PutsTrace system held held' result → result ≡ Ok end → PutsFront Run text held held'
-puts_front_of text system held held' result end accepted puts is =
-    let trace = trace_of_runnable system (runnable text system accepted) in
-    let ended = subst (PutsTrace system held held') is puts in
-    let done = ended.whole trace.rows trace.last trace.ending trace.is_trace in
-    record {
-      answer = run_answer system trace.rows trace.last trace.ending;
-      is = inr (record { system = system; accepted = accepted; rows = trace.rows; last = trace.last; ending = trace.ending; trace = trace.is_trace; is = refl });
-      front = AppendsPrefix-whole held held' (run_answer system trace.rows trace.last trace.ending).out done.0;
-    }
-
--- the statuses of a trace's ends
-pub ends_own : (ending : Ending) (given : Status) → given ≡ status_of ending → IsOwn given
-ends_own Completed given is = subst IsOwn (sym is) tt
-ends_own RowBudget given is = subst IsOwn (sym is) tt
-ends_own ZeroBudget given is = subst IsOwn (sym is) tt
-ends_own (StepRefused instance asked accepted) given is = subst IsOwn (sym is) tt
-ends_own (UnitFault instance place fault) given is = subst IsOwn (sym is) tt
+use Rattle.cosim_app.proofs.TraceLaws.{version_is_one, whole_of}
 
 -- nothing was put yet
 pub puts_nothing : (command : Command) (text : List ℕ) (held : Option (List ℕ)) → PutsFront command text held held
@@ -120,7 +65,7 @@ too_long (Some text) (Some rest) taken =
 
 -- by each command
 refused_as_long : (command : Command) (text : List ℕ) → text_limit < size_of text → RefusedBy command text 1 2
-refused_as_long Run text long = refused_long text long
+refused_as_long Run text long = inl (inl (long_refused text long))
 refused_as_long Check text long = inl (inl (long_refused text long))
 refused_as_long Print text long = inl (long_refused text long)
 
@@ -191,13 +136,6 @@ puts_whole command text held held' faults faults' answer bytes verdict.NoMemory 
     (subst (PutsFront command text held) (sym puts.0) (puts_nothing command text held), puts.1)
 puts_whole command text held held' faults faults' answer bytes verdict.ReadFault serves out notes done puts = absurd puts
 
-version_is_one : (version : ℕ) → 1 ≤ version → version ≤ 2 → (version ≡ 2 → ⊥) → version ≡ 1
-version_is_one version least most not = by (one_or_two version least most)
-  where
-    by : (version ≡ 1) ⊎ (version ≡ 2) → version ≡ 1
-    by (inl is) = is
-    by (inr is) = absurd (not is)
-
 -- a text that is accepted, by the version of its system
 pub checks_accepted : (text : List ℕ) (system : System) (lines : List ℕ) (header : ℕ) (held held' : Option (List ℕ)) (faults faults' : ℕ) (v : Verdict) → IsAcceptedAs text system lines → source_line lines 1 ≡ Some header → TellsAccepted system.version header held held' faults faults' v → JudgesText Check text held held' faults faults' v
 checks_accepted text system lines header held held' faults faults' v accepted at (inl (version, refusal, held_is, faults_is)) =
@@ -205,7 +143,7 @@ checks_accepted text system lines header held held' faults faults' v accepted at
     subst (λ h. JudgesText Check text held h faults faults' v) (sym held_is)
     (subst (λ f. JudgesText Check text held held faults f v) (sym faults_is) (refuses Check text held faults header 25 v (inr unserved) refusal))
 checks_accepted text system lines header held held' faults faults' v accepted at (inr (other, puts)) =
-    let version = (read_is_printable text system accepted.reads.reads).ranged.version in
+    let version = (whole_of text system lines accepted).ranged.version in
     puts_whole Check text held held' faults faults' accepted_answer accepted_answer.out v
     (record { system = system; lines = lines; accepted = accepted; version = version_is_one system.version version.0 version.1 other; is = refl }) refl refl refl puts
 

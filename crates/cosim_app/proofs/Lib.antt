@@ -1,12 +1,7 @@
 pub mod AnswerLaws
 pub mod CallLaws
 pub mod CommandLaws
-pub mod FormLaws
-pub mod Going
 pub mod JudgeLaws
-pub mod OneLemmas
-pub mod RowsKept
-pub mod RowsLaws
-pub mod RunnableLaws
-pub mod TraceExists
+pub mod RunLaws
+pub mod TraceLaws
 pub mod WordLaws

@@ -1,17 +1,18 @@
 -- Answer: what the program puts out and notes, and how it ends, for the words of a command line and the bytes
 -- of its input.
 use Rattle.std.specs.Prelude.{◌≡◌, ℕ, List, [], ◌++◌, Some, codes, ◌⊎◌}
-use Rattle.first_form.specs.Reading.{IsAccepted, IsRefused}
 use Rattle.super_time.specs.declared.point.Point.{Point}
+use Rattle.trace_csv.specs.TraceText.{trace_text}
 use Rattle.unit_accept.specs.Accepting.{IsAcceptedAs, IsRefusedAt, source_line}
 use Rattle.unit_tree.specs.Canonical.{canonical_text}
+use Rattle.unit_tree.specs.Plain.{plain_form}
 use Rattle.unit_tree.specs.Trace.{Row, IsTraceOf}
+use Rattle.unit_tree.specs.WellFormed.{resolution_of}
 use Rattle.unit_tree.specs.declared.ending.Ending.{Ending}
 use Rattle.unit_tree.specs.declared.ending.Ending.TheVariants.{Completed, RowBudget, ZeroBudget, UnitFault, StepRefused}
 use Rattle.unit_tree.specs.declared.system.System.{System}
 use Rattle.cosim_app.specs.Commands.{words_of, HaveNoForm}
-use Rattle.cosim_app.specs.TraceText.{line_end, trace_text}
-use Rattle.cosim_app.specs.Notes.{usage_note, refused_note, ending_note}
+use Rattle.cosim_app.specs.Notes.{line_end, usage_note, refused_note, ending_note}
 use Rattle.cosim_app.specs.declared.command_words.Command.{Command}
 use Rattle.cosim_app.specs.declared.command_words.Command.TheVariants.{Run, Check, Print}
 use Rattle.cosim_app.specs.declared.status.Status.{Status}
@@ -35,22 +36,20 @@ status_of ZeroBudget = status.ZeroBudget
 status_of (UnitFault instance place fault) = status.UnitFault
 status_of (StepRefused instance asked accepted) = status.StepRefused
 
--- The text of the rows of a trace, and how and where it ended.
+-- What is put for the rows of a trace: the text of the trace.
+unfoldable pub traced_text : System → List Row → List ℕ
+traced_text system rows = trace_text system rows
+
+-- What is noted of its end, by the names in what is run of the system, and with times in seconds as in the trace.
+unfoldable pub traced_note : System → Ending → Point → List ℕ
+traced_note system ending last = ending_note (plain_form system) (resolution_of system) ending last
+
+-- The text of a trace, and how and where it ended.
 abbrev pub run_answer : System → List Row → Point → Ending → Answer
 run_answer system rows last ending =
-    record { out = trace_text system rows; notes = ending_note system ending last; status = status_of ending }
+    record { out = traced_text system rows; notes = traced_note system ending last; status = status_of ending }
 
 -- ---- What each command answers
-
--- A text that is accepted is answered by its trace.
-pub record AnswersRun (text : List ℕ) (answer : Answer) : Type 0 where
-  pub system : System
-  pub accepted : IsAccepted text system
-  pub rows : List Row
-  pub last : Point
-  pub ending : Ending
-  pub trace : IsTraceOf system rows last ending
-  pub is : answer ≡ run_answer system rows last ending
 
 -- The text keeps all rules, and is of the version that is not served yet, which is said of its header.
 pub record IsOfUnservedVersion (text : List ℕ) (line rule : ℕ) : Type 0 where
@@ -60,6 +59,18 @@ pub record IsOfUnservedVersion (text : List ℕ) (line rule : ℕ) : Type 0 wher
   pub version : system.version ≡ 2
   pub at : source_line lines 1 ≡ Some line
   pub by : rule ≡ 25
+
+-- A text of version 1 that keeps all rules is answered by the trace of its system.
+pub record AnswersRun (text : List ℕ) (answer : Answer) : Type 0 where
+  pub system : System
+  pub lines : List ℕ
+  pub accepted : IsAcceptedAs text system lines
+  pub version : system.version ≡ 1
+  pub rows : List Row
+  pub last : Point
+  pub ending : Ending
+  pub trace : IsTraceOf system rows last ending
+  pub is : answer ≡ run_answer system rows last ending
 
 abbrev pub accepted_answer : Answer
 accepted_answer = record { out = codes "accepted" ++ line_end; notes = []; status = status.Done }
@@ -94,7 +105,7 @@ Serves Print text answer = AnswersPrint text answer
 
 -- The line and the rule by which a command refuses a text.
 abbrev pub RefusedBy : Command → List ℕ → ℕ → ℕ → Type 0
-RefusedBy Run text line rule = IsRefused text line rule
+RefusedBy Run text line rule = IsRefusedAt text line rule ⊎ IsOfUnservedVersion text line rule
 RefusedBy Check text line rule = IsRefusedAt text line rule ⊎ IsOfUnservedVersion text line rule
 RefusedBy Print text line rule = IsRefusedAt text line rule
 

@@ -1,7 +1,4 @@
-pub mod OneComponent
 pub mod Pieces
-pub mod Runnable
-pub mod TraceText
 pub mod Words
 pub mod Commands
 pub mod ExitCodes

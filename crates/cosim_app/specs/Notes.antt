@@ -1,17 +1,20 @@
 -- Notes: the line that the program writes beside its output, for each way to end.
-use Rattle.std.specs.Prelude.{ℕ, List, [], ◌++◌, codes, Option, Some, None, slice_get}
+use Rattle.std.specs.Prelude.{ℕ, List, [], ◌∷◌, ◌++◌, codes, Option, Some, None, slice_get}
 use Rattle.std.specs.Option.{option_and_then}
 use Rattle.std.specs.Fmt.{decimal}
 use Rattle.fixed_words.specs.declared.types.Fault.{Fault}
 use Rattle.fixed_words.specs.declared.types.Fault.TheVariants.{Overflow, Range, ZeroDivisor, Accept, Max}
-use Rattle.unit_tree.specs.Names.{unit_named}
+use Rattle.super_time.specs.Seconds.{seconds_text_of}
+use Rattle.unit_tree.specs.Names.{unit_of_instance}
 use Rattle.unit_tree.specs.declared.ending.Ending.{Ending}
 use Rattle.unit_tree.specs.declared.ending.Ending.TheVariants.{Completed, RowBudget, ZeroBudget, UnitFault, StepRefused}
 use Rattle.unit_tree.specs.declared.ending.Place.{Place}
 use Rattle.unit_tree.specs.declared.ending.Place.TheVariants as place
 use Rattle.super_time.specs.declared.point.Point.{Point}
 use Rattle.unit_tree.specs.declared.system.System.{System}
-use Rattle.cosim_app.specs.TraceText.{line_end}
+
+abbrev pub line_end : List ℕ
+line_end = 10 ∷ []
 
 -- One line of the program's own.
 abbrev pub note : List ℕ → List ℕ
@@ -51,37 +54,41 @@ instance_name system instance = name_or_none (option_and_then (λ i. Some i.name
 -- The name of an output by its number and its instance's.
 abbrev pub output_name : System → ℕ → ℕ → List ℕ
 output_name system instance number =
-    name_or_none (option_and_then (λ o. Some o.name) (option_and_then (λ unit. slice_get unit.outputs number) (option_and_then (λ i. unit_named system.units i.unit) (slice_get system.instances instance))))
+    name_or_none (option_and_then (λ o. Some o.name) (option_and_then (λ unit. slice_get unit.outputs number) (option_and_then (unit_of_instance system) (slice_get system.instances instance))))
 
 abbrev pub place_text : System → ℕ → Place → List ℕ
 place_text system instance (place.Output number) = codes " output " ++ output_name system instance number
 place_text system instance place.Max = codes " max"
 place_text system instance place.Step = codes " step"
 
-abbrev pub point_text : Point → List ℕ
-point_text point = decimal point.t ++ codes "," ++ decimal point.n
+-- A point: its time in seconds with exactly the decimals of the resolution, and its index.
+abbrev pub point_text : ℕ → Point → List ℕ
+point_text resolution point = seconds_text_of resolution point.t ++ codes "," ++ decimal point.n
 
 -- A fault of an instance in a place at a point.
-abbrev pub fault_text : List ℕ → List ℕ → Fault → Point → List ℕ
-fault_text instance place fault point =
-    note (codes "fault " ++ decimal (fault_number fault) ++ codes " of " ++ instance ++ place ++ codes " at " ++ point_text point)
+abbrev pub fault_text : ℕ → List ℕ → List ℕ → Fault → Point → List ℕ
+fault_text resolution instance place fault point =
+    note (codes "fault " ++ decimal (fault_number fault) ++ codes " of " ++ instance ++ place ++ codes " at " ++ point_text resolution point)
 
 -- A budget that was spent at a point.
-abbrev pub budget_text : List ℕ → Point → List ℕ
-budget_text budget point = note (budget ++ codes " budget at " ++ point_text point)
+abbrev pub budget_text : ℕ → List ℕ → Point → List ℕ
+budget_text resolution budget point = note (budget ++ codes " budget at " ++ point_text resolution point)
 
-abbrev pub accepted_text : ℕ → Point → List ℕ
-accepted_text accepted point = codes ", accepted " ++ decimal accepted ++ codes ", at " ++ point_text point ++ line_end
+-- The length of a step that was refused, and what was accepted of it, in local ticks.
+abbrev pub lengths_text : ℕ → ℕ → List ℕ
+lengths_text asked accepted = codes " refused " ++ decimal asked ++ codes ", accepted " ++ decimal accepted
 
--- A step that an instance refused: its length, and what it accepted, in its local ticks.
-abbrev pub step_refused_text : List ℕ → ℕ → ℕ → Point → List ℕ
-step_refused_text instance asked accepted point =
-    codes "cosim: " ++ instance ++ codes " refused " ++ decimal asked ++ accepted_text accepted point
+-- A step that an instance refused at a point.
+abbrev pub step_refused_text : ℕ → List ℕ → ℕ → ℕ → Point → List ℕ
+step_refused_text resolution instance asked accepted point =
+    note (instance ++ lengths_text asked accepted ++ codes ", at " ++ point_text resolution point)
 
--- The note of how a run ended at its last point: none where it came to its stop.
-abbrev pub ending_note : System → Ending → Point → List ℕ
-ending_note system Completed point = []
-ending_note system RowBudget point = budget_text (codes "row") point
-ending_note system ZeroBudget point = budget_text (codes "zero") point
-ending_note system (UnitFault instance where_ fault) point = fault_text (instance_name system instance) (place_text system instance where_) fault point
-ending_note system (StepRefused instance asked accepted) point = step_refused_text (instance_name system instance) asked accepted point
+-- The note of how a run of a system without event ports ended at its last point: none where it came to its stop.
+abbrev pub ending_note : System → ℕ → Ending → Point → List ℕ
+ending_note system resolution Completed point = []
+ending_note system resolution RowBudget point = budget_text resolution (codes "row") point
+ending_note system resolution ZeroBudget point = budget_text resolution (codes "zero") point
+ending_note system resolution (UnitFault instance where_ fault) point =
+    fault_text resolution (instance_name system instance) (place_text system instance where_) fault point
+ending_note system resolution (StepRefused instance asked accepted) point =
+    step_refused_text resolution (instance_name system instance) asked accepted point

@@ -1,35 +1,20 @@
 //! A command on its input, from the text to its verdict.
-ghost use Rattle.std.specs.Prelude.{◌≡◌, List, ℕ};
-ghost use Rattle.first_form.specs.Reading.{IsAccepted};
-ghost use Rattle.cosim_app.specs.Answer.{status_of};
+ghost use Rattle.std.specs.Prelude.{◌≡◌, ◌<◌, length, Some};
+ghost use Rattle.unit_accept.specs.Accepting.{source_line};
 ghost use Rattle.cosim_app.specs.Judgement.{JudgesText, JudgesInput, Refuses};
-ghost use Rattle.cosim_app.specs.declared.command_words.Command.TheVariants.{Run};
-ghost use Rattle.cosim_app.specs.Runnable.{IsRunnable};
 
 use crate::command_words::Command;
-use crate::fault::RunFault;
 use crate::language::{check_text, print_text};
 use crate::note;
-use crate::run_system::run_system;
+use crate::run::run_text;
 use crate::status::Status;
 use crate::verdict::Verdict;
 use cosim_io::{ReadEnd, Sink, Source, read_all};
-use first_form::{LONGEST_TEXT, SIZE_RULE, TextFault, read_first_form};
 use std::alloc::Global;
-use unit_tree::{Ending, System};
+use unit_text::{LONGEST_TEXT, SIZE_RULE};
 
-/// The status of how a run ended.
-fn status(ending: Ending) -> Status
-    ensures { result ≡ status_of ending }
-{
-    match ending {
-        Ending::Completed => Status::Done,
-        Ending::RowBudget => Status::RowBudget,
-        Ending::ZeroBudget => Status::ZeroBudget,
-        Ending::UnitFault { .. } => Status::UnitFault,
-        Ending::StepRefused { .. } => Status::StepRefused,
-    }
-}
+/// The rule of what is accepted and can't be run yet.
+pub const UNSERVED_RULE: u8 = 25;
 
 /// The refusal of a text by a line and a rule.
 pub fn refuse(alloc: Global, line: u32, rule: u8) -> Verdict
@@ -44,33 +29,12 @@ pub fn refuse(alloc: Global, line: u32, rule: u8) -> Verdict
     }
 }
 
-/// Runs a system that a text says.
-fn judge_system<O: Sink>(alloc: Global, system: &System, out: &mut O) -> Verdict
-    requires { IsRunnable system.now }
-    ensures { (text : List ℕ) → IsAccepted text system.now → JudgesText Run text (O.held out.old) (O.held out.new) (O.faults out.old) (O.faults out.new) result }
+/// The line that the first canonical line came from, which is the header's.
+pub fn first_line(lines: &[u32]) -> u32
+    requires { 0 < length lines.now }
+    ensures { source_line lines.now 1 ≡ Some result }
 {
-    match run_system(alloc, system, out) {
-        Ok(end) => match note::ending(alloc, system, end) {
-            Ok(note) => Verdict::Answered {
-                status: status(end.ending),
-                note,
-            },
-            Err(_) => Verdict::NoMemory,
-        },
-        Err(RunFault::WriteFault) => Verdict::WriteFault,
-        Err(RunFault::NoMemory) => Verdict::NoMemory,
-    }
-}
-
-/// Runs a whole text, or refuses it.
-fn run_text<O: Sink>(alloc: Global, text: &[u8], out: &mut O) -> Verdict
-    ensures { JudgesText Run text.now (O.held out.old) (O.held out.new) (O.faults out.old) (O.faults out.new) result }
-{
-    match read_first_form(alloc, text) {
-        Ok(system) => judge_system(alloc, &system, out),
-        Err(TextFault::Line { line, rule }) => refuse(alloc, line, rule),
-        Err(TextFault::NoMemory) => Verdict::NoMemory,
-    }
+    lines[0]
 }
 
 /// A command on a whole text.

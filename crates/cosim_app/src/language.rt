@@ -1,11 +1,10 @@
 //! The commands that serve the whole language without running it.
-ghost use Rattle.std.specs.Prelude.{◌≡◌, ◌<◌, length, Some};
-ghost use Rattle.unit_accept.specs.Accepting.{source_line};
+ghost use Rattle.std.specs.Prelude.{◌≡◌};
 ghost use Rattle.cosim_app.specs.Answer.{printed_text};
 ghost use Rattle.cosim_app.specs.Judgement.{JudgesText, PutsPiece, TellsAccepted};
 ghost use Rattle.cosim_app.specs.declared.command_words.Command.TheVariants.{Check, Print};
 
-use crate::judge::refuse;
+use crate::judge::{UNSERVED_RULE, first_line, refuse};
 use crate::status::Status;
 use crate::verdict::Verdict;
 use cosim_io::Sink;
@@ -14,9 +13,6 @@ use unit_accept::accept_text;
 use unit_print::print_system;
 use unit_text::TextFault;
 use unit_tree::System;
-
-/// The rule of what is accepted and can't be run yet.
-const UNSERVED_RULE: u8 = 25;
 
 /// Puts a whole output in one piece.
 fn put_whole<O: Sink>(alloc: Global, bytes: &[u8], out: &mut O) -> Verdict
@@ -40,14 +36,6 @@ fn tell_accepted<O: Sink>(alloc: Global, version: u8, header: u32, out: &mut O) 
     } else {
         put_whole(alloc, b"accepted\n", out)
     }
-}
-
-/// The line that the first canonical line came from, which is the header's.
-fn first_line(lines: &[u32]) -> u32
-    requires { 0 < length lines.now }
-    ensures { source_line lines.now 1 ≡ Some result }
-{
-    lines[0]
 }
 
 /// Judges a text by all rules.

@@ -1,15 +1,14 @@
 //! The notes of the program.
-ghost use Rattle.std.specs.Prelude.{◌≡◌, ◌++◌, IfOk, OnOk};
-ghost use Rattle.cosim_app.specs.Notes.{fault_number, refused_note, point_text, fault_text, budget_text, accepted_text, step_refused_text, ending_note};
-ghost use Rattle.cosim_app.specs.TraceText.{line_end};
-ghost use Rattle.cosim_app.specs.OneComponent.{IsOfFirst};
-ghost use Rattle.cosim_app.specs.Runnable.{IsRunnable};
+ghost use Rattle.std.specs.Prelude.{◌≡◌, ◌≤◌, ◌++◌, IfOk, OnOk};
+ghost use Rattle.cosim_app.specs.Answer.{traced_note};
+ghost use Rattle.cosim_app.specs.Notes.{fault_number, instance_name, output_name, place_text, refused_note, point_text, fault_text, budget_text, lengths_text, step_refused_text, ending_note, line_end};
 
-use crate::fault::RunEnd;
 use crate::pieces::append_all;
 use fixed_words::{Fault, NoMemory};
 use itoa::Buffer;
 use std::alloc::Global;
+use super_time::seconds_text;
+use trace_core::Plan;
 use unit_tree::{Ending, Place, Point, System};
 
 /// The number by which notes tell a fault.
@@ -44,114 +43,171 @@ pub fn refusal(alloc: Global, line: u32, rule: u8) -> Result<Vec<u8>, NoMemory>
     Ok(note)
 }
 
-/// Ends a note by the point that it tells.
-fn end_at(note: &mut Vec<u8>, point: Point) -> Result<(), NoMemory>
-    ensures { OnOk result (note.new.items ≡ note.old.items ++ (point_text point ++ line_end)) }
+/// Ends a note by the point that it tells, its time in seconds with `resolution` decimals.
+fn end_at(note: &mut Vec<u8>, resolution: u8, point: Point) -> Result<(), NoMemory>
+    requires { resolution ≤ 9 }
+    ensures { OnOk result (note.new.items ≡ note.old.items ++ (point_text resolution point ++ line_end)) }
 {
-    let (mut time, mut index) = (Buffer::new(), Buffer::new());
-    append_all(
-        note,
-        &[
-            time.format(point.t).as_bytes(),
-            b",",
-            index.format(point.n).as_bytes(),
-            b"\n",
-        ],
-    )
+    seconds_text(resolution, point.t, note)?;
+    let mut index = Buffer::new();
+    append_all(note, &[b",", index.format(point.n).as_bytes(), b"\n"])
 }
 
-/// A fault of an instance at a point, in a place of a kind and a name.
+/// The name of an instance by its number.
+fn instance_name(system: &System, instance: u32) -> &[u8]
+    ensures { result.now ≡ instance_name system.now instance }
+{
+    match system.instances.get(instance as usize) {
+        Some(instance) => instance.name.as_slice(),
+        None => &[],
+    }
+}
+
+/// The name of an output by its number and its instance's.
+fn output_name(system: &System, instance: u32, output: u32) -> &[u8]
+    ensures { result.now ≡ output_name system.now instance output }
+{
+    let Some(instance) = system.instances.get(instance as usize) else {
+        return &[];
+    };
+    let Some(unit) = system.unit_of(instance) else {
+        return &[];
+    };
+    match unit.outputs.get(output as usize) {
+        Some(output) => output.name.as_slice(),
+        None => &[],
+    }
+}
+
+/// Adds the place of a fault of an instance.
+fn put_place(
+    note: &mut Vec<u8>,
+    system: &System,
+    instance: u32,
+    place: Place,
+) -> Result<(), NoMemory>
+    ensures { OnOk result (note.new.items ≡ note.old.items ++ place_text system.now instance place) }
+{
+    match place {
+        Place::Output(output) => {
+            append_all(note, &[b" output ", output_name(system, instance, output)])
+        }
+        Place::Max => append_all(note, &[b" max"]),
+        Place::Step => append_all(note, &[b" step"]),
+    }
+}
+
+/// A fault of an instance at a point.
 fn fault_note(
     alloc: Global,
-    instance: &[u8],
-    kind: &[u8],
-    name: &[u8],
+    system: &System,
+    resolution: u8,
+    instance: u32,
+    place: Place,
     fault: Fault,
     point: Point,
 ) -> Result<Vec<u8>, NoMemory>
-    ensures { IfOk result (λ note. note.items ≡ fault_text instance.now (kind.now ++ name.now) fault point) }
+    requires { resolution ≤ 9 }
+    ensures { IfOk result (λ note. note.items ≡ fault_text resolution (instance_name system.now instance) (place_text system.now instance place) fault point) }
 {
-    let mut fault_text = Buffer::new();
+    let mut number_text = Buffer::new();
     let mut note = Vec::new(alloc);
-    append_all(
-        &mut note,
-        &[
-            b"cosim: fault ",
-            fault_text.format(number(fault)).as_bytes(),
-            b" of ",
-        ],
-    )?;
-    append_all(&mut note, &[instance, kind, name, b" at "])?;
-    end_at(&mut note, point)?;
+    let number = number_text.format(number(fault)).as_bytes();
+    append_all(&mut note, &[b"cosim: fault ", number, b" of "])?;
+    append_all(&mut note, &[instance_name(system, instance)])?;
+    put_place(&mut note, system, instance, place)?;
+    append_all(&mut note, &[b" at "])?;
+    end_at(&mut note, resolution, point)?;
     Ok(note)
 }
 
 /// A budget that was spent at a point.
-fn budget_note(alloc: Global, budget: &[u8], point: Point) -> Result<Vec<u8>, NoMemory>
-    ensures { IfOk result (λ note. note.items ≡ budget_text budget.now point) }
+fn budget_note(
+    alloc: Global,
+    resolution: u8,
+    budget: &[u8],
+    point: Point,
+) -> Result<Vec<u8>, NoMemory>
+    requires { resolution ≤ 9 }
+    ensures { IfOk result (λ note. note.items ≡ budget_text resolution budget.now point) }
 {
     let mut note = Vec::new(alloc);
     append_all(&mut note, &[b"cosim: ", budget, b" budget at "])?;
-    end_at(&mut note, point)?;
+    end_at(&mut note, resolution, point)?;
     Ok(note)
 }
 
-/// Ends a note by the length that was accepted at a point.
-fn accepted_at(note: &mut Vec<u8>, accepted: u64, point: Point) -> Result<(), NoMemory>
-    ensures { OnOk result (note.new.items ≡ note.old.items ++ accepted_text accepted point) }
+/// Adds the length of a step that was refused, and what was accepted of it.
+fn put_lengths(note: &mut Vec<u8>, asked: u64, accepted: u64) -> Result<(), NoMemory>
+    ensures { OnOk result (note.new.items ≡ note.old.items ++ lengths_text asked accepted) }
 {
-    let mut length = Buffer::new();
+    let (mut asked_text, mut accepted_text) = (Buffer::new(), Buffer::new());
     append_all(
         note,
-        &[b", accepted ", length.format(accepted).as_bytes(), b", at "],
-    )?;
-    end_at(note, point)
+        &[
+            b" refused ",
+            asked_text.format(asked).as_bytes(),
+            b", accepted ",
+            accepted_text.format(accepted).as_bytes(),
+        ],
+    )
 }
 
 /// A step that an instance refused: its length, and what it accepted, in its local ticks.
 fn refused_step_note(
     alloc: Global,
+    resolution: u8,
     instance: &[u8],
     asked: u64,
     accepted: u64,
     point: Point,
 ) -> Result<Vec<u8>, NoMemory>
-    ensures { IfOk result (λ note. note.items ≡ step_refused_text instance.now asked accepted point) }
+    requires { resolution ≤ 9 }
+    ensures { IfOk result (λ note. note.items ≡ step_refused_text resolution instance.now asked accepted point) }
 {
-    let mut length = Buffer::new();
     let mut note = Vec::new(alloc);
-    let length = length.format(asked).as_bytes();
-    append_all(&mut note, &[b"cosim: ", instance, b" refused ", length])?;
-    accepted_at(&mut note, accepted, point)?;
+    append_all(&mut note, &[b"cosim: ", instance])?;
+    put_lengths(&mut note, asked, accepted)?;
+    append_all(&mut note, &[b", at "])?;
+    end_at(&mut note, resolution, point)?;
     Ok(note)
 }
 
-/// How a run ended: nothing where it came to its stop.
-pub fn ending(alloc: Global, system: &System, end: RunEnd) -> Result<Vec<u8>, NoMemory>
-    requires runnable { IsRunnable system.now }
-    requires first { IsOfFirst end.ending }
-    ensures { IfOk result (λ note. note.items ≡ ending_note system.now end.ending end.last) }
+/// How a run of a system without event ports ended at its last point: nothing where it came to its stop.
+fn ending_note(
+    alloc: Global,
+    system: &System,
+    resolution: u8,
+    ending: Ending,
+    last: Point,
+) -> Result<Vec<u8>, NoMemory>
+    requires { resolution ≤ 9 }
+    ensures { IfOk result (λ note. note.items ≡ ending_note system.now resolution ending last) }
 {
-    let last = end.last;
-    let instance = system.instances.as_slice()[0].name.as_slice();
-    match end.ending {
+    match ending {
         Ending::Completed => Ok(Vec::new(alloc)),
-        Ending::RowBudget => budget_note(alloc, b"row", last),
-        Ending::ZeroBudget => budget_note(alloc, b"zero", last),
-        Ending::UnitFault { place, fault, .. } => match place {
-            Place::Output(_) => {
-                let output = system.units.as_slice()[0].outputs.as_slice()[0]
-                    .name
-                    .as_slice();
-                fault_note(alloc, instance, b" output ", output, fault, last)
-            }
-            Place::Max => fault_note(alloc, instance, b" max", b"", fault, last),
-            Place::Step => fault_note(alloc, instance, b" step", b"", fault, last),
-        },
+        Ending::RowBudget => budget_note(alloc, resolution, b"row", last),
+        Ending::ZeroBudget => budget_note(alloc, resolution, b"zero", last),
+        Ending::UnitFault {
+            instance,
+            place,
+            fault,
+        } => fault_note(alloc, system, resolution, instance, place, fault, last),
         Ending::StepRefused {
+            instance,
             asked,
             accepted,
-            ..
-        } => refused_step_note(alloc, instance, asked, accepted, last),
+        } => {
+            let name = instance_name(system, instance);
+            refused_step_note(alloc, resolution, name, asked, accepted, last)
+        }
     }
+}
+
+/// How the run of a plan ended at its last point: nothing where it came to its stop.
+pub fn ending(alloc: Global, plan: &Plan, ending: Ending, last: Point) -> Result<Vec<u8>, NoMemory>
+    ensures { IfOk result (λ note. note.items ≡ traced_note plan.now.system ending last) }
+{
+    let system = plan.checked().system();
+    ending_note(alloc, system, plan.resolution(), ending, last)
 }

@@ -1,68 +1,92 @@
-//! A run of one component, row by row.
-ghost use Rattle.std.specs.Prelude.{◌≡◌, ◌<◌, ◌≤◌, ◌^◌, [], ◌∷◌, map, length, IsTrue, IfOk};
-ghost use Rattle.cosim_app.specs.OneComponent.{AreDeclared, given_in};
-ghost use Rattle.unit_tree.specs.Components.{start_word, variable, variables_of};
-ghost use Rattle.unit_tree.specs.Effects.{Runs, effect_of_lines, lines_are_ranged};
-ghost use Rattle.unit_tree.specs.Values.{IsSound, is_ranged};
+//! The command `run`.
+ghost use Rattle.std.specs.Prelude.{◌≡◌, ◌<◌, length, List, ℕ};
+ghost use Rattle.unit_accept.specs.Accepting.{IsAcceptedAs};
+ghost use Rattle.cosim_app.specs.Answer.{status_of};
+ghost use Rattle.cosim_app.specs.Judgement.{IsServed, IsWhole, JudgesText, PutsTrace};
+ghost use Rattle.cosim_app.specs.declared.command_words.Command.TheVariants.{Run};
 
-use fixed_words::{Fault, List, NoMemory, fits, literal_word};
+use crate::judge::{UNSERVED_RULE, first_line, refuse};
+use crate::note;
+use crate::status::Status;
+use crate::verdict::Verdict;
+use cosim_io::Sink;
+use serial_run::{CrewFault, run_alone};
 use std::alloc::Global;
-use unit_tree::{Environment, Line, Output, State, Variable, run_lines, value};
+use std::sync::Arc;
+use trace_core::{Plan, PlanFault};
+use unit_accept::{AcceptedText, accept_text};
+use unit_text::TextFault;
+use unit_tree::{Checked, Ending};
 
-/// The variables of a unit that has states alone.
-pub fn variables(alloc: Global, states: &[State]) -> Result<List<Variable>, NoMemory>
-    ensures { IfOk result (λ variables. variables ≡ map (λ state. variable state.name state.ty) states.now) }
+/// The status of how a run ended.
+fn status(ending: Ending) -> Status
+    ensures { result ≡ status_of ending }
 {
-    let mut variables = List::new(alloc);
-    for state in states {
-        let name = List::from_slice(alloc, state.name.as_slice())?;
-        variables.push(Variable { name, ty: state.ty })?;
-    }
-    Ok(variables)
-}
-
-/// The words that states start with.
-pub fn start_words(alloc: Global, states: &[State]) -> Result<List<i64>, NoMemory>
-    requires { AreDeclared states.now }
-    ensures { IfOk result (λ words. words ≡ map (λ state. start_word state.ty state.start) states.now) }
-{
-    let mut words = List::new(alloc);
-    for state in states {
-        words.push(literal_word(state.ty, state.start).unwrap_or(0))?;
-    }
-    Ok(words)
-}
-
-/// The word that an output gives.
-pub fn output_word(output: &Output, env: &mut Environment) -> Result<i64, Fault>
-    requires ranged { IsTrue (is_ranged output.now.value) }
-    requires sound { IsSound env.old }
-    ensures word { result ≡ given_in output.now (record env.old { time = 0; step = 0; accepted = 0 }) }
-    ensures variables { env.new.variables ≡ env.old.variables }
-    ensures words { env.new.words ≡ env.old.words }
-    ensures sound { IsSound env.new }
-{
-    env.time = 0;
-    env.step = 0;
-    env.accepted = 0;
-    let given = value(&output.value, env)?;
-    if fits(output.ty, given.word) {
-        Ok(given.word)
-    } else {
-        Err(Fault::Range)
+    match ending {
+        Ending::Completed => Status::Done,
+        Ending::RowBudget => Status::RowBudget,
+        Ending::ZeroBudget => Status::ZeroBudget,
+        Ending::UnitFault { .. } => Status::UnitFault,
+        Ending::StepRefused { .. } => Status::StepRefused,
     }
 }
 
-/// A step of the lines at a time by a length.
-pub fn advance(lines: &[Line], env: &mut Environment, time: u64, step: u64) -> Result<(), Fault>
-    requires ranged { IsTrue (lines_are_ranged lines.now) }
-    requires sound { IsSound env.old }
-    requires time_fits { time < 2 ^ 63 }
-    requires step_fits { step < 2 ^ 63 }
-    ensures runs { Runs (effect_of_lines lines.now) (record env.old { time = time; step = step; accepted = step }) result env.new }
+/// Puts the trace of a plan, and tells how it ended.
+fn run_plan<O: Sink>(alloc: Global, plan: &Arc<Plan>, out: &mut O) -> Verdict
+    requires served { IsServed plan.now.value.system }
+    ensures { PutsTrace plan.now.value.system (O.held out.old) (O.held out.new) (O.faults out.old) (O.faults out.new) result }
 {
-    env.time = time;
-    env.step = step;
-    env.accepted = step;
-    run_lines(lines, env)
+    let Ok(shared) = Arc::clone(plan) else {
+        return Verdict::NoMemory;
+    };
+    match run_alone(alloc, shared, out) {
+        Ok(report) => match note::ending(alloc, plan, report.outcome, report.last) {
+            Ok(note) => Verdict::Answered {
+                status: status(report.outcome),
+                note,
+            },
+            Err(_) => Verdict::NoMemory,
+        },
+        Err(CrewFault::WriteFault) => Verdict::WriteFault,
+        Err(CrewFault::NoMemory) => Verdict::NoMemory,
+    }
+}
+
+/// Plans a system and runs it.
+fn run_system<O: Sink>(alloc: Global, checked: Checked, out: &mut O) -> Verdict
+    requires served { IsServed checked }
+    ensures { PutsTrace checked (O.held out.old) (O.held out.new) (O.faults out.old) (O.faults out.new) result }
+{
+    match Plan::new(alloc, checked) {
+        Ok(plan) => match Arc::new(alloc, plan) {
+            Ok(plan) => run_plan(alloc, &plan, out),
+            Err(_) => Verdict::NoMemory,
+        },
+        Err(PlanFault::Loop { .. }) => unreachable!(),
+        Err(PlanFault::NoMemory) => Verdict::NoMemory,
+    }
+}
+
+/// Runs what a text was accepted as, or refuses it at its header where its version is not run yet.
+fn run_accepted<O: Sink>(alloc: Global, read: AcceptedText, out: &mut O) -> Verdict
+    requires lines { 0 < length read.lines }
+    requires whole { IsWhole read.checked }
+    ensures { (text : List ℕ) → IsAcceptedAs text read.checked read.lines → JudgesText Run text (O.held out.old) (O.held out.new) (O.faults out.old) (O.faults out.new) result }
+{
+    let header = first_line(read.lines.as_slice());
+    if read.checked.source().version == 2 {
+        return refuse(alloc, header, UNSERVED_RULE);
+    }
+    run_system(alloc, read.checked, out)
+}
+
+/// Runs a text, or refuses it.
+pub(crate) fn run_text<O: Sink>(alloc: Global, text: &[u8], out: &mut O) -> Verdict
+    ensures { JudgesText Run text.now (O.held out.old) (O.held out.new) (O.faults out.old) (O.faults out.new) result }
+{
+    match accept_text(alloc, text) {
+        Ok(read) => run_accepted(alloc, read, out),
+        Err(TextFault::Line { line, rule }) => refuse(alloc, line, rule),
+        Err(TextFault::NoMemory) => Verdict::NoMemory,
+    }
 }

@@ -1,0 +1,24 @@
+use Rattle.std.proofs.Common.{◌<◌, List, ℕ, length, Err, inl, refl, sym, subst}
+use Rattle.unit_accept.specs.Accepting.{AnswersText}
+use Rattle.unit_text.specs.declared.fault.TextFault.{TextFault}
+use Rattle.cosim_app.specs.declared.command_words.Command.TheVariants.{Run}
+use Rattle.cosim_app.proofs.JudgeLaws.{puts_nothing, refuses, some_header}
+use Rattle.cosim_app.proofs.TraceLaws.{whole_of}
+use Rattle.cosim_app.proofs.run.run_text.Goals as goal
+
+pub run_accepted-requires : goal.run_accepted-requires
+run_accepted-requires g c = record {
+  lines = some_header c.args.text.now c.in-Ok.read.checked c.in-Ok.read.lines c.in-Ok.ensures;
+  whole = whole_of c.args.text.now c.in-Ok.read.checked c.in-Ok.read.lines c.in-Ok.ensures;
+}
+
+pub returns-in-Ok : goal.returns-in-Ok
+returns-in-Ok g c = c.run_accepted.ensures c.args.text.now c.in-Ok.ensures
+
+pub returns-in-Err-Line : goal.returns-in-Err-Line
+returns-in-Err-Line g c =
+    refuses Run c.args.text.now (g.O.Sink.held c.args.out.now) (g.O.Sink.faults c.args.out.now) c.in-Err-Line.line c.in-Err-Line.rule c.refuse.result
+    (inl (subst (λ (why : TextFault). AnswersText c.args.text.now (Err why)) c.in-Err-Line.field-0-is c.in-Err-Line.ensures)) c.refuse.ensures
+
+pub returns-in-Err-NoMemory : goal.returns-in-Err-NoMemory
+returns-in-Err-NoMemory g c = (puts_nothing Run c.args.text.now (g.O.Sink.held c.args.out.now), refl)

@@ -1,4 +1,0 @@
-pub mod FirstForm
-pub mod Forms
-pub mod Nesting
-pub mod Reading
