@@ -1,19 +1,17 @@
 -- The phase of a stand that a run comes to.
-use Rattle.std.proofs.Common.{◌≡◌, ◌∙◌, ℕ, suc, ◌==◌, Bool, true, false, cond, ℤ, List, [], ◌∷◌, map, zip, length, Option, Some, None, Result, Ok, Err, refl, sym, ap, subst}
+use Rattle.std.proofs.Common.{◌≡◌, ◌∙◌, ℕ, suc, ◌==◌, Bool, true, false, ℤ, List, [], ◌∷◌, map, zip, Option, Some, None, Result, refl, ap}
 use Rattle.std.specs.Prelude.{is_none, if◌then◌else◌}
 use Rattle.std.specs.List.{filter_map, cons_option}
 use Rattle.fixed_words.specs.declared.types.Fault.{Fault}
-use Rattle.super_time.specs.declared.point.Point.{Point}
 use Rattle.trace_core.specs.Arriving.{tried, phase_there, ended_or}
-use Rattle.trace_core.specs.Runs.{Cell, Held, Empty, Filled, first_end, phase_or, phase_at, cell_of, cells_of, is_held_cell, FitCells, IsPhase, IsTrial, IsEnd}
+use Rattle.trace_core.specs.Runs.{Held, Empty, first_end, phase_or, phase_at, cell_of, cells_of, is_held_cell, IsPhase}
 use Rattle.trace_core.specs.Seats.{max_told, all_told, limits_told, asked}
-use Rattle.trace_core.specs.declared.phase.Phase.{Phase}
-use Rattle.trace_core.specs.declared.phase.Phase.TheVariants.{Trial, Redo, Ended}
+use Rattle.trace_core.specs.declared.phase.Phase.TheVariants.{Trial, Ended}
 use Rattle.unit_tree.specs.Compositions.{Member, Composition}
 use Rattle.unit_tree.specs.Negotiation.{is_held, inputs_at, all_inputs, max_at, limit_at, limit_told, proposal_of}
 use Rattle.unit_tree.specs.Ports.{Ports, first_some, port_fault}
-use Rattle.unit_tree.specs.Successor.{Position, when, first_told, max_end_of, max_end, stop_end, row_end, trial_end, redo_end, zero_end, proposed, standings, limits, ends_at, ends_or, ends, after, successor}
-use Rattle.unit_tree.specs.Trace.{Stand, IsGoing}
+use Rattle.unit_tree.specs.Successor.{Position, when, first_told, max_end_of, max_end, stop_end, row_end, trial_end, redo_end, zero_end, proposed, standings, ends_or, after}
+use Rattle.unit_tree.specs.Trace.{Stand}
 use Rattle.unit_tree.specs.declared.ending.Ending.{Ending}
 use Rattle.unit_tree.specs.declared.ending.Ending.TheVariants.{Completed, RowBudget}
 

@@ -1,10 +1,10 @@
 -- Cells: which are held, and how many are filled.
-use Rattle.std.proofs.Common.{◌≡◌, ◌∙◌, ℕ, suc, ◌+◌, ◌≤◌, ◌<◌, Bool, true, false, not, cond, ℤ, List, [], ◌∷◌, map, zip, length, get_or, set, Option, Some, None, Result, refl, sym, ap, subst, arith}
+use Rattle.std.proofs.Common.{◌≡◌, ◌∙◌, ℕ, suc, ◌+◌, ◌≤◌, Bool, true, false, not, cond, ℤ, List, [], ◌∷◌, map, zip, length, get_or, Some, None, Result, refl, sym, ap, subst, arith}
 use Rattle.std.proofs.lemmas.List.Sums.{sum_by-cons, sum_by-set, count_by-le-length}
 use Rattle.std.proofs.lemmas.List.{length-map}
 use Rattle.std.proofs.lemmas.Option.{slice_get_within, get_or_from_slice_get}
 use Rattle.std.proofs.Math.Seq.{map-set_same}
-use Rattle.std.specs.Prelude.{is_some, slice_get, slice_set, if◌then◌else◌}
+use Rattle.std.specs.Prelude.{is_some, slice_get, slice_set}
 use Rattle.std.specs.List.{count_by}
 use Rattle.fixed_words.specs.declared.types.Fault.{Fault}
 use Rattle.trace_core.specs.Runs.{Cell, Held, Empty, Filled, is_held_cell, is_empty_cell, is_filled, AreCellsFull, FitCells, cell_of}

@@ -1,19 +1,17 @@
 -- Where a run goes from a phase whose cells are full, told of its stand: along the successor.
-use Rattle.std.proofs.Common.{◌≡◌, ◌∙◌, ℕ, suc, ◌+◌, ◌==◌, ◌≤◌, ◌&&◌, Bool, true, false, cond, ℤ, List, map, zip, length, Option, Some, None, refl, sym, ap, subst, arith}
+use Rattle.std.proofs.Common.{◌≡◌, ◌∙◌, ℕ, suc, ◌+◌, ◌==◌, ◌≤◌, ◌&&◌, Bool, true, false, ℤ, List, map, zip, Option, Some, None, refl, sym, ap, subst, arith}
 use Rattle.std.proofs.lemmas.Bool.Decides.{nat_tests}
 use Rattle.std.specs.Prelude.{nat_lt, if◌then◌else◌}
 use Rattle.super_time.specs.declared.point.Point.{Point}
-use Rattle.trace_core.specs.Courses.{course_after, course_on, end_or, least_reply, course_of_trial, course_of_redo}
-use Rattle.trace_core.specs.Runs.{Cell, IsTrial, IsRedo}
-use Rattle.trace_core.specs.Seats.{AreSeats, AreFull, slot_end, redo_slot_end, slot_reply}
+use Rattle.trace_core.specs.Courses.{course_on, end_or, least_reply, course_of_trial, course_of_redo}
+use Rattle.trace_core.specs.Seats.{AreSeats, AreFull, slot_end, redo_slot_end}
 use Rattle.trace_core.specs.declared.course.Course.{Course}
 use Rattle.trace_core.specs.declared.course.Course.TheVariants.{Redo, On, End}
 use Rattle.trace_core.specs.declared.seat.Seat.{Seat}
 use Rattle.trace_core.proofs.SlotLaws.{AreOfOneLength, trial_told, redo_told_by, replies_told, units_hold}
 use Rattle.unit_tree.specs.Compositions.{Composition, AreMembers}
-use Rattle.unit_tree.specs.Negotiation.{step_at, reply_at, agreed_step, state_after}
-use Rattle.unit_tree.specs.Ports.{first_some}
-use Rattle.unit_tree.specs.Successor.{Position, when, first_told, step_end_of, redo_end_of, standings, steps_by, replies_to, trial, trial_end, redo_end_by, redo_end, zero_end, proposed, agreed, is_redone, point_after, after, goes, ends, successor}
+use Rattle.unit_tree.specs.Negotiation.{agreed_step, state_after}
+use Rattle.unit_tree.specs.Successor.{Position, when, first_told, step_end_of, standings, steps_by, replies_to, trial_end, redo_end_by, redo_end, zero_end, proposed, agreed, is_redone, point_after, after, goes, ends, successor}
 use Rattle.unit_tree.specs.Trace.{Stand, IsGoing, HasWords}
 use Rattle.unit_tree.specs.declared.ending.Ending.{Ending}
 use Rattle.unit_tree.specs.declared.ending.Ending.TheVariants.{ZeroBudget}
@@ -85,12 +83,14 @@ module _ (run : Composition) (stand : Stand) (going : IsGoing run stand) where
       subst (LeadsFromTrial run stand h) (sym (spent_course run stand h spent))
       (not_due whole, (ends_in_order run stand going).zero_ends ZeroBudget no_fault (no_redo_end whole) (zero_there run stand h is spent))
   whole_by false h free is no_fault whole =
-      subst (LeadsFromTrial run stand h) (sym (free_course run stand h free))
-      (not_due whole, record {
-        agreed_on = is;
-        goes_on = (ends_in_order run stand going).whole_goes no_fault whole (no_zero run stand h is free);
-        to = ap (point_after stand.at.point) is;
-      })
+      subst (LeadsFromTrial run stand h) (sym (free_course run stand h free)) (
+        not_due whole,
+        record {
+          agreed_on = is;
+          goes_on = (ends_in_order run stand going).whole_goes no_fault whole (no_zero run stand h is free);
+          to = ap (point_after stand.at.point) is;
+        },
+      )
 
   same_length : AreMembers run → HasWords run stand.at → is_redone run stand.at stand.ports ≡ false → proposed run stand.at stand.ports ≡ agreed run stand.at stand.ports
   same_length are words whole =

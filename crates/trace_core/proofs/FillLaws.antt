@@ -1,18 +1,16 @@
 -- The seat of one instance: what is wanted of it, and what a run is where its step was made.
-use Rattle.std.proofs.Common.{◌≡◌, ◌∙◌, ℕ, zero, suc, ◌+◌, ◌<◌, ◌≤◌, ◌^◌, Bool, true, false, cond, ℤ, List, [], ◌∷◌, map, zip, length, get_or, set, Option, Some, None, Result, Ok, Err, Vec, Global, refl, sym, ap, subst, arith, length-set}
+use Rattle.std.proofs.Common.{◌≡◌, ◌∙◌, ℕ, zero, suc, ◌+◌, ◌<◌, ◌≤◌, Bool, true, false, cond, ℤ, List, [], ◌∷◌, map, zip, length, get_or, set, Some, None, Result, Ok, Err, Vec, Global, refl, sym, ap, subst, arith, length-set}
 use Rattle.std.proofs.lemmas.List.{map-set, length-map}
 use Rattle.std.proofs.lemmas.Option.{slice_get_within, get_or_from_slice_get, slice_get-map, same_Some}
 use Rattle.std.proofs.Math.Nat.{div-le_self}
 use Rattle.std.proofs.Math.Seq.{map-set_same}
 use Rattle.std.specs.Prelude.{is_none, slice_get, slice_set, slice_index_or}
-use Rattle.std.specs.List.{AllZip}
 use Rattle.std.specs.Option.{option_map}
 use Rattle.fixed_words.specs.declared.types.Fault.{Fault}
-use Rattle.port_solve.specs.Solved.{ports_told}
 use Rattle.super_time.specs.LocalTime.{local_time, local_step}
 use Rattle.trace_core.specs.Keeping.{stand_of, cells_seen, inputs_before, run_state, SeatsFit, IsRun}
-use Rattle.trace_core.specs.Runs.{Cell, Held, Empty, Filled, RunState, Stands, IsWanted, is_ended, with_own, step_length}
-use Rattle.trace_core.specs.Seats.{IsSeat, AreSeats, SlotIs, HasClock, cell_in, saved, AreSaved}
+use Rattle.trace_core.specs.Runs.{Cell, Empty, Filled, RunState, Stands, IsWanted, is_ended, with_own, step_length}
+use Rattle.trace_core.specs.Seats.{IsSeat, AreSeats, SlotIs, cell_in, saved, AreSaved}
 use Rattle.trace_core.specs.Slots.{slot_for}
 use Rattle.trace_core.specs.declared.phase.Phase.{Phase}
 use Rattle.trace_core.specs.declared.phase.Phase.TheVariants.{Trial, Redo, Ended}
@@ -24,11 +22,11 @@ use Rattle.trace_core.proofs.SeatLaws.{ids_of, own_kept, saved_kept, are_saved_k
 use Rattle.trace_core.proofs.SlotLaws.{AreOfOneLength}
 use Rattle.trace_core.proofs.StandLaws.{stands_filled}
 use Rattle.trace_plan.specs.Plans.{Planned}
-use Rattle.trace_units.specs.Fleets.{Fleet, ForUnit, Steps, with_state}
+use Rattle.trace_units.specs.Fleets.{Fleet, ForUnit, Steps}
 use Rattle.unit_tree.specs.Components.{Moved, step_of}
 use Rattle.unit_tree.specs.Compositions.{Member, Composition}
 use Rattle.unit_tree.specs.Negotiation.{is_held, inputs_at, all_inputs, step_at}
-use Rattle.unit_tree.specs.Ports.{Ports, Standing, port_fault}
+use Rattle.unit_tree.specs.Ports.{Ports, port_fault}
 use Rattle.unit_tree.specs.Trace.{Stand}
 use Rattle.unit_tree.specs.declared.ending.Ending.{Ending}
 
@@ -144,23 +142,23 @@ module _ (t h : ℕ) (run : Composition) (ports : Ports) (states : List (List �
       let gave = of_member (Ok (record { state = now; accepted = accepted })) steps.0 in
       subst (λ (one : Fleet). AreSeats t h ports (zip run.members states) one.states (set seats instance (made_seat (Ok accepted)))) (sym steps.1)
       (seats_set t h ports run.members states fleet.states seats now (made_seat (Ok accepted)) instance long are (λ member state member_is state_is.
-          let same = same_here member state member_is state_is in
-          subst (λ one. IsSeat t h ports one (now, made_seat (Ok accepted))) (ap (λ m. (m, here.state)) same.0 ∙ ap (λ s. (member, s)) same.1)
-          (record {
-            clock = record { time = here.fits.clock.time; step = here.fits.clock.step };
-            slot = took_by (is_held here.member.factor t h) (outcome here.member here.state) here.unit here.state now accepted slot_empty gave;
-          })))
+      let same = same_here member state member_is state_is in
+      subst (λ one. IsSeat t h ports one (now, made_seat (Ok accepted))) (ap (λ m. (m, here.state)) same.0 ∙ ap (λ s. (member, s)) same.1)
+      (record {
+        clock = record { time = here.fits.clock.time; step = here.fits.clock.step };
+        slot = took_by (is_held here.member.factor t h) (outcome here.member here.state) here.unit here.state now accepted slot_empty gave;
+      })))
   seats_stepped (Err fault) new steps =
       let gave = of_member (Err fault) steps.0 in
       subst (λ (one : Fleet). AreSeats t h ports (zip run.members states) one.states (set seats instance (made_seat (Err fault)))) (sym steps.1)
       (subst (λ units. AreSeats t h ports (zip run.members states) units (set seats instance (made_seat (Err fault)))) (unit_kept fleet.states instance here.unit here.unit_is)
       (seats_set t h ports run.members states fleet.states seats here.unit (made_seat (Err fault)) instance long are (λ member state member_is state_is.
-          let same = same_here member state member_is state_is in
-          subst (λ one. IsSeat t h ports one (here.unit, made_seat (Err fault))) (ap (λ m. (m, here.state)) same.0 ∙ ap (λ s. (member, s)) same.1)
-          (record {
-            clock = record { time = here.fits.clock.time; step = here.fits.clock.step };
-            slot = failed_by (is_held here.member.factor t h) (outcome here.member here.state) here.unit here.state fault slot_empty gave;
-          }))))
+      let same = same_here member state member_is state_is in
+      subst (λ one. IsSeat t h ports one (here.unit, made_seat (Err fault))) (ap (λ m. (m, here.state)) same.0 ∙ ap (λ s. (member, s)) same.1)
+      (record {
+        clock = record { time = here.fits.clock.time; step = here.fits.clock.step };
+        slot = failed_by (is_held here.member.factor t h) (outcome here.member here.state) here.unit here.state fault slot_empty gave;
+      }))))
 
 -- ---- A run with the step
 

@@ -1,5 +1,5 @@
 -- What a run keeps where it comes to a stand, where its step is made anew, and where it ends.
-use Rattle.std.proofs.Common.{◌≡◌, ◌∙◌, ℕ, ◌≤◌, Bool, true, false, cond, ℤ, List, [], ◌∷◌, map, length, Option, Some, None, Vec, Global, refl, sym, ap, subst, arith}
+use Rattle.std.proofs.Common.{◌≡◌, ◌∙◌, ℕ, Bool, true, false, ℤ, List, [], map, length, Option, Some, None, Vec, Global, refl, sym, ap, subst}
 use Rattle.std.specs.Prelude.{is_none}
 use Rattle.std.specs.List.{list_all}
 use Rattle.port_solve.specs.Solved.{ports_told}
@@ -17,13 +17,12 @@ use Rattle.trace_core.proofs.ArrivalLaws.{phase_is}
 use Rattle.trace_core.proofs.SeatLaws.{AreKept, own_kept, saved_kept, are_saved_kept, kept_begun, seen_begun, seen_in_phase, kept_in_phase}
 use Rattle.trace_core.proofs.SlotLaws.{seats_begun, saved_is}
 use Rattle.trace_core.proofs.StandLaws.{one_state}
-use Rattle.trace_plan.specs.Plans.{Planned}
 use Rattle.trace_units.specs.Fleets.{Fleet}
 use Rattle.unit_tree.specs.Compositions.{Composition}
 use Rattle.unit_tree.specs.Negotiation.{all_inputs}
 use Rattle.unit_tree.specs.Ports.{Ports, IsAssignment, port_fault}
 use Rattle.unit_tree.specs.Successor.{Position, agreed}
-use Rattle.unit_tree.specs.Trace.{Stand, IsStand, HasWords}
+use Rattle.unit_tree.specs.Trace.{Stand, IsStand}
 use Rattle.unit_tree.specs.declared.ending.Ending.{Ending}
 
 pub none_is : {A : Type 0} (told : Option A) → is_none told ≡ true → told ≡ None

@@ -1,5 +1,5 @@
 -- What a run is after it was settled.
-use Rattle.std.proofs.Common.{◌≡◌, ◌∙◌, ℕ, ◌+◌, ◌<◌, Bool, true, false, ℤ, List, [], length, Option, Some, None, Vec, Global, refl, sym, ap, subst, arith, inl}
+use Rattle.std.proofs.Common.{◌≡◌, ◌∙◌, ℕ, ◌+◌, ◌<◌, Bool, true, false, ℤ, List, [], Option, Vec, Global, refl, sym, ap, subst, inl}
 use Rattle.std.specs.Prelude.{is_none, if◌then◌else◌}
 use Rattle.trace_core.specs.declared.phase.Settle.TheVariants as settle
 use Rattle.port_solve.specs.Solved.{HaveStates}
@@ -11,10 +11,9 @@ use Rattle.trace_core.specs.Runs.{RunState, Stands, IsOpened, AreCellsFull, AreP
 use Rattle.trace_core.specs.Settling.{IsRedoDue, with_redo, Moves, Ends, Settled}
 use Rattle.trace_core.specs.declared.course.Course.TheVariants as course
 use Rattle.trace_core.specs.declared.phase.Phase.{Phase}
-use Rattle.trace_core.specs.declared.phase.Phase.TheVariants.{Trial, Redo, Ended}
+use Rattle.trace_core.specs.declared.phase.Phase.TheVariants.{Ended}
 use Rattle.trace_core.specs.declared.run.Run.TheInside.{Inside}
 use Rattle.trace_core.specs.declared.seat.Seat.{Seat}
-use Rattle.trace_core.proofs.CourseLaws.{IsDue}
 use Rattle.trace_core.proofs.KeepLaws.{Arrival, none_is, is_some_not, going_solved, arrived_is, arrived_run, right_stand, same_position, before_kept, fault_there}
 use Rattle.trace_core.proofs.SettleLaws.{Led, led}
 use Rattle.trace_core.proofs.StandLaws.{stands_opened, stands_moved, stands_redone, stands_ended}
@@ -24,7 +23,7 @@ use Rattle.unit_tree.specs.Compositions.{Composition, AreMembers}
 use Rattle.unit_tree.specs.RunLaws.{IsInBounds, IsInRows}
 use Rattle.unit_tree.specs.Negotiation.{all_inputs}
 use Rattle.unit_tree.specs.Ports.{port_fault}
-use Rattle.unit_tree.specs.Successor.{Position, agreed, goes, ends, successor}
+use Rattle.unit_tree.specs.Successor.{Position, agreed, goes}
 use Rattle.unit_tree.specs.Trace.{Stand, Goes, IsStand, HasWords}
 use Rattle.unit_tree.specs.declared.ending.Ending.{Ending}
 

@@ -1,8 +1,8 @@
 -- Rows and states as they are lent.
-use Rattle.std.proofs.Common.{◌≡◌, ◌∙◌, ℕ, ◌<◌, Bool, true, false, ℤ, List, [], ◌∷◌, map, length, get_or, Option, Some, None, refl, sym, ap, subst, arith}
+use Rattle.std.proofs.Common.{◌≡◌, ◌∙◌, ℕ, ◌<◌, Bool, true, false, ℤ, List, [], ◌∷◌, length, get_or, Option, Some, refl, sym, ap, subst, arith}
 use Rattle.std.proofs.lemmas.Option.{slice_get-map, slice_get_read}
 use Rattle.std.specs.Prelude.{slice_get, unwrap_or, IsSome}
-use Rattle.std.specs.List.{AllZip, list_all, filter_map}
+use Rattle.std.specs.List.{list_all, filter_map}
 use Rattle.std.specs.Option.{option_map}
 use Rattle.port_solve.specs.Solved.{ports_told}
 use Rattle.snap_store.specs.Store.{Store, words_of, IsLive}

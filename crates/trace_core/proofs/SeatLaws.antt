@@ -1,14 +1,13 @@
 -- What making seats ready for a step keeps: their snapshots and the inputs at the row before; and which cells they have then.
-use Rattle.std.proofs.Common.{◌≡◌, ◌≢◌, ◌∙◌, ℕ, ◌<◌, Bool, true, false, cond, ℤ, List, [], ◌∷◌, map, zip, length, get_or, Option, Some, None, refl, sym, ap, subst, arith}
+use Rattle.std.proofs.Common.{◌≡◌, ◌∙◌, ℕ, ◌<◌, Bool, true, false, ℤ, List, [], ◌∷◌, map, zip, length, get_or, refl, sym, ap, subst, arith}
 use Rattle.std.proofs.lemmas.List.{length-map}
-use Rattle.std.proofs.lemmas.Slice.Zip.{firsts-zip, seconds-zip}
 use Rattle.std.specs.Prelude.{unwrap_or, if◌then◌else◌}
 use Rattle.std.specs.List.{AllZip}
 use Rattle.snap_store.specs.Store.{Store, words_of}
 use Rattle.trace_core.specs.Arriving.{AreBegunIn}
 use Rattle.trace_core.specs.Keeping.{cells_seen, inputs_before}
-use Rattle.trace_core.specs.Runs.{Cell, Held, Empty, cell_of, cells_of}
-use Rattle.trace_core.specs.Seats.{IsBegun, AreBegun, fresh_slot, cell_in, AreSaved, saved, HaveOwnIds}
+use Rattle.trace_core.specs.Runs.{Held, Empty, cell_of, cells_of}
+use Rattle.trace_core.specs.Seats.{IsBegun, AreBegun, cell_in, AreSaved, saved, HaveOwnIds}
 use Rattle.trace_core.specs.declared.phase.Phase.{Phase}
 use Rattle.trace_core.specs.declared.phase.Phase.TheVariants.{Trial, Redo, Ended}
 use Rattle.trace_core.specs.declared.seat.Seat.{Seat}

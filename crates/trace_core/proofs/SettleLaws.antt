@@ -1,13 +1,11 @@
 -- Where a run goes from a phase whose cells are full: along the successor.
-use Rattle.std.proofs.Common.{◌≡◌, ◌∙◌, ℕ, ◌+◌, ◌-◌, ◌*◌, ◌<◌, ◌≤◌, ◌^◌, Bool, true, false, ℤ, List, [], ◌∷◌, map, length, Option, Some, None, refl, sym, ap, subst, arith}
+use Rattle.std.proofs.Common.{◌≡◌, ◌∙◌, ℕ, ◌+◌, ◌*◌, ◌<◌, ◌≤◌, ◌^◌, false, List, [], ◌∷◌, map, length, refl, sym, ap, subst, arith}
 use Rattle.std.proofs.lemmas.Nat.{mul-le}
-use Rattle.std.specs.List.{AllZip}
 use Rattle.port_solve.specs.Solved.{HaveStates}
-use Rattle.super_time.specs.declared.point.Point.{Point}
 use Rattle.trace_core.specs.Courses.{course_in, IsReady}
-use Rattle.trace_core.specs.Keeping.{stand_of, cells_seen, run_state, SeatsFit, HasRoom, IsRun}
-use Rattle.trace_core.specs.Runs.{Cell, Held, Empty, Filled, RunState, Stands, AreCellsFull, IsPhase, cells_now, is_ended, is_empty_cell, step_length}
-use Rattle.trace_core.specs.Seats.{AreSeats, AreFull, cell_in, is_empty}
+use Rattle.trace_core.specs.Keeping.{stand_of, cells_seen, run_state, SeatsFit, IsRun}
+use Rattle.trace_core.specs.Runs.{AreCellsFull, IsPhase, is_ended, is_empty_cell, step_length}
+use Rattle.trace_core.specs.Seats.{AreFull, cell_in, is_empty}
 use Rattle.trace_core.specs.Settling.{IsRedoDue}
 use Rattle.trace_core.specs.declared.course.Course.{Course}
 use Rattle.trace_core.specs.declared.course.Course.TheVariants as course
@@ -17,14 +15,13 @@ use Rattle.trace_core.specs.declared.run.Run.TheInside.{Inside}
 use Rattle.trace_core.specs.declared.seat.Seat.{Seat}
 use Rattle.trace_core.specs.declared.seat.Slot.{Slot}
 use Rattle.trace_core.specs.declared.seat.Slot.TheVariants as slot
-use Rattle.trace_core.proofs.CourseLaws.{IsDue, LeadsOn, LeadsFromTrial, LeadsFromRedo, trial_leads, redo_leads, leads_to}
+use Rattle.trace_core.proofs.CourseLaws.{IsDue, LeadsFromTrial, LeadsFromRedo, trial_leads, redo_leads, leads_to}
 use Rattle.trace_core.proofs.OpeningLaws.{states_long}
 use Rattle.trace_core.proofs.SlotLaws.{AreOfOneLength, accepted_within, have_clocks}
 use Rattle.trace_core.proofs.StandLaws.{one_state, now_at_most}
 use Rattle.unit_tree.specs.Compositions.{Composition}
-use Rattle.unit_tree.specs.Successor.{Position, standings, limits, proposed, agreed, after, goes, ends, successor}
+use Rattle.unit_tree.specs.Successor.{limits, proposed, agreed, goes, ends, successor}
 use Rattle.unit_tree.specs.Trace.{Stand}
-use Rattle.unit_tree.specs.declared.ending.Ending.{Ending}
 use Rattle.unit_tree.proofs.PositionLaws.{agreed_is_at_most}
 use Rattle.unit_tree.proofs.StepLaws.{proposal_is_greatest}
 

@@ -1,13 +1,12 @@
 -- What full slots tell of a step, what units hold behind it, and what seats are at the beginning of a step.
-use Rattle.std.proofs.Common.{◌≡◌, ◌∙◌, ℕ, zero, suc, ◌+◌, ◌<◌, ◌≤◌, cond, Bool, true, false, ℤ, List, [], ◌∷◌, length, map, get_or, Option, Some, None, Result, Ok, Err, refl, ap, sym, subst, arith}
-use Rattle.std.proofs.lemmas.Slice.Zip.{AllZip-long, firsts-zip, seconds-zip}
+use Rattle.std.proofs.Common.{◌≡◌, ◌∙◌, ℕ, ◌+◌, ◌≤◌, cond, Bool, true, false, ℤ, List, [], ◌∷◌, length, map, Option, Some, None, Result, Ok, Err, refl, ap, sym, subst, arith}
+use Rattle.std.proofs.lemmas.Slice.Zip.{firsts-zip, seconds-zip}
 use Rattle.std.specs.Prelude.{zip, nat_lt, unwrap_or}
 use Rattle.std.specs.List.{AllByRecursion, AllZip, enumerate_from}
 use Rattle.fixed_words.specs.declared.types.Fault.{Fault}
-use Rattle.snap_store.specs.Store.{Store, words_of}
+use Rattle.snap_store.specs.Store.{Store}
 use Rattle.super_time.specs.LocalTime.{local_time, local_step}
-use Rattle.trace_core.specs.Runs.{Held, Empty, cell_of}
-use Rattle.trace_core.specs.Seats.{SlotIs, is_empty, AreFull, IsSeat, AreSeats, IsBegun, AreBegun, end_in, slot_end, redo_end_in, redo_slot_end, reply_in, slot_reply, HaveClocks, IsWithin, AreWithin, HaveOwnIds, AreSaved, saved, cell_in}
+use Rattle.trace_core.specs.Seats.{SlotIs, is_empty, AreFull, IsSeat, AreSeats, IsBegun, AreBegun, end_in, slot_end, redo_end_in, redo_slot_end, reply_in, slot_reply, HaveClocks, IsWithin, AreWithin, AreSaved, saved}
 use Rattle.trace_core.specs.declared.seat.Seat.{Seat}
 use Rattle.trace_core.specs.declared.seat.Slot.{Slot}
 use Rattle.trace_core.specs.declared.seat.Slot.TheVariants as slot
@@ -252,76 +251,6 @@ seats_begun t h ports members states units old new long same begun =
     subst (λ held. AreSeats t h ports (zip members states) held new) (sym same)
     (subst (AreSeats t h ports (zip members states) states) (seconds-zip old new begun.as_many) (begun_in t h ports members states (zip old new) long begun.each))
 
--- The cells of such seats are those at the beginning of the step.
-cell_by : (held : Bool) → cell_in (cond held slot.Held slot.Empty) ≡ cond held Held Empty
-cell_by true = refl
-cell_by false = refl
-
-module _ (t h : ℕ) where
-  abbrev BegunIn : List Member → List (Seat × Seat) → Type 0
-  BegunIn members pairs = AllZip (λ member pair. IsBegun t h member.factor pair.0 pair.1) members pairs
-
-  cells_in : (members : List Member) (pairs : List (Seat × Seat)) → BegunIn members pairs → map (λ pair. cell_in pair.1.slot) pairs ≡ map (cell_of t h) members
-  cells_in [] [] begun = refl
-  cells_in [] (pair ∷ pairs) begun = absurd begun
-  cells_in (member ∷ members) [] begun = absurd begun
-  cells_in (member ∷ members) (pair ∷ pairs) begun =
-      let first : cell_in pair.1.slot ≡ cell_of t h member = ap cell_in begun.0.slot ∙ cell_by (is_held member.factor t h) in
-      ap (λ cell. cell ∷ map (λ (one : Seat × Seat). cell_in one.1.slot) pairs) first ∙ ap (λ cells. cell_of t h member ∷ cells) (cells_in members pairs begun.1)
-
-  cells_of_seconds : (pairs : List (Seat × Seat)) → map (λ seat. cell_in seat.slot) (map (λ (pair : Seat × Seat). pair.1) pairs) ≡ map (λ pair. cell_in pair.1.slot) pairs
-  cells_of_seconds [] = refl
-  cells_of_seconds (pair ∷ pairs) = ap (λ cells. cell_in pair.1.slot ∷ cells) (cells_of_seconds pairs)
-
-  saved_in : (store : Store) (members : List Member) (pairs : List (Seat × Seat)) (states : List (List ℤ)) → BegunIn members pairs → AreSaved store (map (λ pair. pair.0) pairs) states → AreSaved store (map (λ pair. pair.1) pairs) states
-  saved_in store [] [] states begun are = are
-  saved_in store [] (pair ∷ pairs) states begun are = absurd begun
-  saved_in store (member ∷ members) [] states begun are = absurd begun
-  saved_in store (member ∷ members) (pair ∷ pairs) [] begun are = absurd are
-  saved_in store (member ∷ members) (pair ∷ pairs) (state ∷ states) begun are = (ap (words_of store) begun.0.id ∙ are.0, saved_in store members pairs states begun.1 are.1)
-
-  before_in : (members : List Member) (pairs : List (Seat × Seat)) → BegunIn members pairs → map (λ seat. seat.before.items) (map (λ (pair : Seat × Seat). pair.1) pairs) ≡ map (λ seat. seat.before.items) (map (λ (pair : Seat × Seat). pair.0) pairs)
-  before_in [] [] begun = refl
-  before_in [] (pair ∷ pairs) begun = absurd begun
-  before_in (member ∷ members) [] begun = absurd begun
-  before_in (member ∷ members) (pair ∷ pairs) begun =
-      ap (λ before. before.items ∷ map (λ (seat : Seat). seat.before.items) (map (λ (one : Seat × Seat). one.1) pairs)) begun.0.before
-      ∙ ap (λ others. pair.0.before.items ∷ others) (before_in members pairs begun.1)
-
-  ids_in : (members : List Member) (pairs : List (Seat × Seat)) (place : ℕ) (default : Seat) → BegunIn members pairs → (get_or (map (λ pair. pair.1) pairs) place default).id ≡ (get_or (map (λ pair. pair.0) pairs) place default).id
-  ids_in [] [] place default begun = refl
-  ids_in [] (pair ∷ pairs) place default begun = absurd begun
-  ids_in (member ∷ members) [] place default begun = absurd begun
-  ids_in (member ∷ members) (pair ∷ pairs) zero default begun = begun.0.id
-  ids_in (member ∷ members) (pair ∷ pairs) (suc place) default begun = ids_in members pairs place default begun.1
-
-module _ (t h : ℕ) (members : List Member) (old new : List Seat) (begun : AreBegun t h members old new) where
-  old_are : map (λ (pair : Seat × Seat). pair.0) (zip old new) ≡ old
-  old_are = firsts-zip old new begun.as_many
-
-  new_are : map (λ (pair : Seat × Seat). pair.1) (zip old new) ≡ new
-  new_are = seconds-zip old new begun.as_many
-
-  pub begun_cells : map (λ seat. cell_in seat.slot) new ≡ map (cell_of t h) members
-  begun_cells = ap (map (λ (seat : Seat). cell_in seat.slot)) (sym new_are) ∙ cells_of_seconds t h (zip old new) ∙ cells_in t h members (zip old new) begun.each
-
-  -- The snapshots, the words of inputs and the ids stay.
-  pub begun_saved : (store : Store) (states : List (List ℤ)) → AreSaved store old states → AreSaved store new states
-  begun_saved store states are =
-      subst (λ seats. AreSaved store seats states) new_are (saved_in t h store members (zip old new) states begun.each (subst (λ seats. AreSaved store seats states) (sym old_are) are))
-
-  pub begun_before : map (λ seat. seat.before.items) new ≡ map (λ seat. seat.before.items) old
-  begun_before =
-      ap (map (λ (seat : Seat). seat.before.items)) (sym new_are) ∙ before_in t h members (zip old new) begun.each ∙ ap (map (λ (seat : Seat). seat.before.items)) old_are
-
-  same_id : (place : ℕ) (default : Seat) → (get_or new place default).id ≡ (get_or old place default).id
-  same_id place default =
-      ap (λ seats. (get_or seats place default).id) (sym new_are) ∙ ids_in t h members (zip old new) place default begun.each ∙ ap (λ seats. (get_or seats place default).id) old_are
-
-  pub begun_own : HaveOwnIds old → HaveOwnIds new
-  begun_own own default one other below within same =
-      own default one other below (subst (λ count. other < count) begun.as_many within) (sym (same_id one default) ∙ same ∙ same_id other default)
-
 -- ---- Snapshots
 
 pub saved_is : (store : Store) (seats : List Seat) (states : List (List ℤ)) → AreSaved store seats states → saved store seats ≡ states
@@ -330,6 +259,3 @@ saved_is store [] (state ∷ states) are = absurd are
 saved_is store (seat ∷ seats) [] are = absurd are
 saved_is store (seat ∷ seats) (state ∷ states) are =
     ap (λ found. unwrap_or found [] ∷ saved store seats) are.0 ∙ ap (λ others. state ∷ others) (saved_is store seats states are.1)
-
-pub saved_as_many : (store : Store) (seats : List Seat) (states : List (List ℤ)) → AreSaved store seats states → length states ≡ length seats
-saved_as_many store seats states are = AllZip-long (λ seat state. words_of store seat.id ≡ Some state) seats states are

@@ -1,8 +1,8 @@
 -- What a run keeps at its opening, and from one call to the next.
-use Rattle.std.proofs.Common.{◌≡◌, ◌∙◌, ℕ, zero, suc, ◌+◌, ◌*◌, ◌≤◌, Bool, true, false, cond, ℤ, List, [], ◌∷◌, map, length, Option, Some, None, refl, sym, ap, subst, arith}
+use Rattle.std.proofs.Common.{◌≡◌, ◌∙◌, ℕ, suc, ◌+◌, ◌*◌, ◌≤◌, true, false, ℤ, List, [], length, Some, refl, ap, subst, arith}
 use Rattle.std.specs.Prelude.{is_some, is_none, slice_get, slice_set, ◌&&◌, if◌then◌else◌}
 use Rattle.std.specs.List.{count_by}
-use Rattle.trace_core.specs.Runs.{Cell, Empty, Filled, RunState, Stands, IsPhase, IsTrial, IsRedo, IsEnd, AreCellsFull, IsWanted, ArePortsKnown, arrived, with_own, is_ended, is_filled, cells_now, cells_of, first_end, phase_at}
+use Rattle.trace_core.specs.Runs.{Cell, Empty, Filled, RunState, Stands, IsPhase, IsTrial, AreCellsFull, IsWanted, ArePortsKnown, arrived, with_own, is_ended, is_filled, cells_now, first_end}
 use Rattle.trace_core.specs.Settling.{with_redo}
 use Rattle.trace_core.specs.declared.phase.Phase.{Phase}
 use Rattle.trace_core.specs.declared.phase.Phase.TheVariants.{Trial, Redo, Ended}
@@ -13,13 +13,12 @@ use Rattle.trace_plan.specs.Keeps.{IsBounded}
 use Rattle.trace_plan.specs.Plans.{Planned}
 use Rattle.unit_tree.specs.Compositions.{Composition, AreMembers}
 use Rattle.unit_tree.specs.Negotiation.{all_inputs}
-use Rattle.unit_tree.specs.Ports.{first_some, port_fault}
 use Rattle.unit_tree.specs.RunLaws.{IsInBounds, IsInRows}
-use Rattle.unit_tree.specs.Successor.{Position, after, agreed, ends, is_redone, proposed, steps_by, successor, trial_end}
+use Rattle.unit_tree.specs.Successor.{Position, agreed, ends, is_redone, proposed, steps_by, successor, trial_end}
 use Rattle.unit_tree.specs.Trace.{Stand, Goes, IsGoing, IsStand, HasWords, AreWordsOf, steps_there, cells_of_trial, cells_of_redo, cells_at}
 use Rattle.unit_tree.specs.declared.ending.Ending.{Ending}
 use Rattle.unit_tree.proofs.RunSteps.{step_is_right}
-use Rattle.unit_tree.proofs.RunTraces.{one_each, goes_to}
+use Rattle.unit_tree.proofs.RunTraces.{one_each}
 
 -- ---- How many cells there may be
 

@@ -10,9 +10,11 @@ use Rattle.unit_tree.specs.Successor.{Position}
 use Rattle.unit_tree.specs.declared.ending.Ending.{Ending}
 use Rattle.unit_tree.specs.declared.ending.Ending.TheVariants.{Completed, RowBudget}
 
+-- The position at a point, with these states.
 abbrev pub position_with : Point → List (List ℤ) → ℕ → Position
 position_with point states number = record { point = point; states = states; number = number }
 
+-- The trial of a step that is proposed, or the end.
 abbrev pub tried : Result ℕ Ending → Phase
 tried (Ok h) = Trial h
 tried (Err ending) = Ended ending

@@ -1,8 +1,8 @@
 -- What a run keeps beside what contracts see of it.
-use Rattle.std.specs.Prelude.{◌≡◌, ℕ, true, List, [], map, length, is_none, ⊤, ℤ}
+use Rattle.std.specs.Prelude.{◌≡◌, true, List, [], map, length, is_none, ⊤, ℤ}
 use Rattle.std.specs.List.{list_all}
 use Rattle.port_solve.specs.Solved.{ports_told}
-use Rattle.trace_core.specs.Runs.{Cell, RunState, Stands, ArePortsKnown}
+use Rattle.trace_core.specs.Runs.{Cell, RunState, Stands}
 use Rattle.trace_core.specs.Seats.{AreSeats, AreSaved, AreAsLong, HaveOwnIds, cell_in, saved}
 use Rattle.trace_core.specs.declared.phase.Phase.{Phase}
 use Rattle.trace_core.specs.declared.phase.Phase.TheVariants.{Trial, Redo, Ended}
@@ -18,23 +18,28 @@ use Rattle.unit_tree.specs.Trace.{Stand}
 
 -- ---- What contracts see
 
+-- The position at which a run was opened.
 abbrev pub position_of : Opened → Position
 position_of opened = record { point = opened.point; states = map (λ state. state.items) opened.states.items; number = opened.number }
 
+-- Where a run stands: its states are those of the snapshots, and a port has a word where it is known.
 abbrev pub stand_of : Inside → Stand
 stand_of run = record {
   at = record { point = run.point; states = saved run.snaps run.seats.items; number = run.number };
   ports = ports_told run.known.items run.ports.items;
 }
 
+-- The cells of a phase, by the slots of the seats.
 abbrev pub cells_seen : Phase → List Seat → List Cell
 cells_seen (Trial h) seats = map (λ seat. cell_in seat.slot) seats
 cells_seen (Redo h) seats = map (λ seat. cell_in seat.slot) seats
 cells_seen (Ended ending) seats = []
 
+-- The words of all inputs at the row before.
 abbrev pub inputs_before : List Seat → List (List ℤ)
 inputs_before seats = map (λ seat. seat.before.items) seats
 
+-- All of it.
 abbrev pub run_state : Inside → RunState
 run_state run = record {
   plan = run.plan.value;
@@ -63,6 +68,8 @@ pub record HasRoom (run : Composition) (inside : Inside) : Type 0 where
   pub limits : length inside.limits.items ≡ length run.members
   pub replies : length inside.replies.items ≡ length run.members
 
+-- A run stands as `Stands` says. Its units are those of its plan, and hold the words of the inputs where all ports have words; its
+-- snapshots are its own, and hold states.
 pub record IsRun (run : Inside) : Type 0 where
   pub stands : Stands (run_state run)
   pub tied : run.units.plan ≡ run.plan.value

@@ -1,5 +1,5 @@
 -- Runs: what contracts see of one, and what all of them keep.
-use Rattle.std.specs.Prelude.{◌≡◌, ◌≤◌, ◌<◌, ◌↔◌, ℕ, suc, ◌+◌, ◌*◌, Bool, true, false, ℤ, List, [], ◌∷◌, map, length, slice_get, slice_set, if◌then◌else◌, Option, Some, None}
+use Rattle.std.specs.Prelude.{◌≡◌, ◌≤◌, ℕ, suc, ◌+◌, ◌*◌, Bool, true, false, ℤ, List, [], ◌∷◌, map, length, slice_get, slice_set, if◌then◌else◌, Option, Some, None}
 use Rattle.std.specs.List.{AllByRecursion, count_by}
 use Rattle.super_time.specs.LocalTime.{local_time, local_step}
 use Rattle.trace_core.specs.declared.phase.Phase.{Phase}
@@ -11,7 +11,7 @@ use Rattle.unit_exec.specs.Images.{IsImageOf}
 use Rattle.unit_exec.specs.declared.want.Want.{Want}
 use Rattle.unit_tree.specs.Compositions.{Member, Composition, AreMembers}
 use Rattle.unit_tree.specs.Negotiation.{is_held, all_inputs}
-use Rattle.unit_tree.specs.Ports.{Ports, first_some, port_fault}
+use Rattle.unit_tree.specs.Ports.{first_some, port_fault}
 use Rattle.unit_tree.specs.RunLaws.{IsInBounds, IsInRows}
 use Rattle.unit_tree.specs.Successor.{Position, ends, proposed, agreed, is_redone, stop_end, row_end, max_end, trial_end, successor}
 use Rattle.unit_tree.specs.Trace.{Stand, IsStand, IsGoing, Reaches, Row, HasWords, cells_of_trial, cells_at}
@@ -42,6 +42,7 @@ abbrev pub first_end : Composition → Stand → Option Ending
 first_end run stand =
     first_some (port_fault run stand.at.states stand.ports ∷ stop_end run stand.at ∷ row_end run stand.at ∷ max_end run stand.at stand.ports ∷ [])
 
+-- By the end that is told, or else the trial of a step of h.
 abbrev pub phase_or : Option Ending → ℕ → Phase
 phase_or (Some ending) h = Ended ending
 phase_or None h = Trial h
@@ -54,6 +55,7 @@ phase_at run stand = phase_or (first_end run stand) (proposed run stand.at stand
 abbrev pub cell_of : ℕ → ℕ → Member → Cell
 cell_of t h member = if is_held member.factor t h then Held else Empty
 
+-- The cells of all members at the beginning of a phase. After the end there are none.
 abbrev pub cells_of : Composition → ℕ → Phase → List Cell
 cells_of run t (Trial h) = map (cell_of t h) run.members
 cells_of run t (Redo h) = map (cell_of t h) run.members
@@ -83,14 +85,17 @@ pub record IsOpened (plan : Planned) (at : Position) (r : RunState) : Type 0 whe
 
 -- ---- What a run keeps
 
+-- The instance is held.
 abbrev pub is_held_cell : Cell → Bool
 is_held_cell Held = true
 is_held_cell _ = false
 
+-- Its step is there.
 abbrev pub is_filled : Cell → Bool
 is_filled Filled = true
 is_filled _ = false
 
+-- Its step is not there yet.
 abbrev pub is_empty_cell : Cell → Bool
 is_empty_cell Empty = true
 is_empty_cell _ = false
@@ -118,6 +123,7 @@ pub record IsEnd (run : Composition) (stand : Stand) (ending : Ending) (cells : 
   pub is : successor run stand.at stand.ports ≡ ends ending
   pub none : cells ≡ []
 
+-- The phase is one that the stand asks for, with its cells.
 abbrev pub IsPhase : Composition → Stand → Phase → List Cell → Type 0
 IsPhase run stand (Trial h) cells = IsTrial run stand h cells
 IsPhase run stand (Redo h) cells = IsRedo run stand h cells
@@ -159,10 +165,12 @@ IsWanted r instance = slice_get r.cells instance ≡ Some Empty
 abbrev pub AreCellsFull : List Cell → Type 0
 AreCellsFull cells = AllByRecursion (λ cell. is_empty_cell cell ≡ false) cells
 
+-- The run has ended.
 abbrev pub is_ended : Phase → Bool
 is_ended (Ended ending) = true
 is_ended _ = false
 
+-- The length of the step of a phase, in ticks.
 abbrev pub step_length : Phase → ℕ
 step_length (Trial h) = h
 step_length (Redo h) = h

@@ -37,10 +37,12 @@ SlotIs (Some step) slot.Empty unit committed = unit ≡ committed
 SlotIs step (slot.Took accepted) unit committed = step ≡ Some (Ok (record { state = unit; accepted = accepted }))
 SlotIs step (slot.Failed fault) unit committed = (step ≡ Some (Err fault)) × (unit ≡ committed)
 
+-- The step is not there yet.
 abbrev pub is_empty : Slot → Bool
 is_empty slot.Empty = true
 is_empty _ = false
 
+-- No slot is empty.
 abbrev pub AreFull : List Seat → Type 0
 AreFull seats = AllByRecursion (λ seat. is_empty seat.slot ≡ false) seats
 
@@ -73,6 +75,7 @@ pub record IsBegun (t h factor : ℕ) (old new : Seat) : Type 0 where
   pub id : new.id ≡ old.id
   pub before : new.before ≡ old.before
 
+-- All seats are made ready for a step of h from t, each for its member.
 pub record AreBegun (t h : ℕ) (members : List Member) (old new : List Seat) : Type 0 where
   pub as_many : length new ≡ length old
   pub each : AllZip (λ member pair. IsBegun t h member.factor pair.0 pair.1) members (zip old new)
@@ -131,9 +134,11 @@ AreWithin seats = AllByRecursion (λ seat. IsWithin seat.step seat.slot) seats
 abbrev pub max_told : ℕ → Member × (List ℤ × List ℤ) → Result (Option ℕ) Fault
 max_told t (member, (state, inputs)) = max_of member.component state inputs (local_time member.factor t)
 
+-- What the `max` of each member gives.
 abbrev pub all_told : ℕ → List Member → List (List ℤ) → List (List ℤ) → List (Result (Option ℕ) Fault)
 all_told t members states inputs = map (max_told t) (zip members (zip states inputs))
 
+-- The limits that these are, of the members that have one.
 abbrev pub limits_told : ℕ → List Member → List (Result (Option ℕ) Fault) → List ℕ
 limits_told t members told = filter_map (λ one. limit_told one.0.factor t one.1) (zip members told)
 

@@ -1,13 +1,12 @@
 -- What settling makes of a run whose cells are full: it goes along the successor.
-use Rattle.std.specs.Prelude.{◌≡◌, ℕ, true, [], Option, Some, None, ◌⊎◌}
+use Rattle.std.specs.Prelude.{◌≡◌, ℕ, true, [], None, ◌⊎◌}
 use Rattle.trace_core.specs.Runs.{RunState, arrived, cells_of, ArePortsKnown}
 use Rattle.trace_core.specs.declared.phase.Phase.TheVariants.{Trial, Redo, Ended}
 use Rattle.trace_core.specs.declared.phase.Settle.{Settle}
 use Rattle.trace_core.specs.declared.phase.Settle.TheVariants as settle
-use Rattle.unit_tree.specs.Compositions.{Composition}
 use Rattle.unit_tree.specs.Negotiation.{all_inputs}
-use Rattle.unit_tree.specs.Successor.{Position, ends, agreed, is_redone, trial_end, successor}
-use Rattle.unit_tree.specs.Trace.{Stand, Goes}
+use Rattle.unit_tree.specs.Successor.{ends, agreed, is_redone, trial_end, successor}
+use Rattle.unit_tree.specs.Trace.{Goes}
 use Rattle.unit_tree.specs.declared.ending.Ending.{Ending}
 
 -- The run tried the proposal, no step of it faulted, and the agreed step is shorter.

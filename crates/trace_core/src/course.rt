@@ -33,13 +33,7 @@ fn go_on(plan: &Plan, point: Point, h: u64) -> Course
 }
 
 /// What the trial of a step of `h` comes to.
-fn reckon_trial(
-    plan: &Plan,
-    seats: &[Seat],
-    point: Point,
-    h: u64,
-    replies: &mut [u64],
-) -> Course
+fn reckon_trial(plan: &Plan, seats: &[Seat], point: Point, h: u64, replies: &mut [u64]) -> Course
     requires clocks { HaveClocks point.t h plan.now.run.members seats.now }
     requires replies { length replies.old ≡ length seats.now }
     requires some { 0 < length seats.now }

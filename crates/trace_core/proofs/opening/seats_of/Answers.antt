@@ -1,4 +1,4 @@
-use Rattle.std.proofs.Common.{◌≡◌, ◌+◌, ℕ, length, subst, sym, arith}
+use Rattle.std.proofs.Common.{◌≡◌, ◌+◌, length, subst, sym, arith}
 use Rattle.trace_core.proofs.OpeningLaws.{SeatedSoFar, none_seated, one_seated, all_seated}
 use Rattle.trace_core.proofs.opening.seats_of.Goals as goal
 

@@ -1,4 +1,4 @@
-use Rattle.std.proofs.Common.{◌≡◌, ◌≤◌, ◌+◌, ◌++◌, ◌∷◌, [], ◌∙◌, ℤ, Vec, Global, length, map, ap, sym, arith, take}
+use Rattle.std.proofs.Common.{◌≤◌, ◌++◌, ◌∷◌, [], ◌∙◌, ℤ, Vec, Global, length, map, ap, sym, arith, take}
 use Rattle.std.proofs.lemmas.List.{take_all, map-append}
 use Rattle.trace_core.proofs.OpeningLaws.{take_next, states_long}
 use Rattle.trace_core.proofs.opening.states_of.Goals as goal

@@ -1,4 +1,4 @@
-use Rattle.std.proofs.Common.{◌≡◌, ◌∙◌, ◌<◌, ◌≤◌, ◌+◌, ◌^◌, length, set, refl, ap, sym, subst, arith, rules, Some}
+use Rattle.std.proofs.Common.{◌∙◌, set, ap, sym, subst, arith}
 use Rattle.std.specs.Vec.{with_item}
 use Rattle.port_solve.specs.Solved.{HaveStates}
 use Rattle.trace_core.specs.Runs.{RunState, IsWanted, step_length, with_own}

@@ -1,7 +1,7 @@
-use Rattle.std.proofs.Common.{◌≡◌, ◌∙◌, ◌<◌, ◌≤◌, ap, sym, subst, arith, rules}
+use Rattle.std.proofs.Common.{◌≡◌, ◌∙◌, ◌≤◌, ap, sym, subst, arith, rules}
 use Rattle.trace_core.specs.Arriving.{position_with}
 use Rattle.trace_plan.specs.Plans.{Planned}
-use Rattle.unit_tree.specs.Compositions.{Composition, AreMembers}
+use Rattle.unit_tree.specs.Compositions.{AreMembers}
 use Rattle.unit_tree.specs.Plain.{plain_form}
 use Rattle.unit_tree.specs.Successor.{first_position}
 use Rattle.unit_tree.specs.Trace.{HasWords}

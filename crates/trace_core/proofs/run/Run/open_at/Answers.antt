@@ -4,10 +4,9 @@ use Rattle.std.specs.Vec.{with_items}
 use Rattle.trace_core.specs.Arriving.{position_with}
 use Rattle.trace_core.specs.Keeping.{HasRoom, inputs_before, position_of}
 use Rattle.trace_core.specs.Opening.{AreSeated}
-use Rattle.trace_core.specs.Runs.{IsOpened, Stands}
 use Rattle.trace_core.specs.Seats.{AreSaved, AreAsLong, saved}
 use Rattle.trace_core.specs.declared.run.Run.TheInside.{Inside}
-use Rattle.trace_core.proofs.KeepLaws.{AreSolved, IsBegunWith, Arrival, arrival_of}
+use Rattle.trace_core.proofs.KeepLaws.{AreSolved, IsBegunWith, arrival_of}
 use Rattle.trace_core.proofs.MoveLaws.{open_run, open_stands, is_opened}
 use Rattle.trace_core.proofs.SeatLaws.{as_many_kept, kept_in_phase}
 use Rattle.trace_core.proofs.SlotLaws.{saved_is}

@@ -1,4 +1,4 @@
-use Rattle.std.proofs.Common.{◌≡◌, ◌∙◌, ◌+◌, ◌<◌, false, [], map, length, refl, ap, sym, subst, arith, rules, inl, inr}
+use Rattle.std.proofs.Common.{◌≡◌, ◌∙◌, ◌+◌, ◌<◌, false, [], map, length, refl, ap, sym, subst, rules, inr}
 use Rattle.std.specs.Prelude.{is_none}
 use Rattle.std.specs.Vec.{with_items}
 use Rattle.port_solve.specs.Solved.{HaveStates}
@@ -9,7 +9,6 @@ use Rattle.trace_core.specs.Runs.{RunState, Stands, AreCellsFull, is_ended}
 use Rattle.trace_core.specs.Seats.{AreAsLong, AreBegun, saved}
 use Rattle.trace_core.specs.Settling.{Settled, Ends, Moves, IsRedoDue, with_redo}
 use Rattle.trace_core.specs.declared.course.Course.TheVariants as course
-use Rattle.trace_core.specs.declared.phase.Settle.TheVariants as settle
 use Rattle.trace_core.proofs.KeepLaws.{AreSolved, IsBegunWith, arrival_of, redone_is, redone_run, ended_run}
 use Rattle.trace_core.proofs.LengthLaws.{states_as_long}
 use Rattle.trace_core.proofs.MoveLaws.{end_stands, end_settled, redo_due, redo_length, redo_stands, moved_on, next_in_rows, next_run, next_stands, next_moves, settled_by}
@@ -210,8 +209,7 @@ returns-in-Redo-clause-settled c =
     subst (AreBegun r.point.t c.in-Redo.h r.plan.value.run.members r.seats.items) (sym put_seats)
     (subst (λ old. AreBegun r.point.t c.in-Redo.h r.plan.value.run.members old c.begin_all.new.seats) c.deref_mut-in-Redo.ensures.value
     (subst (λ (plan : Planned). AreBegun r.point.t c.in-Redo.h plan.run.members c.deref_mut-in-Redo.result.now c.begin_all.new.seats) c.deref-in-Redo-2.ensures c.begin_all.ensures)) in
-    let length_is = redo_length r is have going full c.in-Redo.h to in
-    (
+    let length_is = redo_length r is have going full c.in-Redo.h to in (
       subst IsRedoDue c.self.view_is (redo_due r is have going full c.in-Redo.h to),
       redone_is r is c.restore_all.new.units seats replies c.in-Redo.h length_is begun ∙ ap with_redo c.self.view_is,
     )

@@ -1,4 +1,4 @@
-use Rattle.std.proofs.Common.{◌≡◌, ◌∙◌, ◌<◌, length, ap, sym, subst, Some}
+use Rattle.std.proofs.Common.{◌∙◌, ◌<◌, length, ap, sym, subst}
 use Rattle.std.specs.Prelude.{slice_get}
 use Rattle.trace_core.specs.Runs.{RunState}
 use Rattle.trace_core.specs.Seats.{saved}

@@ -1,0 +1,53 @@
+//! The steps of a phase, and what settling it comes to.
+ghost use Rattle.std.specs.Prelude.{◌≡◌, true, false};
+ghost use Rattle.trace_core.specs.Runs.{AreCellsFull, is_ended};
+
+use std::test::Fail;
+use trace_core::{Phase, Run, Settle};
+
+/// No plan has more instances.
+const MOST_INSTANCES: u32 = 64;
+
+/// Makes the step of an instance, where it is wanted.
+pub(crate) fn step(run: &mut Run, instance: u32) {
+    if run.wants(instance).is_some() {
+        run.compute(instance);
+    }
+}
+
+/// Makes all steps that are wanted, from the first instance on, or from the last one.
+fn step_all(run: &mut Run, last_first: bool) {
+    for turn in 0..MOST_INSTANCES {
+        let instance = if last_first {
+            MOST_INSTANCES - 1 - turn
+        } else {
+            turn
+        };
+        step(run, instance);
+    }
+}
+
+/// Whether a run goes on, and wants no step.
+fn can_settle(run: &Run) -> bool
+    ensures going { result ≡ true → is_ended run.now.phase ≡ false }
+    ensures full { result ≡ true → AreCellsFull run.now.cells }
+{
+    if let Phase::Ended(_) = run.phase() {
+        return false;
+    }
+    for instance in 0..MOST_INSTANCES {
+        if run.wants(instance).is_some() {
+            return false;
+        }
+    }
+    true
+}
+
+/// Makes all steps that are wanted, and settles the phase.
+pub(crate) fn settle(run: &mut Run, last_first: bool) -> Result<Settle, Fail> {
+    step_all(run, last_first);
+    if !can_settle(run) {
+        Err("the run ended, or wants a step")?;
+    }
+    Ok(run.settle())
+}
