@@ -19,10 +19,10 @@ use Rattle.trace_core.proofs.SettleLaws.{Led, led}
 use Rattle.trace_core.proofs.StandLaws.{stands_opened, stands_moved, stands_redone, stands_ended}
 use Rattle.trace_units.specs.Fleets.{Fleet}
 use Rattle.trace_plan.specs.Keeps.{IsBounded}
-use Rattle.unit_tree.specs.Compositions.{Composition, AreMembers}
+use Rattle.unit_tree.specs.Compositions.{Composition, AreMembers, run_of}
 use Rattle.unit_tree.specs.RunLaws.{IsInBounds, IsInRows}
 use Rattle.unit_tree.specs.Negotiation.{all_inputs}
-use Rattle.unit_tree.specs.Ports.{port_fault}
+use Rattle.unit_tree.specs.Ports.{IsPlaceOrder, port_fault}
 use Rattle.unit_tree.specs.Successor.{Position, agreed, goes}
 use Rattle.unit_tree.specs.Trace.{Stand, Goes, IsStand, HasWords}
 use Rattle.unit_tree.specs.declared.ending.Ending.{Ending}
@@ -121,7 +121,7 @@ settled_by false old new moves is = inl (moves, is_some_not (port_fault new.plan
 
 -- ---- At the opening
 
-module _ (n : Inside) (fault : Option Ending) (old : List Seat) (come : Arrival n fault old) (start : Position) (start_is : ◌≡◌ {A = Position} (record { point = n.point; states = n.units.states; number = n.number }) start) (bounded : IsBounded n.plan.value.run) (members : AreMembers n.plan.value.run) (words : HasWords n.plan.value.run start) (in_bounds : IsInBounds n.plan.value.run start) (in_rows : IsInRows n.plan.value.run start) (opened : position_of n.opened ≡ start) (fed : inputs_before old ≡ n.units.inputs) (none_found : n.found ≡ 0) (none_own : n.own ≡ 0) where
+module _ (n : Inside) (fault : Option Ending) (old : List Seat) (come : Arrival n fault old) (start : Position) (start_is : ◌≡◌ {A = Position} (record { point = n.point; states = n.units.states; number = n.number }) start) (order : List ℕ) (composed : n.plan.value.run ≡ run_of n.plan.value.system) (ordered : IsPlaceOrder n.plan.value.run order) (bounded : IsBounded n.plan.value.run) (members : AreMembers n.plan.value.run) (words : HasWords n.plan.value.run start) (in_bounds : IsInBounds n.plan.value.run start) (in_rows : IsInRows n.plan.value.run start) (opened : position_of n.opened ≡ start) (fed : inputs_before old ≡ n.units.inputs) (none_found : n.found ≡ 0) (none_own : n.own ≡ 0) where
   at_start : (stand_of n).at ≡ start
   at_start = same_position n fault old come ∙ start_is
 
@@ -130,7 +130,7 @@ module _ (n : Inside) (fault : Option Ending) (old : List Seat) (come : Arrival 
 
   fresh : Stands (arrived n.plan.value (stand_of n).at (stand_of n) (inputs_before n.seats.items) 0 0)
   fresh =
-      stands_opened n.plan.value (stand_of n) (inputs_before n.seats.items) bounded members (subst (HasWords n.plan.value.run) (sym at_start) words) (subst (IsInBounds n.plan.value.run) (sym at_start) in_bounds) (subst (IsInRows n.plan.value.run) (sym at_start) in_rows) (right_stand n fault old come) fed_start
+      stands_opened n.plan.value (stand_of n) (inputs_before n.seats.items) order composed ordered bounded members (subst (HasWords n.plan.value.run) (sym at_start) words) (subst (IsInBounds n.plan.value.run) (sym at_start) in_bounds) (subst (IsInRows n.plan.value.run) (sym at_start) in_rows) (right_stand n fault old come) fed_start
 
   counted_none : arrived n.plan.value (position_of n.opened) (stand_of n) (inputs_before n.seats.items) n.found n.own ≡ arrived n.plan.value (stand_of n).at (stand_of n) (inputs_before n.seats.items) 0 0
   counted_none =

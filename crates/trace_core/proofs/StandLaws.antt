@@ -11,8 +11,9 @@ use Rattle.trace_core.proofs.CellLaws.{full_are_steps, steps_at_most, filled_at_
 use Rattle.trace_core.proofs.CourseLaws.{IsDue}
 use Rattle.trace_plan.specs.Keeps.{IsBounded}
 use Rattle.trace_plan.specs.Plans.{Planned}
-use Rattle.unit_tree.specs.Compositions.{Composition, AreMembers}
+use Rattle.unit_tree.specs.Compositions.{Composition, AreMembers, run_of}
 use Rattle.unit_tree.specs.Negotiation.{all_inputs}
+use Rattle.unit_tree.specs.Ports.{IsPlaceOrder}
 use Rattle.unit_tree.specs.RunLaws.{IsInBounds, IsInRows}
 use Rattle.unit_tree.specs.Successor.{Position, agreed, ends, is_redone, proposed, steps_by, successor, trial_end}
 use Rattle.unit_tree.specs.Trace.{Stand, Goes, IsGoing, IsStand, HasWords, AreWordsOf, steps_there, cells_of_trial, cells_of_redo, cells_at}
@@ -50,8 +51,11 @@ now_at_most run stand (Ended ending) cells going words is = absurd (cc)
 
 -- ---- At the opening
 
-pub stands_opened : (plan : Planned) (stand : Stand) (before : List (List ℤ)) → IsBounded plan.run → AreMembers plan.run → HasWords plan.run stand.at → IsInBounds plan.run stand.at → IsInRows plan.run stand.at → IsStand plan.run stand → (ArePortsKnown plan.run stand → before ≡ all_inputs plan.run stand.ports) → Stands (arrived plan stand.at stand before 0 0)
-stands_opened plan stand before bounded members words in_bounds in_rows is_stand fed = record {
+pub stands_opened : (plan : Planned) (stand : Stand) (before : List (List ℤ)) (order : List ℕ) → plan.run ≡ run_of plan.system → IsPlaceOrder plan.run order → IsBounded plan.run → AreMembers plan.run → HasWords plan.run stand.at → IsInBounds plan.run stand.at → IsInRows plan.run stand.at → IsStand plan.run stand → (ArePortsKnown plan.run stand → before ≡ all_inputs plan.run stand.ports) → Stands (arrived plan stand.at stand before 0 0)
+stands_opened plan stand before order composed ordered bounded members words in_bounds in_rows is_stand fed = record {
+  composed = composed;
+  order = order;
+  ordered = ordered;
   bounded = bounded;
   members = members;
   words = words;
@@ -77,6 +81,9 @@ stands_moved old next stands going on =
     let right = step_is_right old.plan.run old.stand next stands.members on in
     let number : next.at.number ≡ suc old.stand.at.number = ap (λ (at : Position). at.number) right.agreed in
     record {
+      composed = stands.composed;
+      order = stands.order;
+      ordered = stands.ordered;
       bounded = stands.bounded;
       members = stands.members;
       words = right.words stands.words;
@@ -112,6 +119,9 @@ module _ (old : RunState) (stands : Stands old) (h : ℕ) (is : old.phase ≡ Tr
 
   pub stands_redone : IsDue old.plan.run old.stand → Stands (with_redo old)
   stands_redone due = record {
+    composed = stands.composed;
+    order = stands.order;
+    ordered = stands.ordered;
     bounded = stands.bounded;
     members = stands.members;
     words = stands.words;
@@ -165,6 +175,9 @@ now_by run stand (Ended ending) cells going words is full = absurd (cc)
 
 pub stands_ended : (old : RunState) (ending : Ending) → Stands old → is_ended old.phase ≡ false → AreCellsFull old.cells → successor old.plan.run old.stand.at old.stand.ports ≡ ends ending → Stands (record old { phase = Ended ending; cells = [] })
 stands_ended old ending stands going full ended = record {
+  composed = stands.composed;
+  order = stands.order;
+  ordered = stands.ordered;
   bounded = stands.bounded;
   members = stands.members;
   words = stands.words;
@@ -205,6 +218,9 @@ one_more_now run stand (Ended ending) cells instance wanted is =
 
 pub stands_filled : (old : RunState) (instance : ℕ) → Stands old → IsWanted old instance → Stands (with_own old instance)
 stands_filled old instance stands wanted = record {
+  composed = stands.composed;
+  order = stands.order;
+  ordered = stands.ordered;
   bounded = stands.bounded;
   members = stands.members;
   words = stands.words;

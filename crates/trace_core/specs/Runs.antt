@@ -9,9 +9,9 @@ use Rattle.trace_plan.specs.Keeps.{IsBounded}
 use Rattle.trace_plan.specs.Plans.{Planned}
 use Rattle.unit_exec.specs.Images.{IsImageOf}
 use Rattle.unit_exec.specs.declared.want.Want.{Want}
-use Rattle.unit_tree.specs.Compositions.{Member, Composition, AreMembers}
+use Rattle.unit_tree.specs.Compositions.{Member, Composition, AreMembers, run_of}
 use Rattle.unit_tree.specs.Negotiation.{is_held, all_inputs}
-use Rattle.unit_tree.specs.Ports.{first_some, port_fault}
+use Rattle.unit_tree.specs.Ports.{IsPlaceOrder, first_some, port_fault}
 use Rattle.unit_tree.specs.RunLaws.{IsInBounds, IsInRows}
 use Rattle.unit_tree.specs.Successor.{Position, ends, proposed, agreed, is_redone, stop_end, row_end, max_end, trial_end, successor}
 use Rattle.unit_tree.specs.Trace.{Stand, IsStand, IsGoing, Reaches, Row, HasWords, cells_of_trial, cells_at}
@@ -135,9 +135,12 @@ cells_now run stand (Trial h) cells = count_by is_filled cells
 cells_now run stand (Redo h) cells = cells_of_trial run stand + count_by is_filled cells
 cells_now run stand (Ended ending) cells = cells_at run stand
 
--- The run stands where the successor leads from the position at which it was opened, by as many steps as its number has
+-- The run is that of its plan's system, whose outputs can be worked out in some order. It stands where the successor leads from the position at which it was opened, by as many steps as its number has
 -- risen; its ports are the port assignment there; its phase is the one that the stand asks for.
 pub record Stands (r : RunState) : Type 0 where
+  pub composed : r.plan.run ≡ run_of r.plan.system
+  pub order : List ℕ
+  pub ordered : IsPlaceOrder r.plan.run order
   pub bounded : IsBounded r.plan.run
   pub members : AreMembers r.plan.run
   pub words : HasWords r.plan.run r.stand.at

@@ -5,7 +5,7 @@ ghost use Rattle.trace_core.specs.Runs.{Stands, IsOpened, IsWanted, IsWantOf, is
 ghost use Rattle.trace_core.specs.Arriving.{position_with};
 ghost use Rattle.trace_core.specs.Settling.{Settled};
 ghost use Rattle.trace_core.specs.declared.phase.Settle.TheVariants as settled;
-ghost use Rattle.unit_tree.specs.Compositions.{AreMembers};
+ghost use Rattle.unit_tree.specs.Compositions.{AreMembers, run_of};
 ghost use Rattle.unit_tree.specs.RunLaws.{IsInBounds, IsInRows};
 ghost use Rattle.unit_tree.specs.Negotiation.{all_inputs};
 ghost use Rattle.unit_tree.specs.Successor.{first_position};
@@ -94,11 +94,11 @@ impl Run {
         let _ = plan.instances();
         let shared = Arc::clone(&plan)?;
         let units = Units::new(alloc, shared)?;
-        Run::open_at(alloc, plan, units, Point { t: 0, n: 0 }, 0)
+        Run::open_from(alloc, plan, units, Point { t: 0, n: 0 }, 0)
     }
 
     /// The run of a plan from the position of its units.
-    fn open_at(
+    fn open_from(
         alloc: Global,
         plan: Arc<Plan>,
         units: Units,
@@ -106,6 +106,7 @@ impl Run {
         number: u64,
     ) -> Result<Run, NoMemory>
         requires tied { units.plan ≡ plan.value }
+        requires composed { plan.value.run ≡ run_of plan.value.system }
         requires members { AreMembers plan.value.run }
         requires words { HasWords plan.value.run (position_with point units.states number) }
         requires in_bounds { IsInBounds plan.value.run (position_with point units.states number) }

@@ -84,6 +84,7 @@ fn reply_by(seat: &Seat, factor: u64, t: u64, h: u64) -> Result<u64, Fault>
     ensures { result ≡ replied factor t h seat.now.slot }
 {
     match seat.slot {
+        Slot::Took(accepted) if accepted == seat.step => Ok(h),
         Slot::Took(accepted) => Ok(reply(factor, t, h, accepted)),
         Slot::Failed(fault) => Err(fault),
         Slot::Held | Slot::Empty => Ok(h),

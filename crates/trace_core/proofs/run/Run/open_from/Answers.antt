@@ -14,10 +14,11 @@ use Rattle.trace_core.proofs.VecLaws.{items_put}
 use Rattle.trace_plan.specs.Keeps.{IsBounded}
 use Rattle.trace_plan.specs.Plans.{Planned}
 use Rattle.trace_units.specs.Fleets.{Fleet}
+use Rattle.unit_tree.specs.Ports.{IsPlaceOrder}
 use Rattle.unit_tree.specs.Routes.{routes_of}
 use Rattle.unit_tree.specs.declared.order.Routes.{Routes}
 use Rattle.unit_tree.specs.Successor.{Position}
-use Rattle.trace_core.proofs.run.Run.open_at.Goals as goal
+use Rattle.trace_core.proofs.run.Run.open_from.Goals as goal
 
 pub commit_all-requires-clause-saved : goal.commit_all-requires-clause-saved
 commit_all-requires-clause-saved c =
@@ -98,10 +99,12 @@ invariant_of-result c =
     let same : b.new.units.states ≡ c.args.units.states = ap (λ (f : Fleet). f.states) b.ensures.kept ∙ s.ensures.states in
     let start = position_with c.args.point c.args.units.states c.args.number in
     let start_is : ◌≡◌ {A = Position} (position_with c.args.point b.new.units.states c.args.number) start = ap (λ states. position_with c.args.point states c.args.number) same in
+    let order = c.order.result.now.places in
+    let ordered : IsPlaceOrder run order = subst (λ (plan : Planned). IsPlaceOrder plan.run order) c.deref.ensures c.order.ensures.places in
     let bounded : IsBounded run = subst (λ (plan : Planned). IsBounded plan.run) c.deref-2.ensures c.instances-count.ensures.bounded in
     let opened : position_of n.opened ≡ start = ap (λ states. position_with c.args.point states c.args.number) c.in_ok-states.ensures in
     let before : inputs_before c.commit_all.new.seats ≡ b.new.units.inputs = c.commit_all.ensures.before ∙ sym (ap (λ (f : Fleet). f.inputs) b.ensures.kept) in
-    open_run n s.result c.commit_all.new.seats come start start_is bounded c.requires.members c.requires.words c.requires.in_bounds c.requires.in_rows opened before refl refl
+    open_run n s.result c.commit_all.new.seats come start start_is order c.requires.composed ordered bounded c.requires.members c.requires.words c.requires.in_bounds c.requires.in_rows opened before refl refl
 
 pub returns-clause-opened : goal.returns-clause-opened
 returns-clause-opened c =
@@ -166,10 +169,12 @@ returns-clause-opened c =
     let same : b.new.units.states ≡ c.args.units.states = ap (λ (f : Fleet). f.states) b.ensures.kept ∙ s.ensures.states in
     let start = position_with c.args.point c.args.units.states c.args.number in
     let start_is : ◌≡◌ {A = Position} (position_with c.args.point b.new.units.states c.args.number) start = ap (λ states. position_with c.args.point states c.args.number) same in
+    let order = c.order.result.now.places in
+    let ordered : IsPlaceOrder run order = subst (λ (plan : Planned). IsPlaceOrder plan.run order) c.deref.ensures c.order.ensures.places in
     let bounded : IsBounded run = subst (λ (plan : Planned). IsBounded plan.run) c.deref-2.ensures c.instances-count.ensures.bounded in
     let opened : position_of n.opened ≡ start = ap (λ states. position_with c.args.point states c.args.number) c.in_ok-states.ensures in
     let before : inputs_before c.commit_all.new.seats ≡ b.new.units.inputs = c.commit_all.ensures.before ∙ sym (ap (λ (f : Fleet). f.inputs) b.ensures.kept) in
-    is_opened n s.result c.commit_all.new.seats come start start_is bounded c.requires.members c.requires.words c.requires.in_bounds c.requires.in_rows opened before refl refl
+    is_opened n s.result c.commit_all.new.seats come start start_is order c.requires.composed ordered bounded c.requires.members c.requires.words c.requires.in_bounds c.requires.in_rows opened before refl refl
 
 pub returns-clause-stands : goal.returns-clause-stands
 returns-clause-stands c =
@@ -234,7 +239,9 @@ returns-clause-stands c =
     let same : b.new.units.states ≡ c.args.units.states = ap (λ (f : Fleet). f.states) b.ensures.kept ∙ s.ensures.states in
     let start = position_with c.args.point c.args.units.states c.args.number in
     let start_is : ◌≡◌ {A = Position} (position_with c.args.point b.new.units.states c.args.number) start = ap (λ states. position_with c.args.point states c.args.number) same in
+    let order = c.order.result.now.places in
+    let ordered : IsPlaceOrder run order = subst (λ (plan : Planned). IsPlaceOrder plan.run order) c.deref.ensures c.order.ensures.places in
     let bounded : IsBounded run = subst (λ (plan : Planned). IsBounded plan.run) c.deref-2.ensures c.instances-count.ensures.bounded in
     let opened : position_of n.opened ≡ start = ap (λ states. position_with c.args.point states c.args.number) c.in_ok-states.ensures in
     let before : inputs_before c.commit_all.new.seats ≡ b.new.units.inputs = c.commit_all.ensures.before ∙ sym (ap (λ (f : Fleet). f.inputs) b.ensures.kept) in
-    open_stands n s.result c.commit_all.new.seats come start start_is bounded c.requires.members c.requires.words c.requires.in_bounds c.requires.in_rows opened before refl refl
+    open_stands n s.result c.commit_all.new.seats come start start_is order c.requires.composed ordered bounded c.requires.members c.requires.words c.requires.in_bounds c.requires.in_rows opened before refl refl
