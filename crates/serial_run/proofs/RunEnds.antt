@@ -190,6 +190,9 @@ tells_row {A} {B} faults0 faults faults' fault result same tells is =
       same = λ other. tells.same (λ e. other (is ∙ err_as B A fault e)) ∙ same;
     }
 
+pub tells_none : {T : Type 0} (faults0 faults : ℕ) (done : T) → faults ≡ faults0 → TellsFault faults0 faults (Ok done)
+tells_none faults0 faults done same = record { later = omega arith; failed = λ e. absurd (cc); same = λ other. same }
+
 pub on_err : {T : Type 0} {P : Type 0} (result : Result T CrewFault) → P → OnErr result P
 on_err (Ok done) holds = tt
 on_err (Err fault) holds = holds

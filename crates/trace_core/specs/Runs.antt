@@ -5,10 +5,11 @@ use Rattle.super_time.specs.LocalTime.{local_time, local_step}
 use Rattle.trace_core.specs.declared.phase.Phase.{Phase}
 use Rattle.trace_core.specs.declared.phase.Phase.TheVariants.{Trial, Redo, Ended}
 use Rattle.trace_core.specs.declared.phase.Row as lent
+use Rattle.trace_plan.specs.Keeps.{IsBounded}
 use Rattle.trace_plan.specs.Plans.{Planned}
 use Rattle.unit_exec.specs.Images.{IsImageOf}
 use Rattle.unit_exec.specs.declared.want.Want.{Want}
-use Rattle.unit_tree.specs.Compositions.{Member, Composition}
+use Rattle.unit_tree.specs.Compositions.{Member, Composition, AreMembers}
 use Rattle.unit_tree.specs.Negotiation.{is_held, all_inputs}
 use Rattle.unit_tree.specs.Ports.{Ports, first_some, port_fault}
 use Rattle.unit_tree.specs.RunLaws.{IsInBounds, IsInRows}
@@ -131,6 +132,8 @@ cells_now run stand (Ended ending) cells = cells_at run stand
 -- The run stands where the successor leads from the position at which it was opened, by as many steps as its number has
 -- risen; its ports are the port assignment there; its phase is the one that the stand asks for.
 pub record Stands (r : RunState) : Type 0 where
+  pub bounded : IsBounded r.plan.run
+  pub members : AreMembers r.plan.run
   pub words : HasWords r.plan.run r.stand.at
   pub is_stand : IsStand r.plan.run r.stand
   pub in_bounds : IsInBounds r.plan.run r.stand.at
@@ -140,11 +143,11 @@ pub record Stands (r : RunState) : Type 0 where
   pub last : Stand
   pub opened : from.at ≡ r.opened
   pub from_stand : IsStand r.plan.run from
-  pub reached : Reaches r.plan.run count from last r.stand
+  pub reached : Reaches r.plan.run count last from r.stand
   pub numbered : r.stand.at.number ≡ r.opened.number + count
   pub before : ArePortsKnown r.plan.run r.stand → r.before ≡ all_inputs r.plan.run last.ports
   pub phase_is : IsPhase r.plan.run r.stand r.phase r.cells
-  pub counted : r.found + r.own ≤ 2 * length r.plan.run.members * count + cells_now r.plan.run r.stand r.phase r.cells
+  pub counted : r.found + r.own ≤ count * (2 * length r.plan.run.members) + cells_now r.plan.run r.stand r.phase r.cells
 
 -- ---- Wants
 

@@ -1,6 +1,6 @@
 -- Seats: what a run keeps of each instance beside its unit, and what that stands for.
-use Rattle.std.specs.Prelude.{◌≡◌, ◌≢◌, ◌<◌, ℕ, Bool, true, false, ℤ, List, [], map, zip, length, get_or, if◌then◌else◌, nat_lt, Option, Some, None, Result, Ok, Err}
-use Rattle.std.specs.List.{AllZip, AllByRecursion, enumerate_from}
+use Rattle.std.specs.Prelude.{⊤, ◌≡◌, ◌≢◌, ◌<◌, ◌≤◌, ℕ, Bool, true, false, ℤ, List, [], map, zip, length, get_or, if◌then◌else◌, nat_lt, Option, Some, None, Result, Ok, Err}
+use Rattle.std.specs.List.{AllZip, AllByRecursion}
 use Rattle.std.specs.Option.{unwrap_or}
 use Rattle.fixed_words.specs.declared.types.Fault.{Fault}
 use Rattle.snap_store.specs.Store.{Store, words_of}
@@ -12,7 +12,7 @@ use Rattle.trace_core.specs.declared.seat.Slot.TheVariants as slot
 use Rattle.unit_tree.specs.Components.{Moved, max_of}
 use Rattle.unit_tree.specs.Compositions.{Member, Composition}
 use Rattle.unit_tree.specs.Negotiation.{is_held, step_at, reply_of, limit_told, proposal_of}
-use Rattle.unit_tree.specs.Ports.{Ports, Standing, first_some}
+use Rattle.unit_tree.specs.Ports.{Ports, Standing}
 use Rattle.unit_tree.specs.Successor.{when, first_told, max_end_of}
 use Rattle.unit_tree.specs.declared.ending.Ending.{Ending}
 use Rattle.unit_tree.specs.declared.ending.Ending.TheVariants.{UnitFault, StepRefused}
@@ -46,14 +46,14 @@ AreFull seats = AllByRecursion (λ seat. is_empty seat.slot ≡ false) seats
 
 -- ---- Clocks
 
--- The seat has the local time of its member at t, and the local step of h from there.
-pub record HasClock (t h : ℕ) (member : Member) (seat : Seat) : Type 0 where
-  pub time : seat.time ≡ local_time member.factor t
-  pub step : seat.step ≡ local_step member.factor t h
+-- The seat of a member whose local tick is so many ticks has its local time at t, and the local step of h from there.
+pub record HasClock (t h factor : ℕ) (seat : Seat) : Type 0 where
+  pub time : seat.time ≡ local_time factor t
+  pub step : seat.step ≡ local_step factor t h
 
 -- A seat with its member, the committed state, and what the unit holds, in a step of h from t.
 pub record IsSeat (t h : ℕ) (ports : Ports) (standing : Standing) (unit : List ℤ × Seat) : Type 0 where
-  pub clock : HasClock t h standing.0 unit.1
+  pub clock : HasClock t h standing.0.factor unit.1
   pub slot : SlotIs (step_at t h ports standing) unit.1.slot unit.0 standing.1
 
 -- There is a seat for each member with its state, and a unit.
@@ -62,47 +62,68 @@ AreSeats t h ports standings units seats = AllZip (IsSeat t h ports) standings (
 
 -- ---- The beginning of a step
 
--- The slot of a member at the beginning of a step.
-abbrev pub fresh_slot : ℕ → ℕ → Member → Slot
-fresh_slot t h member = if is_held member.factor t h then slot.Held else slot.Empty
+-- The slot of a member whose local tick is so many ticks, at the beginning of a step.
+abbrev pub fresh_slot : ℕ → ℕ → ℕ → Slot
+fresh_slot t h factor = if is_held factor t h then slot.Held else slot.Empty
 
--- The seat of a member is made ready for a step of h from t.
-pub record IsBegun (t h : ℕ) (member : Member) (old new : Seat) : Type 0 where
-  pub clock : HasClock t h member new
-  pub slot : new.slot ≡ fresh_slot t h member
+-- Its seat is made ready for a step of h from t.
+pub record IsBegun (t h factor : ℕ) (old new : Seat) : Type 0 where
+  pub clock : HasClock t h factor new
+  pub slot : new.slot ≡ fresh_slot t h factor
   pub id : new.id ≡ old.id
   pub before : new.before ≡ old.before
 
 pub record AreBegun (t h : ℕ) (members : List Member) (old new : List Seat) : Type 0 where
   pub as_many : length new ≡ length old
-  pub each : AllZip (λ member pair. IsBegun t h member pair.0 pair.1) members (zip old new)
+  pub each : AllZip (λ member pair. IsBegun t h member.factor pair.0 pair.1) members (zip old new)
 
 -- ---- Reading a step whose cells are full
 
--- How the step of a seat ends the run, in the trial: by its fault.
+-- How the step that a slot tells ends the run: by its fault.
+abbrev pub end_in : ℕ → Slot → Option Ending
+end_in instance (slot.Failed fault) = Some (UnitFault instance place.Step fault)
+end_in instance _ = None
+
+-- How the step of a seat ends the run, in the trial.
 abbrev pub slot_end : ℕ × Seat → Option Ending
-slot_end (instance, seat) = end_by seat.slot
-  where
-    end_by : Slot → Option Ending
-    end_by (slot.Failed fault) = Some (UnitFault instance place.Step fault)
-    end_by _ = None
+slot_end (instance, seat) = end_in instance seat.slot
 
--- In a step that is made anew: by its fault, or where it accepted less than was asked.
+-- How the step that a slot tells ends the run, in a step that is made anew: by its fault, or where it accepted less than it was
+-- asked.
+abbrev pub redo_end_in : ℕ → ℕ → Slot → Option Ending
+redo_end_in instance step (slot.Took accepted) = when (nat_lt accepted step) (StepRefused instance step accepted)
+redo_end_in instance step other = end_in instance other
+
+-- How the step of a seat ends the run, in a step that is made anew.
 abbrev pub redo_slot_end : ℕ × Seat → Option Ending
-redo_slot_end (instance, seat) = end_by seat.slot
-  where
-    end_by : Slot → Option Ending
-    end_by (slot.Failed fault) = Some (UnitFault instance place.Step fault)
-    end_by (slot.Took accepted) = when (nat_lt accepted seat.step) (StepRefused instance seat.step accepted)
-    end_by _ = None
+redo_slot_end (instance, seat) = redo_end_in instance seat.step seat.slot
 
--- The reply of a seat's member to a step of h from t.
+-- The reply of a member to a step of h from t, by its slot.
+abbrev pub reply_in : ℕ → ℕ → ℕ → Slot → ℕ
+reply_in factor t h (slot.Took accepted) = reply_of factor t h accepted
+reply_in factor t h _ = h
+
+-- The reply of a seat's member.
 abbrev pub slot_reply : ℕ → ℕ → Member × Seat → ℕ
-slot_reply t h (member, seat) = reply_by seat.slot
-  where
-    reply_by : Slot → ℕ
-    reply_by (slot.Took accepted) = reply_of member.factor t h accepted
-    reply_by _ = h
+slot_reply t h (member, seat) = reply_in member.factor t h seat.slot
+
+-- The reply of a member by its slot, or the fault of its step.
+abbrev pub replied : ℕ → ℕ → ℕ → Slot → Result ℕ Fault
+replied factor t h (slot.Failed fault) = Err fault
+replied factor t h other = Ok (reply_in factor t h other)
+
+-- The seats have the clocks of their members.
+abbrev pub HaveClocks : ℕ → ℕ → List Member → List Seat → Type 0
+HaveClocks t h members seats = AllZip (λ member seat. HasClock t h member.factor seat) members seats
+
+-- A step accepted no more than it was asked.
+abbrev pub IsWithin : ℕ → Slot → Type 0
+IsWithin step (slot.Took accepted) = accepted ≤ step
+IsWithin step _ = ⊤
+
+-- No step of a seat accepted more than it was asked.
+abbrev pub AreWithin : List Seat → Type 0
+AreWithin seats = AllByRecursion (λ seat. IsWithin seat.step seat.slot) seats
 
 -- ---- Limits
 
@@ -116,13 +137,14 @@ all_told t members states inputs = map (max_told t) (zip members (zip states inp
 abbrev pub limits_told : ℕ → List Member → List (Result (Option ℕ) Fault) → List ℕ
 limits_told t members told = filter_map (λ one. limit_told one.0.factor t one.1) (zip members told)
 
+-- The proposal, unless the run ends.
+abbrev pub ending_or : Option Ending → ℕ → Result ℕ Ending
+ending_or (Some ending) proposal = Err ending
+ending_or None proposal = Ok proposal
+
 -- The step that is proposed at t, or how a `max` ends the run.
 abbrev pub asked : Composition → ℕ → List (Result (Option ℕ) Fault) → Result ℕ Ending
-asked run t told = or_end (first_told max_end_of told)
-  where
-    or_end : Option Ending → Result ℕ Ending
-    or_end (Some ending) = Err ending
-    or_end None = Ok (proposal_of run.stop run.longest t (limits_told t run.members told))
+asked run t told = ending_or (first_told max_end_of told) (proposal_of run.stop run.longest t (limits_told t run.members told))
 
 -- ---- Snapshots
 

@@ -9,7 +9,10 @@
 //! `specs/Seats.antt` and `specs/Keeping.antt`, which need not be believed, say how it is gone about.
 #![tactic(auto)]
 
+mod course;
+mod opening;
 mod phase;
+mod ports;
 mod run;
 mod seat;
 mod steps;

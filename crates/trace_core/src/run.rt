@@ -1,14 +1,22 @@
 //! A run of a plan.
-ghost use Rattle.std.specs.Prelude.{◌≡◌, ◌<◌, ◌↔◌, length, slice_get, false, IsSome, Some, IfOk, IfSome};
+ghost use Rattle.std.specs.Prelude.{◌≡◌, ◌<◌, ◌↔◌, length, slice_get, false, IsSome, Some, IfOk, IfSome, if◌then◌else◌};
 ghost use Rattle.std.specs.Option.{option_map};
 ghost use Rattle.trace_core.specs.Runs.{Stands, IsOpened, IsWanted, IsWantOf, is_ended, with_own, row_told, AreCellsFull};
+ghost use Rattle.trace_core.specs.Arriving.{position_with};
 ghost use Rattle.trace_core.specs.Settling.{Settled};
+ghost use Rattle.trace_core.specs.declared.phase.Settle.TheVariants as settled;
+ghost use Rattle.unit_tree.specs.Compositions.{AreMembers};
+ghost use Rattle.unit_tree.specs.RunLaws.{IsInBounds, IsInRows};
 ghost use Rattle.unit_tree.specs.Negotiation.{all_inputs};
 ghost use Rattle.unit_tree.specs.Successor.{first_position};
-ghost use Rattle.unit_tree.specs.Trace.{row_at};
+ghost use Rattle.unit_tree.specs.Trace.{row_at, HasWords};
 
+use crate::course::{Course, reckon};
+use crate::opening::{seats_of, states_of};
 use crate::phase::{Phase, Row, Settle};
-use crate::seat::Seat;
+use crate::ports::{begin_phase, solve_ports};
+use crate::seat::{Seat, Slot, slot_of};
+use crate::steps::{begin_all, commit_all, restore_all};
 use fixed_words::NoMemory;
 use snap_store::Snaps;
 use std::alloc::Global;
@@ -22,9 +30,16 @@ use unit_tree::Point;
 /// The position at which a run was opened.
 #[derive(Drop)]
 pub(crate) struct Opened {
-    point: Point,
-    states: Vec<Vec<i64>>,
-    number: u64,
+    pub(crate) point: Point,
+    pub(crate) states: Vec<Vec<i64>>,
+    pub(crate) number: u64,
+}
+
+/// What settling came to at a new point, by whether all its ports have words.
+fn come_to(solved: bool) -> Settle
+    ensures { result ≡ (if solved then settled.Row else settled.Ended) }
+{
+    if solved { Settle::Row } else { Settle::Ended }
 }
 
 /// The run of a plan, from one row to the next.
@@ -46,6 +61,8 @@ pub struct Run {
     number: u64,
     found: u64,
     own: u64,
+    /// Whether all ports of this point have words.
+    solved: bool,
     opened: Opened,
 }
 
@@ -72,8 +89,72 @@ impl Run {
         ensures opened { IfOk result (IsOpened plan.value (first_position plan.value.run)) }
         ensures stands { IfOk result Stands }
     {
-        let _ = (alloc, plan);
-        todo
+        // What a plan keeps is known by the clauses of these calls alone.
+        let _ = plan.checked();
+        let _ = plan.instances();
+        let shared = Arc::clone(&plan)?;
+        let units = Units::new(alloc, shared)?;
+        Run::open_at(alloc, plan, units, Point { t: 0, n: 0 }, 0)
+    }
+
+    /// The run of a plan from the position of its units.
+    fn open_at(
+        alloc: Global,
+        plan: Arc<Plan>,
+        units: Units,
+        point: Point,
+        number: u64,
+    ) -> Result<Run, NoMemory>
+        requires tied { units.plan ≡ plan.value }
+        requires members { AreMembers plan.value.run }
+        requires words { HasWords plan.value.run (position_with point units.states number) }
+        requires in_bounds { IsInBounds plan.value.run (position_with point units.states number) }
+        requires in_rows { IsInRows plan.value.run (position_with point units.states number) }
+        ensures opened { IfOk result (IsOpened plan.value (position_with point units.states number)) }
+        ensures stands { IfOk result Stands }
+    {
+        let mut units = units;
+        let states = states_of(alloc, &units)?;
+        let mut snaps = Snaps::new(alloc);
+        let mut seats = seats_of(alloc, &units, &mut snaps)?;
+        let places = plan.order().routes().outputs.len();
+        let count = plan.instances() as usize;
+        let mut ports = vec![in alloc; 0; places]?;
+        let mut known = vec![in alloc; false; places]?;
+        let mut limits = vec![in alloc; 0; count]?;
+        let replies = vec![in alloc; 0; count]?;
+        let fault = solve_ports(&plan, &mut units, &mut ports, &mut known);
+        commit_all(&mut snaps, &mut seats, &units);
+        let phase = begin_phase(
+            &plan,
+            &mut units,
+            &mut seats,
+            &mut limits,
+            point,
+            number,
+            fault,
+        );
+        Ok(Run {
+            plan,
+            units,
+            seats,
+            snaps,
+            ports,
+            known,
+            limits,
+            replies,
+            phase,
+            point,
+            number,
+            found: 0,
+            own: 0,
+            solved: fault.is_none(),
+            opened: Opened {
+                point,
+                states,
+                number,
+            },
+        })
     }
 
     /// The point at which the run stands.
@@ -102,7 +183,13 @@ impl Run {
     pub fn row(&self) -> Option<Row<'_>>
         ensures { option_map row_told result ≡ row_at self.now.plan.run self.now.stand }
     {
-        todo
+        if !self.solved {
+            return None;
+        }
+        Some(Row {
+            point: self.point,
+            ports: &self.ports,
+        })
     }
 
     /// The state of an instance there.
@@ -137,7 +224,22 @@ impl Run {
         ensures exactly { IsSome result ↔ IsWanted self.now instance }
         ensures want { IfSome result (IsWantOf self.now instance) }
     {
-        todo
+        if let Phase::Ended(_) = self.phase {
+            return None;
+        }
+        let _ = self.units.count();
+        let seat = self.seats.get(instance as usize)?;
+        let Slot::Empty = seat.slot else {
+            return None;
+        };
+        Some(Want {
+            row: self.number,
+            image: self.plan.image(instance),
+            state: self.snaps.words(seat.id),
+            inputs: self.units.inputs(instance),
+            time: seat.time,
+            step: seat.step,
+        })
     }
 
     /// Makes the step that is wanted of an instance.
@@ -145,7 +247,10 @@ impl Run {
         requires wanted { IsWanted self.old instance }
         ensures { self.new ≡ with_own self.old instance }
     {
-        todo
+        let _ = self.units.count();
+        let seat = &mut self.seats[instance as usize];
+        seat.slot = slot_of(self.units.do_step(instance, seat.time, seat.step));
+        self.own += 1;
     }
 
     /// Goes on when all steps of the phase are there: makes the step anew where the trial asks for it, and else comes to the
@@ -156,7 +261,49 @@ impl Run {
         ensures settled { Settled self.old self.new result }
         ensures stands { Stands self.new }
     {
-        todo
+        // How long the states of the units are is known by the clauses of this call alone.
+        let _ = self.units.count();
+        let course = reckon(
+            &self.plan,
+            &self.seats,
+            self.phase,
+            self.point,
+            &mut self.replies,
+        );
+        match course {
+            Course::End(ending) => {
+                self.phase = Phase::Ended(ending);
+                Settle::Ended
+            }
+            Course::Redo(h) => {
+                restore_all(&self.snaps, &self.seats, &mut self.units);
+                begin_all(&self.plan, &mut self.seats, self.point.t, h);
+                self.phase = Phase::Redo { h };
+                Settle::Redo
+            }
+            Course::On(point) => {
+                commit_all(&mut self.snaps, &mut self.seats, &self.units);
+                self.point = point;
+                self.number += 1;
+                let fault = solve_ports(
+                    &self.plan,
+                    &mut self.units,
+                    &mut self.ports,
+                    &mut self.known,
+                );
+                self.solved = fault.is_none();
+                self.phase = begin_phase(
+                    &self.plan,
+                    &mut self.units,
+                    &mut self.seats,
+                    &mut self.limits,
+                    point,
+                    self.number,
+                    fault,
+                );
+                come_to(self.solved)
+            }
+        }
     }
 
     /// How many steps were taken from answers of others, since the run was opened.

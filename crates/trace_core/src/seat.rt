@@ -1,3 +1,6 @@
+ghost use Rattle.std.specs.Prelude.{◌≡◌};
+ghost use Rattle.trace_core.specs.Slots.{slot_for};
+
 use fixed_words::Fault;
 use snap_store::SnapId;
 
@@ -12,6 +15,16 @@ pub(crate) enum Slot {
     Took(u64),
     /// The step met a fault, and moved nothing.
     Failed(Fault),
+}
+
+/// The slot of a step that was made.
+pub(crate) fn slot_of(made: Result<u64, Fault>) -> Slot
+    ensures { result ≡ slot_for made }
+{
+    match made {
+        Ok(accepted) => Slot::Took(accepted),
+        Err(fault) => Slot::Failed(fault),
+    }
 }
 
 /// What a run keeps of an instance beside its unit: the snapshot of its committed state, the words of its inputs at the row

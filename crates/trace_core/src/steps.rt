@@ -1,11 +1,10 @@
 //! What is done to all instances in turn.
-ghost use Rattle.std.specs.Prelude.{◌≡◌, ◌≤◌, ◌<◌, ◌+◌, ◌^◌, length, map, zip, IfNone, OnOk};
-ghost use Rattle.std.specs.List.{AllZip};
-ghost use Rattle.port_solve.specs.Solved.{HaveStates, HaveInputs};
-ghost use Rattle.trace_core.specs.Seats.{AreBegun, AreFull, AreSaved, AreAsLong, HaveOwnIds, HasClock, IsCommitted, all_told, asked, saved, slot_end, redo_slot_end, slot_reply};
+ghost use Rattle.std.specs.Prelude.{◌≡◌, ◌≤◌, ◌<◌, ◌+◌, ◌^◌, length, map, zip, IfNone};
+ghost use Rattle.trace_core.specs.Seats.{AreBegun, IsBegun, HasClock, HaveClocks, IsWithin, AreWithin, AreSaved, AreAsLong, HaveOwnIds, all_told, asked, saved, slot_end, redo_slot_end, replied, slot_reply};
 ghost use Rattle.unit_tree.specs.Successor.{first_told};
 
 use crate::seat::{Seat, Slot};
+use fixed_words::Fault;
 use snap_store::Snaps;
 use step_rule::{propose, reply};
 use super_time::{limit, local_step, local_time};
@@ -17,6 +16,7 @@ use unit_tree::{Ending, Place};
 fn begin(seat: &mut Seat, factor: u64, t: u64, h: u64)
     requires factor { 1 ≤ factor }
     requires end { t + h ≤ 10 ^ 15 }
+    ensures { IsBegun t h factor seat.old seat.new }
 {
     seat.time = local_time(factor, t);
     seat.step = local_step(factor, t, h);
@@ -33,8 +33,8 @@ pub(crate) fn begin_all(plan: &Plan, seats: &mut [Seat], t: u64, h: u64)
     requires end { t + h ≤ 10 ^ 15 }
     ensures { AreBegun t h plan.now.run.members seats.old seats.new }
 {
-    for instance in 0..seats.len() {
-        begin(&mut seats[instance], plan.factor(instance as u32), t, h);
+    for instance in 0..plan.instances() {
+        begin(&mut seats[instance as usize], plan.factor(instance), t, h);
     }
 }
 
@@ -52,15 +52,12 @@ pub(crate) fn ask_limits(
     ensures kept { units.new ≡ units.old }
     ensures limits { length limits.new ≡ length limits.old }
 {
+    let stop = plan.stop();
     let mut count = 0;
-    for instance in 0..plan.instances() {
+    for instance in 0..units.count() {
         let factor = plan.factor(instance);
-        match units.max_step(instance, local_time(factor, t)) {
-            Ok(None) => {}
-            Ok(Some(local)) => {
-                limits[count] = limit(factor, t, local);
-                count += 1;
-            }
+        let told = match units.max_step(instance, local_time(factor, t)) {
+            Ok(told) => told,
             Err(fault) => {
                 return Err(Ending::UnitFault {
                     instance,
@@ -68,9 +65,29 @@ pub(crate) fn ask_limits(
                     fault,
                 });
             }
+        };
+        if let Some(local) = told {
+            limits[count] = limit(factor, t, local);
+            count += 1;
         }
     }
-    Ok(propose(plan.stop(), plan.longest(), t, &limits[..count]))
+    Ok(propose(stop, plan.longest(), t, &limits[..count]))
+}
+
+/// The reply of a seat to a step of `h` from `t`, or the fault of its step.
+fn reply_by(seat: &Seat, factor: u64, t: u64, h: u64) -> Result<u64, Fault>
+    requires factor { 1 ≤ factor }
+    requires coarsest { factor ≤ 10 ^ 9 }
+    requires end { t + h ≤ 10 ^ 15 }
+    requires clock { HasClock t h factor seat.now }
+    requires within { IsWithin seat.now.step seat.now.slot }
+    ensures { result ≡ replied factor t h seat.now.slot }
+{
+    match seat.slot {
+        Slot::Took(accepted) => Ok(reply(factor, t, h, accepted)),
+        Slot::Failed(fault) => Err(fault),
+        Slot::Held | Slot::Empty => Ok(h),
+    }
 }
 
 /// Reads the trial of a step of `h` from `t`, of which no cell is empty: the end by the first fault, or else all replies.
@@ -81,53 +98,59 @@ pub(crate) fn read_trial(
     h: u64,
     replies: &mut [u64],
 ) -> Option<Ending>
-    requires seats { AllZip (HasClock t h) plan.now.run.members seats.now }
+    requires clocks { HaveClocks t h plan.now.run.members seats.now }
+    requires within { AreWithin seats.now }
     requires replies { length replies.old ≡ length seats.now }
     requires end { t + h ≤ 10 ^ 15 }
-    requires accepted { AllZip (λ member seat. slot_reply t h (member, seat) ≤ h) plan.now.run.members seats.now }
     ensures end { result ≡ first_told slot_end seats.now }
     ensures replies { IfNone result (replies.new ≡ map (slot_reply t h) (zip plan.now.run.members seats.now)) }
     ensures as_many { length replies.new ≡ length replies.old }
 {
-    for instance in 0..seats.len() {
-        replies[instance] = match seats[instance].slot {
-            Slot::Took(accepted) => reply(plan.factor(instance as u32), t, h, accepted),
-            Slot::Failed(fault) => {
+    for instance in 0..plan.instances() {
+        let seat = &seats[instance as usize];
+        match reply_by(seat, plan.factor(instance), t, h) {
+            Ok(reply) => replies[instance as usize] = reply,
+            Err(fault) => {
                 return Some(Ending::UnitFault {
-                    instance: instance as u32,
+                    instance,
                     place: Place::Step,
                     fault,
                 });
             }
-            Slot::Held | Slot::Empty => h,
-        };
+        }
     }
     None
+}
+
+/// How the step of an instance that was made anew ends the run: by its fault, or where it accepted less than it was asked.
+fn redo_end(instance: u32, seat: &Seat) -> Option<Ending>
+    ensures { result ≡ redo_slot_end (instance, seat.now) }
+{
+    match seat.slot {
+        Slot::Took(accepted) if accepted < seat.step => Some(Ending::StepRefused {
+            instance,
+            asked: seat.step,
+            accepted,
+        }),
+        Slot::Failed(fault) => Some(Ending::UnitFault {
+            instance,
+            place: Place::Step,
+            fault,
+        }),
+        _ => None,
+    }
 }
 
 /// Reads a step that was made anew, of which no cell is empty: the end by the first instance that faults or accepts less than
 /// it was asked.
 pub(crate) fn read_redo(seats: &[Seat]) -> Option<Ending>
+    requires { length seats.now ≤ 64 }
     ensures { result ≡ first_told redo_slot_end seats.now }
 {
     for instance in 0..seats.len() {
-        let seat = &seats[instance];
-        match seat.slot {
-            Slot::Failed(fault) => {
-                return Some(Ending::UnitFault {
-                    instance: instance as u32,
-                    place: Place::Step,
-                    fault,
-                });
-            }
-            Slot::Took(accepted) if accepted < seat.step => {
-                return Some(Ending::StepRefused {
-                    instance: instance as u32,
-                    asked: seat.step,
-                    accepted,
-                });
-            }
-            _ => {}
+        let end = redo_end(instance as u32, &seats[instance]);
+        if end.is_some() {
+            return end;
         }
     }
     None
@@ -142,8 +165,8 @@ pub(crate) fn restore_all(snaps: &Snaps, seats: &[Seat], units: &mut Units)
     ensures inputs { units.new.inputs ≡ units.old.inputs }
     ensures plan { units.new.plan ≡ units.old.plan }
 {
-    for instance in 0..seats.len() {
-        units.restore(instance as u32, snaps.words(seats[instance].id));
+    for instance in 0..units.count() {
+        units.restore(instance, snaps.words(seats[instance as usize].id));
     }
 }
 
@@ -155,12 +178,13 @@ pub(crate) fn commit_all(snaps: &mut Snaps, seats: &mut [Seat], units: &Units)
     requires before { AreAsLong (map (λ seat. seat.before.items) seats.old) units.now.inputs }
     requires units { length seats.old ≡ length units.now.plan.run.members }
     ensures saved { AreSaved snaps.new seats.new units.now.states }
+    ensures as_many { length seats.new ≡ length seats.old }
     ensures own { HaveOwnIds seats.new }
     ensures before { map (λ seat. seat.before.items) seats.new ≡ units.now.inputs }
 {
-    for instance in 0..seats.len() {
-        let seat = &mut seats[instance];
-        seat.before.copy_from_slice(units.inputs(instance as u32));
-        snaps.overwrite(seat.id, units.state(instance as u32));
+    for instance in 0..units.count() {
+        let seat = &mut seats[instance as usize];
+        seat.before.copy_from_slice(units.inputs(instance));
+        snaps.overwrite(seat.id, units.state(instance));
     }
 }

@@ -2,7 +2,7 @@
 use Rattle.std.specs.Prelude.{◌≡◌, ℕ, ℤ, List, [], slice_get, slice_set, slice_index_or, Some, Result, Ok, Err}
 use Rattle.fixed_words.specs.declared.types.Fault.{Fault}
 use Rattle.trace_plan.specs.Plans.{Planned}
-use Rattle.unit_tree.specs.Components.{max_of, step_of}
+use Rattle.unit_tree.specs.Components.{step_of}
 use Rattle.unit_tree.specs.Compositions.{Member}
 
 -- A plan, and the state of each instance and the words of its inputs.

@@ -2,6 +2,7 @@ ghost use Rattle.std.specs.Prelude.{◌≡◌, ◌≤◌, ◌<◌, ◌+◌, ◌^
 ghost use Rattle.port_solve.specs.Solved.{HaveStates, HaveInputs};
 ghost use Rattle.trace_units.specs.Fleets.{ForUnit, Steps, with_state};
 ghost use Rattle.unit_tree.specs.Components.{max_of};
+ghost use Rattle.unit_tree.specs.Compositions.{run_of};
 ghost use Rattle.unit_tree.specs.Successor.{first_position};
 
 use fixed_words::{Fault, NoMemory};
@@ -58,6 +59,8 @@ impl Units {
         ensures plan { IfOk result (λ units. units.plan ≡ plan.value) }
         ensures states { IfOk result (λ units. units.states ≡ (first_position plan.value.run).states) }
     {
+        // By this call's clause the plan's run is what is run of its system.
+        let _checked = plan.checked();
         let mut list = Vec::new(alloc);
         for instance in 0..plan.instances() {
             let image = Arc::clone(plan.image(instance))?;
@@ -69,6 +72,7 @@ impl Units {
     /// How many there are: one for each member, with a word for each of its states and of its inputs.
     pub fn count(&self) -> u32
         ensures count { result ≡ length self.now.plan.run.members }
+        ensures run { self.now.plan.run ≡ run_of self.now.plan.system }
         ensures states { HaveStates self.now.plan.run self.now.states }
         ensures inputs { HaveInputs self.now.plan.run self.now.inputs }
     {

@@ -4,7 +4,8 @@ use Rattle.cosim_io.specs.Pieces.{AppendsPrefix}
 use Rattle.serial_run.specs.Lines.{header_of}
 use Rattle.serial_run.specs.Reports.{ReportsTrace}
 use Rattle.serial_run.specs.declared.report.Report.{Report}
-use Rattle.serial_run.proofs.RunEnds.{done_by, ended_by, front_come, front_header, front_none, given_of, going_on, header_is, on_err, opened_in, reports, row_put_in, shows_lent, work_bounded}
+use Rattle.serial_run.proofs.RowLaws.{err_is}
+use Rattle.serial_run.proofs.RunEnds.{done_by, ended_by, front_come, front_header, front_none, given_of, going_on, header_is, on_err, opened_in, reports, row_put_in, shows_lent, tells_none, tells_row, work_bounded}
 use Rattle.serial_run.proofs.RunKept.{Given, come_first, come_next, fewer_left, kept_by, number_within}
 use Rattle.serial_run.proofs.run.run_alone.Goals as goal
 
@@ -119,3 +120,21 @@ put_row-requires-in-rows-clause-words g c =
     let given : Given c.args.plan.value =
     given_of c.args.plan.value c.deref-2.result.now c.deref-3.result.now c.deref-4.result.now c.order.result.now.places c.deref-2.ensures c.deref-3.ensures c.deref-4.ensures c.order.ensures.places c.instances-instances.ensures.bounded c.checked.ensures.run in
     shows_lent c.args.plan.value c.deref-in-rows.result.now c.deref.result.now given c.deref-in-rows.ensures c.deref.ensures c.columns.ensures.rows
+
+pub returns-in_err-put_row-clause-cause : goal.returns-in_err-put_row-clause-cause
+returns-in_err-put_row-clause-cause g c =
+    tells_row (g.O.Sink.faults c.args.out.now) (g.O.Sink.faults c.put.new.self) (g.O.Sink.faults c.put_row.new.out) c.in_err-put_row.field-0.0 c.from_residual-in_err-put_row.result c.in_ok-put.ensures.cause.same c.in_err-put_row.ensures.cause (err_is c.from_residual-in_err-put_row.result c.in_err-put_row.field-0.0 c.from_residual-in_err-put_row.ensures.1)
+
+pub returns-in_err-put_row-2-clause-cause : goal.returns-in_err-put_row-2-clause-cause
+returns-in_err-put_row-2-clause-cause g c =
+    tells_row (g.O.Sink.faults c.args.out.now) (g.O.Sink.faults c.rows.out) (g.O.Sink.faults c.put_row-in-rows.new.out) c.in_err-put_row-2.field-0.0 c.from_residual-in_err-put_row-2.result c.rows.invariant.same c.in_err-put_row-2.ensures.cause (err_is c.from_residual-in_err-put_row-2.result c.in_err-put_row-2.field-0.0 c.from_residual-in_err-put_row-2.ensures.1)
+
+pub unreachable-requires : goal.unreachable-requires
+unreachable-requires g c =
+    let given : Given c.args.plan.value =
+    given_of c.args.plan.value c.deref-2.result.now c.deref-3.result.now c.deref-4.result.now c.order.result.now.places c.deref-2.ensures c.deref-3.ensures c.deref-4.ensures c.order.ensures.places c.instances-instances.ensures.bounded c.checked.ensures.run in
+    let done = done_by c.args.plan.value c.rows.run c.advance.new.run (g.O.Sink.held c.args.out.now) (g.O.Sink.held c.rows.out) (g.O.Sink.faults c.args.out.now) (g.O.Sink.faults c.rows.out) c.rows.tally given c.rows.invariant (ended_by c.rows.run c.advance.new.run c.advance.result c.rows-test.false c.advance.ensures.advanced) c.advance.ensures.stands in
+    c.in_default.not-Ended done.ending (c.phase.ensures.phase ∙ done.phase)
+
+pub returns-clause-cause : goal.returns-clause-cause
+returns-clause-cause g c = tells_none (g.O.Sink.faults c.args.out.now) (g.O.Sink.faults c.rows.out) c.report.result c.rows.invariant.same

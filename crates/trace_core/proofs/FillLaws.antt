@@ -1,0 +1,333 @@
+-- The seat of one instance: what is wanted of it, and what a run is where its step was made.
+use Rattle.std.proofs.Common.{◌≡◌, ◌∙◌, ℕ, zero, suc, ◌+◌, ◌<◌, ◌≤◌, ◌^◌, Bool, true, false, cond, ℤ, List, [], ◌∷◌, map, zip, length, get_or, set, Option, Some, None, Result, Ok, Err, Vec, Global, refl, sym, ap, subst, arith, length-set}
+use Rattle.std.proofs.lemmas.List.{map-set, length-map}
+use Rattle.std.proofs.lemmas.Option.{slice_get_within, get_or_from_slice_get, slice_get-map, same_Some}
+use Rattle.std.proofs.Math.Nat.{div-le_self}
+use Rattle.std.proofs.Math.Seq.{map-set_same}
+use Rattle.std.specs.Prelude.{is_none, slice_get, slice_set, slice_index_or}
+use Rattle.std.specs.List.{AllZip}
+use Rattle.std.specs.Option.{option_map}
+use Rattle.fixed_words.specs.declared.types.Fault.{Fault}
+use Rattle.port_solve.specs.Solved.{ports_told}
+use Rattle.super_time.specs.LocalTime.{local_time, local_step}
+use Rattle.trace_core.specs.Keeping.{stand_of, cells_seen, inputs_before, run_state, SeatsFit, IsRun}
+use Rattle.trace_core.specs.Runs.{Cell, Held, Empty, Filled, RunState, Stands, IsWanted, is_ended, with_own, step_length}
+use Rattle.trace_core.specs.Seats.{IsSeat, AreSeats, SlotIs, HasClock, cell_in, saved, AreSaved}
+use Rattle.trace_core.specs.Slots.{slot_for}
+use Rattle.trace_core.specs.declared.phase.Phase.{Phase}
+use Rattle.trace_core.specs.declared.phase.Phase.TheVariants.{Trial, Redo, Ended}
+use Rattle.trace_core.specs.declared.run.Run.TheInside.{Inside}
+use Rattle.trace_core.specs.declared.seat.Seat.{Seat}
+use Rattle.trace_core.specs.declared.seat.Slot.{Slot}
+use Rattle.trace_core.specs.declared.seat.Slot.TheVariants as slot
+use Rattle.trace_core.proofs.SeatLaws.{ids_of, own_kept, saved_kept, are_saved_kept}
+use Rattle.trace_core.proofs.SlotLaws.{AreOfOneLength}
+use Rattle.trace_core.proofs.StandLaws.{stands_filled}
+use Rattle.trace_plan.specs.Plans.{Planned}
+use Rattle.trace_units.specs.Fleets.{Fleet, ForUnit, Steps, with_state}
+use Rattle.unit_tree.specs.Components.{Moved, step_of}
+use Rattle.unit_tree.specs.Compositions.{Member, Composition}
+use Rattle.unit_tree.specs.Negotiation.{is_held, inputs_at, all_inputs, step_at}
+use Rattle.unit_tree.specs.Ports.{Ports, Standing, port_fault}
+use Rattle.unit_tree.specs.Trace.{Stand}
+use Rattle.unit_tree.specs.declared.ending.Ending.{Ending}
+
+-- ---- One seat among those of a phase
+
+-- The seat of an instance, with its member, its state and what its unit holds.
+pub record SeatAt (t h : ℕ) (ports : Ports) (members : List Member) (states units : List (List ℤ)) (seat : Seat) (instance : ℕ) : Type 0 where
+  pub member : Member
+  pub state : List ℤ
+  pub unit : List ℤ
+  pub member_is : slice_get members instance ≡ Some member
+  pub state_is : slice_get states instance ≡ Some state
+  pub unit_is : slice_get units instance ≡ Some unit
+  pub fits : IsSeat t h ports (member, state) (unit, seat)
+
+-- Lengths of four lists behind their first elements.
+abbrev later : (members : List Member) (states units : List (List ℤ)) (seats : List Seat) (member : Member) (state unit : List ℤ) (seat : Seat) → AreOfOneLength (member ∷ members) (state ∷ states) (unit ∷ units) (seat ∷ seats) → AreOfOneLength members states units seats
+later members states units seats member state unit seat long =
+    record { each_state = omega (arith, long.each_state); each_unit = omega (arith, long.each_unit); each_seat = omega (arith, long.each_seat) }
+
+pub seat_at : (t h : ℕ) (ports : Ports) (members : List Member) (states units : List (List ℤ)) (seats : List Seat) (seat : Seat) (instance : ℕ) → AreOfOneLength members states units seats → AreSeats t h ports (zip members states) units seats → slice_get seats instance ≡ Some seat → SeatAt t h ports members states units seat instance
+seat_at t h ports members states units [] seat instance long are is = absurd (cc)
+seat_at t h ports [] states units (first ∷ seats) seat instance long are is = absurd (omega (arith, long.each_seat))
+seat_at t h ports (member ∷ members) [] units (first ∷ seats) seat instance long are is = absurd (omega (arith, long.each_state))
+seat_at t h ports (member ∷ members) (state ∷ states) [] (first ∷ seats) seat instance long are is = absurd (omega (arith, long.each_unit))
+seat_at t h ports (member ∷ members) (state ∷ states) (unit ∷ units) (first ∷ seats) seat zero long are is = record {
+  member = member;
+  state = state;
+  unit = unit;
+  member_is = refl;
+  state_is = refl;
+  unit_is = refl;
+  fits = subst (λ one. IsSeat t h ports (member, state) (unit, one)) (same_Some first seat is) are.0;
+}
+seat_at t h ports (member ∷ members) (state ∷ states) (unit ∷ units) (first ∷ seats) seat (suc instance) long are is =
+    let behind = seat_at t h ports members states units seats seat instance (later members states units seats member state unit first long) are.1 is in
+    record { member = behind.member; state = behind.state; unit = behind.unit; member_is = behind.member_is; state_is = behind.state_is; unit_is = behind.unit_is; fits = behind.fits }
+
+-- What one unit holds and its seat are changed.
+pub seats_set : (t h : ℕ) (ports : Ports) (members : List Member) (states units : List (List ℤ)) (seats : List Seat) (unit : List ℤ) (new : Seat) (instance : ℕ) → AreOfOneLength members states units seats → AreSeats t h ports (zip members states) units seats → ((member : Member) (state : List ℤ) → slice_get members instance ≡ Some member → slice_get states instance ≡ Some state → IsSeat t h ports (member, state) (unit, new)) → AreSeats t h ports (zip members states) (set units instance unit) (set seats instance new)
+seats_set t h ports [] [] [] [] unit new instance long are fits = tt
+seats_set t h ports [] states units (first ∷ seats) unit new instance long are fits = absurd (omega (arith, long.each_seat))
+seats_set t h ports [] states (held ∷ units) [] unit new instance long are fits = absurd (omega (arith, long.each_unit))
+seats_set t h ports [] (state ∷ states) [] [] unit new instance long are fits = absurd (omega (arith, long.each_state))
+seats_set t h ports (member ∷ members) states units [] unit new instance long are fits = absurd (omega (arith, long.each_seat))
+seats_set t h ports (member ∷ members) [] units (first ∷ seats) unit new instance long are fits = absurd (omega (arith, long.each_state))
+seats_set t h ports (member ∷ members) (state ∷ states) [] (first ∷ seats) unit new instance long are fits = absurd (omega (arith, long.each_unit))
+seats_set t h ports (member ∷ members) (state ∷ states) (held ∷ units) (first ∷ seats) unit new zero long are fits = (fits member state refl refl, are.1)
+seats_set t h ports (member ∷ members) (state ∷ states) (held ∷ units) (first ∷ seats) unit new (suc instance) long are fits =
+    (are.0, seats_set t h ports members states units seats unit new instance (later members states units seats member state held first long) are.1 fits)
+
+unit_kept : (units : List (List ℤ)) (instance : ℕ) (unit : List ℤ) → slice_get units instance ≡ Some unit → set units instance unit ≡ units
+unit_kept [] instance unit is = absurd (cc)
+unit_kept (held ∷ units) zero unit is = ap (λ one. one ∷ units) (sym (same_Some held unit is))
+unit_kept (held ∷ units) (suc instance) unit is = ap (λ rest. held ∷ rest) (unit_kept units instance unit is)
+
+-- ---- A step that was made
+
+-- With whether the member is held, and what its step gives.
+took_by : (held : Bool) (outcome : Result Moved Fault) (unit state now : List ℤ) (accepted : ℕ) → SlotIs (cond held None (Some outcome)) slot.Empty unit state → outcome ≡ Ok (record { state = now; accepted = accepted }) → SlotIs (cond held None (Some outcome)) (slot.Took accepted) now state
+took_by true outcome unit state now accepted empty is = absurd empty
+took_by false outcome unit state now accepted empty is = ap Some is
+
+failed_by : (held : Bool) (outcome : Result Moved Fault) (unit state : List ℤ) (fault : Fault) → SlotIs (cond held None (Some outcome)) slot.Empty unit state → outcome ≡ Err fault → SlotIs (cond held None (Some outcome)) (slot.Failed fault) unit state
+failed_by true outcome unit state fault empty is = absurd empty
+failed_by false outcome unit state fault empty is = (ap Some is, empty)
+
+held_by : (held : Bool) (outcome : Result Moved Fault) (unit state : List ℤ) → SlotIs (cond held None (Some outcome)) slot.Empty unit state → unit ≡ state
+held_by true outcome unit state empty = absurd empty
+held_by false outcome unit state empty = empty
+
+filled_cell : (made : Result ℕ Fault) → cell_in (slot_for made) ≡ Filled
+filled_cell (Ok accepted) = refl
+filled_cell (Err fault) = refl
+
+-- ---- The step of one instance
+
+module _ (t h : ℕ) (run : Composition) (ports : Ports) (states : List (List ℤ)) (fleet : Fleet) (seats : List Seat) (seat : Seat) (instance : ℕ) (long : AreOfOneLength run.members states fleet.states seats) (are : AreSeats t h ports (zip run.members states) fleet.states seats) (seat_is : slice_get seats instance ≡ Some seat) (empty : seat.slot ≡ slot.Empty) (tied : fleet.plan.run ≡ run) (fed : fleet.inputs ≡ all_inputs run ports) where
+  here : SeatAt t h ports run.members states fleet.states seat instance
+  here = seat_at t h ports run.members states fleet.states seats seat instance long are seat_is
+
+  abbrev outcome : Member → List ℤ → Result Moved Fault
+  outcome member state = step_of member.component state (inputs_at ports member) (local_time member.factor t) (local_step member.factor t h)
+
+  slot_empty : SlotIs (step_at t h ports (here.member, here.state)) slot.Empty here.unit here.state
+  slot_empty = subst (λ made. SlotIs (step_at t h ports (here.member, here.state)) made here.unit here.state) empty here.fits.slot
+
+  unit_is_state : here.unit ≡ here.state
+  unit_is_state = held_by (is_held here.member.factor t h) (outcome here.member here.state) here.unit here.state slot_empty
+
+  inputs_are : slice_get fleet.inputs instance ≡ Some (inputs_at ports here.member)
+  inputs_are =
+      ap (λ all. slice_get all instance) fed ∙ slice_get-map (inputs_at ports) run.members instance ∙ ap (option_map (inputs_at ports)) here.member_is
+
+  -- What is known of the unit's step is known of the member's.
+  of_member : (result : Result Moved Fault) → ForUnit fleet instance (λ member state inputs. step_of member.component state inputs seat.time seat.step ≡ result) → outcome here.member here.state ≡ result
+  of_member result for_unit =
+      let given = for_unit here.member here.unit (inputs_at ports here.member) (subst (λ one. slice_get one.members instance ≡ Some here.member) (sym tied) here.member_is) here.unit_is inputs_are in
+      ap (λ state. step_of here.member.component state (inputs_at ports here.member) (local_time here.member.factor t) (local_step here.member.factor t h)) (sym unit_is_state)
+      ∙ ap (λ time. step_of here.member.component here.unit (inputs_at ports here.member) time (local_step here.member.factor t h)) (sym here.fits.clock.time)
+      ∙ ap (λ step. step_of here.member.component here.unit (inputs_at ports here.member) seat.time step) (sym here.fits.clock.step)
+      ∙ given
+
+  abbrev made_seat : Result ℕ Fault → Seat
+  made_seat made = record seat { slot = slot_for made }
+
+  same_here : (member : Member) (state : List ℤ) → slice_get run.members instance ≡ Some member → slice_get states instance ≡ Some state → (here.member ≡ member) × (here.state ≡ state)
+  same_here member state member_is state_is = (same_Some here.member member (sym here.member_is ∙ member_is), same_Some here.state state (sym here.state_is ∙ state_is))
+
+  pub seats_stepped : (made : Result ℕ Fault) (new : Fleet) → Steps fleet instance seat.time seat.step made new → AreSeats t h ports (zip run.members states) new.states (set seats instance (made_seat made))
+  seats_stepped (Ok accepted) new steps =
+      let now = slice_index_or new.states instance [] in
+      let gave = of_member (Ok (record { state = now; accepted = accepted })) steps.0 in
+      subst (λ (one : Fleet). AreSeats t h ports (zip run.members states) one.states (set seats instance (made_seat (Ok accepted)))) (sym steps.1)
+      (seats_set t h ports run.members states fleet.states seats now (made_seat (Ok accepted)) instance long are (λ member state member_is state_is.
+          let same = same_here member state member_is state_is in
+          subst (λ one. IsSeat t h ports one (now, made_seat (Ok accepted))) (ap (λ m. (m, here.state)) same.0 ∙ ap (λ s. (member, s)) same.1)
+          (record {
+            clock = record { time = here.fits.clock.time; step = here.fits.clock.step };
+            slot = took_by (is_held here.member.factor t h) (outcome here.member here.state) here.unit here.state now accepted slot_empty gave;
+          })))
+  seats_stepped (Err fault) new steps =
+      let gave = of_member (Err fault) steps.0 in
+      subst (λ (one : Fleet). AreSeats t h ports (zip run.members states) one.states (set seats instance (made_seat (Err fault)))) (sym steps.1)
+      (subst (λ units. AreSeats t h ports (zip run.members states) units (set seats instance (made_seat (Err fault)))) (unit_kept fleet.states instance here.unit here.unit_is)
+      (seats_set t h ports run.members states fleet.states seats here.unit (made_seat (Err fault)) instance long are (λ member state member_is state_is.
+          let same = same_here member state member_is state_is in
+          subst (λ one. IsSeat t h ports one (here.unit, made_seat (Err fault))) (ap (λ m. (m, here.state)) same.0 ∙ ap (λ s. (member, s)) same.1)
+          (record {
+            clock = record { time = here.fits.clock.time; step = here.fits.clock.step };
+            slot = failed_by (is_held here.member.factor t h) (outcome here.member here.state) here.unit here.state fault slot_empty gave;
+          }))))
+
+-- ---- A run with the step
+
+step_keeps : (old new : Fleet) (instance time step : ℕ) (made : Result ℕ Fault) → Steps old instance time step made new → (new.plan ≡ old.plan) × (new.inputs ≡ old.inputs)
+step_keeps old new instance time step (Ok accepted) steps = (ap (λ (f : Fleet). f.plan) steps.1, ap (λ (f : Fleet). f.inputs) steps.1)
+step_keeps old new instance time step (Err fault) steps = (ap (λ (f : Fleet). f.plan) steps.1, ap (λ (f : Fleet). f.inputs) steps.1)
+
+abbrev pub stepped : Inside → Fleet → Vec Seat Global → Inside
+stepped r units seats = record r { units = units; seats = seats; own = r.own + 1 }
+
+-- ---- Which cells are wanted
+
+wanted_by : (phase : Phase) (seats : List Seat) (seat : Seat) (instance : ℕ) → is_ended phase ≡ false → slice_get seats instance ≡ Some seat → seat.slot ≡ slot.Empty → slice_get (cells_seen phase seats) instance ≡ Some Empty
+wanted_by (Trial h) seats seat instance going is empty =
+    slice_get-map (λ (s : Seat). cell_in s.slot) seats instance ∙ ap (option_map (λ (s : Seat). cell_in s.slot)) is ∙ ap (λ made. Some (cell_in made)) empty
+wanted_by (Redo h) seats seat instance going is empty =
+    slice_get-map (λ (s : Seat). cell_in s.slot) seats instance ∙ ap (option_map (λ (s : Seat). cell_in s.slot)) is ∙ ap (λ made. Some (cell_in made)) empty
+wanted_by (Ended ending) seats seat instance going is empty = absurd (cc)
+
+pub seat_is_wanted : (r : Inside) (seat : Seat) (instance : ℕ) → is_ended r.phase ≡ false → slice_get r.seats.items instance ≡ Some seat → seat.slot ≡ slot.Empty → IsWanted (run_state r) instance
+seat_is_wanted r seat instance going is empty = wanted_by r.phase r.seats.items seat instance going is empty
+
+pub not_ended : (phase : Phase) → ((ending : Ending) → phase ≡ Ended ending → ⊥) → is_ended phase ≡ false
+not_ended (Trial h) none = refl
+not_ended (Redo h) none = refl
+not_ended (Ended ending) none = absurd (none ending refl)
+
+seats_by : (phase : Phase) (seats : List Seat) (instance : ℕ) → slice_get (cells_seen phase seats) instance ≡ Some Empty → instance < length seats
+seats_by (Trial h) seats instance there =
+    subst (λ count. instance < count) (length-map seats (λ (s : Seat). cell_in s.slot)) (slice_get_within (map (λ (s : Seat). cell_in s.slot) seats) instance Empty there)
+seats_by (Redo h) seats instance there =
+    subst (λ count. instance < count) (length-map seats (λ (s : Seat). cell_in s.slot)) (slice_get_within (map (λ (s : Seat). cell_in s.slot) seats) instance Empty there)
+seats_by (Ended ending) seats instance there = absurd (cc)
+
+pub wanted_seat : (r : Inside) (instance : ℕ) → IsWanted (run_state r) instance → instance < length r.seats.items
+wanted_seat r instance wanted = seats_by r.phase r.seats.items instance wanted
+
+-- A local step ends where its step does, or before.
+pub local_end : (factor t h : ℕ) → local_time factor t + local_step factor t h ≤ t + h
+local_end factor t h = omega (arith, div-le_self t factor, div-le_self (t + h) factor)
+
+module _ (r : Inside) (is : IsRun r) (seat : Seat) (instance : ℕ) (long : AreOfOneLength r.plan.value.run.members (stand_of r).at.states r.units.states r.seats.items) (seat_is : slice_get r.seats.items instance ≡ Some seat) (wanted : IsWanted (run_state r) instance) where
+  abbrev run : Composition
+  run = r.plan.value.run
+
+  abbrev stand : Stand
+  stand = stand_of r
+
+  was_seat : (default : Seat) → get_or r.seats.items instance default ≡ seat
+  was_seat default = get_or_from_slice_get r.seats.items instance seat default seat_is
+
+  cell_is : (phase : Phase) → slice_get (cells_seen phase r.seats.items) instance ≡ Some Empty → cell_in seat.slot ≡ Empty
+  cell_is (Trial h) there =
+      same_Some (cell_in seat.slot) Empty (sym (slice_get-map (λ (s : Seat). cell_in s.slot) r.seats.items instance ∙ ap (option_map (λ (s : Seat). cell_in s.slot)) seat_is) ∙ there)
+  cell_is (Redo h) there =
+      same_Some (cell_in seat.slot) Empty (sym (slice_get-map (λ (s : Seat). cell_in s.slot) r.seats.items instance ∙ ap (option_map (λ (s : Seat). cell_in s.slot)) seat_is) ∙ there)
+  cell_is (Ended ending) there = absurd (cc)
+
+  slot_by : (made : Slot) → cell_in made ≡ Empty → made ≡ slot.Empty
+  slot_by slot.Held is = absurd (cc)
+  slot_by slot.Empty is = refl
+  slot_by (slot.Took accepted) is = absurd (cc)
+  slot_by (slot.Failed fault) is = absurd (cc)
+
+  pub slot_is_empty : seat.slot ≡ slot.Empty
+  slot_is_empty = slot_by seat.slot (cell_is r.phase wanted)
+
+  going_by : (phase : Phase) → slice_get (cells_seen phase r.seats.items) instance ≡ Some Empty → is_ended phase ≡ false
+  going_by (Trial h) there = refl
+  going_by (Redo h) there = refl
+  going_by (Ended ending) there = absurd (cc)
+
+  pub is_going : is_ended r.phase ≡ false
+  is_going = going_by r.phase wanted
+
+  fit_as : (phase : Phase) → r.phase ≡ phase → SeatsFit run stand phase r.units.states r.seats.items
+  fit_as phase same = subst (λ one. SeatsFit run stand one r.units.states r.seats.items) same is.fit
+
+  -- The seat in the phase.
+  pub seat_by : (phase : Phase) → r.phase ≡ phase → is_ended phase ≡ false → SeatAt r.point.t (step_length phase) stand.ports run.members stand.at.states r.units.states seat instance
+  seat_by (Trial h) same going = seat_at r.point.t h stand.ports run.members stand.at.states r.units.states r.seats.items seat instance long (fit_as (Trial h) same) seat_is
+  seat_by (Redo h) same going = seat_at r.point.t h stand.ports run.members stand.at.states r.units.states r.seats.items seat instance long (fit_as (Redo h) same) seat_is
+  seat_by (Ended ending) same going = absurd (cc)
+
+  pub the_seat : SeatAt r.point.t (step_length r.phase) stand.ports run.members stand.at.states r.units.states seat instance
+  the_seat = seat_by r.phase refl is_going
+
+  module _ (made : Result ℕ Fault) (units : Fleet) (steps : Steps r.units instance seat.time seat.step made units) (solved : r.solved ≡ true) (seats : Vec Seat Global) (seats_are : seats.items ≡ set r.seats.items instance (record seat { slot = slot_for made })) where
+    abbrev new_seat : Seat
+    new_seat = record seat { slot = slot_for made }
+
+    ids_same : ids_of seats.items ≡ ids_of r.seats.items
+    ids_same =
+        ap ids_of seats_are
+        ∙ map-set_same (λ (s : Seat). s.id) r.seats.items instance new_seat seat (ap (λ (s : Seat). s.id) (sym (was_seat seat)))
+
+    before_same : inputs_before seats.items ≡ inputs_before r.seats.items
+    before_same =
+        ap inputs_before seats_are
+        ∙ map-set_same (λ (s : Seat). s.before.items) r.seats.items instance new_seat seat (ap (λ (s : Seat). s.before.items) (sym (was_seat seat)))
+
+    states_same : saved r.snaps seats.items ≡ saved r.snaps r.seats.items
+    states_same = saved_kept r.snaps r.seats.items seats.items ids_same
+
+    seen_by : map (λ (s : Seat). cell_in s.slot) seats.items ≡ slice_set (map (λ (s : Seat). cell_in s.slot) r.seats.items) instance Filled
+    seen_by =
+        ap (map (λ (s : Seat). cell_in s.slot)) seats_are
+        ∙ map-set (λ (s : Seat). cell_in s.slot) r.seats.items instance new_seat
+        ∙ ap (set (map (λ (s : Seat). cell_in s.slot) r.seats.items) instance) (filled_cell made)
+
+    cells_by : (phase : Phase) → is_ended phase ≡ false → cells_seen phase seats.items ≡ slice_set (cells_seen phase r.seats.items) instance Filled
+    cells_by (Trial h) going = seen_by
+    cells_by (Redo h) going = seen_by
+    cells_by (Ended ending) going = absurd (cc)
+
+    abbrev with_parts : List (List ℤ) → List Cell → List (List ℤ) → ℕ → RunState
+    with_parts states cells before own = record (run_state r) {
+      stand = record { at = record { point = r.point; states = states; number = r.number }; ports = stand.ports };
+      cells = cells;
+      before = before;
+      own = own;
+    }
+
+    pub stepped_is : run_state (stepped r units seats) ≡ with_own (run_state r) instance
+    stepped_is =
+        let more : r.own + 1 ≡ suc r.own = omega arith in
+        ap (λ states. with_parts states (cells_seen r.phase seats.items) (inputs_before seats.items) (r.own + 1)) states_same
+        ∙ ap (λ cells. with_parts stand.at.states cells (inputs_before seats.items) (r.own + 1)) (cells_by r.phase is_going)
+        ∙ ap (λ before. with_parts stand.at.states (slice_set (cells_seen r.phase r.seats.items) instance Filled) before (r.own + 1)) before_same
+        ∙ ap (λ own. with_parts stand.at.states (slice_set (cells_seen r.phase r.seats.items) instance Filled) (inputs_before r.seats.items) own) more
+
+    keeps : (units.plan ≡ r.units.plan) × (units.inputs ≡ r.units.inputs)
+    keeps = step_keeps r.units units instance seat.time seat.step made steps
+
+    tied_run : r.units.plan.run ≡ run
+    tied_run = ap (λ (plan : Planned). plan.run) is.tied
+
+    fed : r.units.inputs ≡ all_inputs run stand.ports
+    fed = is.inputs solved
+
+    fit_set : (phase : Phase) → r.phase ≡ phase → is_ended phase ≡ false → SeatsFit run (stand_of (stepped r units seats)) phase units.states seats.items
+    fit_set (Trial h) same going =
+        subst (λ states. AreSeats r.point.t h stand.ports (zip run.members states) units.states seats.items) (sym states_same)
+        (subst (AreSeats r.point.t h stand.ports (zip run.members stand.at.states) units.states) (sym seats_are)
+        (seats_stepped r.point.t h run stand.ports stand.at.states r.units r.seats.items seat instance long (fit_as (Trial h) same) seat_is slot_is_empty tied_run fed made units steps))
+    fit_set (Redo h) same going =
+        subst (λ states. AreSeats r.point.t h stand.ports (zip run.members states) units.states seats.items) (sym states_same)
+        (subst (AreSeats r.point.t h stand.ports (zip run.members stand.at.states) units.states) (sym seats_are)
+        (seats_stepped r.point.t h run stand.ports stand.at.states r.units r.seats.items seat instance long (fit_as (Redo h) same) seat_is slot_is_empty tied_run fed made units steps))
+    fit_set (Ended ending) same going = absurd (cc)
+
+    pub stepped_run : IsRun (stepped r units seats)
+    stepped_run = record {
+      stands = subst Stands (sym stepped_is) (stands_filled (run_state r) instance is.stands wanted);
+      tied = keeps.0 ∙ is.tied;
+      room = record {
+        ports = is.room.ports;
+        known = is.room.known;
+        seats = ap length seats_are ∙ length-set r.seats.items instance new_seat ∙ is.room.seats;
+        limits = is.room.limits;
+        replies = is.room.replies;
+      };
+      own_ids = own_kept r.seats.items seats.items ids_same is.own_ids;
+      saved = subst (AreSaved r.snaps seats.items) (sym states_same) (are_saved_kept r.snaps r.seats.items seats.items (saved r.snaps r.seats.items) ids_same is.saved);
+      before = ap (map length) before_same ∙ is.before ∙ sym (ap (map length) keeps.1);
+      solved = is.solved ∙ ap (λ had. is_none (port_fault run had stand.ports)) (sym states_same);
+      known = is.known;
+      inputs = λ told. keeps.1 ∙ is.inputs told;
+      fit = fit_set r.phase refl is_going;
+    }

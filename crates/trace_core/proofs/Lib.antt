@@ -1,0 +1,15 @@
+pub mod ArrivalLaws
+pub mod CellLaws
+pub mod CourseLaws
+pub mod FillLaws
+pub mod KeepLaws
+pub mod LengthLaws
+pub mod LoopLaws
+pub mod MoveLaws
+pub mod OpeningLaws
+pub mod RowLaws
+pub mod SeatLaws
+pub mod SettleLaws
+pub mod SlotLaws
+pub mod StandLaws
+pub mod VecLaws

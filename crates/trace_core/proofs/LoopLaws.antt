@@ -1,0 +1,376 @@
+-- Loops over all instances: what is told of one after the other, lists that are changed element by element, and limits and
+-- snapshots that are.
+use Rattle.std.proofs.Common.{◌≡◌, ◌∙◌, Bool, true, false, nat_eq, ℕ, zero, suc, ◌+◌, ◌<◌, ◌≤◌, ℤ, List, [], ◌∷◌, ◌++◌, length, map, take, drop, get_or, set, Option, Some, None, Result, Ok, Err, refl, ap, sym, subst, arith, append_assoc, append-nil, length-set, get_or-set_same, get_or-set_other}
+use Rattle.std.proofs.lemmas.List.{at_drop_more, drop_more, drop_all, take_all, take_more, take_more_set, set_at, get_or_at, length-take-le, length-map, get_or-map}
+use Rattle.std.proofs.lemmas.Bool.Decides.{nat_tests}
+use Rattle.std.proofs.lemmas.Option.{same_Some, get_or_from_slice_get, slice_get_within}
+use Rattle.std.specs.Prelude.{zip, slice_get, IsSome}
+use Rattle.std.specs.List.{AllByRecursion, AllZip, enumerate_from, cons_option}
+use Rattle.fixed_words.specs.declared.types.Fault.{Fault}
+use Rattle.snap_store.specs.Store.{Store, words_of, IsLive, HasLength, KeepsOthers}
+use Rattle.port_solve.specs.Solved.{HaveStates, HaveInputs}
+use Rattle.super_time.specs.LocalTime.{local_time, limit_of}
+use Rattle.trace_core.specs.Seats.{AreAsLong, AreSaved, saved, HaveOwnIds, IsCommitted, end_in, slot_end, reply_in, slot_reply, replied, max_told, all_told, limits_told, ending_or, asked}
+use Rattle.trace_core.specs.declared.seat.Slot.{Slot}
+use Rattle.trace_core.specs.declared.seat.Slot.TheVariants as slot
+use Rattle.trace_plan.specs.Plans.{Planned, ForMember}
+use Rattle.trace_units.specs.Fleets.{Fleet, ForUnit, with_state}
+use Rattle.trace_core.specs.declared.seat.Seat.{Seat}
+use Rattle.unit_tree.specs.Compositions.{Member, Composition}
+use Rattle.unit_tree.specs.Components.{max_of}
+use Rattle.unit_tree.specs.Negotiation.{limit_told, proposal_of}
+use Rattle.unit_tree.specs.Ports.{first_some}
+use Rattle.unit_tree.specs.Successor.{first_told, max_end_of}
+use Rattle.unit_tree.specs.declared.ending.Ending.{Ending}
+use Rattle.unit_tree.specs.declared.ending.Ending.TheVariants.{UnitFault}
+use Rattle.unit_tree.specs.declared.ending.Place.TheVariants as call
+use Rattle.unit_tree.proofs.PlaceOrders.{zip_at, at_place}
+
+-- ---- An end that is told of one item after the other
+
+module _ {A : Type 0} (tell : ℕ × A → Option Ending) (items : List A) where
+  -- None of the items before a place tells an end: the first one is that of those from there on.
+  abbrev pub ToldFrom : ℕ → Type 0
+  ToldFrom place = first_some (map tell (enumerate_from place (drop place items))) ≡ first_told tell items
+
+  told_here : (place : ℕ) (item : A) → place < length items → item ≡ get_or items place item → first_some (map tell (enumerate_from place (drop place items))) ≡ first_some (tell (place, item) ∷ map tell (enumerate_from (place + 1) (drop (place + 1) items)))
+  told_here place item within is =
+      at_drop_more (λ left. first_some (map tell (enumerate_from place left))) items place item within
+      ∙ ap (λ one. first_some (tell (place, one) ∷ map tell (enumerate_from (place + 1) (drop (place + 1) items)))) (sym is)
+
+  pub told_none : (place : ℕ) (item : A) → place < length items → item ≡ get_or items place item → tell (place, item) ≡ None → ToldFrom place → ToldFrom (place + 1)
+  told_none place item within is none so_far =
+      sym (told_here place item within is ∙ ap (λ one. first_some (one ∷ map tell (enumerate_from (place + 1) (drop (place + 1) items)))) none) ∙ so_far
+
+  pub told_some : (place : ℕ) (item : A) (ending : Ending) → place < length items → item ≡ get_or items place item → tell (place, item) ≡ Some ending → ToldFrom place → Some ending ≡ first_told tell items
+  told_some place item ending within is some so_far =
+      sym (told_here place item within is ∙ ap (λ one. first_some (one ∷ map tell (enumerate_from (place + 1) (drop (place + 1) items)))) some) ∙ so_far
+
+  pub told_all : (place : ℕ) → length items ≤ place → ToldFrom place → None ≡ first_told tell items
+  told_all place past so_far = sym (ap (λ left. first_some (map tell (enumerate_from place left))) (drop_all place items past)) ∙ so_far
+
+-- ---- A list that is made element by element
+
+-- So many elements are made, and the others are left to be.
+abbrev pub MadeSoFar : {A : Type 0} → List A → ℕ → List A → List A → Type 0
+MadeSoFar made count rest whole = take count made ++ rest ≡ whole
+
+pub one_made : {A : Type 0} (made : List A) (count : ℕ) (x : A) (rest left whole : List A) → count < length made → left ≡ x ∷ rest → MadeSoFar made count left whole → MadeSoFar (set made count x) (count + 1) rest whole
+one_made made count x rest left whole within is so_far =
+    ap (λ front. front ++ rest) (take_more_set made count x within) ∙ append_assoc (take count made) (x ∷ []) rest ∙ sym (ap (λ others. take count made ++ others) is) ∙ so_far
+
+-- ---- A list that is changed element by element
+
+module _ {A : Type 0} (R : ℕ → A → A → Type 0) where
+  -- The elements before a place are changed, and those from there on are as they were.
+  pub record Turned (old now : List A) (place : ℕ) : Type 0 where
+    pub as_many : length now ≡ length old
+    pub changed : (k : ℕ) (default : A) → k < place → k < length old → R k (get_or old k default) (get_or now k default)
+    pub kept : (k : ℕ) (default : A) → place ≤ k → get_or now k default ≡ get_or old k default
+
+  pub none_turned : (old : List A) → Turned old old 0
+  none_turned old = record { as_many = refl; changed = λ k default before. absurd (omega (arith, before)); kept = λ k default behind. refl }
+
+  pub one_turned : (old now : List A) (place : ℕ) (new : A) → place < length old → Turned old now place → ((default : A) → R place (get_or old place default) new) → Turned old (set now place new) (place + 1)
+  one_turned old now place new within so_far is = record {
+    as_many = length-set now place new ∙ so_far.as_many;
+    changed = λ k default before there. grind (arith, so_far.changed k default, is default, get_or-set_same now place new default, get_or-set_other now place k new default, so_far.as_many);
+    kept = λ k default behind. grind (arith, get_or-set_other now place k new default, so_far.kept k default);
+  }
+
+-- With the members that the elements belong to.
+pub zip_of : {M A : Type 0} (S : M → A → A → Type 0) (members : List M) (old new : List A) → length old ≡ length members → length new ≡ length old → ((k : ℕ) (default : A) → k < length old → (member : M) → slice_get members k ≡ Some member → S member (get_or old k default) (get_or new k default)) → AllZip (λ member pair. S member pair.0 pair.1) members (zip old new)
+zip_of S [] [] new many as_many each = tt
+zip_of S [] (one ∷ old) new many as_many each = absurd (omega (arith, many))
+zip_of S (member ∷ members) [] new many as_many each = absurd (omega (arith, many))
+zip_of S (member ∷ members) (one ∷ old) [] many as_many each = absurd (omega (arith, as_many))
+zip_of S (member ∷ members) (one ∷ old) (other ∷ new) many as_many each = (
+  each 0 one (omega arith) member refl,
+  zip_of S members old new (omega (arith, many)) (omega (arith, as_many)) (λ k default within. each (suc k) default (omega (arith, within))),
+)
+
+-- ---- Lists with an element each
+
+pub zip_read : {A B : Type 0} (R : A → B → Type 0) (xs : List A) (ys : List B) (k : ℕ) (x : A) (y : B) → AllZip R xs ys → k < length xs → R (get_or xs k x) (get_or ys k y)
+zip_read R [] ys k x y all within = absurd (omega (arith, within))
+zip_read R (one ∷ xs) [] k x y all within = absurd all
+zip_read R (one ∷ xs) (other ∷ ys) zero x y all within = all.0
+zip_read R (one ∷ xs) (other ∷ ys) (suc k) x y all within = zip_read R xs ys k x y all.1 (omega (arith, within))
+
+pub zip_made : {A B : Type 0} (R : A → B → Type 0) (xs : List A) (ys : List B) (y : B) → length ys ≡ length xs → ((k : ℕ) (x : A) → k < length xs → R (get_or xs k x) (get_or ys k y)) → AllZip R xs ys
+zip_made R [] [] y many each = tt
+zip_made R [] (other ∷ ys) y many each = absurd (omega (arith, many))
+zip_made R (one ∷ xs) [] y many each = absurd (omega (arith, many))
+zip_made R (one ∷ xs) (other ∷ ys) y many each =
+    (each 0 one (omega arith), zip_made R xs ys y (omega (arith, many)) (λ k x within. each (suc k) x (omega (arith, within))))
+
+pub all_read : {A : Type 0} (P : A → Type 0) (xs : List A) (k : ℕ) (x : A) → AllByRecursion P xs → k < length xs → P (get_or xs k x)
+all_read P [] k x all within = absurd (omega (arith, within))
+all_read P (one ∷ xs) zero x all within = all.0
+all_read P (one ∷ xs) (suc k) x all within = all_read P xs k x all.1 (omega (arith, within))
+
+pub long_at : (ones others : List (List ℤ)) (k : ℕ) → AreAsLong ones others → length (get_or ones k []) ≡ length (get_or others k [])
+long_at [] [] k same = refl
+long_at [] (other ∷ others) k same = absurd (cc)
+long_at (one ∷ ones) [] k same = absurd (cc)
+long_at (one ∷ ones) (other ∷ others) zero same = cc
+long_at (one ∷ ones) (other ∷ others) (suc k) same = long_at ones others k (cc)
+
+pub long_as : (ones others : List (List ℤ)) → AreAsLong ones others → length ones ≡ length others
+long_as ones others same = sym (length-map ones length) ∙ ap length same ∙ length-map others length
+
+-- ---- What is asked of all instances
+
+told_at : (t : ℕ) (members : List Member) (states inputs : List (List ℤ)) (k : ℕ) (member : Member) (state words : List ℤ) → slice_get members k ≡ Some member → slice_get states k ≡ Some state → slice_get inputs k ≡ Some words → slice_get (all_told t members states inputs) k ≡ Some (max_told t (member, (state, words)))
+told_at t [] states inputs k member state words member_is state_is words_are = absurd (cc)
+told_at t (one ∷ members) [] inputs k member state words member_is state_is words_are = absurd (cc)
+told_at t (one ∷ members) (had ∷ states) [] k member state words member_is state_is words_are = absurd (cc)
+told_at t (one ∷ members) (had ∷ states) (fed ∷ inputs) zero member state words member_is state_is words_are =
+    ap (λ some. Some (max_told t (some, (had, fed)))) (same_Some one member member_is)
+    ∙ ap (λ some. Some (max_told t (member, (some, fed)))) (same_Some had state state_is)
+    ∙ ap (λ some. Some (max_told t (member, (state, some)))) (same_Some fed words words_are)
+told_at t (one ∷ members) (had ∷ states) (fed ∷ inputs) (suc k) member state words member_is state_is words_are =
+    told_at t members states inputs k member state words member_is state_is words_are
+
+next_limit : (t k : ℕ) (members : List Member) (told : List (Result (Option ℕ) Fault)) (member : Member) (one : Result (Option ℕ) Fault) → slice_get members k ≡ Some member → slice_get told k ≡ Some one → limits_told t (drop k members) (drop k told) ≡ cons_option (limit_told member.factor t one) (limits_told t (drop (k + 1) members) (drop (k + 1) told))
+next_limit t k [] told member one member_is is = absurd (cc)
+next_limit t k (first ∷ members) [] member one member_is is = absurd (cc)
+next_limit t zero (first ∷ members) (given ∷ told) member one member_is is =
+    ap (λ some. cons_option (limit_told some.factor t given) (limits_told t members told)) (same_Some first member member_is)
+    ∙ ap (λ some. cons_option (limit_told member.factor t some) (limits_told t members told)) (same_Some given one is)
+next_limit t (suc k) (first ∷ members) (given ∷ told) member one member_is is =
+    let same : suc (k + 1) ≡ suc k + 1 = omega arith in
+    subst (λ next. limits_told t (drop k members) (drop k told) ≡ cons_option (limit_told member.factor t one) (limits_told t (drop next (first ∷ members)) (drop next (given ∷ told)))) same
+    (next_limit t k members told member one member_is is)
+
+-- What an instance told, with its member.
+pub record HasTold (t instance factor : ℕ) (members : List Member) (told : List (Result (Option ℕ) Fault)) (one : Result (Option ℕ) Fault) : Type 0 where
+  pub member : Member
+  pub member_is : slice_get members instance ≡ Some member
+  pub factor_is : factor ≡ member.factor
+  pub told_is : slice_get told instance ≡ Some one
+
+has_told : (t instance factor : ℕ) (run : Composition) (states inputs : List (List ℤ)) (one : Result (Option ℕ) Fault) → HaveStates run states → HaveInputs run inputs → instance < length run.members → ForMember run instance (λ member. factor ≡ member.factor) → ((member : Member) (state words : List ℤ) → slice_get run.members instance ≡ Some member → slice_get states instance ≡ Some state → slice_get inputs instance ≡ Some words → max_of member.component state words (local_time factor t) ≡ one) → HasTold t instance factor run.members (all_told t run.members states inputs) one
+has_told t instance factor run states inputs one have_states have_inputs within factors gives =
+    let at = at_place run.members instance within in
+    let state = zip_at (λ (member : Member) (state : List ℤ). length state ≡ length member.component.unit.states) run.members states instance at.0 have_states at.1 in
+    let fed = zip_at (λ (member : Member) (words : List ℤ). length words ≡ length member.component.unit.inputs) run.members inputs instance at.0 have_inputs at.1 in
+    let factor_is : factor ≡ at.0.factor = factors at.0 at.1 in
+    let is : max_told t (at.0, (state.other, fed.other)) ≡ one =
+    ap (λ n. max_of at.0.component state.other fed.other (local_time n t)) (sym factor_is) ∙ gives at.0 state.other fed.other at.1 state.is fed.is in
+    record {
+      member = at.0;
+      member_is = at.1;
+      factor_is = factor_is;
+      told_is = told_at t run.members states inputs instance at.0 state.other fed.other at.1 state.is fed.is ∙ ap Some is;
+    }
+
+-- Units of a plan are asked at a member's local time.
+pub unit_told : (t instance factor time : ℕ) (plan : Planned) (fleet now : Fleet) (one : Result (Option ℕ) Fault) → fleet.plan ≡ plan → now ≡ fleet → time ≡ local_time factor t → HaveStates fleet.plan.run fleet.states → HaveInputs fleet.plan.run fleet.inputs → instance < length fleet.plan.run.members → ForMember plan.run instance (λ member. factor ≡ member.factor) → ForUnit now instance (λ member state words. max_of member.component state words time ≡ one) → HasTold t instance factor plan.run.members (all_told t plan.run.members fleet.states fleet.inputs) one
+unit_told t instance factor time plan fleet now one tied kept time_is have_states have_inputs within factors gives =
+    let gives_then : ForUnit fleet instance (λ member state words. max_of member.component state words (local_time factor t) ≡ one) =
+    subst (λ n. ForUnit fleet instance (λ member state words. max_of member.component state words n ≡ one)) time_is (subst (λ some. ForUnit some instance (λ member state words. max_of member.component state words time ≡ one)) kept gives) in
+    has_told t instance factor plan.run fleet.states fleet.inputs one (subst (λ (p : Planned). HaveStates p.run fleet.states) tied have_states) (subst (λ (p : Planned). HaveInputs p.run fleet.inputs) tied have_inputs) (subst (λ (p : Planned). instance < length p.run.members) tied within) factors
+    (λ member state words member_is. gives_then member state words (subst (λ (p : Planned). slice_get p.run.members instance ≡ Some member) (sym tied) member_is))
+
+-- None of the instances before a place ended the run, and their limits are there.
+pub record AskedSoFar (t : ℕ) (members : List Member) (told : List (Result (Option ℕ) Fault)) (place count : ℕ) (limits : List ℕ) : Type 0 where
+  pub no_end : ToldFrom max_end_of told place
+  pub made : MadeSoFar limits count (limits_told t (drop place members) (drop place told)) (limits_told t members told)
+  pub few : count ≤ place
+
+module _ (t : ℕ) (members : List Member) (told : List (Result (Option ℕ) Fault)) where
+  read_told : (place : ℕ) (one : Result (Option ℕ) Fault) → slice_get told place ≡ Some one → one ≡ get_or told place one
+  read_told place one is = sym (get_or_from_slice_get told place one one is)
+
+  pub next_without : (place count factor : ℕ) (limits : List ℕ) → HasTold t place factor members told (Ok None) → AskedSoFar t members told place count limits → AskedSoFar t members told (place + 1) count limits
+  next_without place count factor limits has so_far = record {
+    no_end = told_none max_end_of told place (Ok None) (slice_get_within told place (Ok None) has.told_is) (read_told place (Ok None) has.told_is) refl so_far.no_end;
+    made = ap (λ rest. take count limits ++ rest) (sym (next_limit t place members told has.member (Ok None) has.member_is has.told_is)) ∙ so_far.made;
+    few = let few = so_far.few in omega arith;
+  }
+
+  pub next_with : (place count factor local : ℕ) (limits : List ℕ) → count < length limits → HasTold t place factor members told (Ok (Some local)) → AskedSoFar t members told place count limits → AskedSoFar t members told (place + 1) (count + 1) (set limits count (limit_of factor t local))
+  next_with place count factor local limits within has so_far = record {
+    no_end = told_none max_end_of told place (Ok (Some local)) (slice_get_within told place (Ok (Some local)) has.told_is) (read_told place (Ok (Some local)) has.told_is) refl so_far.no_end;
+    made =
+        one_made limits count (limit_of factor t local) (limits_told t (drop (place + 1) members) (drop (place + 1) told)) (limits_told t (drop place members) (drop place told)) (limits_told t members told) within
+        (next_limit t place members told has.member (Ok (Some local)) has.member_is has.told_is
+        ∙ ap (λ n. limit_of n t local ∷ limits_told t (drop (place + 1) members) (drop (place + 1) told)) (sym has.factor_is))
+        so_far.made;
+    few = let few = so_far.few in omega arith;
+  }
+
+pub asked_fault : (run : Composition) (t place count factor : ℕ) (told : List (Result (Option ℕ) Fault)) (limits : List ℕ) (fault : Fault) → HasTold t place factor run.members told (Err fault) → AskedSoFar t run.members told place count limits → Err (UnitFault place call.Max fault) ≡ asked run t told
+asked_fault run t place count factor told limits fault has so_far =
+    ap (λ end. ending_or end (proposal_of run.stop run.longest t (limits_told t run.members told)))
+    (told_some max_end_of told place (Err fault) (UnitFault place call.Max fault) (slice_get_within told place (Err fault) has.told_is) (sym (get_or_from_slice_get told place (Err fault) (Err fault) has.told_is)) refl so_far.no_end)
+
+pub all_asked : (run : Composition) (t place count : ℕ) (told : List (Result (Option ℕ) Fault)) (limits : List ℕ) → length run.members ≤ place → length told ≤ place → AskedSoFar t run.members told place count limits → Ok (proposal_of run.stop run.longest t (take count limits)) ≡ asked run t told
+all_asked run t place count told limits past told_past so_far =
+    let rest : limits_told t (drop place run.members) (drop place told) ≡ [] = ap (λ some. limits_told t some (drop place told)) (drop_all place run.members past) in
+    let made : take count limits ≡ limits_told t run.members told = sym (append-nil (take count limits)) ∙ ap (λ some. take count limits ++ some) (sym rest) ∙ so_far.made in
+    ap (λ some. Ok (proposal_of run.stop run.longest t some)) made
+    ∙ ap (λ end. ending_or end (proposal_of run.stop run.longest t (limits_told t run.members told))) (told_all max_end_of told place told_past so_far.no_end)
+
+pub told_many : (t : ℕ) (members : List Member) (states inputs : List (List ℤ)) → length (all_told t members states inputs) ≤ length members
+told_many t [] states inputs = omega arith
+told_many t (member ∷ members) [] inputs = omega arith
+told_many t (member ∷ members) (state ∷ states) [] = omega arith
+told_many t (member ∷ members) (state ∷ states) (words ∷ inputs) = let fewer = told_many t members states inputs in omega arith
+
+-- ---- What all seats reply
+
+ok_end : (factor t h instance reply : ℕ) (given : Slot) → replied factor t h given ≡ Ok reply → end_in instance given ≡ None
+ok_end factor t h instance reply slot.Held is = refl
+ok_end factor t h instance reply slot.Empty is = refl
+ok_end factor t h instance reply (slot.Took accepted) is = refl
+ok_end factor t h instance reply (slot.Failed fault) is = absurd (cc)
+
+ok_reply : (factor t h reply : ℕ) (given : Slot) → replied factor t h given ≡ Ok reply → reply_in factor t h given ≡ reply
+ok_reply factor t h reply slot.Held is = cc
+ok_reply factor t h reply slot.Empty is = cc
+ok_reply factor t h reply (slot.Took accepted) is = cc
+ok_reply factor t h reply (slot.Failed fault) is = absurd (cc)
+
+err_end : (factor t h instance : ℕ) (fault : Fault) (given : Slot) → replied factor t h given ≡ Err fault → end_in instance given ≡ Some (UnitFault instance call.Step fault)
+err_end factor t h instance fault slot.Held is = absurd (cc)
+err_end factor t h instance fault slot.Empty is = absurd (cc)
+err_end factor t h instance fault (slot.Took accepted) is = absurd (cc)
+err_end factor t h instance fault (slot.Failed met) is = let same : met ≡ fault = cc in ap (λ some. Some (UnitFault instance call.Step some)) same
+
+-- No seat before a place ended the run, and their replies are there.
+pub record ReadSoFar (t h : ℕ) (members : List Member) (seats : List Seat) (place : ℕ) (replies : List ℕ) : Type 0 where
+  pub no_end : ToldFrom slot_end seats place
+  pub made : MadeSoFar replies place (map (slot_reply t h) (zip (drop place members) (drop place seats))) (map (slot_reply t h) (zip members seats))
+
+module _ (t h : ℕ) (members : List Member) (seats : List Seat) where
+  next_reply : (place : ℕ) (member : Member) (seat : Seat) → place < length members → place < length seats → slice_get members place ≡ Some member → seat ≡ get_or seats place seat → map (slot_reply t h) (zip (drop place members) (drop place seats)) ≡ slot_reply t h (member, seat) ∷ map (slot_reply t h) (zip (drop (place + 1) members) (drop (place + 1) seats))
+  next_reply place member seat in_members in_seats at is =
+      ap (λ some. map (slot_reply t h) (zip some (drop place seats))) (drop_more members place member in_members ∙ ap (λ one. one ∷ drop (place + 1) members) (get_or_from_slice_get members place member member at))
+      ∙ ap (λ some. map (slot_reply t h) (zip (member ∷ drop (place + 1) members) some)) (drop_more seats place seat in_seats ∙ ap (λ one. one ∷ drop (place + 1) seats) (sym is))
+
+  pub next_read : (place factor reply : ℕ) (replies : List ℕ) (seat : Seat) → place < length members → place < length seats → place < length replies → ((member : Member) → slice_get members place ≡ Some member → factor ≡ member.factor) → seat ≡ get_or seats place seat → replied factor t h seat.slot ≡ Ok reply → ReadSoFar t h members seats place replies → ReadSoFar t h members seats (place + 1) (set replies place reply)
+  next_read place factor reply replies seat in_members in_seats in_replies factors is told so_far =
+      let at = at_place members place in_members in
+      let same : slot_reply t h (at.0, seat) ≡ reply = ap (λ n. reply_in n t h seat.slot) (sym (factors at.0 at.1)) ∙ ok_reply factor t h reply seat.slot told in
+      record {
+        no_end = told_none slot_end seats place seat in_seats is (ok_end factor t h place reply seat.slot told) so_far.no_end;
+        made =
+            one_made replies place reply (map (slot_reply t h) (zip (drop (place + 1) members) (drop (place + 1) seats))) (map (slot_reply t h) (zip (drop place members) (drop place seats))) (map (slot_reply t h) (zip members seats)) in_replies
+            (next_reply place at.0 seat in_members in_seats at.1 is ∙ ap (λ one. one ∷ map (slot_reply t h) (zip (drop (place + 1) members) (drop (place + 1) seats))) same)
+            so_far.made;
+      }
+
+  pub read_fault : (place factor : ℕ) (replies : List ℕ) (seat : Seat) (fault : Fault) → place < length seats → seat ≡ get_or seats place seat → replied factor t h seat.slot ≡ Err fault → ReadSoFar t h members seats place replies → Some (UnitFault place call.Step fault) ≡ first_told slot_end seats
+  read_fault place factor replies seat fault within is told so_far =
+      told_some slot_end seats place seat (UnitFault place call.Step fault) within is (err_end factor t h place fault seat.slot told) so_far.no_end
+
+  pub all_replies : (place : ℕ) (replies : List ℕ) → length members ≤ place → length replies ≤ place → ReadSoFar t h members seats place replies → replies ≡ map (slot_reply t h) (zip members seats)
+  all_replies place replies past full so_far =
+      sym (take_all place replies full) ∙ sym (append-nil (take place replies))
+      ∙ ap (λ some. take place replies ++ map (slot_reply t h) (zip some (drop place seats))) (sym (drop_all place members past)) ∙ so_far.made
+
+-- ---- States that are restored
+
+pub restored_one : (saved_states old : List (List ℤ)) (place : ℕ) (words : List ℤ) → place < length saved_states → AreAsLong saved_states old → words ≡ get_or saved_states place [] → set (take place saved_states ++ drop place old) place words ≡ take (place + 1) saved_states ++ drop (place + 1) old
+restored_one saved_states old place words within long is =
+    let many = long_as saved_states old long in
+    ap (λ rest. set (take place saved_states ++ rest) place words) (drop_more old place [] (omega arith))
+    ∙ set_at (take place saved_states) (get_or old place []) (drop (place + 1) old) words place (length-take-le place saved_states (omega arith))
+    ∙ sym (append_assoc (take place saved_states) (words ∷ []) (drop (place + 1) old))
+    ∙ ap (λ word. (take place saved_states ++ word ∷ []) ++ drop (place + 1) old) is
+    ∙ ap (λ front. front ++ drop (place + 1) old) (sym (take_more saved_states place [] within))
+
+-- The state that stands where one is to be restored is as long.
+pub restored_long : (saved_states old : List (List ℤ)) (place : ℕ) → place < length saved_states → AreAsLong saved_states old → length (get_or saved_states place []) ≡ length (get_or (take place saved_states ++ drop place old) place [])
+restored_long saved_states old place within long =
+    let many = long_as saved_states old long in
+    long_at saved_states old place long
+    ∙ ap length (sym (ap (λ rest. get_or (take place saved_states ++ rest) place []) (drop_more old place [] (omega arith))
+    ∙ get_or_at (take place saved_states) (get_or old place []) (drop (place + 1) old) [] place (length-take-le place saved_states (omega arith))))
+
+-- ---- Snapshots
+
+pub saved_at : (store : Store) (seats : List Seat) (states : List (List ℤ)) (place : ℕ) (default : Seat) → AreSaved store seats states → place < length seats → words_of store (get_or seats place default).id ≡ Some (get_or states place [])
+saved_at store seats states place default are within = zip_read (λ seat state. words_of store seat.id ≡ Some state) seats states place default [] are within
+
+pub live_words : (store : Store) (id : ℕ) (words : List ℤ) → words_of store id ≡ Some words → IsLive store id
+live_words store id words is = subst IsSome (sym is) refl
+
+pub long_words : (store : Store) (id count : ℕ) (words : List ℤ) → words_of store id ≡ Some words → length words ≡ count → HasLength store id count
+long_words store id count words is long other other_is = ap length (same_Some other words (sym other_is ∙ is)) ∙ long
+
+pub length_saved : (store : Store) (seats : List Seat) → length (saved store seats) ≡ length seats
+length_saved store seats = length-map seats _
+
+-- The seats before a place have new states in their snapshots, and those from there on the old ones.
+pub record SavedSoFar (seats : List Seat) (old new : List (List ℤ)) (place : ℕ) (store : Store) : Type 0 where
+  pub written : (k : ℕ) (default : Seat) → k < place → k < length seats → words_of store (get_or seats k default).id ≡ Some (get_or new k [])
+  pub left : (k : ℕ) (default : Seat) → place ≤ k → k < length seats → words_of store (get_or seats k default).id ≡ Some (get_or old k [])
+
+pub none_saved : (seats : List Seat) (old new : List (List ℤ)) (store : Store) → AreSaved store seats old → SavedSoFar seats old new 0 store
+none_saved seats old new store are = record {
+  written = λ k default before within. absurd (omega (arith, before));
+  left = λ k default behind within. saved_at store seats old k default are within;
+}
+
+pub one_saved : (seats : List Seat) (old new : List (List ℤ)) (place id : ℕ) (store next : Store) → HaveOwnIds seats → place < length seats → ((default : Seat) → (get_or seats place default).id ≡ id) → words_of next id ≡ Some (get_or new place []) → KeepsOthers store next id → SavedSoFar seats old new place store → SavedSoFar seats old new (place + 1) next
+one_saved seats old new place id store next own within is written others so_far = record {
+  written = λ k default before there. by_place k default before there (nat_eq k place) refl;
+  left = λ k default behind there.
+      others (get_or seats k default).id (λ same. own default place k (omega (arith, behind)) there (is default ∙ sym same)) ∙ so_far.left k default (omega (arith, behind)) there;
+}
+  where
+    by_place : (k : ℕ) (default : Seat) → k < place + 1 → k < length seats → (same : Bool) → nat_eq k place ≡ same → words_of next (get_or seats k default).id ≡ Some (get_or new k [])
+    by_place k default before there true told =
+        let at : k ≡ place = grind (arith, nat_tests) in
+        subst (λ n. words_of next (get_or seats n default).id ≡ Some (get_or new n [])) (sym at) (ap (words_of next) (is default) ∙ written)
+    by_place k default before there false told =
+        let below : k < place = grind (arith, nat_tests) in
+        others (get_or seats k default).id (λ same. own default k place below within (same ∙ sym (is default))) ∙ so_far.written k default below there
+
+-- A seat that is still to be committed is as it was.
+pub id_kept : (old_seats seats : List Seat) (inputs : List (List ℤ)) (place : ℕ) (default : Seat) → Turned (λ k one other. IsCommitted (get_or inputs k []) one other) old_seats seats place → (get_or seats place default).id ≡ (get_or old_seats place default).id
+id_kept old_seats seats inputs place default turned = ap (λ (seat : Seat). seat.id) (turned.kept place default (omega arith))
+
+pub before_long : (old_seats seats : List Seat) (inputs : List (List ℤ)) (place : ℕ) (default : Seat) (words : List ℤ) → place < length old_seats → AreAsLong (map (λ seat. seat.before.items) old_seats) inputs → Turned (λ k one other. IsCommitted (get_or inputs k []) one other) old_seats seats place → slice_get inputs place ≡ Some words → length (get_or seats place default).before.items ≡ length words
+before_long old_seats seats inputs place default words within long turned is =
+    ap (λ (seat : Seat). length seat.before.items) (turned.kept place default (omega arith))
+    ∙ ap length (sym (get_or-map (λ (seat : Seat). seat.before.items) old_seats place default [] within))
+    ∙ long_at (map (λ (seat : Seat). seat.before.items) old_seats) inputs place long
+    ∙ ap length (get_or_from_slice_get inputs place words [] is)
+
+module _ (old_seats seats : List Seat) (inputs : List (List ℤ)) (place : ℕ) (past : length old_seats ≤ place) (turned : Turned (λ k one other. IsCommitted (get_or inputs k []) one other) old_seats seats place) where
+  commits : (k : ℕ) (default : Seat) → k < length old_seats → IsCommitted (get_or inputs k []) (get_or old_seats k default) (get_or seats k default)
+  commits k default within = turned.changed k default (omega (arith, past, within)) within
+
+  pub all_saved : (old new : List (List ℤ)) (store : Store) → length new ≡ length old_seats → SavedSoFar old_seats old new place store → AreSaved store seats new
+  all_saved old new store many so_far =
+      zip_made (λ seat state. words_of store seat.id ≡ Some state) seats new [] (many ∙ sym turned.as_many) (λ k default within.
+      let there : k < length old_seats = subst (λ count. k < count) turned.as_many within in
+      ap (words_of store) (commits k default there).id ∙ so_far.written k default (omega (arith, past, there)) there)
+
+  pub own_ids : HaveOwnIds old_seats → HaveOwnIds seats
+  own_ids own default one other below within same =
+      let there : other < length old_seats = subst (λ count. other < count) turned.as_many within in
+      own default one other below there (sym (commits one default (omega (arith, below, there))).id ∙ same ∙ (commits other default there).id)
+
+  pub all_before : length inputs ≡ length old_seats → map (λ seat. seat.before.items) seats ≡ inputs
+  all_before many = befores seats inputs (many ∙ sym turned.as_many) (λ k default within. (commits k default (subst (λ count. k < count) turned.as_many within)).before)
+    where
+      befores : (some : List Seat) (words : List (List ℤ)) → length words ≡ length some → ((k : ℕ) (default : Seat) → k < length some → (get_or some k default).before.items ≡ get_or words k []) → map (λ seat. seat.before.items) some ≡ words
+      befores [] [] as_many each = refl
+      befores [] (one ∷ words) as_many each = absurd (omega (arith, as_many))
+      befores (seat ∷ some) [] as_many each = absurd (omega (arith, as_many))
+      befores (seat ∷ some) (one ∷ words) as_many each =
+          ap (λ first. first ∷ map (λ (other : Seat). other.before.items) some) (each 0 seat (omega arith))
+          ∙ ap (λ later. one ∷ later) (befores some words (omega (arith, as_many)) (λ k default within. each (suc k) default (omega (arith, within))))
+
+-- What is seen of units in the middle of a loop that restores them.
+abbrev pub restored_so_far : Fleet → List (List ℤ) → ℕ → Fleet
+restored_so_far fleet states place = record fleet { states = take place states ++ drop place fleet.states }
+
+pub next_restored : (fleet now : Fleet) (states : List (List ℤ)) (place : ℕ) (words : List ℤ) → place < length states → AreAsLong states fleet.states → words ≡ get_or states place [] → now ≡ restored_so_far fleet states place → with_state now place words ≡ restored_so_far fleet states (place + 1)
+next_restored fleet now states place words within long is so_far =
+    ap (λ some. with_state some place words) so_far ∙ ap (λ some. record fleet { states = some }) (restored_one states fleet.states place words within long is)

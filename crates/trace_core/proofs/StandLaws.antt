@@ -1,0 +1,227 @@
+-- What a run keeps at its opening, and from one call to the next.
+use Rattle.std.proofs.Common.{◌≡◌, ◌∙◌, ℕ, zero, suc, ◌+◌, ◌*◌, ◌≤◌, Bool, true, false, cond, ℤ, List, [], ◌∷◌, map, length, Option, Some, None, refl, sym, ap, subst, arith}
+use Rattle.std.specs.Prelude.{is_some, is_none, slice_get, slice_set, ◌&&◌, if◌then◌else◌}
+use Rattle.std.specs.List.{count_by}
+use Rattle.trace_core.specs.Runs.{Cell, Empty, Filled, RunState, Stands, IsPhase, IsTrial, IsRedo, IsEnd, AreCellsFull, IsWanted, ArePortsKnown, arrived, with_own, is_ended, is_filled, cells_now, cells_of, first_end, phase_at}
+use Rattle.trace_core.specs.Settling.{with_redo}
+use Rattle.trace_core.specs.declared.phase.Phase.{Phase}
+use Rattle.trace_core.specs.declared.phase.Phase.TheVariants.{Trial, Redo, Ended}
+use Rattle.trace_core.proofs.ArrivalLaws.{fresh_cells_fit, phase_is_right}
+use Rattle.trace_core.proofs.CellLaws.{full_are_steps, steps_at_most, filled_at_most, fresh_are_empty, one_filled, filled_fit}
+use Rattle.trace_core.proofs.CourseLaws.{IsDue}
+use Rattle.trace_plan.specs.Keeps.{IsBounded}
+use Rattle.trace_plan.specs.Plans.{Planned}
+use Rattle.unit_tree.specs.Compositions.{Composition, AreMembers}
+use Rattle.unit_tree.specs.Negotiation.{all_inputs}
+use Rattle.unit_tree.specs.Ports.{first_some, port_fault}
+use Rattle.unit_tree.specs.RunLaws.{IsInBounds, IsInRows}
+use Rattle.unit_tree.specs.Successor.{Position, after, agreed, ends, is_redone, proposed, steps_by, successor, trial_end}
+use Rattle.unit_tree.specs.Trace.{Stand, Goes, IsGoing, IsStand, HasWords, AreWordsOf, steps_there, cells_of_trial, cells_of_redo, cells_at}
+use Rattle.unit_tree.specs.declared.ending.Ending.{Ending}
+use Rattle.unit_tree.proofs.RunSteps.{step_is_right}
+use Rattle.unit_tree.proofs.RunTraces.{one_each, goes_to}
+
+-- ---- How many cells there may be
+
+pub one_state : (run : Composition) (at : Position) → HasWords run at → length at.states ≡ length run.members
+one_state run at words = one_each (λ member state. AreWordsOf member.component.unit.states state) run.members at.states words
+
+bound_more : (count width cells now later : ℕ) → cells ≤ count * width + now → now ≤ width → cells ≤ suc count * width + later
+bound_more count width cells now later before most = omega arith
+
+-- The cells of a step of a length.
+abbrev cells_by : Composition → Stand → ℕ → ℕ
+cells_by run stand step = steps_there (steps_by run stand.at stand.ports step)
+
+abbrev filled_at : List Cell → ℕ → List Cell
+filled_at cells instance = slice_set cells instance Filled
+
+abbrev width : RunState → ℕ
+width r = 2 * length r.plan.run.members
+
+pub now_at_most : (run : Composition) (stand : Stand) (phase : Phase) (cells : List Cell) → is_ended phase ≡ false → HasWords run stand.at → IsPhase run stand phase cells → cells_now run stand phase cells ≤ 2 * length run.members
+now_at_most run stand (Trial h) cells going words is =
+    let most = filled_at_most run stand.at.point.t h cells is.cells_fit in
+    omega (arith, most)
+now_at_most run stand (Redo h) cells going words is =
+    let most = filled_at_most run stand.at.point.t h cells is.cells_fit in
+    let tried = steps_at_most run stand.at stand.ports (proposed run stand.at stand.ports) (one_state run stand.at words) in
+    omega (arith, most, tried)
+now_at_most run stand (Ended ending) cells going words is = absurd (cc)
+
+-- ---- At the opening
+
+pub stands_opened : (plan : Planned) (stand : Stand) (before : List (List ℤ)) → IsBounded plan.run → AreMembers plan.run → HasWords plan.run stand.at → IsInBounds plan.run stand.at → IsInRows plan.run stand.at → IsStand plan.run stand → (ArePortsKnown plan.run stand → before ≡ all_inputs plan.run stand.ports) → Stands (arrived plan stand.at stand before 0 0)
+stands_opened plan stand before bounded members words in_bounds in_rows is_stand fed = record {
+  bounded = bounded;
+  members = members;
+  words = words;
+  is_stand = is_stand;
+  in_bounds = in_bounds;
+  in_rows = in_rows;
+  from = stand;
+  count = 0;
+  last = stand;
+  opened = refl;
+  from_stand = is_stand;
+  reached = (refl, refl);
+  numbered = omega arith;
+  before = fed;
+  phase_is = phase_is_right plan.run stand;
+  counted = omega arith;
+}
+
+-- ---- At the next stand
+
+pub stands_moved : (old : RunState) (next : Stand) → Stands old → is_ended old.phase ≡ false → Goes old.plan.run old.stand next → Stands (arrived old.plan old.opened next (all_inputs old.plan.run old.stand.ports) old.found old.own)
+stands_moved old next stands going on =
+    let right = step_is_right old.plan.run old.stand next stands.members on in
+    let number : next.at.number ≡ suc old.stand.at.number = ap (λ (at : Position). at.number) right.agreed in
+    record {
+      bounded = stands.bounded;
+      members = stands.members;
+      words = right.words stands.words;
+      is_stand = on.1;
+      in_bounds = right.bounds stands.words stands.in_bounds;
+      in_rows = right.rows stands.in_rows;
+      from = stands.from;
+      count = suc stands.count;
+      last = old.stand;
+      opened = stands.opened;
+      from_stand = stands.from_stand;
+      reached = (stands.last, stands.reached, on);
+      numbered = omega (arith, number, stands.numbered);
+      before = λ known. refl;
+      phase_is = phase_is_right old.plan.run next;
+      counted = bound_more stands.count (width old) (old.found + old.own) (cells_now old.plan.run old.stand old.phase old.cells) _ stands.counted (now_at_most old.plan.run old.stand old.phase old.cells going stands.words stands.phase_is);
+    }
+
+-- ---- Where the step is made anew
+
+module _ (old : RunState) (stands : Stands old) (h : ℕ) (is : old.phase ≡ Trial h) (full : AreCellsFull old.cells) where
+  trial_is : IsTrial old.plan.run old.stand h old.cells
+  trial_is = subst (λ phase. IsPhase old.plan.run old.stand phase old.cells) is stands.phase_is
+
+  tried : old.found + old.own ≤ stands.count * width old + cells_of_trial old.plan.run old.stand
+  tried =
+      let counted : old.found + old.own ≤ stands.count * width old + count_by is_filled old.cells =
+      subst (λ phase. old.found + old.own ≤ stands.count * width old + cells_now old.plan.run old.stand phase old.cells) is stands.counted in
+      let steps : count_by is_filled old.cells ≡ cells_of_trial old.plan.run old.stand =
+      full_are_steps old.plan.run old.stand.at old.stand.ports h old.cells (one_state old.plan.run old.stand.at stands.words) trial_is.cells_fit full
+      ∙ ap (λ step. cells_by old.plan.run old.stand step) trial_is.is in
+      omega (arith, counted, steps)
+
+  pub stands_redone : IsDue old.plan.run old.stand → Stands (with_redo old)
+  stands_redone due = record {
+    bounded = stands.bounded;
+    members = stands.members;
+    words = stands.words;
+    is_stand = stands.is_stand;
+    in_bounds = stands.in_bounds;
+    in_rows = stands.in_rows;
+    from = stands.from;
+    count = stands.count;
+    last = stands.last;
+    opened = stands.opened;
+    from_stand = stands.from_stand;
+    reached = stands.reached;
+    numbered = stands.numbered;
+    before = stands.before;
+    phase_is = record {
+      going = trial_is.going;
+      no_fault = due.no_fault;
+      shorter = due.shorter;
+      is = refl;
+      cells_fit = fresh_cells_fit old.stand.at.point.t (agreed old.plan.run old.stand.at old.stand.ports) old.plan.run.members;
+    };
+    counted =
+        let none = fresh_are_empty old.stand.at.point.t (agreed old.plan.run old.stand.at old.stand.ports) old.plan.run.members in
+        omega (arith, tried, none);
+  }
+
+-- ---- At the end
+
+not_before : (run : Composition) (stand : Stand) → IsGoing run stand → is_some (first_end run stand) ≡ false
+not_before run stand going = rw (going.ports_known, going.before_stop, going.rows_left, going.limits_told) refl
+
+cells_there : (run : Composition) (stand : Stand) → IsGoing run stand → cells_at run stand ≡ cells_of_trial run stand + (if is_none (trial_end run stand.at stand.ports) && is_redone run stand.at stand.ports then cells_of_redo run stand else 0)
+cells_there run stand going =
+    ap (λ ended. if ended then 0 else cells_of_trial run stand + (if is_none (trial_end run stand.at stand.ports) && is_redone run stand.at stand.ports then cells_of_redo run stand else 0)) (not_before run stand going)
+
+now_by : (run : Composition) (stand : Stand) (phase : Phase) (cells : List Cell) → is_ended phase ≡ false → HasWords run stand.at → IsPhase run stand phase cells → AreCellsFull cells → cells_now run stand phase cells ≤ cells_at run stand
+now_by run stand (Trial h) cells going words is full =
+    let steps : count_by is_filled cells ≡ cells_of_trial run stand =
+    full_are_steps run stand.at stand.ports h cells (one_state run stand.at words) is.cells_fit full ∙ ap (cells_by run stand) is.is in
+    let there = cells_there run stand is.going in
+    omega (arith, steps, there)
+now_by run stand (Redo h) cells going words is full =
+    let steps : count_by is_filled cells ≡ cells_of_redo run stand =
+    full_are_steps run stand.at stand.ports h cells (one_state run stand.at words) is.cells_fit full ∙ ap (cells_by run stand) is.is in
+    let both : (is_none (trial_end run stand.at stand.ports) && is_redone run stand.at stand.ports) ≡ true =
+    ap (λ ended. is_none ended && is_redone run stand.at stand.ports) is.no_fault ∙ is.shorter in
+    let there : cells_at run stand ≡ cells_of_trial run stand + cells_of_redo run stand =
+    cells_there run stand is.going ∙ ap (λ told. cells_of_trial run stand + (if told then cells_of_redo run stand else 0)) both in
+    omega (arith, steps, there)
+now_by run stand (Ended ending) cells going words is full = absurd (cc)
+
+pub stands_ended : (old : RunState) (ending : Ending) → Stands old → is_ended old.phase ≡ false → AreCellsFull old.cells → successor old.plan.run old.stand.at old.stand.ports ≡ ends ending → Stands (record old { phase = Ended ending; cells = [] })
+stands_ended old ending stands going full ended = record {
+  bounded = stands.bounded;
+  members = stands.members;
+  words = stands.words;
+  is_stand = stands.is_stand;
+  in_bounds = stands.in_bounds;
+  in_rows = stands.in_rows;
+  from = stands.from;
+  count = stands.count;
+  last = stands.last;
+  opened = stands.opened;
+  from_stand = stands.from_stand;
+  reached = stands.reached;
+  numbered = stands.numbered;
+  before = stands.before;
+  phase_is = record { is = ended; none = refl };
+  counted =
+      let most = now_by old.plan.run old.stand old.phase old.cells going stands.words stands.phase_is full in
+      omega (arith, stands.counted, most);
+}
+
+-- ---- Where a cell is filled
+
+still_phase : (run : Composition) (stand : Stand) (phase : Phase) (cells : List Cell) (instance : ℕ) → slice_get cells instance ≡ Some Empty → IsPhase run stand phase cells → IsPhase run stand phase (filled_at cells instance)
+still_phase run stand (Trial h) cells instance wanted is = record { going = is.going; is = is.is; cells_fit = filled_fit cells instance wanted ∙ is.cells_fit }
+still_phase run stand (Redo h) cells instance wanted is =
+    record { going = is.going; no_fault = is.no_fault; shorter = is.shorter; is = is.is; cells_fit = filled_fit cells instance wanted ∙ is.cells_fit }
+still_phase run stand (Ended ending) cells instance wanted is =
+    let none : slice_get {X = Cell} [] instance ≡ Some Empty = subst (λ some. slice_get some instance ≡ Some Empty) is.none wanted in
+    absurd (cc)
+
+one_more_now : (run : Composition) (stand : Stand) (phase : Phase) (cells : List Cell) (instance : ℕ) → slice_get cells instance ≡ Some Empty → IsPhase run stand phase cells → cells_now run stand phase (filled_at cells instance) ≡ suc (cells_now run stand phase cells)
+one_more_now run stand (Trial h) cells instance wanted is = one_filled cells instance wanted
+one_more_now run stand (Redo h) cells instance wanted is =
+    let more = one_filled cells instance wanted in omega (arith, more)
+one_more_now run stand (Ended ending) cells instance wanted is =
+    let none : slice_get {X = Cell} [] instance ≡ Some Empty = subst (λ some. slice_get some instance ≡ Some Empty) is.none wanted in
+    absurd (cc)
+
+pub stands_filled : (old : RunState) (instance : ℕ) → Stands old → IsWanted old instance → Stands (with_own old instance)
+stands_filled old instance stands wanted = record {
+  bounded = stands.bounded;
+  members = stands.members;
+  words = stands.words;
+  is_stand = stands.is_stand;
+  in_bounds = stands.in_bounds;
+  in_rows = stands.in_rows;
+  from = stands.from;
+  count = stands.count;
+  last = stands.last;
+  opened = stands.opened;
+  from_stand = stands.from_stand;
+  reached = stands.reached;
+  numbered = stands.numbered;
+  before = stands.before;
+  phase_is = still_phase old.plan.run old.stand old.phase old.cells instance wanted stands.phase_is;
+  counted =
+      let more = one_more_now old.plan.run old.stand old.phase old.cells instance wanted stands.phase_is in
+      omega (arith, stands.counted, more);
+}

@@ -1,0 +1,21 @@
+use Rattle.std.proofs.Common.{◌≡◌, ◌≤◌, ◌+◌, ◌++◌, ◌∷◌, [], ◌∙◌, ℤ, Vec, Global, length, map, ap, sym, arith, take}
+use Rattle.std.proofs.lemmas.List.{take_all, map-append}
+use Rattle.trace_core.proofs.OpeningLaws.{take_next, states_long}
+use Rattle.trace_core.proofs.opening.states_of.Goals as goal
+
+pub loop-instance-init : goal.loop-instance-init
+loop-instance-init c = ap (map (λ (state : Vec ℤ Global). state.items)) c.new-states.ensures.items
+
+pub loop-instance-preserved : goal.loop-instance-preserved
+loop-instance-preserved c =
+    ap (map (λ (state : Vec ℤ Global). state.items)) c.in_ok-push.ensures.items
+    ∙ map-append (λ (state : Vec ℤ Global). state.items) c.loop-instance.states.items (c.in_ok-from_slice.field-0 ∷ [])
+    ∙ ap (λ front. front ++ (c.in_ok-from_slice.field-0.items ∷ [])) c.loop-instance.invariant
+    ∙ ap (λ words. take c.loop-instance.instance c.args.units.now.states ++ (words ∷ [])) c.in_ok-from_slice.ensures.items
+    ∙ sym (take_next c.args.units.now.states c.loop-instance.instance c.state.result.now c.state.ensures)
+
+pub returns : goal.returns
+returns c =
+    let past : length c.args.units.now.states ≤ c.loop-instance.instance =
+    omega (arith, c.loop-instance-test.false, c.count-instance-end.ensures.count, states_long c.args.units.now.plan.run c.args.units.now.states c.count-instance-end.ensures.states) in
+    c.loop-instance.invariant ∙ take_all c.loop-instance.instance c.args.units.now.states past

@@ -1,0 +1,59 @@
+use Rattle.std.proofs.Common.{◌≡◌, ◌∙◌, ◌<◌, ◌≤◌, ◌+◌, ◌^◌, length, set, refl, ap, sym, subst, arith, rules, Some}
+use Rattle.std.specs.Vec.{with_item}
+use Rattle.port_solve.specs.Solved.{HaveStates}
+use Rattle.trace_core.specs.Runs.{RunState, IsWanted, step_length, with_own}
+use Rattle.trace_core.proofs.FillLaws.{wanted_seat, is_going, the_seat, local_end, stepped_is, stepped_run}
+use Rattle.trace_core.proofs.KeepLaws.{going_solved}
+use Rattle.trace_core.proofs.RowLaws.{seat_there}
+use Rattle.trace_core.proofs.SettleLaws.{long, step_in_time, counts_fit}
+use Rattle.trace_plan.specs.Plans.{Planned}
+use Rattle.trace_core.proofs.run.Run.compute.Goals as goal
+
+pub do_step-requires-clause-end : goal.do_step-requires-clause-end
+do_step-requires-clause-end c =
+    let r = c.self.inside in
+    let is = c.self.invariant in
+    let seat = c.index_mut-seat.result.now in
+    let wanted = subst (λ (s : RunState). IsWanted s c.args.instance) (sym c.self.view_is) c.requires.wanted in
+    let there = seat_there r.seats.items c.args.instance seat (wanted_seat r c.args.instance wanted) c.index_mut-seat.ensures.value in
+    let have = subst (λ (plan : Planned). HaveStates plan.run r.units.states) is.tied c.count.ensures.states in
+    let found = the_seat r is seat c.args.instance (long r is have) there wanted in
+    let in_time = step_in_time r is have (is_going r is seat c.args.instance (long r is have) there wanted) in
+    let ends = local_end found.member.factor r.point.t (step_length r.phase) in
+    omega (arith, in_time, ends, found.fits.clock.time, found.fits.clock.step)
+
+pub overflow_add-self : goal.overflow_add-self
+overflow_add-self c =
+    let r = c.self.inside in
+    let is = c.self.invariant in
+    let seat = c.index_mut-seat.result.now in
+    let wanted = subst (λ (s : RunState). IsWanted s c.args.instance) (sym c.self.view_is) c.requires.wanted in
+    let there = seat_there r.seats.items c.args.instance seat (wanted_seat r c.args.instance wanted) c.index_mut-seat.ensures.value in
+    let have = subst (λ (plan : Planned). HaveStates plan.run r.units.states) is.tied c.count.ensures.states in
+    let small = counts_fit r is have (is_going r is seat c.args.instance (long r is have) there wanted) in
+    omega (arith, small)
+
+pub invariant_of-self : goal.invariant_of-self
+invariant_of-self c =
+    let r = c.self.inside in
+    let is = c.self.invariant in
+    let seat = c.index_mut-seat.result.now in
+    let wanted = subst (λ (s : RunState). IsWanted s c.args.instance) (sym c.self.view_is) c.requires.wanted in
+    let there = seat_there r.seats.items c.args.instance seat (wanted_seat r c.args.instance wanted) c.index_mut-seat.ensures.value in
+    let have = subst (λ (plan : Planned). HaveStates plan.run r.units.states) is.tied c.count.ensures.states in
+    let solved = going_solved r is (is_going r is seat c.args.instance (long r is have) there wanted) in
+    stepped_run r is seat c.args.instance (long r is have) there wanted c.do_step.result c.do_step.new.self c.do_step.ensures solved (with_item r.seats c.args.instance (record seat { slot = c.slot_of-seat.result }))
+    (ap (λ made. set r.seats.items c.args.instance (record seat { slot = made })) c.slot_of-seat.ensures)
+
+pub returns : goal.returns
+returns c =
+    let r = c.self.inside in
+    let is = c.self.invariant in
+    let seat = c.index_mut-seat.result.now in
+    let wanted = subst (λ (s : RunState). IsWanted s c.args.instance) (sym c.self.view_is) c.requires.wanted in
+    let there = seat_there r.seats.items c.args.instance seat (wanted_seat r c.args.instance wanted) c.index_mut-seat.ensures.value in
+    let have = subst (λ (plan : Planned). HaveStates plan.run r.units.states) is.tied c.count.ensures.states in
+    let solved = going_solved r is (is_going r is seat c.args.instance (long r is have) there wanted) in
+    stepped_is r is seat c.args.instance (long r is have) there wanted c.do_step.result c.do_step.new.self c.do_step.ensures solved (with_item r.seats c.args.instance (record seat { slot = c.slot_of-seat.result }))
+    (ap (λ made. set r.seats.items c.args.instance (record seat { slot = made })) c.slot_of-seat.ensures)
+    ∙ ap (λ (s : RunState). with_own s c.args.instance) c.self.view_is

@@ -1,0 +1,97 @@
+//! What the full cells of a phase come to.
+ghost use Rattle.std.specs.Prelude.{◌≡◌, ◌≤◌, ◌<◌, ◌+◌, ◌^◌, length};
+ghost use Rattle.trace_core.specs.Courses.{course_of_trial, course_of_redo, course_in, course_on, IsReady};
+ghost use Rattle.trace_core.specs.Seats.{AreWithin, HaveClocks};
+
+use crate::phase::Phase;
+use crate::seat::Seat;
+use crate::steps::{read_redo, read_trial};
+use step_rule::{NextPoint, after, agree};
+use trace_plan::Plan;
+use unit_tree::{Ending, Point};
+
+/// Where a run goes from a phase.
+#[derive(Clone, Copy, Debug, PartialEq, Eq)]
+pub(crate) enum Course {
+    /// The step is made anew, by this length.
+    Redo(u64),
+    /// To the next point.
+    On(Point),
+    End(Ending),
+}
+
+/// On by a step of `h`, or to the end where this is one step of length zero too many.
+fn go_on(plan: &Plan, point: Point, h: u64) -> Course
+    requires end { point.t + h ≤ 10 ^ 15 }
+    requires zeros { point.n ≤ plan.now.run.zero_budget }
+    ensures { result ≡ course_on plan.now.run point h }
+{
+    match after(point, h, plan.zero_budget()) {
+        NextPoint::Next(point) => Course::On(point),
+        NextPoint::ZeroBudget => Course::End(Ending::ZeroBudget),
+    }
+}
+
+/// What the trial of a step of `h` comes to.
+fn reckon_trial(
+    plan: &Plan,
+    seats: &[Seat],
+    point: Point,
+    h: u64,
+    replies: &mut [u64],
+) -> Course
+    requires clocks { HaveClocks point.t h plan.now.run.members seats.now }
+    requires replies { length replies.old ≡ length seats.now }
+    requires some { 0 < length seats.now }
+    requires end { point.t + h ≤ 10 ^ 15 }
+    requires zeros { point.n ≤ plan.now.run.zero_budget }
+    requires accepted { AreWithin seats.now }
+    ensures course { result ≡ course_of_trial plan.now.run point h seats.now }
+    ensures as_many { length replies.new ≡ length replies.old }
+{
+    if let Some(ending) = read_trial(plan, seats, point.t, h, replies) {
+        return Course::End(ending);
+    }
+    let least = agree(replies);
+    if least < h {
+        return Course::Redo(least);
+    }
+    go_on(plan, point, h)
+}
+
+/// What the step comes to that is made anew by a length of `h`.
+fn reckon_redo(plan: &Plan, seats: &[Seat], point: Point, h: u64) -> Course
+    requires seats { length seats.now ≤ 64 }
+    requires end { point.t + h ≤ 10 ^ 15 }
+    requires zeros { point.n ≤ plan.now.run.zero_budget }
+    ensures { result ≡ course_of_redo plan.now.run point h seats.now }
+{
+    match read_redo(seats) {
+        Some(ending) => Course::End(ending),
+        None => go_on(plan, point, h),
+    }
+}
+
+/// Where a run goes from a phase of which no cell is empty.
+pub(crate) fn reckon(
+    plan: &Plan,
+    seats: &[Seat],
+    phase: Phase,
+    point: Point,
+    replies: &mut [u64],
+) -> Course
+    requires seats { length seats.now ≡ length plan.now.run.members }
+    requires replies { length replies.old ≡ length plan.now.run.members }
+    requires zeros { point.n ≤ plan.now.run.zero_budget }
+    requires ready { IsReady plan.now.run point.t phase seats.now }
+    ensures course { result ≡ course_in plan.now.run point phase seats.now }
+    ensures as_many { length replies.new ≡ length replies.old }
+{
+    // How many seats there may be is known by the clauses of this call alone.
+    let _ = plan.instances();
+    match phase {
+        Phase::Trial { h } => reckon_trial(plan, seats, point, h, replies),
+        Phase::Redo { h } => reckon_redo(plan, seats, point, h),
+        Phase::Ended(ending) => Course::End(ending),
+    }
+}

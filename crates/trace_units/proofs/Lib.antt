@@ -1,0 +1,3 @@
+mod FleetCalls
+mod FleetLaws
+mod FleetPorts
