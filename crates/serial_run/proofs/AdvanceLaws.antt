@@ -1,17 +1,15 @@
 -- How a run gets from one row to the next.
-use Rattle.std.proofs.Common.{◌≡◌, ◌⊎◌, ℕ, ◌+◌, Bool, true, false, List, [], ◌++◌, length, map, Option, Some, None, inl, inr, refl, sym, ap, subst, ◌∙◌, arith}
+use Rattle.std.proofs.Common.{◌≡◌, ℕ, ◌+◌, true, false, List, [], ◌++◌, length, map, Option, Some, None, inl, inr, refl, sym, ap, subst, ◌∙◌, arith}
 use Rattle.std.specs.List.{count_by}
-use Rattle.std.proofs.lemmas.List.{length-map}
-use Rattle.trace_core.specs.Runs.{Cell, RunState, Stands, IsPhase, arrived, cells_of, cell_of, first_end, phase_at, phase_or, is_empty_cell, is_ended, ArePortsKnown}
-use Rattle.trace_core.specs.Settling.{IsRedoDue, Moves, Ends, Settled, with_redo}
+use Rattle.trace_core.specs.Runs.{Cell, RunState, Stands, IsPhase, arrived, cells_of, cell_of, first_end, phase_or, is_empty_cell, is_ended}
+use Rattle.trace_core.specs.Settling.{IsRedoDue, Moves, Ends, Settled}
 use Rattle.trace_core.specs.declared.phase.Phase.{Phase}
 use Rattle.trace_core.specs.declared.phase.Phase.TheVariants.{Trial, Redo, Ended}
 use Rattle.trace_core.specs.declared.phase.Settle.{Settle}
 use Rattle.trace_core.specs.declared.phase.Settle.TheVariants as settle
 use Rattle.unit_tree.specs.Compositions.{Composition}
-use Rattle.unit_tree.specs.Negotiation.{all_inputs}
-use Rattle.unit_tree.specs.Successor.{Position, proposed, agreed, trial_end, is_redone, successor, ends}
-use Rattle.unit_tree.specs.Trace.{Stand, AreWordsOf, cells_of_trial, cells_of_redo, cells_at}
+use Rattle.unit_tree.specs.Successor.{proposed, agreed, trial_end, is_redone, successor, ends}
+use Rattle.unit_tree.specs.Trace.{Stand, AreWordsOf, cells_of_trial, cells_at}
 use Rattle.unit_tree.specs.declared.ending.Ending.{Ending}
 use Rattle.unit_tree.proofs.RunTraces.{one_each}
 use Rattle.serial_run.specs.Advances.{IsFresh, Moved, EndsThere, Advanced, filled, with_filled}

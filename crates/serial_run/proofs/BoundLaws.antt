@@ -1,7 +1,7 @@
 -- The work of a run is bounded by its rows.
-use Rattle.std.proofs.Common.{◌≡◌, ℕ, suc, ◌+◌, ◌*◌, ◌<◌, ◌≤◌, ◌==◌, ◌⊎◌, min, cond, Bool, true, false, List, [], ◌∷◌, length, map, Option, Some, None, inl, inr, refl, sym, ap, subst, ◌∙◌, arith}
-use Rattle.std.specs.Prelude.{◌&&◌, is_some, is_none, zip}
-use Rattle.std.specs.List.{count_by, filter_map, cons_option}
+use Rattle.std.proofs.Common.{◌≡◌, ℕ, suc, ◌+◌, ◌*◌, ◌<◌, ◌≤◌, ◌==◌, ◌⊎◌, cond, Bool, true, false, List, [], ◌∷◌, length, Option, Some, None, inl, inr, refl, sym, subst, ◌∙◌, arith}
+use Rattle.std.specs.Prelude.{◌&&◌, is_some, is_none}
+use Rattle.std.specs.List.{filter_map, cons_option}
 use Rattle.std.proofs.Math.Nat.{mul-suc}
 use Rattle.std.proofs.lemmas.Bool.Decides.{nat_tests}
 use Rattle.std.proofs.lemmas.List.{length-map}
@@ -13,10 +13,9 @@ use Rattle.unit_tree.specs.Plain.{plain_form}
 use Rattle.unit_tree.specs.Negotiation.{step_at}
 use Rattle.unit_tree.specs.Ports.{Ports, first_some, port_fault}
 use Rattle.unit_tree.specs.RunLaws.{IsInBounds}
-use Rattle.unit_tree.specs.Successor.{Position, proposed, agreed, is_redone, stop_end, row_end, max_end, trial_end, steps_by, standings, point_after, after}
-use Rattle.unit_tree.specs.Trace.{Stand, Row, row_unless, row_at, rows_of, Follows, Goes, IsTrace, IsTraceOf, HasWords, steps_there, cells_of_trial, cells_of_redo, cells_at, cells_of}
+use Rattle.unit_tree.specs.Successor.{Position, proposed, agreed, is_redone, stop_end, row_end, max_end, trial_end, steps_by, standings, after}
+use Rattle.unit_tree.specs.Trace.{Stand, Row, row_unless, rows_of, Follows, Goes, IsTrace, HasWords, steps_there, cells_of_trial, cells_of_redo, cells_at, cells_of}
 use Rattle.unit_tree.specs.declared.ending.Ending.{Ending}
-use Rattle.unit_tree.specs.declared.system.System.{System}
 use Rattle.unit_tree.proofs.PositionLaws.{system_has_members, positions_keep}
 use Rattle.unit_tree.proofs.RunSteps.{step_is_right, first_within}
 use Rattle.unit_tree.proofs.RunTraces.{goes_to}

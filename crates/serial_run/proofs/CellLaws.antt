@@ -1,7 +1,7 @@
 -- All steps of a phase, and the cells of a stand.
 use Rattle.std.proofs.Common.{◌≡◌, ℕ, suc, ◌+◌, ◌<◌, cond, Bool, true, false, List, [], ◌∷◌, ◌++◌, ℤ, length, length-append, map, Option, Some, None, refl, sym, ap, subst, ◌∙◌, arith, append-nil, append_assoc}
 use Rattle.std.specs.Prelude.{◌&&◌, is_some, is_none, zip, slice_get, slice_set}
-use Rattle.std.specs.List.{AllByRecursion, count_by}
+use Rattle.std.specs.List.{count_by}
 use Rattle.std.proofs.Math.Seq.{set-append_seam}
 use Rattle.std.proofs.lemmas.List.{length-map, map-append}
 use Rattle.std.proofs.lemmas.List.Sums.{sum_by-cons, sum_by_push}
@@ -10,7 +10,7 @@ use Rattle.unit_tree.specs.Compositions.{Composition, Member}
 use Rattle.super_time.specs.LocalTime.{local_time, local_step}
 use Rattle.unit_tree.specs.Components.{step_of}
 use Rattle.unit_tree.specs.Negotiation.{inputs_at, is_held, step_at}
-use Rattle.unit_tree.specs.Ports.{Ports, first_some}
+use Rattle.unit_tree.specs.Ports.{Ports}
 use Rattle.unit_tree.specs.Successor.{steps_by, trial_end, is_redone}
 use Rattle.unit_tree.specs.Trace.{Stand, steps_there, cells_of_trial, cells_of_redo, cells_at}
 use Rattle.unit_tree.specs.declared.ending.Ending.{Ending}

@@ -1,15 +1,14 @@
 -- What a run has put and reports when it is over, or given up.
-use Rattle.std.proofs.Common.{◌≡◌, ℕ, suc, ◌+◌, ◌*◌, ◌<◌, ◌≤◌, ◌⊎◌, Bool, true, false, List, [], ◌∷◌, ◌++◌, length, Option, Some, None, Result, Ok, Err, inl, inr, refl, sym, ap, subst, ◌∙◌, append-nil, arith}
+use Rattle.std.proofs.Common.{◌≡◌, ℕ, ◌+◌, ◌*◌, ◌≤◌, Bool, true, false, List, [], ◌∷◌, ◌++◌, length, Option, Some, None, Result, Ok, Err, inl, inr, refl, sym, ap, subst, ◌∙◌, append-nil, arith}
 use Rattle.std.specs.List.{AllByRecursion, cons_option, filter_map}
-use Rattle.std.specs.Prelude.{IsErr, OnErr}
+use Rattle.std.specs.Prelude.{OnErr}
 use Rattle.std.specs.Io.KnownBytes.{Appends}
 use Rattle.std.proofs.lemmas.List.Elements.{filter_map-append}
 use Rattle.cosim_io.specs.Faults.{Rose}
 use Rattle.cosim_io.specs.Pieces.{AppendsPrefix}
 use Rattle.cosim_io.proofs.PieceLemmas.{AppendsPrefix-nil, AppendsPrefix-longer}
 use Rattle.super_time.specs.declared.point.Point.{Point}
-use Rattle.trace_core.specs.Runs.{IsOpened, RunState, Stands, IsPhase, ArePortsKnown, first_end}
-use Rattle.trace_core.specs.declared.phase.Phase.{Phase}
+use Rattle.trace_core.specs.Runs.{IsOpened, RunState, Stands, IsPhase, first_end}
 use Rattle.trace_core.specs.declared.phase.Phase.TheVariants.{Ended}
 use Rattle.trace_csv.specs.TraceText.{HasWord, header_line, row_line, trace_text}
 use Rattle.trace_csv.specs.Columns.{columns_of}
@@ -20,7 +19,7 @@ use Rattle.unit_tree.specs.Compositions.{Composition, AreMembers, run_of}
 use Rattle.unit_tree.specs.Plain.{plain_form}
 use Rattle.unit_tree.specs.Ports.{Ports, IsAssignment, IsPlaceOrder, first_some, port_fault}
 use Rattle.unit_tree.specs.Successor.{ends, first_position, max_end, row_end, stop_end, successor}
-use Rattle.unit_tree.specs.Trace.{Stand, IsStand, IsTrace, Row, row_at, row_unless, rows_of, last_point, IsTraceOf, HasCells, cells_at, cells_of, AreWordsOf, HasWords}
+use Rattle.unit_tree.specs.Trace.{Stand, IsStand, IsTrace, Row, row_at, row_unless, rows_of, cells_at, cells_of, AreWordsOf, HasWords}
 use Rattle.unit_tree.specs.WellFormed.{resolution_of}
 use Rattle.unit_tree.specs.declared.ending.Ending.{Ending}
 use Rattle.unit_tree.specs.declared.system.Column.{Column}
@@ -33,8 +32,7 @@ use Rattle.serial_run.specs.Lines.{PutsRow, ShowsWords, header_of, lines_of, row
 use Rattle.serial_run.specs.Reports.{ReportsTrace, PutsFront, TellsFault}
 use Rattle.serial_run.specs.Sums.{sum_shown}
 use Rattle.serial_run.specs.declared.fault.CrewFault.{CrewFault}
-use Rattle.serial_run.specs.declared.fault.CrewFault.TheVariants.{WriteFault, NoMemory}
-use Rattle.serial_run.specs.declared.report.Report.{Report}
+use Rattle.serial_run.specs.declared.fault.CrewFault.TheVariants.{WriteFault}
 use Rattle.serial_run.specs.declared.tally.Tally.{Tally}
 use Rattle.serial_run.proofs.AdvanceLaws.{phase_by, ended_as}
 use Rattle.serial_run.proofs.BoundLaws.{cells_are_bounded}

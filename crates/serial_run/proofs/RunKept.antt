@@ -1,46 +1,31 @@
 -- What a run keeps from row to row.
-use Rattle.std.proofs.Common.{◌≡◌, ℕ, suc, ◌+◌, ◌*◌, ◌<◌, ◌≤◌, ◌⊎◌, Bool, true, false, pos, ◌+ℤ◌, ℤ, List, [], ◌∷◌, ◌++◌, length, length-append, Option, Some, None, Result, Ok, Err, inl, inr, refl, sym, ap, subst, ◌∙◌, append-nil, append_assoc, arith}
+use Rattle.std.proofs.Common.{◌≡◌, ℕ, suc, ◌+◌, ◌<◌, ◌≤◌, pos, ◌+ℤ◌, List, [], ◌∷◌, ◌++◌, length, length-append, Option, Some, None, Ok, sym, ap, subst, ◌∙◌, append-nil, append_assoc, arith}
 use Rattle.std.specs.List.{cons_option}
 use Rattle.std.specs.Io.KnownBytes.{Appends}
-use Rattle.std.proofs.KnownBytes.{Appends-nil, Appends-trans}
+use Rattle.std.proofs.KnownBytes.{Appends-trans}
 use Rattle.std.proofs.lemmas.Int.{ints}
 use Rattle.std.proofs.lemmas.Grind.{flat_map-append}
 use Rattle.std.proofs.lemmas.List.Elements.{filter_map-append}
 use Rattle.std.proofs.lemmas.List.Sums.{sum_by_push}
-use Rattle.cosim_io.specs.Faults.{Rose}
-use Rattle.cosim_io.specs.Pieces.{AppendsPrefix}
-use Rattle.cosim_io.proofs.PieceLemmas.{AppendsPrefix-whole}
-use Rattle.super_time.specs.declared.point.Point.{Point}
-use Rattle.trace_core.specs.Runs.{RunState, Stands, IsOpened, ArePortsKnown, arrived, phase_at, phase_or, first_end}
-use Rattle.trace_core.specs.declared.phase.Phase.{Phase}
-use Rattle.trace_core.specs.declared.phase.Phase.TheVariants.{Ended}
+use Rattle.trace_core.specs.Runs.{RunState, Stands, IsOpened, arrived}
 use Rattle.trace_csv.specs.Columns.{columns_of}
-use Rattle.trace_csv.specs.TraceText.{row_line, trace_text}
+use Rattle.trace_csv.specs.TraceText.{row_line}
 use Rattle.trace_plan.specs.Keeps.{IsBounded}
 use Rattle.trace_plan.specs.Plans.{Planned}
-use Rattle.unit_tree.specs.Compositions.{Composition, AreMembers, run_of}
-use Rattle.unit_tree.specs.Plain.{plain_form}
-use Rattle.unit_tree.specs.Ports.{IsPlaceOrder, first_some, port_fault}
-use Rattle.unit_tree.specs.RunLaws.{HasOneTrace}
-use Rattle.unit_tree.specs.Successor.{Position, ends, first_position, successor}
-use Rattle.unit_tree.specs.Trace.{Stand, IsStand, Goes, IsTrace, Row, row_at, rows_of, last_point, IsTraceOf, HasCells, cells_at, cells_of, HasWords}
+use Rattle.unit_tree.specs.Compositions.{Composition, run_of}
+use Rattle.unit_tree.specs.Ports.{IsPlaceOrder}
+use Rattle.unit_tree.specs.Successor.{Position, first_position}
+use Rattle.unit_tree.specs.Trace.{Stand, IsStand, Goes, Row, row_at, rows_of, cells_at, cells_of, HasWords}
 use Rattle.unit_tree.specs.WellFormed.{resolution_of}
-use Rattle.unit_tree.specs.declared.ending.Ending.{Ending}
 use Rattle.unit_tree.specs.declared.system.Column.{Column}
 use Rattle.unit_tree.specs.declared.system.System.{System}
-use Rattle.unit_tree.proofs.PositionLaws.{system_has_members}
-use Rattle.unit_tree.proofs.RunTraces.{goes_to, one_trace}
-use Rattle.serial_run.specs.Advances.{IsFresh, Moved, EndsThere, Advanced}
+use Rattle.unit_tree.proofs.RunTraces.{goes_to}
+use Rattle.serial_run.specs.Advances.{IsFresh, Moved}
 use Rattle.serial_run.specs.Lines.{IsPut, PutsRow, header_of, lines_of, rows_here}
-use Rattle.serial_run.specs.Reports.{ReportsTrace, PutsFront, TellsFault}
 use Rattle.serial_run.specs.Sums.{sum_shown}
-use Rattle.serial_run.specs.declared.fault.CrewFault.{CrewFault}
-use Rattle.serial_run.specs.declared.fault.CrewFault.TheVariants.{WriteFault}
-use Rattle.serial_run.specs.declared.report.Report.{Report}
 use Rattle.serial_run.specs.declared.tally.Tally.{Tally}
-use Rattle.serial_run.proofs.BoundLaws.{cells_are_bounded}
 use Rattle.serial_run.proofs.RowLaws.{no_lines}
-use Rattle.serial_run.proofs.Walks.{Walked, walked_first, walked_on, walked_end, last_is, front_along, text_along-append}
+use Rattle.serial_run.proofs.Walks.{Walked, walked_first, walked_on}
 
 -- what is so of a plan, whatever its run does
 pub record Given (plan : Planned) : Type 0 where

@@ -1,15 +1,14 @@
 -- A run that has passed some stands of its trace.
-use Rattle.std.proofs.Common.{◌≡◌, ℕ, suc, ◌+◌, List, [], ◌∷◌, ◌++◌, length, length-append, refl, sym, ap, subst, ◌∙◌, arith, append-nil, append_assoc}
+use Rattle.std.proofs.Common.{◌≡◌, ℕ, List, [], ◌∷◌, ◌++◌, refl, sym, ap, subst, ◌∙◌, append_assoc}
 use Rattle.std.specs.Prelude.{Option}
-use Rattle.std.specs.List.{flat_map, sum_by}
+use Rattle.std.specs.List.{flat_map}
 use Rattle.std.specs.Io.KnownBytes.{Appends}
 use Rattle.std.proofs.lemmas.List.Elements.{filter_map-append}
 use Rattle.std.proofs.lemmas.Grind.{flat_map-append}
-use Rattle.std.proofs.lemmas.List.Sums.{sum_by_push}
 use Rattle.cosim_io.specs.Pieces.{AppendsPrefix}
 use Rattle.cosim_io.proofs.PieceLemmas.{AppendsPrefix-after, AppendsPrefix-longer}
 use Rattle.unit_tree.specs.Compositions.{Composition}
-use Rattle.unit_tree.specs.Ports.{Ports, IsAssignment, IsPlaceOrder}
+use Rattle.unit_tree.specs.Ports.{IsAssignment, IsPlaceOrder}
 use Rattle.unit_tree.specs.Successor.{Position, goes, ends, first_position, successor}
 use Rattle.unit_tree.specs.Trace.{Stand, IsStand, Goes, Follows, IsTrace, Row, row_at, rows_of, last_point, HasWords, AreWordsOf}
 use Rattle.unit_tree.specs.declared.ending.Ending.{Ending}

@@ -1,7 +1,7 @@
 -- How a run gets from one row to the next.
-use Rattle.std.specs.Prelude.{◌≡◌, ◌+◌, Bool, true, false, List, [], ◌∷◌, ◌++◌, map, ◌⊎◌}
+use Rattle.std.specs.Prelude.{◌≡◌, ◌+◌, Bool, true, false, List, [], ◌++◌, map, ◌⊎◌}
 use Rattle.std.specs.List.{count_by}
-use Rattle.trace_core.specs.Runs.{Cell, Held, Empty, Filled, RunState, arrived, ArePortsKnown, is_empty_cell}
+use Rattle.trace_core.specs.Runs.{Cell, Empty, Filled, RunState, arrived, ArePortsKnown, is_empty_cell}
 use Rattle.trace_core.specs.declared.phase.Phase.TheVariants.{Ended}
 use Rattle.unit_tree.specs.Successor.{ends, successor}
 use Rattle.unit_tree.specs.Trace.{Goes, cells_at}

@@ -47,6 +47,7 @@ pub fn run_alone<O: Sink>(alloc: Global, plan: Arc<Plan>, out: &mut O) -> Result
     if plan.columns().len() > MOST_COLUMNS {
         return Err(CrewFault::NoMemory);
     }
+    // What the order of a plan keeps is known by the clause of this call alone.
     let _ = plan.order();
     let instances = plan.instances();
     let mut line = Vec::new(alloc);

@@ -1,4 +1,4 @@
-use Rattle.std.proofs.Common.{◌≡◌, [], ap, ◌∙◌}
+use Rattle.std.proofs.Common.{[], ap, ◌∙◌}
 use Rattle.trace_core.specs.Runs.{RunState, is_ended}
 use Rattle.serial_run.specs.Advances.{with_filled}
 use Rattle.trace_core.specs.declared.phase.Settle.TheVariants as settle

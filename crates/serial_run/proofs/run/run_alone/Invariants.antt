@@ -1,4 +1,4 @@
-use Rattle.std.proofs.Common.{◌≡◌, ◌-◌, length}
+use Rattle.std.proofs.Common.{◌-◌}
 use Rattle.serial_run.proofs.RunKept.{Kept}
 use Rattle.serial_run.proofs.run.run_alone.Given as goal
 
