@@ -18,6 +18,7 @@ use Rattle.trace_core.specs.declared.run.Run.TheInside.{Inside}
 use Rattle.trace_core.specs.declared.seat.Seat.{Seat}
 use Rattle.trace_core.specs.declared.seat.Slot.{Slot}
 use Rattle.trace_core.specs.declared.seat.Slot.TheVariants as slot
+use Rattle.trace_core.proofs.KeepLaws.{fit_as}
 use Rattle.trace_core.proofs.SeatLaws.{ids_of, own_kept, saved_kept, are_saved_kept}
 use Rattle.trace_core.proofs.SlotLaws.{AreOfOneLength}
 use Rattle.trace_core.proofs.StandLaws.{stands_filled}
@@ -234,13 +235,10 @@ module _ (r : Inside) (is : IsRun r) (seat : Seat) (instance : ℕ) (long : AreO
   pub is_going : is_ended r.phase ≡ false
   is_going = going_by r.phase wanted
 
-  fit_as : (phase : Phase) → r.phase ≡ phase → SeatsFit run stand phase r.units.states r.seats.items
-  fit_as phase same = subst (λ one. SeatsFit run stand one r.units.states r.seats.items) same is.fit
-
   -- The seat in the phase.
   pub seat_by : (phase : Phase) → r.phase ≡ phase → is_ended phase ≡ false → SeatAt r.point.t (step_length phase) stand.ports run.members stand.at.states r.units.states seat instance
-  seat_by (Trial h) same going = seat_at r.point.t h stand.ports run.members stand.at.states r.units.states r.seats.items seat instance long (fit_as (Trial h) same) seat_is
-  seat_by (Redo h) same going = seat_at r.point.t h stand.ports run.members stand.at.states r.units.states r.seats.items seat instance long (fit_as (Redo h) same) seat_is
+  seat_by (Trial h) same going = seat_at r.point.t h stand.ports run.members stand.at.states r.units.states r.seats.items seat instance long (fit_as r is (Trial h) same) seat_is
+  seat_by (Redo h) same going = seat_at r.point.t h stand.ports run.members stand.at.states r.units.states r.seats.items seat instance long (fit_as r is (Redo h) same) seat_is
   seat_by (Ended ending) same going = absurd (cc)
 
   pub the_seat : SeatAt r.point.t (step_length r.phase) stand.ports run.members stand.at.states r.units.states seat instance
@@ -303,11 +301,11 @@ module _ (r : Inside) (is : IsRun r) (seat : Seat) (instance : ℕ) (long : AreO
     fit_set (Trial h) same going =
         subst (λ states. AreSeats r.point.t h stand.ports (zip run.members states) units.states seats.items) (sym states_same)
         (subst (AreSeats r.point.t h stand.ports (zip run.members stand.at.states) units.states) (sym seats_are)
-        (seats_stepped r.point.t h run stand.ports stand.at.states r.units r.seats.items seat instance long (fit_as (Trial h) same) seat_is slot_is_empty tied_run fed made units steps))
+        (seats_stepped r.point.t h run stand.ports stand.at.states r.units r.seats.items seat instance long (fit_as r is (Trial h) same) seat_is slot_is_empty tied_run fed made units steps))
     fit_set (Redo h) same going =
         subst (λ states. AreSeats r.point.t h stand.ports (zip run.members states) units.states seats.items) (sym states_same)
         (subst (AreSeats r.point.t h stand.ports (zip run.members stand.at.states) units.states) (sym seats_are)
-        (seats_stepped r.point.t h run stand.ports stand.at.states r.units r.seats.items seat instance long (fit_as (Redo h) same) seat_is slot_is_empty tied_run fed made units steps))
+        (seats_stepped r.point.t h run stand.ports stand.at.states r.units r.seats.items seat instance long (fit_as r is (Redo h) same) seat_is slot_is_empty tied_run fed made units steps))
     fit_set (Ended ending) same going = absurd (cc)
 
     pub stepped_run : IsRun (stepped r units seats)

@@ -38,6 +38,10 @@ fit_in run stand (Trial h) units old new long same begun = seats_begun stand.at.
 fit_in run stand (Redo h) units old new long same begun = seats_begun stand.at.point.t h stand.ports run.members stand.at.states units old new long same begun
 fit_in run stand (Ended ending) units old new long same begun = tt
 
+-- The seats of a run fit its phase.
+pub fit_as : (r : Inside) → IsRun r → (phase : Phase) → r.phase ≡ phase → SeatsFit r.plan.value.run (stand_of r) phase r.units.states r.seats.items
+fit_as r is phase same = subst (λ one. SeatsFit r.plan.value.run (stand_of r) one r.units.states r.seats.items) same is.fit
+
 -- ---- Where it comes to a stand
 
 -- The seats were committed, the ports solved for the states of the units, and the phase begun.

@@ -3,7 +3,7 @@ use Rattle.std.proofs.Common.{◌≡◌, ◌∙◌, ℕ, ◌+◌, ◌*◌, ◌<�
 use Rattle.std.proofs.lemmas.Nat.{mul-le}
 use Rattle.port_solve.specs.Solved.{HaveStates}
 use Rattle.trace_core.specs.Courses.{course_in, IsReady}
-use Rattle.trace_core.specs.Keeping.{stand_of, cells_seen, run_state, SeatsFit, IsRun}
+use Rattle.trace_core.specs.Keeping.{stand_of, cells_seen, run_state, IsRun}
 use Rattle.trace_core.specs.Runs.{AreCellsFull, IsPhase, is_ended, is_empty_cell, step_length}
 use Rattle.trace_core.specs.Seats.{AreFull, cell_in, is_empty}
 use Rattle.trace_core.specs.Settling.{IsRedoDue}
@@ -16,6 +16,7 @@ use Rattle.trace_core.specs.declared.seat.Seat.{Seat}
 use Rattle.trace_core.specs.declared.seat.Slot.{Slot}
 use Rattle.trace_core.specs.declared.seat.Slot.TheVariants as slot
 use Rattle.trace_core.proofs.CourseLaws.{IsDue, LeadsFromTrial, LeadsFromRedo, trial_leads, redo_leads, leads_to}
+use Rattle.trace_core.proofs.KeepLaws.{fit_as}
 use Rattle.trace_core.proofs.OpeningLaws.{states_long}
 use Rattle.trace_core.proofs.SlotLaws.{AreOfOneLength, accepted_within, have_clocks}
 use Rattle.trace_core.proofs.StandLaws.{one_state, now_at_most}
@@ -59,9 +60,6 @@ module _ (r : Inside) (is : IsRun r) (have : HaveStates r.plan.value.run r.units
   phase_by : (phase : Phase) → r.phase ≡ phase → IsPhase run stand phase (cells_seen phase r.seats.items)
   phase_by phase same = subst (λ one. IsPhase run stand one (cells_seen one r.seats.items)) same is.stands.phase_is
 
-  fit_by : (phase : Phase) → r.phase ≡ phase → SeatsFit run stand phase r.units.states r.seats.items
-  fit_by phase same = subst (λ one. SeatsFit run stand one r.units.states r.seats.items) same is.fit
-
   agreed_most : agreed run stand.at stand.ports ≤ proposed run stand.at stand.ports
   agreed_most = agreed_is_at_most run stand.at stand.ports is.stands.members is.stands.words
 
@@ -91,7 +89,7 @@ module _ (r : Inside) (is : IsRun r) (have : HaveStates r.plan.value.run r.units
 
   ready_by : (phase : Phase) → r.phase ≡ phase → IsReady run r.point.t phase r.seats.items
   ready_by (Trial h) same =
-      let seats = fit_by (Trial h) same in
+      let seats = fit_as r is (Trial h) same in
       let tried = phase_by (Trial h) same in
       record {
         clocks = have_clocks r.point.t h stand.ports run.members stand.at.states r.units.states r.seats.items long seats;
@@ -119,7 +117,7 @@ module _ (r : Inside) (is : IsRun r) (have : HaveStates r.plan.value.run r.units
   from_trial h (course.On point) same full leads =
       let tried = phase_by (Trial h) same in (
         (λ due. leads.0 (due_is due)),
-        leads.1.goes_on ∙ ap goes (sym (leads_to run stand tried.going h r.units.states r.seats.items long (fit_by (Trial h) same) full point leads.1)),
+        leads.1.goes_on ∙ ap goes (sym (leads_to run stand tried.going h r.units.states r.seats.items long (fit_as r is (Trial h) same) full point leads.1)),
       )
   from_trial h (course.End ending) same full leads = ((λ due. leads.0 (due_is due)), leads.1)
 
@@ -131,7 +129,7 @@ module _ (r : Inside) (is : IsRun r) (have : HaveStates r.plan.value.run r.units
   from_redo h (course.On point) same full leads =
       let redone = phase_by (Redo h) same in (
         no_trial h same,
-        leads.goes_on ∙ ap goes (sym (leads_to run stand redone.going h r.units.states r.seats.items long (fit_by (Redo h) same) full point leads)),
+        leads.goes_on ∙ ap goes (sym (leads_to run stand redone.going h r.units.states r.seats.items long (fit_as r is (Redo h) same) full point leads)),
       )
   from_redo h (course.End ending) same full leads = (no_trial h same, leads)
 
@@ -144,11 +142,11 @@ module _ (r : Inside) (is : IsRun r) (have : HaveStates r.plan.value.run r.units
   led_by (Trial h) same going full =
       let tried = phase_by (Trial h) same in
       from_trial h (course_in run r.point (Trial h) r.seats.items) same full
-      (trial_leads run stand tried.going h r.units.states r.seats.items long (fit_by (Trial h) same) full tried.is is.stands.members is.stands.words)
+      (trial_leads run stand tried.going h r.units.states r.seats.items long (fit_as r is (Trial h) same) full tried.is is.stands.members is.stands.words)
   led_by (Redo h) same going full =
       let redone = phase_by (Redo h) same in
       from_redo h (course_in run r.point (Redo h) r.seats.items) same full
-      (redo_leads run stand redone.going h r.units.states r.seats.items long (fit_by (Redo h) same) full redone.is redone.no_fault redone.shorter)
+      (redo_leads run stand redone.going h r.units.states r.seats.items long (fit_as r is (Redo h) same) full redone.is redone.no_fault redone.shorter)
   led_by (Ended ending) same going full = absurd (cc)
 
   pub led : is_ended r.phase ≡ false → AreCellsFull (cells_seen r.phase r.seats.items) → Led (course_in run r.point r.phase r.seats.items)
