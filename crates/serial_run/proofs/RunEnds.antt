@@ -12,9 +12,8 @@ use Rattle.trace_core.specs.Runs.{IsOpened, RunState, Stands, IsPhase, first_end
 use Rattle.trace_core.specs.declared.phase.Phase.TheVariants.{Ended}
 use Rattle.trace_csv.specs.TraceText.{HasWord, header_line, row_line, trace_text}
 use Rattle.trace_csv.specs.Columns.{columns_of}
-use Rattle.trace_plan.specs.Keeps.{IsBounded}
 use Rattle.trace_plan.specs.Laws.{HasRows}
-use Rattle.trace_plan.specs.Plans.{Planned}
+use Rattle.trace_plan.specs.Plans.{IsBounded, Planned}
 use Rattle.unit_tree.specs.Compositions.{Composition, AreMembers, run_of}
 use Rattle.unit_tree.specs.Plain.{plain_form}
 use Rattle.unit_tree.specs.Ports.{Ports, IsAssignment, IsPlaceOrder, first_some, port_fault}

@@ -10,8 +10,7 @@ use Rattle.std.proofs.lemmas.List.Sums.{sum_by_push}
 use Rattle.trace_core.specs.Runs.{RunState, Stands, IsOpened, arrived}
 use Rattle.trace_csv.specs.Columns.{columns_of}
 use Rattle.trace_csv.specs.TraceText.{row_line}
-use Rattle.trace_plan.specs.Keeps.{IsBounded}
-use Rattle.trace_plan.specs.Plans.{Planned}
+use Rattle.trace_plan.specs.Plans.{IsBounded, Planned}
 use Rattle.unit_tree.specs.Compositions.{Composition, run_of}
 use Rattle.unit_tree.specs.Ports.{IsPlaceOrder}
 use Rattle.unit_tree.specs.Successor.{Position, first_position}

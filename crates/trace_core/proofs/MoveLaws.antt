@@ -18,7 +18,7 @@ use Rattle.trace_core.proofs.KeepLaws.{Arrival, none_is, is_some_not, going_solv
 use Rattle.trace_core.proofs.SettleLaws.{Led, led}
 use Rattle.trace_core.proofs.StandLaws.{stands_opened, stands_moved, stands_redone, stands_ended}
 use Rattle.trace_units.specs.Fleets.{Fleet}
-use Rattle.trace_plan.specs.Keeps.{IsBounded}
+use Rattle.trace_plan.specs.Plans.{IsBounded}
 use Rattle.unit_tree.specs.Compositions.{Composition, AreMembers, run_of}
 use Rattle.unit_tree.specs.RunLaws.{IsInBounds, IsInRows}
 use Rattle.unit_tree.specs.Negotiation.{all_inputs}

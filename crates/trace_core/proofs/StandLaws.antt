@@ -9,8 +9,7 @@ use Rattle.trace_core.specs.declared.phase.Phase.TheVariants.{Trial, Redo, Ended
 use Rattle.trace_core.proofs.ArrivalLaws.{fresh_cells_fit, phase_is_right}
 use Rattle.trace_core.proofs.CellLaws.{full_are_steps, steps_at_most, filled_at_most, fresh_are_empty, one_filled, filled_fit}
 use Rattle.trace_core.proofs.CourseLaws.{IsDue}
-use Rattle.trace_plan.specs.Keeps.{IsBounded}
-use Rattle.trace_plan.specs.Plans.{Planned}
+use Rattle.trace_plan.specs.Plans.{IsBounded, Planned}
 use Rattle.unit_tree.specs.Compositions.{Composition, AreMembers, run_of}
 use Rattle.unit_tree.specs.Negotiation.{all_inputs}
 use Rattle.unit_tree.specs.Ports.{IsPlaceOrder}

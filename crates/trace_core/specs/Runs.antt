@@ -5,8 +5,7 @@ use Rattle.super_time.specs.LocalTime.{local_time, local_step}
 use Rattle.trace_core.specs.declared.phase.Phase.{Phase}
 use Rattle.trace_core.specs.declared.phase.Phase.TheVariants.{Trial, Redo, Ended}
 use Rattle.trace_core.specs.declared.phase.Row as lent
-use Rattle.trace_plan.specs.Keeps.{IsBounded}
-use Rattle.trace_plan.specs.Plans.{Planned}
+use Rattle.trace_plan.specs.Plans.{IsBounded, Planned}
 use Rattle.unit_exec.specs.Images.{IsImageOf}
 use Rattle.unit_exec.specs.declared.want.Want.{Want}
 use Rattle.unit_tree.specs.Compositions.{Member, Composition, AreMembers, run_of}

@@ -33,7 +33,7 @@ fn go_on(plan: &Plan, point: Point, h: u64) -> Course
 }
 
 /// What the trial of a step of `h` comes to.
-fn reckon_trial(plan: &Plan, seats: &[Seat], point: Point, h: u64, replies: &mut [u64]) -> Course
+fn course_of_trial(plan: &Plan, seats: &[Seat], point: Point, h: u64, replies: &mut [u64]) -> Course
     requires clocks { HaveClocks point.t h plan.now.run.members seats.now }
     requires replies { length replies.old ≡ length seats.now }
     requires some { 0 < length seats.now }
@@ -54,7 +54,7 @@ fn reckon_trial(plan: &Plan, seats: &[Seat], point: Point, h: u64, replies: &mut
 }
 
 /// What the step comes to that is made anew by a length of `h`.
-fn reckon_redo(plan: &Plan, seats: &[Seat], point: Point, h: u64) -> Course
+fn course_of_redo(plan: &Plan, seats: &[Seat], point: Point, h: u64) -> Course
     requires seats { length seats.now ≤ 64 }
     requires end { point.t + h ≤ 10 ^ 15 }
     requires zeros { point.n ≤ plan.now.run.zero_budget }
@@ -67,7 +67,7 @@ fn reckon_redo(plan: &Plan, seats: &[Seat], point: Point, h: u64) -> Course
 }
 
 /// Where a run goes from a phase of which no cell is empty.
-pub(crate) fn reckon(
+pub(crate) fn course_of(
     plan: &Plan,
     seats: &[Seat],
     phase: Phase,
@@ -84,8 +84,8 @@ pub(crate) fn reckon(
     // How many seats there may be is known by the clauses of this call alone.
     let _ = plan.instances();
     match phase {
-        Phase::Trial { h } => reckon_trial(plan, seats, point, h, replies),
-        Phase::Redo { h } => reckon_redo(plan, seats, point, h),
+        Phase::Trial { h } => course_of_trial(plan, seats, point, h, replies),
+        Phase::Redo { h } => course_of_redo(plan, seats, point, h),
         Phase::Ended(ending) => Course::End(ending),
     }
 }

@@ -11,7 +11,7 @@ ghost use Rattle.unit_tree.specs.Negotiation.{all_inputs};
 ghost use Rattle.unit_tree.specs.Successor.{first_position};
 ghost use Rattle.unit_tree.specs.Trace.{row_at, HasWords};
 
-use crate::course::{Course, reckon};
+use crate::course::{Course, course_of};
 use crate::opening::{seats_of, states_of};
 use crate::phase::{Phase, Row, Settle};
 use crate::ports::{begin_phase, solve_ports};
@@ -27,7 +27,7 @@ use trace_units::Units;
 use unit_exec::Want;
 use unit_tree::Point;
 
-/// The position at which a run was opened.
+/// The position at which a run was opened. It is kept for contracts alone: what stands is told from there.
 #[derive(Drop)]
 pub(crate) struct Opened {
     pub(crate) point: Point,
@@ -228,6 +228,7 @@ impl Run {
         if let Phase::Ended(_) = self.phase {
             return None;
         }
+        // That there is a unit for each instance is known by the clauses of this call alone.
         let _ = self.units.count();
         let seat = self.seats.get(instance as usize)?;
         let Slot::Empty = seat.slot else {
@@ -248,6 +249,7 @@ impl Run {
         requires wanted { IsWanted self.old instance }
         ensures { self.new ≡ with_own self.old instance }
     {
+        // That there is a unit for each instance is known by the clauses of this call alone.
         let _ = self.units.count();
         let seat = &mut self.seats[instance as usize];
         seat.slot = slot_of(self.units.do_step(instance, seat.time, seat.step));
@@ -264,7 +266,7 @@ impl Run {
     {
         // How long the states of the units are is known by the clauses of this call alone.
         let _ = self.units.count();
-        let course = reckon(
+        let course = course_of(
             &self.plan,
             &self.seats,
             self.phase,

@@ -10,7 +10,8 @@ use Rattle.fixed_words.specs.declared.types.Literal.{Literal}
 use Rattle.fixed_words.specs.declared.types.Literal.TheVariants as literal
 use Rattle.super_time.specs.Seconds.{ticks_in, within_run, seconds_of, AreDecimalsOf}
 use Rattle.super_time.specs.declared.seconds.SecondsFault.TheVariants.{NotDecimal}
-use Rattle.trace_plan.specs.Keeps.{IsBounded, AreNumbersOf}
+use Rattle.trace_plan.specs.Keeps.{AreNumbersOf}
+use Rattle.trace_plan.specs.Plans.{IsBounded}
 use Rattle.trace_plan.specs.Lengths.{IsLengthOf, IsReadable}
 use Rattle.trace_plan.specs.declared.numbers.Numbers.{Numbers}
 use Rattle.unit_tree.specs.Compositions.{Member, member_with, members_of, ticks_or, default_zeros, default_rows, run_of}

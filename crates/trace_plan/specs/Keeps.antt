@@ -1,8 +1,8 @@
 -- What a plan keeps.
-use Rattle.std.specs.Prelude.{◌≡◌, ◌≤◌, ◌^◌, length}
+use Rattle.std.specs.Prelude.{◌≡◌, ◌≤◌, ◌^◌}
 use Rattle.std.specs.List.{AllZip}
 use Rattle.trace_csv.specs.Columns.{columns_of}
-use Rattle.trace_plan.specs.Plans.{Planned, lowest_words, highest_words}
+use Rattle.trace_plan.specs.Plans.{Planned, IsBounded, lowest_words, highest_words}
 use Rattle.trace_plan.specs.declared.fitting.Fitted.{Fitted}
 use Rattle.trace_plan.specs.declared.numbers.Numbers.{Numbers}
 use Rattle.trace_plan.specs.declared.plan.Plan.TheInside.{Inside}
@@ -24,16 +24,6 @@ pub record IsFitted (member : Member) (fitted : Fitted) : Type 0 where
   pub coarsest : fitted.factor ≤ 10 ^ 9
   pub low : fitted.low.items ≡ lowest_words member
   pub high : fitted.high.items ≡ highest_words member
-
--- How large the numbers of a run may be.
-pub record IsBounded (run : Composition) : Type 0 where
-  pub stop : run.stop ≤ 10 ^ 15
-  pub longest : run.longest ≤ 10 ^ 15
-  pub zeros : run.zero_budget ≤ 10000
-  pub some_row : 1 ≤ run.row_budget
-  pub rows : run.row_budget ≤ 100000
-  pub some_member : 1 ≤ length run.members
-  pub members : length run.members ≤ 64
 
 -- The numbers are those of a system's run, in its ticks.
 pub record AreNumbersOf (system : System) (run : Composition) (numbers : Numbers) : Type 0 where

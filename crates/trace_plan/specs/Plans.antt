@@ -1,5 +1,5 @@
 -- Plans: what contracts see of one.
-use Rattle.std.specs.Prelude.{◌≡◌, ℕ, ℤ, List, map, Some, slice_get}
+use Rattle.std.specs.Prelude.{◌≡◌, ◌≤◌, ◌^◌, ℕ, ℤ, List, length, map, Some, slice_get}
 use Rattle.fixed_words.specs.Types.{lowest, highest}
 use Rattle.unit_tree.specs.Compositions.{Member, Composition}
 use Rattle.unit_tree.specs.declared.system.System.{System}
@@ -8,6 +8,16 @@ use Rattle.unit_tree.specs.declared.system.System.{System}
 pub record Planned : Type 0 where
   pub system : System
   pub run : Composition
+
+-- How large the numbers of a run may be.
+pub record IsBounded (run : Composition) : Type 0 where
+  pub stop : run.stop ≤ 10 ^ 15
+  pub longest : run.longest ≤ 10 ^ 15
+  pub zeros : run.zero_budget ≤ 10000
+  pub some_row : 1 ≤ run.row_budget
+  pub rows : run.row_budget ≤ 100000
+  pub some_member : 1 ≤ length run.members
+  pub members : length run.members ≤ 64
 
 -- The fact holds of the member that an instance's number tells.
 abbrev pub ForMember : Composition → ℕ → (Member → Type 0) → Type 0

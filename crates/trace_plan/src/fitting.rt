@@ -147,6 +147,7 @@ pub(crate) fn all_fitted(alloc: Global, checked: &Checked) -> Result<Vec<Fitted>
     let mut all = Vec::new(alloc);
     for instance in system.instances.as_slice() {
         if let Some(number) = number_of(system.units.as_slice(), instance.unit.as_slice()) {
+            // A system in range has far fewer units.
             let Ok(number) = u32::try_from(number) else {
                 return Err(AllocError);
             };

@@ -1,9 +1,8 @@
 ghost use Rattle.std.specs.Prelude.{◌≡◌, ◌<◌, ◌≤◌, ◌^◌, length, IfOk, IfErr};
 ghost use Rattle.trace_csv.specs.Columns.{columns_of};
 ghost use Rattle.trace_plan.specs.Faults.{IsRightPlanFault};
-ghost use Rattle.trace_plan.specs.Keeps.{IsBounded};
 ghost use Rattle.trace_plan.specs.Laws.{HasTitles, HasRows};
-ghost use Rattle.trace_plan.specs.Plans.{ForMember, lowest_words, highest_words};
+ghost use Rattle.trace_plan.specs.Plans.{IsBounded, ForMember, lowest_words, highest_words};
 ghost use Rattle.unit_exec.specs.Images.{IsImageOf};
 ghost use Rattle.unit_tree.specs.Compositions.{run_of};
 ghost use Rattle.unit_tree.specs.Routes.{IsOrderOf};
@@ -129,6 +128,7 @@ impl Plan {
         ensures titles { HasTitles self.now.system }
         ensures rows { HasRows self.now.system }
     {
+        // That the system is judged is known by the clauses of this call alone.
         let _ = self.checked.system();
         &self.columns
     }

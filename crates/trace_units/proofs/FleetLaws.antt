@@ -217,9 +217,6 @@ pub record Starts (member : Member) (unit : Running) : Type 0 where
 abbrev pub IsFront : List Member → ℕ → List Running → Type 0
 IsFront members place units = (rest : List Running) → AllZip Starts (drop place members) rest → AllZip Starts members (units ++ rest)
 
-pub no_unit : (members : List Member) (units : List Running) → units ≡ [] → IsFront members 0 units
-no_unit members units none rest all = subst (λ front. AllZip Starts members (front ++ rest)) (sym none) all
-
 next_of : (members : List Member) (place : ℕ) (member : Member) → slice_get members place ≡ Some member → drop place members ≡ member ∷ drop (place + 1) members
 next_of members place member is =
     drop_more members place member (slice_get_within members place member is) ∙ ap (λ one. one ∷ drop (place + 1) members) (index_or members place member member is)

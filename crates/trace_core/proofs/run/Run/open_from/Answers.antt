@@ -11,8 +11,7 @@ use Rattle.trace_core.proofs.MoveLaws.{open_run, open_stands, is_opened}
 use Rattle.trace_core.proofs.SeatLaws.{as_many_kept, kept_in_phase}
 use Rattle.trace_core.proofs.SlotLaws.{saved_is}
 use Rattle.trace_core.proofs.VecLaws.{items_put}
-use Rattle.trace_plan.specs.Keeps.{IsBounded}
-use Rattle.trace_plan.specs.Plans.{Planned}
+use Rattle.trace_plan.specs.Plans.{IsBounded, Planned}
 use Rattle.trace_units.specs.Fleets.{Fleet}
 use Rattle.unit_tree.specs.Ports.{IsPlaceOrder}
 use Rattle.unit_tree.specs.Routes.{routes_of}

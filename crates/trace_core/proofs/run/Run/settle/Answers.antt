@@ -21,8 +21,8 @@ use Rattle.trace_units.specs.Fleets.{Fleet}
 use Rattle.unit_tree.specs.Trace.{Stand}
 use Rattle.trace_core.proofs.run.Run.settle.Goals as goal
 
-pub reckon-course-requires-clause-ready : goal.reckon-course-requires-clause-ready
-reckon-course-requires-clause-ready c =
+pub course_of-course-requires-clause-ready : goal.course_of-course-requires-clause-ready
+course_of-course-requires-clause-ready c =
     let r = c.self.inside in
     let is = c.self.invariant in
     let have = subst (λ (plan : Planned). HaveStates plan.run r.units.states) is.tied c.count.ensures.states in
@@ -39,12 +39,12 @@ invariant_of-self c =
     let to : course_in r.plan.value.run r.point r.phase r.seats.items ≡ course.End c.in-End.ending =
     ap (λ (plan : Planned). course_in plan.run r.point r.phase r.seats.items) (sym c.deref.ensures)
     ∙ ap (course_in c.deref.result.now.run r.point r.phase) (sym c.deref-2.ensures.value)
-    ∙ sym c.reckon-course.ensures.course
+    ∙ sym c.course_of-course.ensures.course
     ∙ c.in-End.is in
-    let replies = with_items r.replies c.reckon-course.new.replies in
-    let put_replies = items_put r.replies c.reckon-course.new.replies (c.reckon-course.ensures.as_many ∙ ap length c.deref_mut.ensures.value) in
+    let replies = with_items r.replies c.course_of-course.new.replies in
+    let put_replies = items_put r.replies c.course_of-course.new.replies (c.course_of-course.ensures.as_many ∙ ap length c.deref_mut.ensures.value) in
     let long_replies : length replies.items ≡ length r.plan.value.run.members =
-    ap length put_replies ∙ c.reckon-course.ensures.as_many ∙ ap length c.deref_mut.ensures.value ∙ is.room.replies in
+    ap length put_replies ∙ c.course_of-course.ensures.as_many ∙ ap length c.deref_mut.ensures.value ∙ is.room.replies in
     ended_run r replies c.in-End.ending is long_replies (end_stands r is have going full c.in-End.ending to)
 
 pub restore_all-requires-clause-as_long : goal.restore_all-requires-clause-as_long
@@ -65,12 +65,12 @@ invariant_of-self-in-Redo c =
     let to : course_in r.plan.value.run r.point r.phase r.seats.items ≡ course.Redo c.in-Redo.h =
     ap (λ (plan : Planned). course_in plan.run r.point r.phase r.seats.items) (sym c.deref.ensures)
     ∙ ap (course_in c.deref.result.now.run r.point r.phase) (sym c.deref-2.ensures.value)
-    ∙ sym c.reckon-course.ensures.course
+    ∙ sym c.course_of-course.ensures.course
     ∙ c.in-Redo.is in
-    let replies = with_items r.replies c.reckon-course.new.replies in
-    let put_replies = items_put r.replies c.reckon-course.new.replies (c.reckon-course.ensures.as_many ∙ ap length c.deref_mut.ensures.value) in
+    let replies = with_items r.replies c.course_of-course.new.replies in
+    let put_replies = items_put r.replies c.course_of-course.new.replies (c.course_of-course.ensures.as_many ∙ ap length c.deref_mut.ensures.value) in
     let long_replies : length replies.items ≡ length r.plan.value.run.members =
-    ap length put_replies ∙ c.reckon-course.ensures.as_many ∙ ap length c.deref_mut.ensures.value ∙ is.room.replies in
+    ap length put_replies ∙ c.course_of-course.ensures.as_many ∙ ap length c.deref_mut.ensures.value ∙ is.room.replies in
     let seats = with_items r.seats c.begin_all.new.seats in
     let put_seats = items_put r.seats c.begin_all.new.seats (c.begin_all.ensures.as_many ∙ ap length c.deref_mut-in-Redo.ensures.value) in
     let begun : AreBegun r.point.t c.in-Redo.h r.plan.value.run.members r.seats.items seats.items =
@@ -99,7 +99,7 @@ begin_phase-self-inside-requires-clause-rows c =
     let to : course_in r.plan.value.run r.point r.phase r.seats.items ≡ course.On c.in-On.point =
     ap (λ (plan : Planned). course_in plan.run r.point r.phase r.seats.items) (sym c.deref.ensures)
     ∙ ap (course_in c.deref.result.now.run r.point r.phase) (sym c.deref-2.ensures.value)
-    ∙ sym c.reckon-course.ensures.course
+    ∙ sym c.course_of-course.ensures.course
     ∙ c.in-On.is in
     let s = c.solve_ports-fault in
     let is_solved : AreSolved r.plan.value.run s.new.units r.units.states s.new.ports s.new.known s.result =
@@ -119,7 +119,7 @@ invariant_of-self-in-On c =
     let to : course_in r.plan.value.run r.point r.phase r.seats.items ≡ course.On c.in-On.point =
     ap (λ (plan : Planned). course_in plan.run r.point r.phase r.seats.items) (sym c.deref.ensures)
     ∙ ap (course_in c.deref.result.now.run r.point r.phase) (sym c.deref-2.ensures.value)
-    ∙ sym c.reckon-course.ensures.course
+    ∙ sym c.course_of-course.ensures.course
     ∙ c.in-On.is in
     let s = c.solve_ports-fault in
     let is_solved : AreSolved r.plan.value.run s.new.units r.units.states s.new.ports s.new.known s.result =
@@ -138,8 +138,8 @@ invariant_of-self-in-On c =
     let put_known = items_put r.known s.new.known (s.ensures.as_many_known ∙ ap length c.deref_mut-in-On-3.ensures.value) in
     let limits = with_items r.limits b.new.limits in
     let put_limits = items_put r.limits b.new.limits (b.ensures.limits ∙ ap length c.deref_mut-in-On-5.ensures.value) in
-    let replies = with_items r.replies c.reckon-course.new.replies in
-    let put_replies = items_put r.replies c.reckon-course.new.replies (c.reckon-course.ensures.as_many ∙ ap length c.deref_mut.ensures.value) in
+    let replies = with_items r.replies c.course_of-course.new.replies in
+    let put_replies = items_put r.replies c.course_of-course.new.replies (c.course_of-course.ensures.as_many ∙ ap length c.deref_mut.ensures.value) in
     let begun : IsBegunWith r.plan.value.run c.in-On.point (r.number + 1) s.new.units s.result b.result c.commit_all.new.seats b.new.seats =
     subst (λ old. IsBegunWith r.plan.value.run c.in-On.point (r.number + 1) s.new.units s.result b.result old b.new.seats) (c.deref_mut-in-On-4.ensures.value ∙ put0)
     (subst (λ (plan : Planned). IsBegunWith plan.run c.in-On.point (r.number + 1) s.new.units s.result b.result c.deref_mut-in-On-4.result.now b.new.seats) c.deref-in-On-2.ensures
@@ -150,7 +150,7 @@ invariant_of-self-in-On c =
       known = ap length put_known ∙ s.ensures.as_many_known ∙ ap length c.deref_mut-in-On-3.ensures.value ∙ is.room.known;
       seats = ap length put ∙ as_many ∙ ap length (c.deref_mut-in-On-4.ensures.value ∙ put0) ∙ c.commit_all.ensures.as_many ∙ ap length c.deref_mut-in-On.ensures.value ∙ is.room.seats;
       limits = ap length put_limits ∙ b.ensures.limits ∙ ap length c.deref_mut-in-On-5.ensures.value ∙ is.room.limits;
-      replies = ap length put_replies ∙ c.reckon-course.ensures.as_many ∙ ap length c.deref_mut.ensures.value ∙ is.room.replies;
+      replies = ap length put_replies ∙ c.course_of-course.ensures.as_many ∙ ap length c.deref_mut.ensures.value ∙ is.room.replies;
     } in
     let tied : b.new.units.plan ≡ r.plan.value = ap (λ (f : Fleet). f.plan) b.ensures.kept ∙ s.ensures.plan ∙ is.tied in
     let fed : AreAsLong (inputs_before c.commit_all.new.seats) s.new.units.inputs = ap (map length) c.commit_all.ensures.before ∙ s.ensures.as_long in
@@ -169,7 +169,7 @@ returns-in-End-clause-settled c =
     let to : course_in r.plan.value.run r.point r.phase r.seats.items ≡ course.End c.in-End.ending =
     ap (λ (plan : Planned). course_in plan.run r.point r.phase r.seats.items) (sym c.deref.ensures)
     ∙ ap (course_in c.deref.result.now.run r.point r.phase) (sym c.deref-2.ensures.value)
-    ∙ sym c.reckon-course.ensures.course
+    ∙ sym c.course_of-course.ensures.course
     ∙ c.in-End.is in
     inr (subst (λ old. Ends old (record (run_state r) { phase = Ended c.in-End.ending; cells = [] })) c.self.view_is (end_settled r is have going full c.in-End.ending to))
 
@@ -183,7 +183,7 @@ returns-in-End-clause-stands c =
     let to : course_in r.plan.value.run r.point r.phase r.seats.items ≡ course.End c.in-End.ending =
     ap (λ (plan : Planned). course_in plan.run r.point r.phase r.seats.items) (sym c.deref.ensures)
     ∙ ap (course_in c.deref.result.now.run r.point r.phase) (sym c.deref-2.ensures.value)
-    ∙ sym c.reckon-course.ensures.course
+    ∙ sym c.course_of-course.ensures.course
     ∙ c.in-End.is in
     end_stands r is have going full c.in-End.ending to
 
@@ -197,12 +197,12 @@ returns-in-Redo-clause-settled c =
     let to : course_in r.plan.value.run r.point r.phase r.seats.items ≡ course.Redo c.in-Redo.h =
     ap (λ (plan : Planned). course_in plan.run r.point r.phase r.seats.items) (sym c.deref.ensures)
     ∙ ap (course_in c.deref.result.now.run r.point r.phase) (sym c.deref-2.ensures.value)
-    ∙ sym c.reckon-course.ensures.course
+    ∙ sym c.course_of-course.ensures.course
     ∙ c.in-Redo.is in
-    let replies = with_items r.replies c.reckon-course.new.replies in
-    let put_replies = items_put r.replies c.reckon-course.new.replies (c.reckon-course.ensures.as_many ∙ ap length c.deref_mut.ensures.value) in
+    let replies = with_items r.replies c.course_of-course.new.replies in
+    let put_replies = items_put r.replies c.course_of-course.new.replies (c.course_of-course.ensures.as_many ∙ ap length c.deref_mut.ensures.value) in
     let long_replies : length replies.items ≡ length r.plan.value.run.members =
-    ap length put_replies ∙ c.reckon-course.ensures.as_many ∙ ap length c.deref_mut.ensures.value ∙ is.room.replies in
+    ap length put_replies ∙ c.course_of-course.ensures.as_many ∙ ap length c.deref_mut.ensures.value ∙ is.room.replies in
     let seats = with_items r.seats c.begin_all.new.seats in
     let put_seats = items_put r.seats c.begin_all.new.seats (c.begin_all.ensures.as_many ∙ ap length c.deref_mut-in-Redo.ensures.value) in
     let begun : AreBegun r.point.t c.in-Redo.h r.plan.value.run.members r.seats.items seats.items =
@@ -224,12 +224,12 @@ returns-in-Redo-clause-stands c =
     let to : course_in r.plan.value.run r.point r.phase r.seats.items ≡ course.Redo c.in-Redo.h =
     ap (λ (plan : Planned). course_in plan.run r.point r.phase r.seats.items) (sym c.deref.ensures)
     ∙ ap (course_in c.deref.result.now.run r.point r.phase) (sym c.deref-2.ensures.value)
-    ∙ sym c.reckon-course.ensures.course
+    ∙ sym c.course_of-course.ensures.course
     ∙ c.in-Redo.is in
-    let replies = with_items r.replies c.reckon-course.new.replies in
-    let put_replies = items_put r.replies c.reckon-course.new.replies (c.reckon-course.ensures.as_many ∙ ap length c.deref_mut.ensures.value) in
+    let replies = with_items r.replies c.course_of-course.new.replies in
+    let put_replies = items_put r.replies c.course_of-course.new.replies (c.course_of-course.ensures.as_many ∙ ap length c.deref_mut.ensures.value) in
     let long_replies : length replies.items ≡ length r.plan.value.run.members =
-    ap length put_replies ∙ c.reckon-course.ensures.as_many ∙ ap length c.deref_mut.ensures.value ∙ is.room.replies in
+    ap length put_replies ∙ c.course_of-course.ensures.as_many ∙ ap length c.deref_mut.ensures.value ∙ is.room.replies in
     let seats = with_items r.seats c.begin_all.new.seats in
     let put_seats = items_put r.seats c.begin_all.new.seats (c.begin_all.ensures.as_many ∙ ap length c.deref_mut-in-Redo.ensures.value) in
     let begun : AreBegun r.point.t c.in-Redo.h r.plan.value.run.members r.seats.items seats.items =
@@ -249,7 +249,7 @@ returns-in-On-clause-settled c =
     let to : course_in r.plan.value.run r.point r.phase r.seats.items ≡ course.On c.in-On.point =
     ap (λ (plan : Planned). course_in plan.run r.point r.phase r.seats.items) (sym c.deref.ensures)
     ∙ ap (course_in c.deref.result.now.run r.point r.phase) (sym c.deref-2.ensures.value)
-    ∙ sym c.reckon-course.ensures.course
+    ∙ sym c.course_of-course.ensures.course
     ∙ c.in-On.is in
     let s = c.solve_ports-fault in
     let is_solved : AreSolved r.plan.value.run s.new.units r.units.states s.new.ports s.new.known s.result =
@@ -268,8 +268,8 @@ returns-in-On-clause-settled c =
     let put_known = items_put r.known s.new.known (s.ensures.as_many_known ∙ ap length c.deref_mut-in-On-3.ensures.value) in
     let limits = with_items r.limits b.new.limits in
     let put_limits = items_put r.limits b.new.limits (b.ensures.limits ∙ ap length c.deref_mut-in-On-5.ensures.value) in
-    let replies = with_items r.replies c.reckon-course.new.replies in
-    let put_replies = items_put r.replies c.reckon-course.new.replies (c.reckon-course.ensures.as_many ∙ ap length c.deref_mut.ensures.value) in
+    let replies = with_items r.replies c.course_of-course.new.replies in
+    let put_replies = items_put r.replies c.course_of-course.new.replies (c.course_of-course.ensures.as_many ∙ ap length c.deref_mut.ensures.value) in
     let begun : IsBegunWith r.plan.value.run c.in-On.point (r.number + 1) s.new.units s.result b.result c.commit_all.new.seats b.new.seats =
     subst (λ old. IsBegunWith r.plan.value.run c.in-On.point (r.number + 1) s.new.units s.result b.result old b.new.seats) (c.deref_mut-in-On-4.ensures.value ∙ put0)
     (subst (λ (plan : Planned). IsBegunWith plan.run c.in-On.point (r.number + 1) s.new.units s.result b.result c.deref_mut-in-On-4.result.now b.new.seats) c.deref-in-On-2.ensures
@@ -280,7 +280,7 @@ returns-in-On-clause-settled c =
       known = ap length put_known ∙ s.ensures.as_many_known ∙ ap length c.deref_mut-in-On-3.ensures.value ∙ is.room.known;
       seats = ap length put ∙ as_many ∙ ap length (c.deref_mut-in-On-4.ensures.value ∙ put0) ∙ c.commit_all.ensures.as_many ∙ ap length c.deref_mut-in-On.ensures.value ∙ is.room.seats;
       limits = ap length put_limits ∙ b.ensures.limits ∙ ap length c.deref_mut-in-On-5.ensures.value ∙ is.room.limits;
-      replies = ap length put_replies ∙ c.reckon-course.ensures.as_many ∙ ap length c.deref_mut.ensures.value ∙ is.room.replies;
+      replies = ap length put_replies ∙ c.course_of-course.ensures.as_many ∙ ap length c.deref_mut.ensures.value ∙ is.room.replies;
     } in
     let tied : b.new.units.plan ≡ r.plan.value = ap (λ (f : Fleet). f.plan) b.ensures.kept ∙ s.ensures.plan ∙ is.tied in
     let fed : AreAsLong (inputs_before c.commit_all.new.seats) s.new.units.inputs = ap (map length) c.commit_all.ensures.before ∙ s.ensures.as_long in
@@ -301,7 +301,7 @@ returns-in-On-clause-stands c =
     let to : course_in r.plan.value.run r.point r.phase r.seats.items ≡ course.On c.in-On.point =
     ap (λ (plan : Planned). course_in plan.run r.point r.phase r.seats.items) (sym c.deref.ensures)
     ∙ ap (course_in c.deref.result.now.run r.point r.phase) (sym c.deref-2.ensures.value)
-    ∙ sym c.reckon-course.ensures.course
+    ∙ sym c.course_of-course.ensures.course
     ∙ c.in-On.is in
     let s = c.solve_ports-fault in
     let is_solved : AreSolved r.plan.value.run s.new.units r.units.states s.new.ports s.new.known s.result =
@@ -320,8 +320,8 @@ returns-in-On-clause-stands c =
     let put_known = items_put r.known s.new.known (s.ensures.as_many_known ∙ ap length c.deref_mut-in-On-3.ensures.value) in
     let limits = with_items r.limits b.new.limits in
     let put_limits = items_put r.limits b.new.limits (b.ensures.limits ∙ ap length c.deref_mut-in-On-5.ensures.value) in
-    let replies = with_items r.replies c.reckon-course.new.replies in
-    let put_replies = items_put r.replies c.reckon-course.new.replies (c.reckon-course.ensures.as_many ∙ ap length c.deref_mut.ensures.value) in
+    let replies = with_items r.replies c.course_of-course.new.replies in
+    let put_replies = items_put r.replies c.course_of-course.new.replies (c.course_of-course.ensures.as_many ∙ ap length c.deref_mut.ensures.value) in
     let begun : IsBegunWith r.plan.value.run c.in-On.point (r.number + 1) s.new.units s.result b.result c.commit_all.new.seats b.new.seats =
     subst (λ old. IsBegunWith r.plan.value.run c.in-On.point (r.number + 1) s.new.units s.result b.result old b.new.seats) (c.deref_mut-in-On-4.ensures.value ∙ put0)
     (subst (λ (plan : Planned). IsBegunWith plan.run c.in-On.point (r.number + 1) s.new.units s.result b.result c.deref_mut-in-On-4.result.now b.new.seats) c.deref-in-On-2.ensures
@@ -332,7 +332,7 @@ returns-in-On-clause-stands c =
       known = ap length put_known ∙ s.ensures.as_many_known ∙ ap length c.deref_mut-in-On-3.ensures.value ∙ is.room.known;
       seats = ap length put ∙ as_many ∙ ap length (c.deref_mut-in-On-4.ensures.value ∙ put0) ∙ c.commit_all.ensures.as_many ∙ ap length c.deref_mut-in-On.ensures.value ∙ is.room.seats;
       limits = ap length put_limits ∙ b.ensures.limits ∙ ap length c.deref_mut-in-On-5.ensures.value ∙ is.room.limits;
-      replies = ap length put_replies ∙ c.reckon-course.ensures.as_many ∙ ap length c.deref_mut.ensures.value ∙ is.room.replies;
+      replies = ap length put_replies ∙ c.course_of-course.ensures.as_many ∙ ap length c.deref_mut.ensures.value ∙ is.room.replies;
     } in
     let tied : b.new.units.plan ≡ r.plan.value = ap (λ (f : Fleet). f.plan) b.ensures.kept ∙ s.ensures.plan ∙ is.tied in
     let fed : AreAsLong (inputs_before c.commit_all.new.seats) s.new.units.inputs = ap (map length) c.commit_all.ensures.before ∙ s.ensures.as_long in

@@ -1,5 +1,5 @@
 use Rattle.std.proofs.Common.{subst}
-use Rattle.trace_plan.specs.Keeps.{IsBounded}
+use Rattle.trace_plan.specs.Plans.{IsBounded}
 use Rattle.trace_plan.proofs.PlainRuns.{bounded}
 use Rattle.unit_tree.specs.Compositions.{run_of}
 use Rattle.unit_tree.specs.declared.system.System.{System}
