@@ -7,7 +7,7 @@ use Rattle.unit_tree.specs.Texts.{text_limit}
 use Rattle.cosim_io.specs.Faults.{Rose}
 use Rattle.cosim_io.specs.Pieces.{AppendsPrefix}
 use Rattle.cosim_io.proofs.PieceLemmas.{AppendsPrefix-nil, AppendsPrefix-whole}
-use Rattle.cosim_app.specs.Answer.{Answer, CommandAnswers, AnswersCommand, IsAnswer, usage_answer}
+use Rattle.cosim_app.specs.Answer.{Answer, CommandAnswers, IsAnswer, usage_answer}
 use Rattle.cosim_app.specs.Commands.{words_of, HaveNoForm}
 use Rattle.cosim_app.specs.declared.command_words.Command.{Command}
 use Rattle.cosim_app.specs.Headline.{Streams, Gives, PutsNothing, EndsWith, BreaksARule, IsNotesText, Promises}

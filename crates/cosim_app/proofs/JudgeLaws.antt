@@ -1,5 +1,5 @@
 -- What a run has put and come to, as the answer of its text.
-use Rattle.std.proofs.Common.{◌≡◌, ℕ, ◌+◌, ◌<◌, ◌≤◌, ◌⊎◌, List, [], length, length-append, arith, Option, Some, None, Result, Ok, Err, refl, sym, ap, subst, ◌∙◌, inl, inr}
+use Rattle.std.proofs.Common.{◌≡◌, ℕ, ◌+◌, ◌<◌, List, [], length, length-append, arith, Option, Some, None, refl, sym, ap, subst, ◌∙◌, inl, inr}
 use Rattle.std.specs.Prelude.{IfSome}
 use Rattle.std.specs.Io.KnownBytes.{Appends, IsAtEnd}
 use Rattle.std.proofs.KnownBytes.{Appends-nil}
@@ -11,7 +11,7 @@ use Rattle.unit_tokens.proofs.LineLemmas.{length_le_size_of}
 use Rattle.unit_tree.specs.Lines.{size_of}
 use Rattle.unit_tree.specs.declared.system.System.{System}
 use Rattle.cosim_io.specs.Pieces.{AppendsPrefix, ConsumesExactly}
-use Rattle.cosim_io.proofs.PieceLemmas.{AppendsPrefix-nil, AppendsPrefix-whole}
+use Rattle.cosim_io.proofs.PieceLemmas.{AppendsPrefix-nil}
 use Rattle.cosim_app.specs.Answer.{Answer, IsOfUnservedVersion, RefusedBy, Serves, refused_answer, accepted_answer, printed_text, printed_answer}
 use Rattle.cosim_app.specs.declared.command_words.Command.{Command}
 use Rattle.cosim_app.specs.declared.command_words.Command.TheVariants.{Run, Check, Print}

@@ -1,25 +1,20 @@
 -- What a run has put and come to, as the answer of its text.
-use Rattle.std.proofs.Common.{◌≡◌, ℕ, List, Option, Some, None, Result, Ok, Err, refl, sym, ap, subst, ◌∙◌, inr}
-use Rattle.std.specs.Io.KnownBytes.{Appends}
-use Rattle.cosim_io.specs.Faults.{Rose}
-use Rattle.cosim_io.specs.Pieces.{AppendsPrefix}
+use Rattle.std.proofs.Common.{◌≡◌, ℕ, List, Option, refl, sym, ap, subst, ◌∙◌, inr}
 use Rattle.cosim_io.proofs.PieceLemmas.{AppendsPrefix-nil, AppendsPrefix-whole}
 use Rattle.serial_run.specs.Reports.{PutsFront as RunFront, ReportsTrace}
 use Rattle.serial_run.specs.declared.report.Report.{Report}
 use Rattle.super_time.specs.declared.point.Point.{Point}
 use Rattle.unit_accept.specs.Accepting.{IsAcceptedAs}
 use Rattle.unit_tree.specs.Plain.{plain_form}
-use Rattle.unit_tree.specs.RunLaws.{HasOneTraceOf}
 use Rattle.unit_tree.specs.WellFormed.{resolution_of}
 use Rattle.unit_tree.specs.declared.ending.Ending.{Ending}
 use Rattle.unit_tree.specs.declared.ending.Ending.TheVariants.{Completed, RowBudget, ZeroBudget, UnitFault, StepRefused}
 use Rattle.unit_tree.specs.declared.system.System.{System}
-use Rattle.cosim_app.specs.Answer.{CommandAnswers, run_answer, status_of, traced_note, traced_text}
-use Rattle.cosim_app.specs.Judgement.{BeginsTrace, IsOwn, IsServed, JudgesText, PutsAnswer, PutsFront, PutsTrace, TellsTrace}
+use Rattle.cosim_app.specs.Answer.{run_answer, status_of, traced_note, traced_text}
+use Rattle.cosim_app.specs.Judgement.{BeginsTrace, IsOwn, IsServed, JudgesText, PutsFront, PutsTrace, TellsTrace}
 use Rattle.cosim_app.specs.Notes.{ending_note}
 use Rattle.cosim_app.specs.declared.command_words.Command.TheVariants.{Run}
 use Rattle.cosim_app.specs.declared.status.Status.{Status}
-use Rattle.cosim_app.specs.declared.status.Status.TheVariants as status
 use Rattle.cosim_app.specs.declared.verdict.Verdict.{Verdict}
 use Rattle.cosim_app.specs.declared.verdict.Verdict.TheVariants as verdict
 use Rattle.cosim_app.proofs.CommandLaws.{ends_unrefused}

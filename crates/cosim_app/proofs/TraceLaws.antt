@@ -1,13 +1,12 @@
 -- The one trace of a system that can be run.
-use Rattle.std.proofs.Common.{◌≡◌, ℕ, ◌≤◌, ◌⊎◌, inl, inr, List, [], ◌∷◌, ◌++◌, sym, ap, subst, ◌∙◌}
+use Rattle.std.proofs.Common.{◌≡◌, ℕ, ◌≤◌, ◌⊎◌, inl, inr, List, [], ◌∷◌, ◌++◌, sym, subst}
 use Rattle.std.specs.List.{AllByRecursion}
 use Rattle.text_laws.proofs.ReadIsPrintable.{read_is_printable}
 use Rattle.trace_plan.specs.Faults.{IsRightPlanFault}
 use Rattle.trace_plan.specs.declared.fault.PlanFault.TheVariants.{Loop}
 use Rattle.unit_accept.specs.Accepting.{IsAcceptedAs}
-use Rattle.unit_tree.specs.Compositions.{composition_of, run_of}
-use Rattle.unit_tree.specs.Orders.{IsIn, HasNoCycle, IsFirstWithoutOrder, outputs_of}
-use Rattle.unit_tree.specs.Plain.{plain_form}
+use Rattle.unit_tree.specs.Compositions.{composition_of}
+use Rattle.unit_tree.specs.Orders.{IsIn, HasNoCycle, IsFirstWithoutOrder}
 use Rattle.unit_tree.specs.RunLaws.{HasOneTrace, HasOneTraceOf}
 use Rattle.unit_tree.specs.declared.system.PortName.{PortName}
 use Rattle.unit_tree.specs.declared.system.System.{System}

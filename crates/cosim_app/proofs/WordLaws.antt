@@ -1,10 +1,10 @@
 -- Words and their commands.
-use Rattle.std.proofs.Common.{◌≡◌, ℕ, Bool, true, false, List, [], ◌∷◌, length, get_or, Option, Some, None, refl, sym, ap, ◌∙◌, arith, rules}
+use Rattle.std.proofs.Common.{◌≡◌, ℕ, Bool, true, false, List, [], ◌∷◌, length, get_or, Option, Some, None, refl, sym, ap, arith, rules}
 use Rattle.std.specs.Prelude.{codes, string_bytes, String}
 use Rattle.std.specs.Str.{bytes_eq}
 use Rattle.std.proofs.lemmas.Slice.Eq.{bytes_eq-Decides}
 use Rattle.std.specs.declared.alloc.Global.{Global}
-use Rattle.cosim_app.specs.Commands.{words_of, HaveNoForm, IsCommandOf}
+use Rattle.cosim_app.specs.Commands.{HaveNoForm, IsCommandOf}
 use Rattle.cosim_app.specs.Words.{bytes_of}
 use Rattle.cosim_app.specs.declared.command_words.Command.{Command}
 use Rattle.cosim_app.specs.declared.command_words.Command.TheVariants.{Run, Check, Print}

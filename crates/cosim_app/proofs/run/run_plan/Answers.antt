@@ -1,4 +1,4 @@
-use Rattle.std.proofs.Common.{◌≡◌, Err, refl, sym, ap, subst, ◌∙◌}
+use Rattle.std.proofs.Common.{Err, refl, ap, subst, ◌∙◌}
 use Rattle.serial_run.specs.Reports.{PutsFront, ReportsTrace}
 use Rattle.serial_run.specs.declared.fault.CrewFault.{CrewFault}
 use Rattle.trace_plan.specs.Plans.{Planned}

@@ -1,4 +1,4 @@
-use Rattle.std.proofs.Common.{◌<◌, List, ℕ, length, Err, inl, refl, sym, subst}
+use Rattle.std.proofs.Common.{Err, inl, refl, subst}
 use Rattle.unit_accept.specs.Accepting.{AnswersText}
 use Rattle.unit_text.specs.declared.fault.TextFault.{TextFault}
 use Rattle.cosim_app.specs.declared.command_words.Command.TheVariants.{Run}
