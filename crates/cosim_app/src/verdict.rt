@@ -1,6 +1,6 @@
 use crate::status::Status;
 
-/// What a run came to, before its note is told.
+/// What a command came to, before its note is told.
 #[derive(Debug, Drop)]
 pub enum Verdict {
     /// The answer for the text: a status of its own and its note, which may be empty.

@@ -1,6 +1,7 @@
 use unit_tree::{Ending, Point};
 
-/// What a run that came to its end reports. The counts behind `own` are those of a run with threads, and 0 without.
+/// What a run that came to its end reports. The counts of answers and tickets are those of a run with workers,
+/// and 0 without.
 #[derive(Clone, Copy, Debug, PartialEq, Eq)]
 pub struct Report {
     /// How the trace ended.
@@ -15,8 +16,12 @@ pub struct Report {
     pub found: u64,
     /// How many steps of instances the run made itself.
     pub own: u64,
+    /// How many tickets, which let a worker step an instance ahead, were given out: each was posted, given back or lapsed.
     pub tickets: u64,
+    /// How many of these came back with answers.
     pub posted: u64,
+    /// How many were given back without.
     pub back: u64,
+    /// How many were neither posted nor given back.
     pub lapsed: u64,
 }
