@@ -15,25 +15,29 @@ type Case = (&'static str, &'static [Step], u64);
 
 const COMPLETED: Phase = Ended(Ending::Completed);
 
-const DIVIDED_BY_ZERO: Ending = Ending::UnitFault {
+/// The first output of the first instance divides by zero.
+pub(crate) const DIVIDED_BY_ZERO: Ending = Ending::UnitFault {
     instance: 0,
     place: Place::Output(0),
     fault: Fault::ZeroDivisor,
 };
 
-const NEGATIVE_MAX: Ending = Ending::UnitFault {
+/// The greatest step of the second instance is negative.
+pub(crate) const NEGATIVE_MAX: Ending = Ending::UnitFault {
     instance: 1,
     place: Place::Max,
     fault: Fault::Max,
 };
 
-const WRONG_ACCEPT: Ending = Ending::UnitFault {
+/// The first instance accepts less than nothing.
+pub(crate) const WRONG_ACCEPT: Ending = Ending::UnitFault {
     instance: 0,
     place: Place::Step,
     fault: Fault::Accept,
 };
 
-const THREE_OF_FOUR: Ending = Ending::StepRefused {
+/// The second instance accepts 3 of the 4 that are agreed on.
+pub(crate) const THREE_OF_FOUR: Ending = Ending::StepRefused {
     instance: 1,
     asked: 4,
     accepted: 3,

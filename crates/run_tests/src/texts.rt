@@ -30,6 +30,14 @@ pub(crate) const FIRST_ZERO: &str =
 pub(crate) const ALL_ZERO: &str =
     "cosim 1\nunit A\nstate n : Int64 = 0\noutput y : Int64 = n\nmax 0\nstep\nn := n + 1\nend\nend\ninstance a : A\nend\nstop 5\nzero 3\n";
 
+/// No step is accepted but those of length zero, of which there may be two. What a step counts shows by which length it was made.
+pub(crate) const NONE_ACCEPTED: &str =
+    "cosim 1\nunit A\nstate n : Int64 = 0\noutput y : Int64 = n\nstep\nn := n + h + 1\naccept 0\nend\nend\ninstance a : A\nend\nstop 5\nzero 2\n";
+
+/// A truth value, an event at the second row alone, and an output that is no column.
+pub(crate) const TRUTHS: &str =
+    "cosim 2\nunit A\nstate n : Int64 = 0\noutput even : Bool = n mod 2 == 0\nevent output e : Int64 = if n == 1 then -5 else absent\noutput y : Int64 = n + 100\nstep\nn := n + h\nend\nend\ninstance a : A\nend\nstop 2\nlongest 1\nsample a.e\nsample a.even\n";
+
 /// As many rows as there may be, before the stop.
 pub(crate) const TWO_ROWS: &str =
     "cosim 1\nunit Counter\nstate n : Int64 = 0\noutput y : Int64 = n\nstep\nn := n + 1\nend\nend\ninstance a : Counter\nend\nstop 3\nlongest 1\nrows 2\n";
