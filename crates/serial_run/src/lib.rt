@@ -5,8 +5,8 @@
 //!
 //! What is put and reported is that of the system's one trace: `specs/Reports.antt` (the report of a trace, and a front of its
 //! text), `specs/Sums.antt` (the sum of the words that a trace shows). [`work_is_bounded`] is the law that the work is bounded by
-//! the rows (`specs/Bounds.antt`). `specs/Advances.antt` and `specs/Lines.antt`, which need not be believed, say how a run gets from
-//! one row to the next, and what putting one comes to.
+//! the rows (`specs/Bounds.antt`). `specs/Advances.antt` and `specs/Lines.antt`, which need not be believed, say how a run gets
+//! from one row to the next, and what putting one comes to.
 #![tactic(auto)]
 
 mod advance;

@@ -134,8 +134,9 @@ cells_now run stand (Trial h) cells = count_by is_filled cells
 cells_now run stand (Redo h) cells = cells_of_trial run stand + count_by is_filled cells
 cells_now run stand (Ended ending) cells = cells_at run stand
 
--- The run is that of its plan's system, whose outputs can be worked out in some order. It stands where the successor leads from the position at which it was opened, by as many steps as its number has
--- risen; its ports are the port assignment there; its phase is the one that the stand asks for.
+-- The run is that of its plan's system, whose outputs can be worked out in some order. It stands where the successor leads from
+-- the position at which it was opened, by as many steps as its number has risen; its ports are the port assignment there; its
+-- phase is the one that the stand asks for.
 pub record Stands (r : RunState) : Type 0 where
   pub composed : r.plan.run ≡ run_of r.plan.system
   pub order : List ℕ

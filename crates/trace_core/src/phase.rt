@@ -1,9 +1,9 @@
 use unit_tree::{Ending, Point};
 
-/// What a run does where it stands.
+/// What a run does where it stands. All lengths are in ticks of the system.
 #[derive(Clone, Copy, Debug, PartialEq, Eq)]
 pub enum Phase {
-    /// It tries the step that is proposed. All lengths here are in ticks of the system.
+    /// It tries the step that is proposed.
     Trial { h: u64 },
     /// It makes the step anew from the same states, by the length that all components accept.
     Redo { h: u64 },

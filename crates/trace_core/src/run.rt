@@ -85,6 +85,10 @@ impl Model for Run {
 
 impl Run {
     /// The run of a plan at its start: the ports are solved at the first point, and the phase there is reached.
+    ///
+    /// # Errors
+    ///
+    /// [`NoMemory`], and nothing else: a port that faults at the start is an end of the run, which is opened.
     pub fn open(alloc: Global, plan: Arc<Plan>) -> Result<Run, NoMemory>
         ensures opened { IfOk result (IsOpened plan.value (first_position plan.value.run)) }
         ensures stands { IfOk result Stands }
