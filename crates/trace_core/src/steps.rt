@@ -1,6 +1,7 @@
 //! What is done to all instances in turn.
 ghost use Rattle.std.specs.Prelude.{◌≡◌, ◌≤◌, ◌<◌, ◌+◌, ◌^◌, length, map, zip, IfNone};
 ghost use Rattle.trace_core.specs.Seats.{AreBegun, IsBegun, HasClock, HaveClocks, IsWithin, AreWithin, AreSaved, AreAsLong, HaveOwnIds, all_told, asked, saved, slot_end, redo_slot_end, replied, slot_reply};
+ghost use Rattle.super_time.specs.LocalTime.{local_time, local_step};
 ghost use Rattle.unit_tree.specs.Successor.{first_told};
 
 use crate::seat::{Seat, Slot};
@@ -12,14 +13,39 @@ use trace_plan::Plan;
 use trace_units::Units;
 use unit_tree::{Ending, Place};
 
+/// The local time at `t`. An instance that counts the system's own ticks, as most do, wants no division.
+fn time_at(factor: u64, t: u64) -> u64
+    requires { 1 ≤ factor }
+    ensures { result ≡ local_time factor t }
+{
+    if factor == 1 {
+        t
+    } else {
+        local_time(factor, t)
+    }
+}
+
+/// The local step of `h` from `t`, likewise.
+fn step_at(factor: u64, t: u64, h: u64) -> u64
+    requires factor { 1 ≤ factor }
+    requires end { t + h ≤ 10 ^ 15 }
+    ensures { result ≡ local_step factor t h }
+{
+    if factor == 1 {
+        h
+    } else {
+        local_step(factor, t, h)
+    }
+}
+
 /// Makes a seat ready for a step of `h` from `t`.
 fn begin(seat: &mut Seat, factor: u64, t: u64, h: u64)
     requires factor { 1 ≤ factor }
     requires end { t + h ≤ 10 ^ 15 }
     ensures { IsBegun t h factor seat.old seat.new }
 {
-    seat.time = local_time(factor, t);
-    seat.step = local_step(factor, t, h);
+    seat.time = time_at(factor, t);
+    seat.step = step_at(factor, t, h);
     seat.slot = if h > 0 && seat.step == 0 {
         Slot::Held
     } else {
@@ -56,7 +82,7 @@ pub(crate) fn ask_limits(
     let mut count = 0;
     for instance in 0..units.count() {
         let factor = plan.factor(instance);
-        let told = match units.max_step(instance, local_time(factor, t)) {
+        let told = match units.max_step(instance, time_at(factor, t)) {
             Ok(told) => told,
             Err(fault) => {
                 return Err(Ending::UnitFault {

@@ -12,3 +12,4 @@ pub mod ImageLaws
 pub mod SlotLaws
 pub mod GivenAnswers
 pub mod ValidAnswers
+pub mod ShownStates

@@ -1,6 +1,10 @@
 -- A unit as it runs.
-use Rattle.std.specs.Prelude.{◌≡◌, ℕ, ◌+◌, ℤ, List, ◌++◌, length, take, drop, Some, Result, Ok, Err}
+use Rattle.std.specs.Prelude.{◌≡◌, ℕ, ◌+◌, ℤ, List, ◌++◌, length, take, drop, if◌then◌else◌, Some, Result, Ok, Err}
+use Rattle.fixed_words.specs.Operations.{Outcome}
+use Rattle.fixed_words.specs.Types.{is_word_of}
 use Rattle.fixed_words.specs.declared.types.Fault.{Fault}
+use Rattle.fixed_words.specs.declared.types.Fault.TheVariants as fault
+use Rattle.fixed_words.specs.declared.types.Ty.{Ty}
 use Rattle.unit_code.specs.Calls.{meaning_of}
 use Rattle.unit_exec.specs.Images.{Compiled}
 use Rattle.unit_vm.specs.Frames.{Held}
@@ -32,3 +36,7 @@ Steps old time step (Err fault) new = (meaning_of old.image.program old.state ol
 -- Words with some of them overwritten, from a place on.
 abbrev pub overwritten : List ℤ → ℕ → List ℤ → List ℤ
 overwritten words first put = take first words ++ (put ++ drop (first + length put) words)
+
+-- A word as an output gives it: where it is one of the type's.
+abbrev pub given_word : Ty → ℤ → Outcome
+given_word ty word = if is_word_of ty word then Ok word else Err fault.Range

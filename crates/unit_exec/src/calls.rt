@@ -1,15 +1,16 @@
 //! A call as a run: the words of a component are put into the slots of a frame, and the code is run from an entry.
-ghost use Rattle.std.specs.Prelude.{◌≡◌, ◌+◌, ◌≤◌, ◌-◌, ◌<◌, ◌^◌, ◌∷◌, [], length, take, IsSome};
-ghost use Rattle.unit_code.specs.Calls.{slots_with, HasWordsFor};
-ghost use Rattle.unit_exec.specs.Running.{overwritten};
+ghost use Rattle.std.specs.Prelude.{◌≡◌, ◌+◌, ◌≤◌, ◌-◌, ◌<◌, ◌^◌, ◌∷◌, [], length, take, Some, IsSome, IfSome, ℤ, List};
+ghost use Rattle.unit_code.specs.Calls.{output_by, slots_with, HasWordsFor};
+ghost use Rattle.unit_exec.specs.Running.{overwritten, given_word};
 ghost use Rattle.unit_vm.specs.Frames.{Leaves};
 ghost use Rattle.unit_vm.specs.Instructions.{slots_of};
 ghost use Rattle.unit_vm.specs.Machine.{run_of};
 ghost use Rattle.unit_vm.specs.Programs.{part_at};
 ghost use Rattle.unit_vm.specs.Valid.{HasFacts};
+ghost use Rattle.unit_vm.specs.declared.instruction.Instruction.TheVariants.{Load, Give};
 
-use fixed_words::Fault;
-use unit_vm::{Code, Entry, Frame, run};
+use fixed_words::{Fault, Ty, fits};
+use unit_vm::{Code, Entry, Frame, Instruction, run};
 
 /// Puts words over others, from a place on.
 pub(crate) fn put(slots: &mut [i64], first: usize, words: &[i64])
@@ -53,6 +54,43 @@ pub(crate) fn run_on(
 {
     fill(frame.slots(), state, inputs, time as i64, step as i64);
     run(code, entry, frame)
+}
+
+/// The slot and the type of an output whose code shows the slot's word and does nothing else.
+fn shown_slot(part: &[Instruction]) -> Option<(u32, Ty)>
+    ensures { IfSome result (λ shown. part.now ≡ Load shown.0 ∷ Give shown.1 ∷ []) }
+{
+    match part {
+        [Instruction::Load(slot), Instruction::Give(ty)] => Some((*slot, *ty)),
+        _ => None,
+    }
+}
+
+/// The word where it is one of the type's, as an output gives it.
+fn given(ty: Ty, word: i64) -> Result<i64, Fault>
+    ensures { result ≡ given_word ty word }
+{
+    if fits(ty, word) {
+        Ok(word)
+    } else {
+        Err(Fault::Range)
+    }
+}
+
+/// What an output gives that shows a word of the state, without a run of its code; none where its code does anything else.
+/// Most outputs are such.
+pub(crate) fn shown(code: &Code, output: u32, state: &[i64]) -> Option<Result<i64, Fault>>
+    requires each_state { length state.now ≡ code.now.sizes.states }
+    ensures { IfSome result (λ given. (inputs : List ℤ) → output_by code.now state.now inputs output ≡ Some given) }
+{
+    let part = code.program().outputs.get(output as usize)?;
+    let (slot, ty) = shown_slot(part.as_slice())?;
+    let slot = slot as usize;
+    if slot < state.len() {
+        Some(given(ty, state[slot]))
+    } else {
+        None
+    }
 }
 
 /// Puts the first of some words over others.

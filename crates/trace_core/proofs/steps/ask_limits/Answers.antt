@@ -10,7 +10,7 @@ pub returns-in-Err-clause-asked : goal.returns-in-Err-clause-asked
 returns-in-Err-clause-asked c =
     let told = all_told c.args.t c.args.plan.now.run.members c.args.units.now.states c.args.units.now.inputs in
     let within : c.loop-instance.instance < length c.args.units.now.plan.run.members = omega (arith, c.count-instance-end.ensures.count, c.loop-instance-test.true) in
-    let has = unit_told c.args.t c.loop-instance.instance c.factor-factor.result c.local_time.result c.args.plan.now c.args.units.now c.loop-instance.units (Err c.in-Err.fault) c.requires.tied c.loop-instance.invariant.kept c.local_time.ensures c.count-instance-end.ensures.states c.count-instance-end.ensures.inputs within c.factor-factor.ensures.factor c.in-Err.ensures.gives in
+    let has = unit_told c.args.t c.loop-instance.instance c.factor-factor.result c.time_at.result c.args.plan.now c.args.units.now c.loop-instance.units (Err c.in-Err.fault) c.requires.tied c.loop-instance.invariant.kept c.time_at.ensures c.count-instance-end.ensures.states c.count-instance-end.ensures.inputs within c.factor-factor.ensures.factor c.in-Err.ensures.gives in
     asked_fault c.args.plan.now.run c.args.t c.loop-instance.instance c.loop-instance.count c.factor-factor.result told c.loop-instance.limits c.in-Err.fault has c.loop-instance.invariant.so_far
 
 pub loop-instance-preserved : goal.loop-instance-preserved
@@ -20,7 +20,7 @@ loop-instance-preserved c =
     let place = c.loop-instance.instance in
     let within : place < length c.args.units.now.plan.run.members = omega (arith, c.count-instance-end.ensures.count, c.loop-instance-test.true) in
     let has : HasTold c.args.t place c.factor-factor.result members told (Ok c.in-Ok.told) =
-    unit_told c.args.t place c.factor-factor.result c.local_time.result c.args.plan.now c.args.units.now c.loop-instance.units (Ok c.in-Ok.told) c.requires.tied c.loop-instance.invariant.kept c.local_time.ensures c.count-instance-end.ensures.states c.count-instance-end.ensures.inputs within c.factor-factor.ensures.factor c.in-Ok.ensures.gives in
+    unit_told c.args.t place c.factor-factor.result c.time_at.result c.args.plan.now c.args.units.now c.loop-instance.units (Ok c.in-Ok.told) c.requires.tied c.loop-instance.invariant.kept c.time_at.ensures c.count-instance-end.ensures.states c.count-instance-end.ensures.inputs within c.factor-factor.ensures.factor c.in-Ok.ensures.gives in
     record {
       kept = c.max_step.ensures.kept ∙ c.loop-instance.invariant.kept;
       so_far = elim c.match-told.branch [
