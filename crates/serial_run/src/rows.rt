@@ -13,9 +13,8 @@ ghost use Rattle.trace_csv.specs.TraceText.{HasWord, row_line};
 use crate::fault::CrewFault;
 use crate::tally::Tally;
 use cosim_io::Sink;
-use std::alloc::Global;
 use trace_core::{Plan, Row, Run};
-use trace_csv::row_text;
+use trace_csv::RowWriter;
 use unit_tree::Column;
 
 /// What the field of a column counts in a sum.
@@ -46,7 +45,7 @@ fn row_sum(columns: &[Column], ports: &[i64]) -> i128
 
 /// Puts a row as one piece. `line` is room for its text.
 fn put_line<O: Sink>(
-    alloc: Global,
+    writer: &mut RowWriter,
     resolution: u8,
     columns: &[Column],
     row: Row<'_>,
@@ -59,14 +58,14 @@ fn put_line<O: Sink>(
     ensures front { OnErr result (AppendsPrefix (O.held out.old) (O.held out.new) (row_line resolution columns.now row.entry.point row.entry.ports.now)) }
     ensures cause { TellsFault (O.faults out.old) (O.faults out.new) result }
 {
-    row_text(alloc, resolution, row.point, columns, row.ports, line)?;
+    writer.row_text(resolution, row.point, columns, row.ports, line)?;
     out.put(line)?;
     Ok(())
 }
 
 /// Puts the row where a run stands as one piece, if there is one, and counts it. `line` is room for its text.
 pub(crate) fn put_row<O: Sink>(
-    alloc: Global,
+    writer: &mut RowWriter,
     plan: &Plan,
     run: &Run,
     tally: &mut Tally,
@@ -84,7 +83,7 @@ pub(crate) fn put_row<O: Sink>(
         return Ok(());
     };
     let columns = plan.columns();
-    put_line(alloc, plan.resolution(), columns, row, line, out)?;
+    put_line(writer, plan.resolution(), columns, row, line, out)?;
     tally.count(row_sum(columns, row.ports));
     Ok(())
 }

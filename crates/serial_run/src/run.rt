@@ -10,7 +10,7 @@ use cosim_io::Sink;
 use std::alloc::Global;
 use std::sync::Arc;
 use trace_core::{Phase, Plan, Run};
-use trace_csv::header_text;
+use trace_csv::{RowWriter, header_text};
 use unit_tree::Ending;
 
 /// No line in memory has more columns.
@@ -55,9 +55,10 @@ pub fn run_alone<O: Sink>(alloc: Global, plan: Arc<Plan>, out: &mut O) -> Result
     let mut run = Run::open(alloc, Arc::clone(&plan)?)?;
     out.put(&line)?;
     let mut tally = Tally::new();
-    put_row(alloc, &plan, &run, &mut tally, &mut line, out)?;
+    let mut writer = RowWriter::new(alloc);
+    put_row(&mut writer, &plan, &run, &mut tally, &mut line, out)?;
     'rows: while advance(&mut run, instances) {
-        put_row(alloc, &plan, &run, &mut tally, &mut line, out)?;
+        put_row(&mut writer, &plan, &run, &mut tally, &mut line, out)?;
     }
     let Phase::Ended(outcome) = run.phase() else {
         unreachable!()

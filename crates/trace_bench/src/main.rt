@@ -15,7 +15,7 @@ use std::rt::Clock;
 use std::time::Instant;
 use std::{env, io};
 use super_time::{Point, seconds_text};
-use trace_csv::row_text;
+use trace_csv::RowWriter;
 use unit_tree::Column;
 
 /// How many columns a row has.
@@ -144,10 +144,11 @@ fn made_rows(
     requires { AllByRecursion (HasWord ports.now) columns.now }
 {
     let mut total = 0usize;
+    let mut writer = RowWriter::new(alloc);
     for t in 0..rows {
         let point = Point { t, n: 0 };
         match way {
-            Way::Csv => row_text(alloc, RESOLUTION, point, columns, ports, out)?,
+            Way::Csv => writer.row_text(RESOLUTION, point, columns, ports, out)?,
             Way::Plain => plain_row(point, columns, ports, out)?,
         }
         total = total.saturating_add(out.len());

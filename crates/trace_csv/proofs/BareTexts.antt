@@ -6,29 +6,29 @@ use Rattle.std.specs.Fmt.{decimal, signed_decimal}
 use Rattle.std.specs.Int.{is_negative}
 use Rattle.std.specs.List.{AllByRecursion, list_all}
 use Rattle.csv.specs.declared.writer.QuoteStyle.TheVariants as style
-use Rattle.csv.specs.Writing.{default_writer, needs_quotes, needs_byte, quoted}
+use Rattle.csv.specs.Writing.{needs_quotes, needs_byte, quoted}
 use Rattle.fixed_words.specs.Digits.{is_digit, pointed}
 use Rattle.fixed_words.specs.Texts.{sign_text, truth_text, padded, fixed_text, text_of}
 use Rattle.fixed_words.specs.declared.types.Ty.{Ty}
 use Rattle.fixed_words.specs.declared.types.Ty.TheVariants as types
 use Rattle.fixed_words.proofs.Numbers.{decimal_is}
-use Rattle.trace_csv.specs.Writers.{IsBare}
+use Rattle.trace_csv.specs.Writers.{IsBare, quoting_in}
 
 -- ---- High bytes
 
 abbrev AreHigh : List ℕ → Type 0
 AreHigh bytes = AllByRecursion (λ byte. 45 ≤ byte) bytes
 
-byte_bare : (byte : ℕ) → 45 ≤ byte → needs_byte default_writer byte ≡ false
+byte_bare : (byte : ℕ) → 45 ≤ byte → needs_byte (quoting_in style.Necessary) byte ≡ false
 byte_bare byte high =
     rw (ne_eqb byte 44 (λ e. omega (arith, e)), ne_eqb byte 34 (λ e. omega (arith, e)), ne_eqb byte 13 (λ e. omega (arith, e)), ne_eqb byte 10 (λ e. omega (arith, e))) refl
 
-all_bare : (bytes : List ℕ) → AreHigh bytes → needs_quotes default_writer bytes ≡ false
+all_bare : (bytes : List ℕ) → AreHigh bytes → needs_quotes (quoting_in style.Necessary) bytes ≡ false
 all_bare [] high = refl
 all_bare (byte ∷ bytes) high = rw (byte_bare byte high.0, all_bare bytes high.1) refl
 
 is_bare : (bytes : List ℕ) → AreHigh bytes → IsBare style.Necessary bytes
-is_bare bytes high = ap (λ needs. cond needs (quoted default_writer bytes) bytes) (all_bare bytes high)
+is_bare bytes high = ap (λ needs. cond needs (quoted (quoting_in style.Necessary) bytes) bytes) (all_bare bytes high)
 
 high_append : (front behind : List ℕ) → AreHigh front → AreHigh behind → AreHigh (front ++ behind)
 high_append [] behind one other = other

@@ -1,14 +1,15 @@
 -- Fields that are written one after the other, none of them quoted, are joined by commas.
-use Rattle.std.proofs.Common.{◌≡◌, ◌∙◌, ◌≤◌, ◌<◌, ◌+◌, ◌-◌, ◌^◌, ◌++◌, ◌∷◌, [], ℕ, List, Bool, true, false, min, length, refl, sym, ap, append_assoc, Some, arith, length-append, cond, Result, Ok, Err, Option, map, take, get_or}
+use Rattle.std.proofs.Common.{◌≡◌, ◌∙◌, ◌≤◌, ◌<◌, ◌+◌, ◌-◌, ◌^◌, ◌++◌, ◌∷◌, [], ℕ, List, Bool, true, false, min, length, refl, sym, ap, subst, append_assoc, Some, arith, length-append, cond, Result, Ok, Err, Option, map, take, drop, get_or}
+use Rattle.std.proofs.Math.Seq.{drop-append_seam}
 use Rattle.std.proofs.lemmas.Bool.{ne_eqb}
 use Rattle.std.proofs.lemmas.List.{take_more, map-append}
 use Rattle.std.proofs.lemmas.List.Elements.{filter_map-append}
 use Rattle.std.specs.Prelude.{is_ok, OnOk}
 use Rattle.std.specs.List.{join_with_byte, filter_map, cons_option}
-use Rattle.csv.specs.Writing.{default_writer, with_style, next_sep, field_text, tail_text}
+use Rattle.csv.specs.Writing.{next_sep, field_text, tail_text}
 use Rattle.csv.specs.declared.writer.QuoteStyle.{QuoteStyle}
 use Rattle.trace_csv.specs.Lines.{line_of}
-use Rattle.trace_csv.specs.Writers.{IsBare}
+use Rattle.trace_csv.specs.Writers.{IsBare, quoting_in}
 
 -- So many fields, as far as the writer counts.
 abbrev pub counted : ℕ → ℕ
@@ -22,40 +23,55 @@ separated first [] field = refl
 separated first (next ∷ fields) field =
     ap (λ joined. first ++ (44 ∷ joined)) (separated next fields field) ∙ sym (append_assoc first (44 ∷ join_with_byte 44 (next ∷ fields)) (44 ∷ field))
 
-sep_is : (quoting : QuoteStyle) (count : ℕ) → 1 ≤ count → next_sep (with_style default_writer quoting) count ≡ 44 ∷ []
+sep_is : (quoting : QuoteStyle) (count : ℕ) → 1 ≤ count → next_sep (quoting_in quoting) count ≡ 44 ∷ []
 sep_is quoting count some = rw (ne_eqb count 0 (λ e. omega (arith, e))) refl
 
-joined : (quoting : QuoteStyle) (fields : List (List ℕ)) (field : List ℕ) → join_with_byte 44 (fields ++ field ∷ []) ≡ join_with_byte 44 fields ++ (next_sep (with_style default_writer quoting) (counted (length fields)) ++ field)
+joined : (quoting : QuoteStyle) (fields : List (List ℕ)) (field : List ℕ) → join_with_byte 44 (fields ++ field ∷ []) ≡ join_with_byte 44 fields ++ (next_sep (quoting_in quoting) (counted (length fields)) ++ field)
 joined quoting [] field = refl
 joined quoting (first ∷ fields) field =
     separated first fields field ∙ ap (λ sep. join_with_byte 44 (first ∷ fields) ++ (sep ++ field)) (sym (sep_is quoting (counted (length (first ∷ fields))) (omega arith)))
 
--- One field more, where so many stand.
-pub field_more : (quoting : QuoteStyle) (before after field : List ℕ) (count : ℕ) (fields : List (List ℕ)) → Some before ≡ Some (join_with_byte 44 fields) → count ≡ counted (length fields) → IsBare quoting field
-    → after ≡ before ++ (next_sep (with_style default_writer quoting) count ++ field_text (with_style default_writer quoting) field) → Some after ≡ Some (join_with_byte 44 (fields ++ field ∷ []))
-field_more quoting before after field count fields was many bare is =
-    let body : before ≡ join_with_byte 44 fields = cc was in
-    let all : after ≡ join_with_byte 44 (fields ++ field ∷ []) =
+-- One field more, where so many stand behind some text.
+pub field_more : (quoting : QuoteStyle) (front before after field : List ℕ) (count : ℕ) (fields : List (List ℕ)) → Some before ≡ Some (front ++ join_with_byte 44 fields) → count ≡ counted (length fields) → IsBare quoting field
+    → after ≡ before ++ (next_sep (quoting_in quoting) count ++ field_text (quoting_in quoting) field) → Some after ≡ Some (front ++ join_with_byte 44 (fields ++ field ∷ []))
+field_more quoting front before after field count fields was many bare is =
+    let body : before ≡ front ++ join_with_byte 44 fields = cc was in
+    let all : after ≡ front ++ join_with_byte 44 (fields ++ field ∷ []) =
     is
-    ∙ ap (λ text. before ++ (next_sep (with_style default_writer quoting) count ++ text)) bare
-    ∙ ap (λ text. text ++ (next_sep (with_style default_writer quoting) count ++ field)) body
-    ∙ ap (λ n. join_with_byte 44 fields ++ (next_sep (with_style default_writer quoting) n ++ field)) many
-    ∙ sym (joined quoting fields field) in
+    ∙ ap (λ text. before ++ (next_sep (quoting_in quoting) count ++ text)) bare
+    ∙ ap (λ text. text ++ (next_sep (quoting_in quoting) count ++ field)) body
+    ∙ ap (λ n. (front ++ join_with_byte 44 fields) ++ (next_sep (quoting_in quoting) n ++ field)) many
+    ∙ append_assoc front (join_with_byte 44 fields) (next_sep (quoting_in quoting) (counted (length fields)) ++ field)
+    ∙ ap (λ text. front ++ text) (sym (joined quoting fields field)) in
     ap (λ text. Some text) all
 
 -- A line of two fields or more gets no quotes at its end.
-pub tail_is : (quoting : QuoteStyle) (wrote : Bool) (count : ℕ) → 2 ≤ count → tail_text (with_style default_writer quoting) wrote count ≡ 10 ∷ []
+pub tail_is : (quoting : QuoteStyle) (wrote : Bool) (count : ℕ) → 2 ≤ count → tail_text (quoting_in quoting) wrote count ≡ 10 ∷ []
 tail_is quoting true count many = refl
 tail_is quoting false count many = rw (ne_eqb count 0 (λ e. omega (arith, e)), ne_eqb count 1 (λ e. omega (arith, e))) refl
 
-pub line_ends : (before after : List ℕ) (fields : List (List ℕ)) → Some before ≡ Some (join_with_byte 44 fields) → after ≡ before ++ 10 ∷ [] → after ≡ line_of fields
-line_ends before after fields was is =
-    let body : before ≡ join_with_byte 44 fields = cc was in is ∙ ap (λ text. text ++ 10 ∷ []) body
+pub line_ends : (front before after : List ℕ) (fields : List (List ℕ)) → Some before ≡ Some (front ++ join_with_byte 44 fields) → after ≡ before ++ 10 ∷ [] → after ≡ front ++ line_of fields
+line_ends front before after fields was is =
+    let body : before ≡ front ++ join_with_byte 44 fields = cc was in
+    is ∙ ap (λ text. text ++ 10 ∷ []) body ∙ append_assoc front (join_with_byte 44 fields) (10 ∷ [])
+
+-- What stands behind some text.
+pub behind_is : (whole front line : List ℕ) (from : ℕ) → whole ≡ front ++ line → from ≡ length front → drop from whole ≡ line
+behind_is whole front line from is many = ap (λ n. drop n whole) many ∙ ap (drop (length front)) is ∙ drop-append_seam front line
 
 -- What is put into an empty vector is all that it holds.
 pub all_put : {E : Type 0} (result : Result (Unit {0}) E) (old text new line : List ℕ) → new ≡ cond (is_ok result) (old ++ text) old → old ≡ [] → text ≡ line → OnOk result (new ≡ line)
 all_put (Ok done) old text new line is empty same = is ∙ ap (λ front. front ++ text) empty ∙ same
 all_put (Err fault) old text new line is empty same = tt
+
+-- Of two facts about a right result, each.
+pub first_on : {T E : Type 0} (A B : Type 0) (result : Result T E) → OnOk result (A × B) → OnOk result A
+first_on A B (Ok done) both = both.0
+first_on A B (Err fault) both = tt
+
+pub second_on : {T E : Type 0} (P : List ℕ → Type 0) (now whole : List ℕ) (result : Result T E) → OnOk result ((now ≡ whole) × P whole) → OnOk result (P now)
+second_on P now whole (Ok done) both = subst P (sym both.0) both.1
+second_on P now whole (Err fault) both = tt
 
 -- ---- One column more
 

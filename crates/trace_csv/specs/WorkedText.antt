@@ -1,5 +1,5 @@
 -- The text of a trace, worked out by hand: a pulse occurs at every other step, and a tally shows the sum of the pulses before.
-use Rattle.std.specs.Prelude.{◌≡◌, ℕ, ℤ, true, false, pos, List, [], ◌∷◌, ◌++◌, codes}
+use Rattle.std.specs.Prelude.{◌≡◌, ℕ, true, false, pos, List, [], ◌∷◌, ◌++◌, codes}
 use Rattle.fixed_words.specs.declared.types.Ty.TheVariants as types
 use Rattle.trace_csv.specs.Columns.{columns_of}
 use Rattle.trace_csv.specs.TraceText.{trace_text}

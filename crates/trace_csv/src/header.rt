@@ -58,5 +58,6 @@ pub fn header_text(
         write_title(system, *column, &mut title)?;
         put_field(&mut line, title.as_slice())?;
     }
-    end_line(&mut line, out)
+    end_line(&mut line)?;
+    out.extend_from_slice(line.get_ref().as_slice())
 }

@@ -1,6 +1,6 @@
 //! The trace as CSV: its header, and a line for each row.
 //!
-//! [`header_text`] and [`row_text`] put one line each, made with `csv`, in the place of what a buffer holds. The header
+//! [`header_text`] and [`RowWriter::row_text`] put one line each, made with `csv`, in the place of what a buffer holds. The header
 //! names the columns as `instance.output`; a row has its point's time and index and the words of the columns. Names,
 //! numbers and truth values hold nothing that CSV would quote, so no field is quoted. Where no event occurs at an event
 //! output its field is empty.
@@ -19,5 +19,5 @@ mod tests;
 mod worked;
 
 pub use header::header_text;
-pub use row::row_text;
+pub use row::RowWriter;
 pub use worked::text_is_worked;

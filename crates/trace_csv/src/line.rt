@@ -1,4 +1,4 @@
-ghost use Rattle.std.specs.Prelude.{◌≡◌, ◌≢◌, ◌≤◌, ◌++◌, ◌∷◌, [], List, ℕ, Some, length, OnOk, OnErr};
+ghost use Rattle.std.specs.Prelude.{◌≡◌, ◌≢◌, ◌≤◌, ◌++◌, ◌∷◌, [], List, ℕ, Some, length, OnOk};
 ghost use Rattle.csv.specs.Writing.{writer_under};
 ghost use Rattle.csv.specs.declared.writer.QuoteStyle.{QuoteStyle};
 ghost use Rattle.csv.specs.declared.writer.QuoteStyle.TheVariants as style;
@@ -9,23 +9,25 @@ use csv::{QuoteStyle, Writer, WriterBuilder};
 use fixed_words::NoMemory;
 use std::alloc::{AllocError, Global};
 
-/// A writer of one line.
+/// A writer of lines, which keeps all that it has written.
 pub(crate) type LineWriter = Writer<Vec<u8>>;
 
-/// A line that has no field yet.
+/// A writer that has written nothing.
 pub(crate) fn new_line(alloc: Global, quoting: QuoteStyle) -> LineWriter
     requires { quoting ≢ style.NonNumeric }
-    ensures { HasFields (λ v. Some v.items) quoting result [] }
+    ensures fresh { HasFields (λ v. Some v.items) quoting [] result [] }
+    ensures under { (writer_under result).items ≡ [] }
 {
     WriterBuilder::new()
         .quote_style(quoting)
+        .flexible(true)
         .from_writer(Vec::new(alloc))
 }
 
 /// Adds a field that is written as it is.
 pub(crate) fn put_field(line: &mut LineWriter, field: &[u8]) -> Result<(), NoMemory>
-    ensures { (quoting : QuoteStyle) → (fields : List (List ℕ)) → HasFields (λ v. Some v.items) quoting line.old fields
-        → IsBare quoting field.now → OnOk result (HasFields (λ v. Some v.items) quoting line.new (fields ++ field.now ∷ [])) }
+    ensures { (quoting : QuoteStyle) → (before : List ℕ) → (fields : List (List ℕ)) → HasFields (λ v. Some v.items) quoting before line.old fields
+        → IsBare quoting field.now → OnOk result (HasFields (λ v. Some v.items) quoting before line.new (fields ++ field.now ∷ [])) }
 {
     match line.write_field(field) {
         Ok(()) => Ok(()),
@@ -34,9 +36,9 @@ pub(crate) fn put_field(line: &mut LineWriter, field: &[u8]) -> Result<(), NoMem
 }
 
 /// Ends a line of two fields or more, and writes its text out to the vector below.
-fn finish(line: &mut LineWriter) -> Result<(), NoMemory>
-    ensures { (quoting : QuoteStyle) → (fields : List (List ℕ)) → HasFields (λ v. Some v.items) quoting line.old fields
-        → 2 ≤ length fields → OnOk result ((writer_under line.new).items ≡ line_of fields) }
+pub(crate) fn end_line(line: &mut LineWriter) -> Result<(), NoMemory>
+    ensures { (quoting : QuoteStyle) → (before : List ℕ) → (fields : List (List ℕ)) → HasFields (λ v. Some v.items) quoting before line.old fields
+        → 2 ≤ length fields → OnOk result (((writer_under line.new).items ≡ before ++ line_of fields) × HasFields (λ v. Some v.items) quoting (before ++ line_of fields) line.new []) }
 {
     match line.end_record() {
         Ok(()) => {}
@@ -46,15 +48,4 @@ fn finish(line: &mut LineWriter) -> Result<(), NoMemory>
         Ok(()) => Ok(()),
         Err(_) => Err(AllocError),
     }
-}
-
-/// Ends a line of two fields or more, and puts it into `out`, which is empty.
-pub(crate) fn end_line(line: &mut LineWriter, out: &mut Vec<u8>) -> Result<(), NoMemory>
-    requires { out.old.items ≡ [] }
-    ensures ok { (quoting : QuoteStyle) → (fields : List (List ℕ)) → HasFields (λ v. Some v.items) quoting line.old fields
-        → 2 ≤ length fields → OnOk result (out.new.items ≡ line_of fields) }
-    ensures err { OnErr result (out.new.items ≡ []) }
-{
-    finish(line)?;
-    out.extend_from_slice(line.get_ref().as_slice())
 }

@@ -1,4 +1,5 @@
 ghost use Rattle.std.specs.Prelude.{◌≡◌, ◌≤◌, ◌<◌, ◌++◌, ◌∷◌, [], List, ℕ, Some, OnOk, OnErr, true};
+ghost use Rattle.csv.specs.Writing.{writer_under};
 ghost use Rattle.std.specs.Fmt.{decimal};
 ghost use Rattle.std.specs.List.{AllByRecursion};
 ghost use Rattle.csv.specs.declared.writer.QuoteStyle.TheVariants as style;
@@ -6,7 +7,7 @@ ghost use Rattle.fixed_words.specs.Texts.{text_of};
 ghost use Rattle.fixed_words.specs.Types.{is_word_of, AreDecimals};
 ghost use Rattle.super_time.specs.Seconds.{seconds_text_of};
 ghost use Rattle.trace_csv.specs.TraceText.{field_of, row_fields, row_line, HasWord};
-ghost use Rattle.trace_csv.specs.Writers.{HasFields};
+ghost use Rattle.trace_csv.specs.Writers.{HasFields, IsReady};
 
 use crate::line::{LineWriter, end_line, new_line, put_field};
 use csv::QuoteStyle;
@@ -16,6 +17,9 @@ use std::alloc::Global;
 use super_time::{Point, seconds_text};
 use unit_tree::Column;
 
+/// How many bytes a writer of rows keeps before it begins anew, but for the last row.
+const KEPT: usize = 16_384;
+
 /// Adds the time and the index of a point. `text` is room for the text of a field.
 fn put_point(
     line: &mut LineWriter,
@@ -24,8 +28,8 @@ fn put_point(
     point: Point,
 ) -> Result<(), NoMemory>
     requires { resolution ≤ 9 }
-    ensures { HasFields (λ v. Some v.items) style.Necessary line.old []
-        → OnOk result (HasFields (λ v. Some v.items) style.Necessary line.new (seconds_text_of resolution point.t ∷ decimal point.n ∷ [])) }
+    ensures { (before : List ℕ) → HasFields (λ v. Some v.items) style.Necessary before line.old []
+        → OnOk result (HasFields (λ v. Some v.items) style.Necessary before line.new (seconds_text_of resolution point.t ∷ decimal point.n ∷ [])) }
 {
     text.clear();
     seconds_text(resolution, point.t, text)?;
@@ -37,8 +41,8 @@ fn put_point(
 fn put_word(line: &mut LineWriter, text: &mut Vec<u8>, ty: Ty, word: i64) -> Result<(), NoMemory>
     requires is_word { is_word_of ty word ≡ true }
     requires decimals { AreDecimals ty }
-    ensures { (fields : List (List ℕ)) → HasFields (λ v. Some v.items) style.Necessary line.old fields
-        → OnOk result (HasFields (λ v. Some v.items) style.Necessary line.new (fields ++ text_of ty word ∷ [])) }
+    ensures { (before : List ℕ) → (fields : List (List ℕ)) → HasFields (λ v. Some v.items) style.Necessary before line.old fields
+        → OnOk result (HasFields (λ v. Some v.items) style.Necessary before line.new (fields ++ text_of ty word ∷ [])) }
 {
     match ty {
         Ty::Bool | Ty::Fixed(_) => {
@@ -58,8 +62,8 @@ fn put_column(
     ports: &[i64],
 ) -> Result<(), NoMemory>
     requires { HasWord ports.now column }
-    ensures { (fields : List (List ℕ)) → HasFields (λ v. Some v.items) style.Necessary line.old fields
-        → OnOk result (HasFields (λ v. Some v.items) style.Necessary line.new (fields ++ field_of ports.now column ∷ [])) }
+    ensures { (before : List ℕ) → (fields : List (List ℕ)) → HasFields (λ v. Some v.items) style.Necessary before line.old fields
+        → OnOk result (HasFields (λ v. Some v.items) style.Necessary before line.new (fields ++ field_of ports.now column ∷ [])) }
 {
     let place = column.place as usize;
     if column.event && ports[place - 1] == 0 {
@@ -79,8 +83,8 @@ fn put_fields(
 ) -> Result<(), NoMemory>
     requires resolution { resolution ≤ 9 }
     requires words { AllByRecursion (HasWord ports.now) columns.now }
-    ensures { HasFields (λ v. Some v.items) style.Necessary line.old []
-        → OnOk result (HasFields (λ v. Some v.items) style.Necessary line.new (row_fields resolution columns.now point ports.now)) }
+    ensures { (before : List ℕ) → HasFields (λ v. Some v.items) style.Necessary before line.old []
+        → OnOk result (HasFields (λ v. Some v.items) style.Necessary before line.new (row_fields resolution columns.now point ports.now)) }
 {
     put_point(line, text, resolution, point)?;
     for column in columns {
@@ -89,28 +93,71 @@ fn put_fields(
     Ok(())
 }
 
-/// Puts a row of a trace in the place of what `out` holds: one line with the time of the point in seconds, its index and
-/// the words of the columns. `ports` has the words of all outputs by their places, `resolution` the decimals of a tick.
-///
-/// The field of an event output is empty where the word before its own tells that no event occurs. Where there is no
-/// memory `out` is empty.
-pub fn row_text(
-    alloc: Global,
+/// Writes a row behind what the writer has written. `text` is room for the text of one field.
+fn put_row(
+    line: &mut LineWriter,
+    text: &mut Vec<u8>,
     resolution: u8,
     point: Point,
     columns: &[Column],
     ports: &[i64],
-    out: &mut Vec<u8>,
 ) -> Result<(), NoMemory>
     requires resolution { resolution ≤ 9 }
     requires words { AllByRecursion (HasWord ports.now) columns.now }
-    ensures ok { OnOk result (out.new.items ≡ row_line resolution columns.now point ports.now) }
-    ensures err { OnErr result (out.new.items ≡ []) }
+    requires ready { IsReady (λ v. v.items) line.old }
+    ensures row { OnOk result ((writer_under line.new).items ≡ (writer_under line.old).items ++ row_line resolution columns.now point ports.now) }
+    ensures ready { OnOk result (IsReady (λ v. v.items) line.new) }
 {
-    let mut line = new_line(alloc, QuoteStyle::Necessary);
-    // Until the line is whole, `out` is room for the text of each field.
-    let written = put_fields(&mut line, out, resolution, point, columns, ports);
-    out.clear();
-    written?;
-    end_line(&mut line, out)
+    put_fields(line, text, resolution, point, columns, ports)?;
+    end_line(line)
+}
+
+/// A writer of rows. It keeps the text of some of them, so that the buffers are made once for many.
+#[derive(Drop)]
+pub struct RowWriter {
+    alloc: Global,
+    line: LineWriter,
+    ghost ready: { IsReady (λ v. v.items) line },
+}
+
+impl RowWriter {
+    /// A writer that has written nothing. It takes no memory yet; `alloc` is where its room comes from later.
+    pub fn new(alloc: Global) -> RowWriter {
+        RowWriter {
+            alloc,
+            line: new_line(alloc, QuoteStyle::Necessary),
+        }
+    }
+
+    /// Puts a row of a trace in the place of what `out` holds: one line with the time of the point in seconds, its index and
+    /// the words of the columns. `ports` has the words of all outputs by their places, `resolution` the decimals of a tick.
+    ///
+    /// The field of an event output is empty where the word before its own tells that no event occurs. Where there is no
+    /// memory `out` is empty, and the writer may be used again.
+    pub fn row_text(
+        &mut self,
+        resolution: u8,
+        point: Point,
+        columns: &[Column],
+        ports: &[i64],
+        out: &mut Vec<u8>,
+    ) -> Result<(), NoMemory>
+        requires resolution { resolution ≤ 9 }
+        requires words { AllByRecursion (HasWord ports.now) columns.now }
+        ensures ok { OnOk result (out.new.items ≡ row_line resolution columns.now point ports.now) }
+        ensures err { OnErr result (out.new.items ≡ []) }
+    {
+        if self.line.get_ref().len() > KEPT {
+            self.line = new_line(self.alloc, QuoteStyle::Necessary);
+        }
+        let from = self.line.get_ref().len();
+        // Until the row is whole, `out` is room for the text of each field.
+        let written = put_row(&mut self.line, out, resolution, point, columns, ports);
+        out.clear();
+        if written.is_err() {
+            self.line = new_line(self.alloc, QuoteStyle::Necessary);
+            return written;
+        }
+        out.extend_from_slice(&self.line.get_ref()[from..])
+    }
 }

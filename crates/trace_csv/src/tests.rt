@@ -5,7 +5,7 @@ ghost use Rattle.std.specs.List.{AllByRecursion};
 ghost use Rattle.fixed_words.specs.Types.{AreDecimals};
 ghost use Rattle.trace_csv.specs.TraceText.{HasWord};
 
-use crate::row_text;
+use crate::RowWriter;
 use fixed_words::{Ty, fits};
 use std::alloc::Global;
 use std::test::Fail;
@@ -99,7 +99,7 @@ fn have_words(columns: &[Column], ports: &[i64]) -> bool
     }
 }
 
-/// The row, in a vector that held something else before.
+/// The row, as the second one of its writer, in a vector that held something else before.
 fn row(
     alloc: Global,
     resolution: u8,
@@ -111,7 +111,9 @@ fn row(
         Err("no row has these")?;
     }
     let mut out = b"what was there".to_vec(alloc)?;
-    row_text(alloc, resolution, point, columns, ports, &mut out)?;
+    let mut rows = RowWriter::new(alloc);
+    rows.row_text(0, Point { t: 7, n: 7 }, &[], &[], &mut out)?;
+    rows.row_text(resolution, point, columns, ports, &mut out)?;
     Ok(String::from_utf8(out)?)
 }
 
@@ -130,6 +132,18 @@ fn times_have_the_decimals_of_a_tick(rt: HostRuntime) -> Result<(), Fail> {
     for (resolution, t, n, text) in POINTS {
         let made = row(rt.alloc(), resolution, Point { t, n }, &[], &[])?;
         assert_eq!(rt; made.as_str(), text);
+    }
+    Ok(())
+}
+
+#[test]
+fn a_writer_goes_on_when_it_has_begun_anew(rt: HostRuntime) -> Result<(), Fail> {
+    let mut rows = RowWriter::new(rt.alloc());
+    let mut out = Vec::new(rt.alloc());
+    for t in 0..4_000u64 {
+        rows.row_text(0, Point { t, n: 0 }, &[], &[], &mut out)?;
+        let text = format!(in rt.alloc(); "{t},0\n")?;
+        assert_eq!(rt; out.as_slice(), text.as_bytes());
     }
     Ok(())
 }

@@ -1,4 +1,4 @@
-use Rattle.std.proofs.Common.{◌∷◌, Some, take}
+use Rattle.std.proofs.Common.{◌∷◌, [], Some, take}
 use Rattle.std.specs.Prelude.{codes}
 use Rattle.std.specs.List.{filter_map}
 use Rattle.csv.specs.declared.writer.QuoteStyle.TheVariants as style
@@ -8,4 +8,4 @@ use Rattle.trace_csv.proofs.header.header_text.Given as goal
 
 abbrev pub invariant-loop-column : goal.invariant-loop-column
 invariant-loop-column l =
-    HasFields (λ v. Some v.items) style.Never l.line (codes "time" ∷ codes "index" ∷ filter_map (title_of l.checked) (take l.column-index l.columns))
+    HasFields (λ v. Some v.items) style.Never [] l.line (codes "time" ∷ codes "index" ∷ filter_map (title_of l.checked) (take l.column-index l.columns))

@@ -7,7 +7,7 @@ use Rattle.trace_csv.proofs.line.put_field.Goals.{in-Ok, in-Err}
 
 pub returns : goal.returns
 returns c =
-    λ quoting fields has bare.
+    λ quoting before fields has bare.
     elim c.match-write_field.branch [
       | in-Ok w ↦
           let e = w.in-Ok.ensures in
@@ -16,7 +16,7 @@ returns c =
             setup = e.same ∙ has.setup;
             quotes = has.quotes;
             count = e.count ∙ ap (λ n. min (n + 1) (2 ^ 64 - 1)) has.count ∙ count_more fields c.args.field.now;
-            text = field_more quoting _ _ _ _ fields has.text has.count bare (rw has.setup at (e.text plain));
+            text = field_more quoting before _ _ _ _ fields has.text has.count bare (rw has.setup at (e.text plain));
           })
       | in-Err w ↦ rw w.result-is tt
     ]
