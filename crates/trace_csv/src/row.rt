@@ -112,7 +112,7 @@ fn put_row(
     end_line(line)
 }
 
-/// A writer of rows. It keeps the text of some of them, so that the buffers are made once for many.
+/// A writer of rows. It keeps the text of the last ones, so that the buffers of `csv`, of 8,192 bytes, are made once for many.
 #[derive(Drop)]
 pub struct RowWriter {
     alloc: Global,
@@ -160,4 +160,21 @@ impl RowWriter {
         }
         out.extend_from_slice(&self.line.get_ref()[from..])
     }
+}
+
+/// One row by itself, as [`RowWriter::row_text`] puts it.
+pub fn row_text(
+    alloc: Global,
+    resolution: u8,
+    point: Point,
+    columns: &[Column],
+    ports: &[i64],
+    out: &mut Vec<u8>,
+) -> Result<(), NoMemory>
+    requires resolution { resolution ≤ 9 }
+    requires words { AllByRecursion (HasWord ports.now) columns.now }
+    ensures ok { OnOk result (out.new.items ≡ row_line resolution columns.now point ports.now) }
+    ensures err { OnErr result (out.new.items ≡ []) }
+{
+    RowWriter::new(alloc).row_text(resolution, point, columns, ports, out)
 }

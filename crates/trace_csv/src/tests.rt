@@ -5,7 +5,7 @@ ghost use Rattle.std.specs.List.{AllByRecursion};
 ghost use Rattle.fixed_words.specs.Types.{AreDecimals};
 ghost use Rattle.trace_csv.specs.TraceText.{HasWord};
 
-use crate::RowWriter;
+use crate::{RowWriter, row_text};
 use fixed_words::{Ty, fits};
 use std::alloc::Global;
 use std::test::Fail;
@@ -99,7 +99,7 @@ fn have_words(columns: &[Column], ports: &[i64]) -> bool
     }
 }
 
-/// The row, as the second one of its writer, in a vector that held something else before.
+/// The row, in a vector that held something else before, by itself and as the second one of a writer.
 fn row(
     alloc: Global,
     resolution: u8,
@@ -111,9 +111,14 @@ fn row(
         Err("no row has these")?;
     }
     let mut out = b"what was there".to_vec(alloc)?;
+    row_text(alloc, resolution, point, columns, ports, &mut out)?;
+    let mut second = Vec::new(alloc);
     let mut rows = RowWriter::new(alloc);
-    rows.row_text(0, Point { t: 7, n: 7 }, &[], &[], &mut out)?;
-    rows.row_text(resolution, point, columns, ports, &mut out)?;
+    rows.row_text(0, Point { t: 7, n: 7 }, &[], &[], &mut second)?;
+    rows.row_text(resolution, point, columns, ports, &mut second)?;
+    if out != second {
+        Err("a row differs from the same row behind another")?;
+    }
     Ok(String::from_utf8(out)?)
 }
 
