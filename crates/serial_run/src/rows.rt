@@ -43,7 +43,7 @@ fn row_sum(columns: &[Column], ports: &[i64]) -> i128
     sum
 }
 
-/// Puts a row as one piece. `line` is room for its text.
+/// Puts a row as one piece. `writer` makes all rows of the run, and `line` is room for the text of one.
 fn put_line<O: Sink>(
     writer: &mut RowWriter,
     resolution: u8,
@@ -63,7 +63,8 @@ fn put_line<O: Sink>(
     Ok(())
 }
 
-/// Puts the row where a run stands as one piece, if there is one, and counts it. `line` is room for its text.
+/// Puts the row where a run stands as one piece, if there is one, and counts it. `writer` makes all rows of the run, and `line` is
+/// room for the text of one.
 pub(crate) fn put_row<O: Sink>(
     writer: &mut RowWriter,
     plan: &Plan,

@@ -13,7 +13,7 @@ use trace_plan::Plan;
 use trace_units::Units;
 use unit_tree::{Ending, Place};
 
-/// The local time at `t`. An instance that counts the system's own ticks, as most do, wants no division.
+/// The local time at `t`, without a division where the instance counts the system's own ticks.
 fn time_at(factor: u64, t: u64) -> u64
     requires { 1 ≤ factor }
     ensures { result ≡ local_time factor t }
@@ -25,7 +25,7 @@ fn time_at(factor: u64, t: u64) -> u64
     }
 }
 
-/// The local step of `h` from `t`, likewise.
+/// The local step of `h` from `t`, also without a division where the instance counts the system's own ticks.
 fn step_at(factor: u64, t: u64, h: u64) -> u64
     requires factor { 1 ≤ factor }
     requires end { t + h ≤ 10 ^ 15 }

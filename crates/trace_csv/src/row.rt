@@ -17,7 +17,7 @@ use std::alloc::Global;
 use super_time::{Point, seconds_text};
 use unit_tree::Column;
 
-/// How many bytes a writer of rows keeps before it begins anew, but for the last row.
+/// The length of kept rows, in bytes, above which a writer of rows begins anew with the next one.
 const KEPT: usize = 16_384;
 
 /// Adds the time and the index of a point. `text` is room for the text of a field.
@@ -112,7 +112,8 @@ fn put_row(
     end_line(line)
 }
 
-/// A writer of rows. It keeps the text of the last ones, so that the buffers of `csv`, of 8,192 bytes, are made once for many.
+/// A writer of rows, which makes many with one writer of `csv`, since such a writer has a buffer of 8,192 bytes to clear. What
+/// it has written can't be taken out of it: so it keeps the rows that it made, until they are long, and begins anew.
 #[derive(Drop)]
 pub struct RowWriter {
     alloc: Global,
@@ -129,11 +130,8 @@ impl RowWriter {
         }
     }
 
-    /// Puts a row of a trace in the place of what `out` holds: one line with the time of the point in seconds, its index and
-    /// the words of the columns. `ports` has the words of all outputs by their places, `resolution` the decimals of a tick.
-    ///
-    /// The field of an event output is empty where the word before its own tells that no event occurs. Where there is no
-    /// memory `out` is empty, and the writer may be used again.
+    /// Puts a row of a trace in the place of what `out` holds, as [`row_text`] does. Where there is no memory `out` is empty,
+    /// and the writer may be used again.
     pub fn row_text(
         &mut self,
         resolution: u8,
@@ -162,7 +160,11 @@ impl RowWriter {
     }
 }
 
-/// One row by itself, as [`RowWriter::row_text`] puts it.
+/// Puts a row of a trace in the place of what `out` holds: one line with the time of the point in seconds, its index and
+/// the words of the columns. `ports` has the words of all outputs by their places, `resolution` the decimals of a tick.
+///
+/// The field of an event output is empty where the word before its own tells that no event occurs. Where there is no
+/// memory `out` is empty.
 pub fn row_text(
     alloc: Global,
     resolution: u8,

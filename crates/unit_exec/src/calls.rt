@@ -77,8 +77,8 @@ fn given(ty: Ty, word: i64) -> Result<i64, Fault>
     }
 }
 
-/// What an output gives that shows a word of the state, without a run of its code; none where its code does anything else.
-/// Most outputs are such.
+/// What an output gives that shows a word of the state, without a run of its code, as many do; none where its code does
+/// anything else.
 pub(crate) fn shown(code: &Code, output: u32, state: &[i64]) -> Option<Result<i64, Fault>>
     requires each_state { length state.now ≡ code.now.sizes.states }
     ensures { IfSome result (λ given. (inputs : List ℤ) → output_by code.now state.now inputs output ≡ Some given) }

@@ -1,7 +1,7 @@
 //! Units that run: each unit of a checked system as code, and the calls of one.
 //!
 //! [`compile`] gives the [`Image`] of a unit with words of its parameters, and a [`Unit`] runs it: [`Unit::get`],
-//! [`Unit::max_step`] and [`Unit::do_step`] are runs of the image's code for the unit's state and inputs, and by the
+//! [`Unit::max_step`] and [`Unit::do_step`] give what runs of the image's code give for the unit's state and inputs, and by the
 //! clause of [`compile`] the calls of the component that they are defined as. No call of [`Unit`] but `new` takes memory.
 //! A [`Want`] names a step by what it depends on, for whoever is to make it.
 //!

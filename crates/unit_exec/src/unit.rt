@@ -12,8 +12,8 @@ use unit_vm::{Entry, Frame};
 
 /// A unit that runs: its image, its state, and the words of its inputs.
 ///
-/// [`Unit::get`], [`Unit::max_step`] and [`Unit::do_step`] are runs of the image's code for them, in one frame that is made
-/// with the unit. No call but [`Unit::new`] takes memory.
+/// [`Unit::get`], [`Unit::max_step`] and [`Unit::do_step`] give what runs of the image's code give for them. The runs are made
+/// in one frame, which is made with the unit. No call but [`Unit::new`] takes memory.
 #[derive(Drop)]
 pub struct Unit {
     image: Arc<Image>,

@@ -5,6 +5,10 @@ use fixed_words::Fault;
 pub(crate) const COUNTER: &str =
     "cosim 1\nunit A\nstate n : Int8 = 126\noutput y : Int64 = n\nstep\nn := n + 1\nend\nend\ninstance a : A\nend\nstop 3\n";
 
+/// The output shows its state, which is no word of the output's type at first.
+pub(crate) const SHOWN: &str =
+    "cosim 1\nunit A\nstate n : Int64 = 129\noutput y : Int8 = n\nstep\nn := n - 1\nend\nend\ninstance a : A\nend\nstop 3\n";
+
 pub(crate) const REPEATED: &str =
     "cosim 1\nunit A\nstate n : Int64 = 0\noutput y : Int64 = n\nstep\nrepeat 1000\nn := n + 1\nend\nend\nend\ninstance a : A\nend\nstop 3\n";
 

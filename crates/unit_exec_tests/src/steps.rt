@@ -3,7 +3,7 @@ ghost use Rattle.std.specs.Prelude.{◌≡◌, ◌+◌, ◌≤◌, length, IfOk,
 
 use crate::expressions::value_at_start;
 use crate::images::{image_of, image_with};
-use crate::step_rows::{CLAMPED, COUNTER, LINES, REPEATED, STEPS, TWO_UNITS};
+use crate::step_rows::{CLAMPED, COUNTER, LINES, REPEATED, SHOWN, STEPS, TWO_UNITS};
 use fixed_words::{Fault, NoMemory};
 use std::alloc::Global;
 use std::sync::Arc;
@@ -30,8 +30,12 @@ fn outputs_along(alloc: Global, image: Image) -> Result<Vec<Result<i64, Fault>>,
 
 #[test]
 fn counters_count(rt: HostRuntime) -> Result<(), Fail> {
-    let table: [(&str, &[Result<i64, Fault>]); 3] = [
+    let table: [(&str, &[Result<i64, Fault>]); 4] = [
         (COUNTER, &[Ok(126), Ok(127), Err(Fault::Range)]),
+        (
+            SHOWN,
+            &[Err(Fault::Range), Err(Fault::Range), Ok(127), Ok(126)],
+        ),
         (REPEATED, &[Ok(0), Ok(1_000), Ok(2_000), Ok(3_000)]),
         (CLAMPED, &[Ok(0), Ok(1), Ok(2), Ok(3)]),
     ];
