@@ -11,6 +11,7 @@ pub mod Machine
 pub mod Programs
 pub mod Reading
 pub mod Registers
+pub mod Superinstructions
 pub mod Tables
 pub mod Valid
 pub mod Worked

@@ -29,8 +29,10 @@ mod program;
 mod reading;
 mod running;
 mod runs;
+mod superinstruction;
 #[cfg(test)]
 mod tests;
+mod turns;
 mod writing;
 
 pub use code::{Code, check_code};
