@@ -112,6 +112,17 @@ fn put_row(
     end_line(line)
 }
 
+/// Puts a writer that has written nothing in the place of one. It stands by itself, since a function clears the room of its locals
+/// whenever it is called, and a writer has a buffer of 8,192 bytes.
+#[cold]
+#[inline(never)]
+fn begin_anew(alloc: Global, line: &mut LineWriter)
+    ensures ready { IsReady (λ v. v.items) line.new }
+    ensures under { (writer_under line.new).items ≡ [] }
+{
+    *line = new_line(alloc, QuoteStyle::Necessary);
+}
+
 /// A writer of rows, which makes many with one writer of `csv`, since such a writer has a buffer of 8,192 bytes to clear. What
 /// it has written can't be taken out of it: so it keeps the rows that it made, until they are long, and begins anew.
 #[derive(Drop)]
@@ -146,14 +157,14 @@ impl RowWriter {
         ensures err { OnErr result (out.new.items ≡ []) }
     {
         if self.line.get_ref().len() > KEPT {
-            self.line = new_line(self.alloc, QuoteStyle::Necessary);
+            begin_anew(self.alloc, &mut self.line);
         }
         let from = self.line.get_ref().len();
         // Until the row is whole, `out` is room for the text of each field.
         let written = put_row(&mut self.line, out, resolution, point, columns, ports);
         out.clear();
         if written.is_err() {
-            self.line = new_line(self.alloc, QuoteStyle::Necessary);
+            begin_anew(self.alloc, &mut self.line);
             return written;
         }
         out.extend_from_slice(&self.line.get_ref()[from..])
