@@ -1,5 +1,7 @@
 //! A call as a run: the words of a component are put into the slots of a frame, and the code is run from an entry.
-ghost use Rattle.std.specs.Prelude.{◌≡◌, ◌+◌, ◌≤◌, ◌-◌, ◌<◌, ◌^◌, ◌∷◌, [], length, take, Some, IsSome, IfSome, ℤ, List};
+ghost use Rattle.std.specs.Prelude.{◌≡◌, ◌+◌, ◌≤◌, ◌-◌, ◌<◌, ◌^◌, ◌∷◌, [], length, take, slice_get, Some, IsSome, IfSome, ℤ, List, true};
+ghost use Rattle.fixed_words.specs.Types.{is_word_of};
+ghost use Rattle.fixed_words.specs.declared.types.Ty.TheVariants.{Int64};
 ghost use Rattle.unit_code.specs.Calls.{output_by, slots_with, HasWordsFor};
 ghost use Rattle.unit_exec.specs.Running.{overwritten, given_word};
 ghost use Rattle.unit_vm.specs.Frames.{Leaves};
@@ -91,6 +93,15 @@ pub(crate) fn shown(code: &Code, output: u32, state: &[i64]) -> Option<Result<i6
     } else {
         None
     }
+}
+
+/// The word at a place.
+pub(crate) fn word_at(words: &[i64], place: u32) -> i64
+    requires { place < length words.now }
+    ensures word { slice_get words.now place ≡ Some result }
+    ensures fits { is_word_of Int64 result ≡ true }
+{
+    words[place as usize]
 }
 
 /// Puts the first of some words over others.

@@ -1,4 +1,5 @@
-ghost use Rattle.std.specs.Prelude.{◌≡◌, ◌≤◌, map, length, IsSome, IfOk};
+ghost use Rattle.std.specs.Prelude.{◌≡◌, ◌≤◌, map, length, IsSome, IfOk, IfSome};
+ghost use Rattle.unit_exec.specs.Showing.{Shows, ShowsBy, ShowStates};
 ghost use Rattle.fixed_words.specs.Types.{AreDecimals};
 ghost use Rattle.unit_tree.specs.Components.{start_word};
 ghost use Rattle.unit_vm.specs.Checking.{IsValid};
@@ -13,7 +14,7 @@ use std::alloc::Global;
 use std::marker::Model;
 use unit_code::program;
 use unit_tree::{Checked, Input, State, Unit};
-use unit_vm::{Code, Program};
+use unit_vm::{Code, Instruction, Program};
 
 /// A unit with words of its parameters, as code, and the words with which its states and inputs begin.
 #[derive(Drop)]
@@ -21,16 +22,20 @@ pub struct Image {
     code: Code,
     start: List<i64>,
     start_inputs: List<i64>,
+    /// Of each output the slot of the state that it shows, if it does nothing else and each word is one of its type.
+    shown: Vec<Option<u32>>,
 }
 
 impl Model for Image {
+    ghost use Rattle.std.specs.Prelude.{◌≡◌};
     ghost use Rattle.unit_exec.specs.Images.{Compiled, HasStarts};
+    ghost use Rattle.unit_exec.specs.Showing.{ShowStates};
 
     ghost Value = { Compiled };
 
     ghost view = { λ i. record { program = i.code; start = i.start; start_inputs = i.start_inputs } };
 
-    ghost invariant = { λ i. HasStarts (record { program = i.code; start = i.start; start_inputs = i.start_inputs }) };
+    ghost invariant = { λ i. HasStarts (record { program = i.code; start = i.start; start_inputs = i.start_inputs }) × ShowStates i.code i.shown.items };
 }
 
 impl Image {
@@ -69,6 +74,13 @@ impl Image {
         ensures each { length self.now.start_inputs ≡ self.now.program.sizes.inputs }
     {
         self.start_inputs.as_slice()
+    }
+
+    /// The slot of the state that an output shows, if it does nothing else and each word is one of its type.
+    pub(crate) fn shown(&self, output: u32) -> Option<u32>
+        ensures { IfSome result (Shows self.now.program output) }
+    {
+        *self.shown.get(output as usize)?
     }
 }
 
@@ -117,6 +129,30 @@ fn start_inputs(alloc: Global, inputs: &[Input]) -> Result<List<i64>, NoMemory>
     Ok(words)
 }
 
+/// The slot of the state that an output's part shows, if it does nothing else and each word is one of its type.
+fn shown_by(part: &[Instruction], states: u32) -> Option<u32>
+    ensures { IfSome result (ShowsBy part.now states) }
+{
+    match part {
+        [Instruction::Load(slot), Instruction::Give(Ty::Int64 | Ty::Fixed(_))] if *slot < states => {
+            Some(*slot)
+        }
+        _ => None,
+    }
+}
+
+/// The slots that the outputs of a program show.
+fn shown_states(alloc: Global, program: &Program) -> Result<Vec<Option<u32>>, NoMemory>
+    ensures { IfOk result (λ shown. ShowStates program.now shown.items) }
+{
+    let parts = program.outputs.as_slice();
+    let mut shown = Vec::new(alloc);
+    for number in 0..parts.len() {
+        shown.push(shown_by(parts[number].as_slice(), program.sizes.states))?;
+    }
+    Ok(shown)
+}
+
 /// The image of a unit that may be compiled.
 fn image_of(alloc: Global, unit: &Unit, params: &[i64]) -> Result<Image, NoMemory>
     requires { IsCompilable unit.now params.now }
@@ -124,10 +160,12 @@ fn image_of(alloc: Global, unit: &Unit, params: &[i64]) -> Result<Image, NoMemor
 {
     let program = program(alloc, unit, params)?;
     let code = valid_code(alloc, &program)?;
+    let shown = shown_states(alloc, code.program())?;
     Ok(Image {
         code,
         start: start_states(alloc, unit.states.as_slice())?,
         start_inputs: start_inputs(alloc, unit.inputs.as_slice())?,
+        shown,
     })
 }
 

@@ -1,4 +1,10 @@
-use Rattle.std.proofs.Common.{◌≡◌, ◌∙◌, ap, sym, rules, w64, to_z, of_z, SFits}
+use Rattle.std.proofs.Common.{◌≡◌, ◌∙◌, ◌<◌, ap, sym, subst, rules, w64, to_z, of_z, SFits, ℤ, List, length, Some, Ok}
+use Rattle.std.specs.Prelude.{slice_get, IsSome}
+use Rattle.std.specs.Option.{IfSome}
+use Rattle.unit_exec.specs.Images.{Compiled}
+use Rattle.unit_exec.specs.Showing.{Shows}
+use Rattle.unit_exec.proofs.ShownStates.{slot_within, shown_word, has_output}
+use Rattle.unit_vm.specs.declared.program.Program.{Program}
 use Rattle.std.proofs.lemmas.Int.{to_z-of_z}
 use Rattle.unit_code.specs.Calls.{output_by}
 use Rattle.unit_exec.specs.Running.{Running}
@@ -10,4 +16,27 @@ returns-clause-gives c =
     let fits : SFits w64 c.result.result = search rules in
     let same : to_z w64 (of_z w64 c.result.result) ≡ c.result.result = to_z-of_z w64 c.result.result fits in
     sym (ap (λ (u : Running). output_by u.image.program u.state u.inputs c.args.output) c.self.view_is)
-    ∙ got c.self.inside.image.value c.self.inside.frame.facts c.self.invariant.made c.code-2.result.now (c.code-2.ensures ∙ ap (λ i. i.program) c.deref-image.ensures) c.self.inside.state.items c.self.inside.inputs.items c.as_slice-2.result.now c.as_slice-3.result.now c.as_slice-2.ensures.value c.as_slice-3.ensures.value c.self.inside.frame c.run_on.new.frame c.in_ok-run_on.field-0 c.args.output c.in_ok-run_on.ensures.runs (to_z w64 (of_z w64 c.result.result)) (same ∙ c.result.ensures)
+    ∙ got c.self.inside.image.value c.self.inside.frame.facts c.self.invariant.made c.code-2.result.now (c.code-2.ensures ∙ ap (λ i. i.program) c.deref-image.ensures) c.self.inside.state.items c.self.inside.inputs.items c.as_slice-3.result.now c.as_slice-4.result.now c.as_slice-3.ensures.value c.as_slice-4.ensures.value c.self.inside.frame c.run_on.new.frame c.in_ok-run_on.field-0 c.args.output c.in_ok-run_on.ensures.runs (to_z w64 (of_z w64 c.result.result)) (same ∙ c.result.ensures)
+
+pub word_at-requires : goal.word_at-requires
+word_at-requires c =
+    let there = subst (λ (u : Running). c.args.output < length u.image.program.outputs) (sym c.self.view_is) c.requires in
+    let shows = subst (λ (i : Compiled). Shows i.program c.args.output c.in-Some.slot) c.deref-image.ensures (subst (λ o. IfSome o (Shows c.deref-image.result.now.program c.args.output)) c.in-Some.is c.shown.ensures) in
+    subst (λ (words : List ℤ). c.in-Some.slot < length words) (sym c.as_slice.ensures.value)
+    (slot_within c.self.inside.image.value.program c.self.inside.state.items c.self.inside.inputs.items c.args.output c.in-Some.slot there c.self.invariant.each_state shows)
+
+pub returns-in-Some-clause-gives : goal.returns-in-Some-clause-gives
+returns-in-Some-clause-gives c =
+    let there = subst (λ (u : Running). c.args.output < length u.image.program.outputs) (sym c.self.view_is) c.requires in
+    let shows = subst (λ (i : Compiled). Shows i.program c.args.output c.in-Some.slot) c.deref-image.ensures (subst (λ o. IfSome o (Shows c.deref-image.result.now.program c.args.output)) c.in-Some.is c.shown.ensures) in
+    let fits : SFits w64 c.word_at.result = search rules in
+    sym (ap (λ (u : Running). output_by u.image.program u.state u.inputs c.args.output) c.self.view_is)
+    ∙ shown_word c.self.inside.image.value.program c.self.inside.state.items c.self.inside.inputs.items c.args.output c.in-Some.slot there c.self.invariant.each_state shows c.word_at.result
+    (ap (λ words. slice_get words c.in-Some.slot) (sym c.as_slice.ensures.value) ∙ c.word_at.ensures.word) c.word_at.ensures.fits
+    ∙ ap (λ word. Some (Ok word)) (sym (to_z-of_z w64 c.word_at.result fits))
+
+pub run_on-requires-clause-entry : goal.run_on-requires-clause-entry
+run_on-requires-clause-entry c =
+    let there = subst (λ (u : Running). c.args.output < length u.image.program.outputs) (sym c.self.view_is) c.requires in
+    subst (λ (program : Program). IsSome (slice_get program.outputs c.args.output)) (sym (c.code-2.ensures ∙ ap (λ (i : Compiled). i.program) c.deref-image.ensures))
+    (has_output c.self.inside.image.value.program c.args.output there)
