@@ -1,5 +1,6 @@
 -- What the store of a slab has under an id is what the slab has under that key.
-use Rattle.std.proofs.Common.{◌≡◌, ◌≢◌, ℕ, zero, suc, ◌+◌, ◌<◌, ℤ, true, false, cond, List, [], ◌∷◌, map, length, get_or, set, get_or-set_same, get_or-set_other, subst, Option, Some, None, refl, sym, ap, ◌∙◌, arith, add-zero, zero-add}
+use Rattle.std.proofs.Common.{◌≡◌, ◌≢◌, ℕ, zero, suc, ◌+◌, ◌<◌, ℤ, pos, true, false, cond, List, [], ◌∷◌, ◌++◌, take, drop, map, length, get_or, set, get_or-set_same, get_or-set_other, subst, Option, Some, None, refl, sym, ap, ◌∙◌, arith, add-zero, zero-add}
+use Rattle.std.proofs.Math.Seq.{take-append_seam}
 use Rattle.std.proofs.lemmas.Bool.Decides.{nat_tests}
 use Rattle.std.specs.Cmp.{nat_cmp_total}
 use Rattle.std.specs.FinMap as finite
@@ -92,3 +93,19 @@ module _ {X : Type 0} (f : X → List ℤ) where
       ap (words_of (view (set slots key (Some x)))) (sym same)
       ∙ words_of-stored (set slots key (Some x)) key
       ∙ ap (option_map f) (get_or-set_same slots key (Some x) None (within slots key there))
+
+-- Words that are written over as many are all that is there.
+pub put_over : (old new words : List ℤ) (count : ℕ) → new ≡ words → length words ≡ count → take count (new ++ drop (length new) old) ≡ words
+put_over old new words count is long =
+    ap (λ n. take n (new ++ drop (length new) old)) (sym (ap length is ∙ long)) ∙ take-append_seam new (drop (length new) old) ∙ is
+
+-- One word that is written over one.
+pub one_word : (old words : List ℤ) → length words ≡ 1 → length old ≡ length words → set old 0 (get_or words 0 (pos 0)) ≡ words
+one_word old [] one same = absurd (omega (arith, one))
+one_word [] (word ∷ words) one same = absurd (let g : 0 ≡ suc (length words) = same in omega (arith, g))
+one_word (x ∷ old) (word ∷ []) one same = none old (let g : suc (length old) ≡ 1 = same in omega (arith, g))
+  where
+    none : (old : List ℤ) → length old ≡ 0 → word ∷ old ≡ word ∷ []
+    none [] e = refl
+    none (y ∷ old) e = absurd (let g : suc (length old) ≡ 0 = e in omega (arith, g))
+one_word (x ∷ old) (word ∷ (other ∷ words)) one same = absurd (let g : suc (suc (length words)) ≡ 1 = one in omega (arith, g))

@@ -51,6 +51,18 @@ impl Model for Snaps {
     ghost view = { λ s. stored_from 0 (map (option_map (λ v. v.items)) s.slots.slots) };
 }
 
+/// Writes words over as many others. Where there is one, as in many components, it is written without a call.
+pub fn copy_words(into: &mut [i64], words: &[i64])
+    requires { length into.old ≡ length words.now }
+    ensures { into.new ≡ words.now }
+{
+    if words.len() == 1 {
+        into[0] = words[0];
+    } else {
+        into.copy_from_slice(words);
+    }
+}
+
 impl Snaps {
     /// A store with no snapshot. It takes no memory yet; `alloc` is where its room comes from later.
     pub fn new(alloc: Global) -> Snaps
@@ -82,7 +94,7 @@ impl Snaps {
         ensures others { KeepsOthers self.old self.new id }
     {
         let held = &mut self.slots[id.key];
-        held.copy_from_slice(words);
+        copy_words(held, words);
     }
 
     /// Puts the words of a live id into a list of their length.

@@ -42,6 +42,18 @@ put_more old words now first k room within is =
     ∙ append_assoc (take first old) (take k words) (w ∷ drop (suc (first + k)) old)
     ∙ ap (λ xs. take first old ++ xs) (sym (append_assoc (take k words) (w ∷ []) (drop (suc (first + k)) old)) ∙ ap (λ xs. xs ++ drop (suc (first + k)) old) (sym longer) ∙ ap (λ n. take (k + 1) words ++ drop n old) (sym later))
 
+pub put_one : (old : List ℤ) (first : ℕ) (word : ℤ) → first < length old → set old first word ≡ take first old ++ (word ∷ drop (first + 1) old)
+put_one old first word room =
+    let none : first + 0 ≡ first = omega arith in
+    let parted : old ≡ take first old ++ ([] ++ drop (first + 0) old) = sym (take-append-drop first old) ∙ ap (λ n. take first old ++ drop n old) (sym none) in
+    let within : first + length (word ∷ []) ≤ length old = let l : first + 1 ≤ length old = omega (arith, room) in l in
+    ap (λ n. set old n word) (sym none) ∙ put_more old (word ∷ []) old first 0 within (let l : 0 < 1 = omega arith in l) parted
+
+pub put_single : (old : List ℤ) (first : ℕ) (words : List ℤ) → length words ≡ 1 → first < length old → set old first (get_or words 0 (pos 0)) ≡ overwritten old first words
+put_single old first [] one room = absurd (omega (arith, one))
+put_single old first (word ∷ []) one room = put_one old first word room
+put_single old first (word ∷ (other ∷ words)) one room = absurd (let g : suc (suc (length words)) ≡ 1 = one in omega (arith, g))
+
 -- Words that stand between others are overwritten by as many.
 put_between : (front old behind words : List ℤ) → length old ≡ length words → overwritten (front ++ (old ++ behind)) (length front) words ≡ front ++ (words ++ behind)
 put_between front old behind words same =

@@ -19,6 +19,11 @@ pub(crate) fn put(slots: &mut [i64], first: usize, words: &[i64])
     requires { first + length words.now ≤ length slots.old }
     ensures { slots.new ≡ overwritten slots.old first words.now }
 {
+    // Many units have one state or one input: no loop is set up for it.
+    if let [word] = words {
+        slots[first] = *word;
+        return;
+    }
     for place in 0..words.len() {
         slots[first + place] = words[place];
     }
