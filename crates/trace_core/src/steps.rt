@@ -6,7 +6,7 @@ ghost use Rattle.unit_tree.specs.Successor.{first_told};
 
 use crate::seat::{Seat, Slot};
 use fixed_words::Fault;
-use snap_store::Snaps;
+use snap_store::{Snaps, copy_words};
 use step_rule::{propose, reply};
 use super_time::{limit, local_step, local_time};
 use trace_plan::Plan;
@@ -211,7 +211,7 @@ pub(crate) fn commit_all(snaps: &mut Snaps, seats: &mut [Seat], units: &Units)
 {
     for instance in 0..units.count() {
         let seat = &mut seats[instance as usize];
-        seat.before.copy_from_slice(units.inputs(instance));
+        copy_words(&mut seat.before, units.inputs(instance));
         snaps.overwrite(seat.id, units.state(instance));
     }
 }

@@ -1,5 +1,7 @@
 use Rattle.std.proofs.Common.{◌≡◌, ◌∙◌, ◌<◌, ◌≤◌, [], Some, length, map, get_or, sym, ap, arith}
 use Rattle.std.proofs.lemmas.List.{get_or_default, length-map}
+use Rattle.std.specs.Vec.{with_items}
+use Rattle.trace_core.proofs.VecLaws.{items_put}
 use Rattle.std.proofs.lemmas.Option.{get_or_from_slice_get}
 use Rattle.snap_store.specs.Store.{words_of}
 use Rattle.trace_core.specs.Seats.{IsCommitted, saved}
@@ -13,11 +15,11 @@ loop-instance-init c = record {
   so_far = none_saved c.args.seats.now (saved c.args.snaps.now c.args.seats.now) c.args.units.now.states c.args.snaps.now c.requires.saved;
 }
 
-pub copy_from_slice-requires : goal.copy_from_slice-requires
-copy_from_slice-requires c =
+pub copy_words-requires : goal.copy_words-requires
+copy_words-requires c =
     let place = c.loop-instance.instance in
     let within : place < length c.args.seats.now = omega (arith, c.requires.units, c.count-instance-end.ensures.count, c.loop-instance-test.true) in
-    (get_or c.loop-instance.seats place c.index-seats-instance.result).before.ok.0
+    ap length c.deref_mut.ensures.value
     ∙ before_long c.args.seats.now c.loop-instance.seats c.args.units.now.inputs place c.index-seats-instance.result c.inputs.result.now within c.requires.before c.loop-instance.invariant.turned c.inputs.ensures
 
 pub overwrite-requires-clause-same_length : goal.overwrite-requires-clause-same_length
@@ -38,8 +40,8 @@ loop-instance-preserved c =
     ap (λ (seat : Seat). seat.id) (get_or_default seats place default c.index-seats-instance.result within) ∙ sym (id_kept seats c.loop-instance.seats c.args.units.now.inputs place c.index-seats-instance.result c.loop-instance.invariant.turned) in
     record {
       turned = one_turned (λ k old new. IsCommitted (get_or c.args.units.now.inputs k []) old new) seats c.loop-instance.seats place
-          (record (get_or c.loop-instance.seats place c.index-seats-instance.result) { before = c.copy_from_slice.new.self }) within c.loop-instance.invariant.turned (λ default. record {
-            before = c.copy_from_slice.ensures.items ∙ sym (get_or_from_slice_get c.args.units.now.inputs place c.inputs.result.now [] c.inputs.ensures);
+          (record (get_or c.loop-instance.seats place c.index-seats-instance.result) { before = with_items (get_or c.loop-instance.seats place c.index-seats-instance.result).before c.copy_words.new.into }) within c.loop-instance.invariant.turned (λ default. record {
+            before = items_put (get_or c.loop-instance.seats place c.index-seats-instance.result).before c.copy_words.new.into (c.copy_words.auto.into ∙ ap length c.deref_mut.ensures.value) ∙ c.copy_words.ensures ∙ sym (get_or_from_slice_get c.args.units.now.inputs place c.inputs.result.now [] c.inputs.ensures);
             id = sym (same default);
           });
       so_far =
