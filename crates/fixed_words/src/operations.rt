@@ -146,7 +146,7 @@ fn wide_quotient(a: i64, b: i64, divisor: i64) -> Result<i64, Fault>
 }
 
 /// `*` of two fixed-point words of `n` decimals, rounded towards minus infinity.
-#[inline]
+#[inline(always)]
 pub fn fix_mul(a: i64, b: i64, n: u8) -> Result<i64, Fault>
     requires { n ≤ 9 }
     ensures { result ≡ fixed_product n a b }
@@ -159,7 +159,7 @@ pub fn fix_mul(a: i64, b: i64, n: u8) -> Result<i64, Fault>
 
 /// `/` of two fixed-point words of `n` decimals, rounded towards minus infinity.
 /// [`Fault::ZeroDivisor`] where `b` is zero.
-#[inline]
+#[inline(always)]
 pub fn fix_div(a: i64, b: i64, n: u8) -> Result<i64, Fault>
     requires { n ≤ 9 }
     ensures { result ≡ fixed_quotient n a b }
@@ -173,7 +173,7 @@ pub fn fix_div(a: i64, b: i64, n: u8) -> Result<i64, Fault>
 }
 
 /// The word with `n` decimals more.
-#[inline]
+#[inline(always)]
 pub fn scale_up(word: i64, n: u8) -> Result<i64, Fault>
     requires { n ≤ 9 }
     ensures { result ≡ scaled_up n word }
@@ -212,7 +212,7 @@ fn without_decimals(word: i64, n: u8) -> i64
 }
 
 /// The word with `n` decimals fewer, rounded towards minus infinity.
-#[inline]
+#[inline(always)]
 pub fn scale_down(word: i64, n: u8) -> Result<i64, Fault>
     requires { n ≤ 9 }
     ensures { result ≡ scaled_down n word }

@@ -77,6 +77,6 @@ pub show_more : (program : Program) (count : ℕ) (shown : List (Option ℕ)) (o
 show_more program count shown one so_far shows_one = record {
   as_many = length-append shown (one ∷ []) ∙ ap (λ n. n + 1) so_far.as_many;
   each = λ output slot at.
-  each_more (λ output one. (slot : ℕ) → one ≡ Some slot → Shows program output slot) shown one (λ output one at slot is. so_far.each output slot (at ∙ ap Some is))
-  (subst (λ n. (slot : ℕ) → one ≡ Some slot → Shows program n slot) (sym so_far.as_many) shows_one) output (Some slot) at slot refl;
+      each_more (λ output one. (slot : ℕ) → one ≡ Some slot → Shows program output slot) shown one (λ output one at slot is. so_far.each output slot (at ∙ ap Some is))
+      (subst (λ n. (slot : ℕ) → one ≡ Some slot → Shows program n slot) (sym so_far.as_many) shows_one) output (Some slot) at slot refl;
 }

@@ -134,9 +134,10 @@ fn shown_by(part: &[Instruction], states: u32) -> Option<u32>
     ensures { IfSome result (ShowsBy part.now states) }
 {
     match part {
-        [Instruction::Load(slot), Instruction::Give(Ty::Int64 | Ty::Fixed(_))] if *slot < states => {
-            Some(*slot)
-        }
+        [
+            Instruction::Load(slot),
+            Instruction::Give(Ty::Int64 | Ty::Fixed(_)),
+        ] if *slot < states => { Some(*slot) }
         _ => None,
     }
 }

@@ -66,7 +66,7 @@ fn faulted(fault: Fault) -> Left {
 
 #[test]
 fn steps_leave_what_they_should(rt: HostRuntime) -> Result<(), Fail> {
-    let table: [(&[i64], Option<Left>); 14] = [
+    let table: [(&[i64], Option<Left>); 18] = [
         (&[1, 0, 0, 5, 3, 0, 2, 6, 33, 0], Some(ends_at(12, 10))),
         (&[0, 2, 1, 0, 4, 0, 2, 6, 33, 0], Some(ends_at(-5, 10))),
         (&[0, -7, 0, 3, 7, 0, 2, 6, 33, 0], Some(ends_at(2, 10))),
@@ -87,6 +87,17 @@ fn steps_leave_what_they_should(rt: HostRuntime) -> Result<(), Fail> {
         (
             &[28, 3, 28, 4, 1, 0, 0, 1, 3, 0, 2, 6, 29, 4, 29, 6, 33, 0],
             Some(ends_at(19, 10)),
+        ),
+        // operands that are taken where they are pushed: a word and a slot, and behind a branch whose one way ends at the operation
+        (&[1, 0, 0, 5, 4, 0, 2, 6, 33, 0], Some(ends_at(2, 10))),
+        (&[0, 5, 1, 0, 4, 0, 2, 6, 33, 0], Some(ends_at(-2, 10))),
+        (
+            &[0, 5, 0, 1, 27, 3, 0, 1, 26, 2, 0, 2, 4, 0, 2, 6, 33, 0],
+            Some(ends_at(4, 10)),
+        ),
+        (
+            &[0, 5, 0, 0, 27, 3, 0, 1, 26, 2, 0, 2, 4, 0, 2, 6, 33, 0],
+            Some(ends_at(3, 10)),
         ),
         // a jump out of the part, a place that no way reaches, and an operand that is not there
         (&[26, 5, 33, 0], None),

@@ -1,4 +1,4 @@
-use Rattle.std.proofs.Common.{◌≡◌, ◌∙◌, ap, get_or, length, pos, set, rules, w64, SFits}
+use Rattle.std.proofs.Common.{◌∙◌, ap, get_or, pos, set, rules, w64, SFits}
 use Rattle.std.proofs.lemmas.Int.{to_z-of_z}
 use Rattle.snap_store.proofs.ViewLemmas.{one_word}
 use Rattle.snap_store.proofs.copy_words.Goals as goal
