@@ -84,6 +84,12 @@ fn range(ty: Ty) -> (i64, i64)
 pub fn fits(ty: Ty, word: i64) -> bool
     ensures { result ≡ is_word_of ty word }
 {
-    let (low, high) = range(ty);
-    low <= word && word <= high
+    match ty {
+        // Each word is one of these types.
+        Ty::Int64 | Ty::Fixed(_) => true,
+        _ => {
+            let (low, high) = range(ty);
+            low <= word && word <= high
+        }
+    }
 }

@@ -2,12 +2,11 @@
 use Rattle.std.proofs.Common.{◌≡◌, ℕ, zero, suc, arith, ◌+◌, ◌<◌, Bool, true, false, ℤ, pos, List, [], ◌∷◌, ◌++◌, length, length-append, subst, take, drop, replicate, Some, slice_get, Ok, Err, refl, sym, ap, ◌∙◌}
 use Rattle.std.specs.Prelude.{if◌then◌else◌, unsigned_abs}
 use Rattle.std.proofs.lemmas.Option.{slice_get_within}
-use Rattle.std.specs.Prelude.{IsSome, Option}
-use Rattle.fixed_words.specs.declared.types.Ty.TheVariants as types
+use Rattle.std.specs.Option.{IfSome}
+use Rattle.std.specs.Prelude.{IsSome, Option, None}
 use Rattle.unit_code.specs.Calls.{output_by}
 use Rattle.unit_exec.specs.Showing.{Shows, ShowsBy, ShowStates}
 use Rattle.unit_vm.proofs.Fusing.{each_more}
-use Rattle.unit_vm.proofs.Fusions.{every_word}
 use Rattle.unit_vm.proofs.Levels.{exists_at}
 use Rattle.unit_vm.specs.declared.program.Program.{Program}
 use Rattle.fixed_words.specs.Types.{is_word_of}
@@ -47,36 +46,38 @@ shows sizes slot ty state rest word each is =
     ap (λ found. word_given (then_goes (goes_on at (loads at.work found)) (after code 1))) there
     ∙ tested (is_word_of ty word) _ word _
 
--- The output of a slot that is noted is there, and gives the state's word.
-module _ (program : Program) (state inputs : List ℤ) (output slot : ℕ) (there : output < length program.outputs) (each : length state ≡ program.sizes.states) (shown : Shows program output slot) where
+-- An output of which this is noted is there, and gives the state's word.
+module _ (program : Program) (state inputs : List ℤ) (output : ℕ) (shown : ℕ × Ty) (there : output < length program.outputs) (each : length state ≡ program.sizes.states) (shows_state : Shows program output shown) where
   found : (part : List Instruction) × (slice_get program.outputs output ≡ Some part)
   found = exists_at program.outputs output there
 
-  by : ShowsBy found.0 program.sizes.states slot
-  by = shown found.0 found.1
+  by : ShowsBy found.0 program.sizes.states shown
+  by = shows_state found.0 found.1
 
-  pub slot_within : slot < length state
+  pub slot_within : shown.0 < length state
   slot_within = let l = by.within in omega (arith, l, each)
 
-  pub shown_word : (word : ℤ) → slice_get state slot ≡ Some word → is_word_of types.Int64 word ≡ true → output_by program state inputs output ≡ Some (Ok word)
-  shown_word word is fits =
+  pub shown_word : (word : ℤ) → slice_get state shown.0 ≡ Some word → output_by program state inputs output ≡ Some (given_word shown.1 word)
+  shown_word word is =
       let rest : List ℤ = inputs ++ (replicate program.sizes.locals (pos 0) ++ (pos 0 ∷ pos 0 ∷ [])) in
-      ap (λ part. word_given (run_part program.sizes part (state ++ rest))) (found.1 ∙ ap Some by.is)
-      ∙ shows program.sizes slot by.ty state rest word each is
-      ∙ ap (λ one. Some (if one then Ok word else Err fault.Range)) (every_word by.ty by.every word fits)
+      ap (λ part. word_given (run_part program.sizes part (state ++ rest))) (found.1 ∙ ap Some by.is) ∙ shows program.sizes shown.0 shown.1 state rest word each is
 
 pub has_output : (program : Program) (output : ℕ) → output < length program.outputs → IsSome (slice_get program.outputs output)
 has_output program output there = let one = exists_at program.outputs output there in subst IsSome (sym one.1) refl
 
--- The first outputs for which a slot is noted show it.
-pub record ShowSoFar (program : Program) (count : ℕ) (shown : List (Option ℕ)) : Type 0 where
-  pub as_many : length shown ≡ count
-  pub each : ShowStates program shown
+-- The first outputs of which this is noted do.
+pub record ShowSoFar (program : Program) (count : ℕ) (all : List (Option (ℕ × Ty))) : Type 0 where
+  pub as_many : length all ≡ count
+  pub each : ShowStates program all
 
-pub show_more : (program : Program) (count : ℕ) (shown : List (Option ℕ)) (one : Option ℕ) → ShowSoFar program count shown → ((slot : ℕ) → one ≡ Some slot → Shows program count slot) → ShowSoFar program (count + 1) (shown ++ one ∷ [])
-show_more program count shown one so_far shows_one = record {
-  as_many = length-append shown (one ∷ []) ∙ ap (λ n. n + 1) so_far.as_many;
-  each = λ output slot at.
-      each_more (λ output one. (slot : ℕ) → one ≡ Some slot → Shows program output slot) shown one (λ output one at slot is. so_far.each output slot (at ∙ ap Some is))
-      (subst (λ n. (slot : ℕ) → one ≡ Some slot → Shows program n slot) (sym so_far.as_many) shows_one) output (Some slot) at slot refl;
+pub show_more : (program : Program) (count : ℕ) (all : List (Option (ℕ × Ty))) (one : Option (ℕ × Ty)) → ShowSoFar program count all → ((shown : ℕ × Ty) → one ≡ Some shown → Shows program count shown) → ShowSoFar program (count + 1) (all ++ one ∷ [])
+show_more program count all one so_far shows_one = record {
+  as_many = length-append all (one ∷ []) ∙ ap (λ n. n + 1) so_far.as_many;
+  each = λ output shown at.
+      each_more (λ output one. (shown : ℕ × Ty) → one ≡ Some shown → Shows program output shown) all one (λ output one at shown is. so_far.each output shown (at ∙ ap Some is))
+      (subst (λ n. (shown : ℕ × Ty) → one ≡ Some shown → Shows program n shown) (sym so_far.as_many) shows_one) output (Some shown) at shown refl;
 }
+
+pub noted_shows : (program : Program) (all : List (Option (ℕ × Ty))) → ShowStates program all → (output : ℕ) (noted : Option (ℕ × Ty)) → slice_get all output ≡ Some noted → IfSome noted (Shows program output)
+noted_shows program all each output None at = tt
+noted_shows program all each output (Some shown) at = each output shown at

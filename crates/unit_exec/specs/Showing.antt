@@ -1,22 +1,19 @@
 -- Outputs that show a word of the state and do nothing else.
 use Rattle.std.specs.Prelude.{◌≡◌, ℕ, ◌<◌, List, [], ◌∷◌, Option, Some, slice_get}
 use Rattle.fixed_words.specs.declared.types.Ty.{Ty}
-use Rattle.unit_vm.specs.Superinstructions.{HasEveryWord}
 use Rattle.unit_vm.specs.declared.instruction.Instruction.{Instruction}
 use Rattle.unit_vm.specs.declared.instruction.Instruction.TheVariants.{Load, Give}
 use Rattle.unit_vm.specs.declared.program.Program.{Program}
 
--- A part shows the state's slot, and gives it in a type that has every word.
-pub record ShowsBy (part : List Instruction) (states slot : ℕ) : Type 0 where
-  pub ty : Ty
-  pub every : HasEveryWord ty
-  pub is : part ≡ Load slot ∷ Give ty ∷ []
-  pub within : slot < states
+-- A part gives the word of a state's slot, as one of the type.
+pub record ShowsBy (part : List Instruction) (states : ℕ) (shown : ℕ × Ty) : Type 0 where
+  pub is : part ≡ Load shown.0 ∷ Give shown.1 ∷ []
+  pub within : shown.0 < states
 
 -- An output of a program does.
-abbrev pub Shows : Program → ℕ → ℕ → Type 0
-Shows program output slot = (part : List Instruction) → slice_get program.outputs output ≡ Some part → ShowsBy part program.sizes.states slot
+abbrev pub Shows : Program → ℕ → (ℕ × Ty) → Type 0
+Shows program output shown = (part : List Instruction) → slice_get program.outputs output ≡ Some part → ShowsBy part program.sizes.states shown
 
--- Each output for which a slot is noted shows it.
-abbrev pub ShowStates : Program → List (Option ℕ) → Type 0
-ShowStates program shown = (output slot : ℕ) → slice_get shown output ≡ Some (Some slot) → Shows program output slot
+-- Each output of which this is noted does.
+abbrev pub ShowStates : Program → List (Option (ℕ × Ty)) → Type 0
+ShowStates program all = (output : ℕ) (shown : ℕ × Ty) → slice_get all output ≡ Some (Some shown) → Shows program output shown

@@ -63,18 +63,8 @@ pub(crate) fn run_on(
     run(code, entry, frame)
 }
 
-/// The slot and the type of an output whose code shows the slot's word and does nothing else.
-fn shown_slot(part: &[Instruction]) -> Option<(u32, Ty)>
-    ensures { IfSome result (λ shown. part.now ≡ Load shown.0 ∷ Give shown.1 ∷ []) }
-{
-    match part {
-        [Instruction::Load(slot), Instruction::Give(ty)] => Some((*slot, *ty)),
-        _ => None,
-    }
-}
-
 /// The word where it is one of the type's, as an output gives it.
-fn given(ty: Ty, word: i64) -> Result<i64, Fault>
+pub(crate) fn given(ty: Ty, word: i64) -> Result<i64, Fault>
     ensures { result ≡ given_word ty word }
 {
     if fits(ty, word) {
@@ -82,31 +72,6 @@ fn given(ty: Ty, word: i64) -> Result<i64, Fault>
     } else {
         Err(Fault::Range)
     }
-}
-
-/// What an output gives that shows a word of the state, without a run of its code, as many do; none where its code does
-/// anything else.
-pub(crate) fn shown(code: &Code, output: u32, state: &[i64]) -> Option<Result<i64, Fault>>
-    requires each_state { length state.now ≡ code.now.sizes.states }
-    ensures { IfSome result (λ given. (inputs : List ℤ) → output_by code.now state.now inputs output ≡ Some given) }
-{
-    let part = code.program().outputs.get(output as usize)?;
-    let (slot, ty) = shown_slot(part.as_slice())?;
-    let slot = slot as usize;
-    if slot < state.len() {
-        Some(given(ty, state[slot]))
-    } else {
-        None
-    }
-}
-
-/// The word at a place.
-pub(crate) fn word_at(words: &[i64], place: u32) -> i64
-    requires { place < length words.now }
-    ensures word { slice_get words.now place ≡ Some result }
-    ensures fits { is_word_of Int64 result ≡ true }
-{
-    words[place as usize]
 }
 
 /// Puts the first of some words over others.

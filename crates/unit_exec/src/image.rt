@@ -22,8 +22,8 @@ pub struct Image {
     code: Code,
     start: List<i64>,
     start_inputs: List<i64>,
-    /// Of each output the slot of the state that it shows, if it does nothing else and each word is one of its type.
-    shown: Vec<Option<u32>>,
+    /// Of each output the slot of the state that it shows and its type, if it does nothing else.
+    shown: Vec<Option<(u32, Ty)>>,
 }
 
 impl Model for Image {
@@ -76,8 +76,8 @@ impl Image {
         self.start_inputs.as_slice()
     }
 
-    /// The slot of the state that an output shows, if it does nothing else and each word is one of its type.
-    pub(crate) fn shown(&self, output: u32) -> Option<u32>
+    /// The slot of the state that an output shows and its type, if it does nothing else.
+    pub(crate) fn shown(&self, output: u32) -> Option<(u32, Ty)>
         ensures { IfSome result (Shows self.now.program output) }
     {
         *self.shown.get(output as usize)?
@@ -129,21 +129,18 @@ fn start_inputs(alloc: Global, inputs: &[Input]) -> Result<List<i64>, NoMemory>
     Ok(words)
 }
 
-/// The slot of the state that an output's part shows, if it does nothing else and each word is one of its type.
-fn shown_by(part: &[Instruction], states: u32) -> Option<u32>
+/// The slot of the state that an output's part shows and its type, if it does nothing else.
+fn shown_by(part: &[Instruction], states: u32) -> Option<(u32, Ty)>
     ensures { IfSome result (ShowsBy part.now states) }
 {
     match part {
-        [
-            Instruction::Load(slot),
-            Instruction::Give(Ty::Int64 | Ty::Fixed(_)),
-        ] if *slot < states => { Some(*slot) }
+        [Instruction::Load(slot), Instruction::Give(ty)] if *slot < states => Some((*slot, *ty)),
         _ => None,
     }
 }
 
-/// The slots that the outputs of a program show.
-fn shown_states(alloc: Global, program: &Program) -> Result<Vec<Option<u32>>, NoMemory>
+/// What the outputs of a program show.
+fn shown_states(alloc: Global, program: &Program) -> Result<Vec<Option<(u32, Ty)>>, NoMemory>
     ensures { IfOk result (λ shown. ShowStates program.now shown.items) }
 {
     let parts = program.outputs.as_slice();

@@ -2,7 +2,7 @@ ghost use Rattle.std.specs.Prelude.{◌≡◌, ◌+◌, ◌≤◌, ◌<◌, ◌^
 ghost use Rattle.unit_code.specs.Calls.{output_by, greatest_step_by};
 ghost use Rattle.unit_exec.specs.Running.{opened, Steps};
 
-use crate::calls::{put, run_on, shown, take_first, word_at};
+use crate::calls::{given, put, run_on, take_first};
 use crate::image::Image;
 use fixed_words::{Fault, NoMemory};
 use std::alloc::Global;
@@ -79,11 +79,8 @@ impl Unit {
         ensures kept { self.new ≡ self.old }
     {
         let image: &Image = &self.image;
-        if let Some(slot) = image.shown(output) {
-            return Ok(word_at(self.state.as_slice(), slot));
-        }
-        if let Some(given) = shown(image.code(), output, self.state.as_slice()) {
-            return given;
+        if let Some((slot, ty)) = image.shown(output) {
+            return given(ty, self.state[slot as usize]);
         }
         run_on(
             image.code(),

@@ -2,8 +2,8 @@
 //!
 //! Code is a list of words: a table of entries and two words an instruction. [`Code::new`] and
 //! [`check_code`] tell valid code from all other words, and give its facts: how high the stacks get, what
-//! a run costs at most, how many slots a frame has. [`Code::new`] decodes the words once; [`run`]
-//! follows the instructions and tests nothing that validity promises: no operand, place or slot can be
+//! a run costs at most, how many slots a frame has. [`Code::new`] decodes the words once, and joins instructions into
+//! superinstructions; [`run`] follows these and tests nothing that validity promises: no operand, place or slot can be
 //! missing. It takes no memory.
 //!
 //! The layer above uses [`Code`], [`Frame`] and [`run`], and writes code by [`Program`] and
@@ -13,7 +13,7 @@
 //! words), `specs/Loops.antt` (loops and cost, by the text), `specs/Valid.antt` (valid code and its facts),
 //! `specs/Machine.antt` (one instruction, and a run), `specs/Frames.antt` (what a run leaves in a frame),
 //! `specs/Laws.antt`, `specs/Worked.antt`. How it is gone about stands in `specs/Registers.antt` (the state in registers and
-//! cells), `specs/Reading.antt` (words as a program), `specs/Tables.antt` and `specs/Judged.antt` (loops
+//! cells), `specs/Superinstructions.antt` (what each stands for, and does), `specs/Reading.antt` (words as a program), `specs/Tables.antt` and `specs/Judged.antt` (loops
 //! and heights by place).
 #![tactic(auto)]
 
