@@ -1,6 +1,6 @@
 -- An output that shows a word of the state as it is.
-use Rattle.std.proofs.Common.{◌≡◌, ℕ, zero, suc, arith, ◌+◌, ◌<◌, Bool, true, false, ℤ, pos, List, [], ◌∷◌, ◌++◌, length, length-append, subst, take, drop, replicate, Some, slice_get, Ok, Err, refl, sym, ap, ◌∙◌}
-use Rattle.std.specs.Prelude.{if◌then◌else◌, unsigned_abs}
+use Rattle.std.proofs.Common.{◌≡◌, ℕ, zero, suc, arith, ◌+◌, ◌<◌, Bool, true, false, ℤ, pos, List, [], ◌∷◌, ◌++◌, length, length-append, subst, take, replicate, Some, slice_get, Ok, Err, refl, sym, ap, ◌∙◌}
+use Rattle.std.specs.Prelude.{if◌then◌else◌}
 use Rattle.std.proofs.lemmas.Option.{slice_get_within}
 use Rattle.std.specs.Option.{IfSome}
 use Rattle.std.specs.Prelude.{IsSome, Option, None}
@@ -14,7 +14,7 @@ use Rattle.fixed_words.specs.declared.types.Fault.TheVariants as fault
 use Rattle.fixed_words.specs.declared.types.Ty.{Ty}
 use Rattle.unit_code.specs.Calls.{word_given}
 use Rattle.unit_exec.specs.Running.{given_word}
-use Rattle.unit_vm.specs.Machine.{Work, State, Course, Ends, Faults, goes_on, loads, then_goes, after, opening, with_locals_zero, step_length, run_part}
+use Rattle.unit_vm.specs.Machine.{Work, State, Course, Ends, Faults, goes_on, loads, then_goes, after, opening, with_locals_zero, run_part}
 use Rattle.unit_vm.specs.declared.instruction.Instruction.{Instruction}
 use Rattle.unit_vm.specs.declared.instruction.Instruction.TheVariants.{Load, Give}
 use Rattle.unit_vm.specs.declared.program.Sizes.{Sizes}

@@ -1,17 +1,16 @@
 -- Runs of a valid program give answers.
-use Rattle.std.proofs.Common.{◌≡◌, ℕ, zero, suc, ◌+◌, ◌<◌, ℤ, pos, List, [], ◌∷◌, ◌++◌, length, replicate, Option, Some, None, slice_get, Result, Ok, Err, refl, sym, ap, ◌∙◌, subst, get_or, arith}
+use Rattle.std.proofs.Common.{◌≡◌, ℕ, ◌+◌, ◌<◌, ℤ, pos, List, [], ◌∷◌, ◌++◌, length, replicate, Option, Some, None, Result, Ok, Err, refl, sym, ◌∙◌, get_or, arith}
 use Rattle.std.proofs.lemmas.List.{length-append}
 use Rattle.std.proofs.lemmas.Option.{slice_get-get_or}
 use Rattle.fixed_words.specs.Operations.{Outcome}
 use Rattle.fixed_words.specs.declared.types.Fault.{Fault}
-use Rattle.unit_code.specs.Calls.{word_given, limit_given, moved_given, slots_with, output_by, greatest_step_with, greatest_step_by, meaning_of, HasWordsFor}
+use Rattle.unit_code.specs.Calls.{word_given, limit_given, moved_given, slots_with, output_by, greatest_step_with, meaning_of, HasWordsFor}
 use Rattle.unit_code.proofs.UnitsCompute.{zeros_count}
-use Rattle.unit_exec.specs.Laws.{Answers, ValidProgramsAnswer}
+use Rattle.unit_exec.specs.Laws.{ValidProgramsAnswer}
 use Rattle.unit_exec.proofs.GivenAnswers.{GivesResult, output_well, limit_well}
 use Rattle.unit_tree.specs.Components.{Moved}
-use Rattle.unit_vm.specs.Instructions.{slots_of}
 use Rattle.unit_vm.specs.Laws.{IsOver}
-use Rattle.unit_vm.specs.Machine.{Course, Goes, Ends, Faults, Stuck, run_of}
+use Rattle.unit_vm.specs.Machine.{Course, Goes, Ends, Faults, Stuck}
 use Rattle.unit_vm.specs.Valid.{HasFacts}
 use Rattle.unit_vm.specs.declared.instruction.Instruction.{Instruction}
 use Rattle.unit_vm.specs.declared.program.CodeFacts.{CodeFacts}

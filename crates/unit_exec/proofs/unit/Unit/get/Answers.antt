@@ -1,4 +1,4 @@
-use Rattle.std.proofs.Common.{◌≡◌, ◌∙◌, ◌<◌, ap, sym, subst, rules, w64, to_z, of_z, SFits, ℤ, List, length, Some, Ok}
+use Rattle.std.proofs.Common.{◌≡◌, ◌∙◌, ◌<◌, ap, sym, subst, rules, w64, to_z, of_z, SFits, ℤ, length, Some}
 use Rattle.std.specs.Prelude.{slice_get, IsSome}
 use Rattle.std.specs.Option.{IfSome}
 use Rattle.unit_exec.specs.Images.{Compiled}
