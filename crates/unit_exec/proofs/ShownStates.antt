@@ -6,7 +6,7 @@ use Rattle.std.specs.Option.{IfSome}
 use Rattle.std.specs.Prelude.{IsSome, Option, None}
 use Rattle.unit_code.specs.Calls.{output_by}
 use Rattle.unit_exec.specs.Showing.{Shows, ShowsBy, ShowStates}
-use Rattle.unit_vm.proofs.Fusing.{each_more}
+use Rattle.unit_vm.proofs.FusedLists.{each_more}
 use Rattle.unit_vm.proofs.Levels.{exists_at}
 use Rattle.unit_vm.specs.declared.program.Program.{Program}
 use Rattle.fixed_words.specs.Types.{is_word_of}

@@ -1,18 +1,14 @@
 //! A call as a run: the words of a component are put into the slots of a frame, and the code is run from an entry.
-ghost use Rattle.std.specs.Prelude.{◌≡◌, ◌+◌, ◌≤◌, ◌-◌, ◌<◌, ◌^◌, ◌∷◌, [], length, take, slice_get, Some, IsSome, IfSome, ℤ, List, true};
-ghost use Rattle.fixed_words.specs.Types.{is_word_of};
-ghost use Rattle.fixed_words.specs.declared.types.Ty.TheVariants.{Int64};
-ghost use Rattle.unit_code.specs.Calls.{output_by, slots_with, HasWordsFor};
+ghost use Rattle.std.specs.Prelude.{◌≡◌, ◌+◌, ◌≤◌, ◌-◌, ◌<◌, ◌^◌, ◌∷◌, [], length, take, IsSome};
+ghost use Rattle.unit_code.specs.Calls.{slots_with, HasWordsFor};
 ghost use Rattle.unit_exec.specs.Running.{overwritten, given_word};
 ghost use Rattle.unit_vm.specs.Frames.{Leaves};
-ghost use Rattle.unit_vm.specs.Instructions.{slots_of};
 ghost use Rattle.unit_vm.specs.Machine.{run_of};
 ghost use Rattle.unit_vm.specs.Programs.{part_at};
 ghost use Rattle.unit_vm.specs.Valid.{HasFacts};
-ghost use Rattle.unit_vm.specs.declared.instruction.Instruction.TheVariants.{Load, Give};
 
 use fixed_words::{Fault, Ty, fits};
-use unit_vm::{Code, Entry, Frame, Instruction, run};
+use unit_vm::{Code, Entry, Frame, run};
 
 /// Puts words over others, from a place on.
 pub(crate) fn put(slots: &mut [i64], first: usize, words: &[i64])

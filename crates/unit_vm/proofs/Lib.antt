@@ -19,5 +19,5 @@ pub mod ReadBack
 pub mod ReadWhole
 pub mod ReadsBack
 pub mod Endings
-pub mod Fusing
+pub mod FusedLists
 pub mod Fusions

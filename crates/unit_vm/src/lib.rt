@@ -13,8 +13,8 @@
 //! words), `specs/Loops.antt` (loops and cost, by the text), `specs/Valid.antt` (valid code and its facts),
 //! `specs/Machine.antt` (one instruction, and a run), `specs/Frames.antt` (what a run leaves in a frame),
 //! `specs/Laws.antt`, `specs/Worked.antt`. How it is gone about stands in `specs/Registers.antt` (the state in registers and
-//! cells), `specs/Superinstructions.antt` (what each stands for, and does), `specs/Reading.antt` (words as a program), `specs/Tables.antt` and `specs/Judged.antt` (loops
-//! and heights by place).
+//! cells), `specs/Superinstructions.antt` (what each stands for, and does), `specs/Reading.antt` (words as a program),
+//! `specs/Tables.antt` and `specs/Judged.antt` (loops and heights by place).
 #![tactic(auto)]
 
 mod around;
