@@ -11,7 +11,7 @@ fn step_all(run: &mut Run, instances: u32)
     ensures { run.new ≡ with_filled run.old run.old.cells [] }
 {
     for instance in 0..instances {
-        if run.wants(instance).is_some() {
+        if run.is_wanted(instance) {
             run.compute(instance);
         }
     }

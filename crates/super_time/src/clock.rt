@@ -2,21 +2,27 @@
 ghost use Rattle.std.specs.Prelude.{◌≡◌, ◌≤◌, ◌+◌, ◌^◌};
 ghost use Rattle.super_time.specs.LocalTime.{local_time, local_step, limit_of};
 
-/// The local time at `t`, in local ticks.
+/// The local time at `t`, in local ticks. Nothing is divided for a component that counts the system's own ticks.
+#[inline]
 pub fn local_time(factor: u64, t: u64) -> u64
     requires factor { 1 ≤ factor }
     ensures { result ≡ local_time factor t }
 {
-    t / factor
+    if factor == 1 { t } else { t / factor }
 }
 
 /// How many local ticks begin in a step of `h` from `t`.
+#[inline]
 pub fn local_step(factor: u64, t: u64, h: u64) -> u64
     requires factor { 1 ≤ factor }
     requires end { t + h ≤ 10 ^ 15 }
     ensures { result ≡ local_step factor t h }
 {
-    (t + h) / factor - t / factor
+    if factor == 1 {
+        h
+    } else {
+        local_time(factor, t + h) - local_time(factor, t)
+    }
 }
 
 /// The ticks from `t` until so many local ticks have passed; 0 for none.
@@ -29,6 +35,6 @@ pub fn limit(factor: u64, t: u64, local: u64) -> u128
     if local == 0 {
         return 0;
     }
-    let passed = u128::from(t / factor) + u128::from(local);
+    let passed = u128::from(local_time(factor, t)) + u128::from(local);
     passed * u128::from(factor) - u128::from(t)
 }

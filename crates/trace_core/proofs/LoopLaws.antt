@@ -4,7 +4,7 @@ use Rattle.std.proofs.Common.{◌≡◌, ◌∙◌, Bool, true, false, nat_eq, �
 use Rattle.std.proofs.lemmas.List.{at_drop_more, drop_more, drop_all, take_all, take_more, take_more_set, set_at, get_or_at, length-take-le, length-map, get_or-map}
 use Rattle.std.proofs.lemmas.Bool.Decides.{nat_tests}
 use Rattle.std.proofs.lemmas.Option.{same_Some, get_or_from_slice_get, slice_get_within}
-use Rattle.std.specs.Prelude.{zip, slice_get, IsSome}
+use Rattle.std.specs.Prelude.{zip, slice_get, is_some, IsSome, if◌then◌else◌}
 use Rattle.std.specs.List.{AllByRecursion, AllZip, enumerate_from, cons_option}
 use Rattle.fixed_words.specs.declared.types.Fault.{Fault}
 use Rattle.snap_store.specs.Store.{Store, words_of, IsLive, HasLength, KeepsOthers}
@@ -13,11 +13,11 @@ use Rattle.super_time.specs.LocalTime.{local_time, limit_of}
 use Rattle.trace_core.specs.Seats.{AreAsLong, AreSaved, saved, HaveOwnIds, IsCommitted, end_in, slot_end, reply_in, slot_reply, replied, max_told, all_told, limits_told, ending_or, asked}
 use Rattle.trace_core.specs.declared.seat.Slot.{Slot}
 use Rattle.trace_core.specs.declared.seat.Slot.TheVariants as slot
-use Rattle.trace_plan.specs.Plans.{Planned, ForMember}
+use Rattle.trace_plan.specs.Plans.{Planned, ForMember, places_from, has_max}
 use Rattle.trace_units.specs.Fleets.{Fleet, ForUnit, with_state}
 use Rattle.trace_core.specs.declared.seat.Seat.{Seat}
 use Rattle.unit_tree.specs.Compositions.{Member, Composition}
-use Rattle.unit_tree.specs.Components.{max_of}
+use Rattle.unit_tree.specs.Components.{max_of, limit_by, environment_of}
 use Rattle.unit_tree.specs.Negotiation.{limit_told, proposal_of}
 use Rattle.unit_tree.specs.Ports.{first_some}
 use Rattle.unit_tree.specs.Successor.{first_told, max_end_of}
@@ -218,6 +218,125 @@ told_many t [] states inputs = omega arith
 told_many t (member ∷ members) [] inputs = omega arith
 told_many t (member ∷ members) (state ∷ states) [] = omega arith
 told_many t (member ∷ members) (state ∷ states) (words ∷ inputs) = let fewer = told_many t members states inputs in omega arith
+
+-- ---- Those that set no limit
+
+none_told : {A : Type 0} (found : Option A) → is_some found ≡ false → found ≡ None
+none_told None is = refl
+none_told (Some one) is = absurd (cc)
+
+-- Those from a place on that set a limit are to be asked; the others before the first of these told none.
+pub record Asking (t : ℕ) (members : List Member) (told : List (Result (Option ℕ) Fault)) (waiting : List ℕ) (count : ℕ) (limits : List ℕ) : Type 0 where
+  pub place : ℕ
+  pub within : place ≤ length members
+  pub are : waiting ≡ places_from place (map has_max (drop place members))
+  pub so_far : AskedSoFar t members told place count limits
+
+-- The next one is asked.
+pub record AskedNext (t : ℕ) (members : List Member) (told : List (Result (Option ℕ) Fault)) (instance : ℕ) (waiting : List ℕ) (count : ℕ) (limits : List ℕ) : Type 0 where
+  pub within : instance < length members
+  pub are : waiting ≡ places_from (instance + 1) (map has_max (drop (instance + 1) members))
+  pub so_far : AskedSoFar t members told instance count limits
+
+module _ (t : ℕ) (run : Composition) (states inputs : List (List ℤ)) (have_states : HaveStates run states) (have_inputs : HaveInputs run inputs) (count : ℕ) (limits : List ℕ) where
+  abbrev all : List (Result (Option ℕ) Fault)
+  all = all_told t run.members states inputs
+
+  quiet : (place : ℕ) (member : Member) → place < length run.members → slice_get run.members place ≡ Some member → has_max member ≡ false → HasTold t place member.factor run.members all (Ok None)
+  quiet place member within is no_max =
+      has_told t place member.factor run states inputs (Ok None) have_states have_inputs within (λ (one : Member) one_is. ap (λ (m : Member). m.factor) (same_Some member one (sym is ∙ one_is)))
+      (λ (one : Member) state words one_is state_is words_are.
+      ap (λ limit. limit_by limit (environment_of one.component state words (local_time member.factor t) 0)) (none_told one.component.unit.max (ap has_max (sym (same_Some member one (sym is ∙ one_is))) ∙ no_max)))
+
+  member_here : (place : ℕ) (member : Member) (left : List Member) → drop place run.members ≡ member ∷ left → (place < length run.members) × (slice_get run.members place ≡ Some member) × (drop (place + 1) run.members ≡ left)
+  member_here place member left is = here_in run.members place is
+    where
+      here_in : (members : List Member) (k : ℕ) → drop k members ≡ member ∷ left → (k < length members) × (slice_get members k ≡ Some member) × (drop (k + 1) members ≡ left)
+      here_in [] zero is = absurd (let none : [] ≡ member ∷ left = is in cc)
+      here_in [] (suc k) is = absurd (let none : [] ≡ member ∷ left = is in cc)
+      here_in (first ∷ members) zero is = (omega arith, cc, cc)
+      here_in (first ∷ members) (suc k) is =
+          let behind = here_in members k is in
+          let same : suc (k + 1) ≡ suc k + 1 = omega arith in
+          (omega (arith, behind.0), behind.1, subst (λ n. drop n (first ∷ members) ≡ left) same behind.2)
+
+  passed : (place : ℕ) (member : Member) (left : List Member) → drop place run.members ≡ member ∷ left → has_max member ≡ false → AskedSoFar t run.members all place count limits → AskedSoFar t run.members all (place + 1) count limits
+  passed place member left is no_max so_far =
+      let here = member_here place member left is in
+      next_without t run.members all place count member.factor limits (quiet place member here.0 here.1 no_max) so_far
+
+  -- Those that wait, by whether the first member sets a limit.
+  places_by : (place : ℕ) (member : Member) (left : List Member) (so : Bool) → has_max member ≡ so → places_from place (map has_max (member ∷ left)) ≡ (if so then place ∷ places_from (place + 1) (map has_max left) else places_from (place + 1) (map has_max left))
+  places_by place member left so is =
+      let next : suc place ≡ place + 1 = omega arith in
+      ap (λ b. if b then place ∷ places_from (suc place) (map has_max left) else places_from (suc place) (map has_max left)) is
+      ∙ ap (λ k. if so then place ∷ places_from k (map has_max left) else places_from k (map has_max left)) next
+
+  abbrev Further : (left : List Member) (place instance : ℕ) (waiting : List ℕ) → Type 0
+  Further left place instance waiting = instance ∷ waiting ≡ places_from place (map has_max left) → AskedSoFar t run.members all place count limits → AskedNext t run.members all instance waiting count limits
+
+  next_by : (member : Member) (left : List Member) (place instance : ℕ) (waiting : List ℕ) (so : Bool) → has_max member ≡ so → drop place run.members ≡ member ∷ left → Further left (place + 1) instance waiting → Further (member ∷ left) place instance waiting
+  next_by member left place instance waiting true so is further are so_far =
+      let here = member_here place member left is in
+      let told : instance ∷ waiting ≡ place ∷ places_from (place + 1) (map has_max left) = are ∙ places_by place member left true so in
+      let first : instance ≡ place = cc in
+      let behind : waiting ≡ places_from (place + 1) (map has_max left) = cc in
+      subst (λ k. AskedNext t run.members all k waiting count limits) (sym first)
+      (record { within = here.0; are = behind ∙ ap (λ some. places_from (place + 1) (map has_max some)) (sym here.2); so_far = so_far })
+  next_by member left place instance waiting false so is further are so_far =
+      further (are ∙ places_by place member left false so) (passed place member left is so so_far)
+
+  next_from : (left : List Member) (place instance : ℕ) (waiting : List ℕ) → drop place run.members ≡ left → Further left place instance waiting
+  next_from [] place instance waiting is are so_far = absurd (let none : instance ∷ waiting ≡ [] = are in cc)
+  next_from (member ∷ left) place instance waiting is are so_far =
+      next_by member left place instance waiting (has_max member) refl is (next_from left (place + 1) instance waiting (member_here place member left is).2) are so_far
+
+  pub next_asked : (instance : ℕ) (waiting : List ℕ) → Asking t run.members all (instance ∷ waiting) count limits → AskedNext t run.members all instance waiting count limits
+  next_asked instance waiting asking = next_from (drop asking.place run.members) asking.place instance waiting refl asking.are asking.so_far
+
+  abbrev Past : Type 0
+  Past = (past : ℕ) × (length run.members ≤ past) × AskedSoFar t run.members all past count limits
+
+  none_by : (member : Member) (left : List Member) (place : ℕ) (so : Bool) → has_max member ≡ so → drop place run.members ≡ member ∷ left → ([] ≡ places_from (place + 1) (map has_max left) → AskedSoFar t run.members all (place + 1) count limits → Past) → [] ≡ places_from place (map has_max (member ∷ left)) → AskedSoFar t run.members all place count limits → Past
+  none_by member left place true so is further are so_far =
+      let told : [] ≡ place ∷ places_from (place + 1) (map has_max left) = are ∙ places_by place member left true so in
+      absurd (cc)
+  none_by member left place false so is further are so_far = further (are ∙ places_by place member left false so) (passed place member left is so so_far)
+
+  past_all : (members : List Member) (k : ℕ) → drop k members ≡ [] → length members ≤ k
+  past_all [] k is = omega arith
+  past_all (first ∷ members) zero is = absurd (let some : first ∷ members ≡ [] = is in cc)
+  past_all (first ∷ members) (suc k) is = let behind = past_all members k is in omega (arith, behind)
+
+  none_from : (left : List Member) (place : ℕ) → drop place run.members ≡ left → [] ≡ places_from place (map has_max left) → AskedSoFar t run.members all place count limits → Past
+  none_from [] place is are so_far = (place, past_all run.members place is, so_far)
+  none_from (member ∷ left) place is are so_far =
+      none_by member left place (has_max member) refl is (none_from left (place + 1) (member_here place member left is).2) are so_far
+
+  pub none_waits : Asking t run.members all [] count limits → Past
+  none_waits asking = none_from (drop asking.place run.members) asking.place refl asking.are asking.so_far
+
+pub none_asked : (t : ℕ) (members : List Member) (told : List (Result (Option ℕ) Fault)) (limits : List ℕ) → AskedSoFar t members told 0 0 limits
+none_asked t members told limits = record { no_end = refl; made = refl; few = omega arith }
+
+-- Of the units of a plan, along the list of those that set a limit.
+module _ (t : ℕ) (plan : Planned) (fleet : Fleet) (tied : fleet.plan ≡ plan) (have_states : HaveStates fleet.plan.run fleet.states) (have_inputs : HaveInputs fleet.plan.run fleet.inputs) (count : ℕ) (limits : List ℕ) (items : List ℕ) (index : ℕ) (asking : Asking t plan.run.members (all_told t plan.run.members fleet.states fleet.inputs) (drop index items) count limits) where
+  states_there : HaveStates plan.run fleet.states
+  states_there = subst (λ (p : Planned). HaveStates p.run fleet.states) tied have_states
+
+  inputs_there : HaveInputs plan.run fleet.inputs
+  inputs_there = subst (λ (p : Planned). HaveInputs p.run fleet.inputs) tied have_inputs
+
+  pub unit_next : index < length items → AskedNext t plan.run.members (all_told t plan.run.members fleet.states fleet.inputs) (get_or items index 0) (drop (index + 1) items) count limits
+  unit_next within =
+      next_asked t plan.run fleet.states fleet.inputs states_there inputs_there count limits (get_or items index 0) (drop (index + 1) items)
+      (subst (λ waiting. Asking t plan.run.members (all_told t plan.run.members fleet.states fleet.inputs) waiting count limits) (drop_more items index 0 within) asking)
+
+  pub units_asked : length items ≤ index → Ok (proposal_of plan.run.stop plan.run.longest t (take count limits)) ≡ asked plan.run t (all_told t plan.run.members fleet.states fleet.inputs)
+  units_asked past =
+      let none = none_waits t plan.run fleet.states fleet.inputs states_there inputs_there count limits (subst (λ waiting. Asking t plan.run.members (all_told t plan.run.members fleet.states fleet.inputs) waiting count limits) (drop_all index items past) asking) in
+      let told_past : length (all_told t plan.run.members fleet.states fleet.inputs) ≤ none.0 = let many = told_many t plan.run.members fleet.states fleet.inputs in let past_members = none.1 in omega (arith, many, past_members) in
+      all_asked plan.run t none.0 count (all_told t plan.run.members fleet.states fleet.inputs) limits none.1 told_past none.2
 
 -- ---- What all seats reply
 

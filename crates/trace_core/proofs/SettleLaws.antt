@@ -5,7 +5,8 @@ use Rattle.port_solve.specs.Solved.{HaveStates}
 use Rattle.trace_core.specs.Courses.{course_in, IsReady}
 use Rattle.trace_core.specs.Keeping.{stand_of, cells_seen, run_state, IsRun}
 use Rattle.trace_core.specs.Runs.{AreCellsFull, IsPhase, is_ended, is_empty_cell, step_length}
-use Rattle.trace_core.specs.Seats.{AreFull, cell_in, is_empty}
+use Rattle.trace_core.specs.Slots.{is_empty}
+use Rattle.trace_core.specs.Seats.{AreFull, cell_in}
 use Rattle.trace_core.specs.Settling.{IsRedoDue}
 use Rattle.trace_core.specs.declared.course.Course.{Course}
 use Rattle.trace_core.specs.declared.course.Course.TheVariants as course

@@ -6,7 +6,8 @@ use Rattle.std.specs.List.{AllByRecursion, AllZip, enumerate_from}
 use Rattle.fixed_words.specs.declared.types.Fault.{Fault}
 use Rattle.snap_store.specs.Store.{Store}
 use Rattle.super_time.specs.LocalTime.{local_time, local_step}
-use Rattle.trace_core.specs.Seats.{SlotIs, is_empty, AreFull, IsSeat, AreSeats, IsBegun, AreBegun, end_in, slot_end, redo_end_in, redo_slot_end, reply_in, slot_reply, HaveClocks, IsWithin, AreWithin, AreSaved, saved}
+use Rattle.trace_core.specs.Slots.{is_empty}
+use Rattle.trace_core.specs.Seats.{SlotIs, AreFull, IsSeat, AreSeats, IsBegun, AreBegun, end_in, slot_end, redo_end_in, redo_slot_end, reply_in, slot_reply, HaveClocks, IsWithin, AreWithin, AreSaved, saved}
 use Rattle.trace_core.specs.declared.seat.Seat.{Seat}
 use Rattle.trace_core.specs.declared.seat.Slot.{Slot}
 use Rattle.trace_core.specs.declared.seat.Slot.TheVariants as slot

@@ -6,6 +6,7 @@ use Rattle.fixed_words.specs.declared.types.Fault.{Fault}
 use Rattle.snap_store.specs.Store.{Store, words_of}
 use Rattle.super_time.specs.LocalTime.{local_time, local_step}
 use Rattle.trace_core.specs.Runs.{Cell, Held, Empty, Filled}
+use Rattle.trace_core.specs.Slots.{is_empty}
 use Rattle.trace_core.specs.declared.seat.Seat.{Seat}
 use Rattle.trace_core.specs.declared.seat.Slot.{Slot}
 use Rattle.trace_core.specs.declared.seat.Slot.TheVariants as slot
@@ -36,11 +37,6 @@ SlotIs None slot.Empty unit committed = ⊥
 SlotIs (Some step) slot.Empty unit committed = unit ≡ committed
 SlotIs step (slot.Took accepted) unit committed = step ≡ Some (Ok (record { state = unit; accepted = accepted }))
 SlotIs step (slot.Failed fault) unit committed = (step ≡ Some (Err fault)) × (unit ≡ committed)
-
--- The step is not there yet.
-abbrev pub is_empty : Slot → Bool
-is_empty slot.Empty = true
-is_empty _ = false
 
 -- No slot is empty.
 abbrev pub AreFull : List Seat → Type 0

@@ -1,10 +1,15 @@
--- Slots of steps that were made.
-use Rattle.std.specs.Prelude.{ℕ, Result, Ok, Err}
+-- Slots of steps: what a step that was made leaves, and which are not there yet.
+use Rattle.std.specs.Prelude.{ℕ, Bool, true, false, Result, Ok, Err}
 use Rattle.fixed_words.specs.declared.types.Fault.{Fault}
 use Rattle.trace_core.specs.declared.seat.Slot.{Slot}
-use Rattle.trace_core.specs.declared.seat.Slot.TheVariants.{Took, Failed}
+use Rattle.trace_core.specs.declared.seat.Slot.TheVariants.{Empty, Took, Failed}
 
 -- The slot of a step that accepted so many local ticks, or met a fault.
 abbrev pub slot_for : Result ℕ Fault → Slot
 slot_for (Ok accepted) = Took accepted
 slot_for (Err fault) = Failed fault
+
+-- The step is not there yet.
+abbrev pub is_empty : Slot → Bool
+is_empty Empty = true
+is_empty _ = false

@@ -1,5 +1,5 @@
 //! A run of a plan.
-ghost use Rattle.std.specs.Prelude.{◌≡◌, ◌<◌, ◌↔◌, length, slice_get, false, IsSome, Some, IfOk, IfSome, if◌then◌else◌};
+ghost use Rattle.std.specs.Prelude.{◌≡◌, ◌<◌, ◌↔◌, length, slice_get, false, IsTrue, IsSome, Some, IfOk, IfSome, if◌then◌else◌};
 ghost use Rattle.std.specs.Option.{option_map};
 ghost use Rattle.trace_core.specs.Runs.{Stands, IsOpened, IsWanted, IsWantOf, is_ended, with_own, row_told, AreCellsFull};
 ghost use Rattle.trace_core.specs.Arriving.{position_with};
@@ -15,7 +15,7 @@ use crate::course::{Course, course_of};
 use crate::opening::{seats_of, states_of};
 use crate::phase::{Phase, Row, Settle};
 use crate::ports::{begin_phase, solve_ports};
-use crate::seat::{Seat, Slot, slot_of};
+use crate::seat::{Seat, is_empty, slot_of};
 use crate::steps::{begin_all, commit_all, restore_all};
 use fixed_words::NoMemory;
 use snap_store::Snaps;
@@ -223,21 +223,31 @@ impl Run {
         &self.seats[instance as usize].before
     }
 
-    /// The step that is wanted of an instance. There is none exactly where there is no such instance, the run ended, the
-    /// instance is held, or its step is there.
+    /// Whether a step is wanted of an instance. None is exactly where there is no such instance, the run ended, the instance is
+    /// held, or its step is there.
+    pub fn is_wanted(&self, instance: u32) -> bool
+        ensures { IsTrue result ↔ IsWanted self.now instance }
+    {
+        if let Phase::Ended(_) = self.phase {
+            return false;
+        }
+        match self.seats.get(instance as usize) {
+            Some(seat) => is_empty(seat.slot),
+            None => false,
+        }
+    }
+
+    /// The step that is wanted of an instance, where one is.
     pub fn wants(&self, instance: u32) -> Option<Want<'_>>
         ensures exactly { IsSome result ↔ IsWanted self.now instance }
         ensures want { IfSome result (IsWantOf self.now instance) }
     {
-        if let Phase::Ended(_) = self.phase {
+        if !self.is_wanted(instance) {
             return None;
         }
         // That there is a unit for each instance is known by the clauses of this call alone.
         let _ = self.units.count();
-        let seat = self.seats.get(instance as usize)?;
-        let Slot::Empty = seat.slot else {
-            return None;
-        };
+        let seat = &self.seats[instance as usize];
         Some(Want {
             row: self.number,
             image: self.plan.image(instance),

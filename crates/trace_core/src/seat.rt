@@ -1,5 +1,5 @@
 ghost use Rattle.std.specs.Prelude.{◌≡◌};
-ghost use Rattle.trace_core.specs.Slots.{slot_for};
+ghost use Rattle.trace_core.specs.Slots.{slot_for, is_empty};
 
 use fixed_words::Fault;
 use snap_store::SnapId;
@@ -15,6 +15,13 @@ pub(crate) enum Slot {
     Took(u64),
     /// The step met a fault, and moved nothing.
     Failed(Fault),
+}
+
+/// Whether the step is not there yet.
+pub(crate) fn is_empty(slot: Slot) -> bool
+    ensures { result ≡ is_empty slot }
+{
+    matches!(slot, Slot::Empty)
 }
 
 /// The slot of a step that was made.

@@ -1,7 +1,6 @@
 //! What is done to all instances in turn.
 ghost use Rattle.std.specs.Prelude.{◌≡◌, ◌≤◌, ◌<◌, ◌+◌, ◌^◌, length, map, zip, IfNone};
 ghost use Rattle.trace_core.specs.Seats.{AreBegun, IsBegun, HasClock, HaveClocks, IsWithin, AreWithin, AreSaved, AreAsLong, HaveOwnIds, all_told, asked, saved, slot_end, redo_slot_end, replied, slot_reply};
-ghost use Rattle.super_time.specs.LocalTime.{local_time, local_step};
 ghost use Rattle.unit_tree.specs.Successor.{first_told};
 
 use crate::seat::{Seat, Slot};
@@ -13,39 +12,14 @@ use trace_plan::Plan;
 use trace_units::Units;
 use unit_tree::{Ending, Place};
 
-/// The local time at `t`, without a division where the instance counts the system's own ticks.
-fn time_at(factor: u64, t: u64) -> u64
-    requires { 1 ≤ factor }
-    ensures { result ≡ local_time factor t }
-{
-    if factor == 1 {
-        t
-    } else {
-        local_time(factor, t)
-    }
-}
-
-/// The local step of `h` from `t`, also without a division where the instance counts the system's own ticks.
-fn step_at(factor: u64, t: u64, h: u64) -> u64
-    requires factor { 1 ≤ factor }
-    requires end { t + h ≤ 10 ^ 15 }
-    ensures { result ≡ local_step factor t h }
-{
-    if factor == 1 {
-        h
-    } else {
-        local_step(factor, t, h)
-    }
-}
-
 /// Makes a seat ready for a step of `h` from `t`.
 fn begin(seat: &mut Seat, factor: u64, t: u64, h: u64)
     requires factor { 1 ≤ factor }
     requires end { t + h ≤ 10 ^ 15 }
     ensures { IsBegun t h factor seat.old seat.new }
 {
-    seat.time = time_at(factor, t);
-    seat.step = step_at(factor, t, h);
+    seat.time = local_time(factor, t);
+    seat.step = local_step(factor, t, h);
     seat.slot = if h > 0 && seat.step == 0 {
         Slot::Held
     } else {
@@ -64,7 +38,7 @@ pub(crate) fn begin_all(plan: &Plan, seats: &mut [Seat], t: u64, h: u64)
     }
 }
 
-/// Asks the greatest step of each instance at `t`, and proposes a step. The first fault of a `max` ends the run.
+/// Asks the greatest step of each instance that has one at `t`, and proposes a step. The first fault of a `max` ends the run.
 pub(crate) fn ask_limits(
     plan: &Plan,
     units: &mut Units,
@@ -79,14 +53,16 @@ pub(crate) fn ask_limits(
     ensures limits { length limits.new ≡ length limits.old }
 {
     let stop = plan.stop();
+    // How long the lists of the units are is known by the clauses of this call alone.
+    let _ = units.count();
     let mut count = 0;
-    for instance in 0..units.count() {
-        let factor = plan.factor(instance);
-        let told = match units.max_step(instance, time_at(factor, t)) {
+    for instance in plan.limited() {
+        let factor = plan.factor(*instance);
+        let told = match units.max_step(*instance, local_time(factor, t)) {
             Ok(told) => told,
             Err(fault) => {
                 return Err(Ending::UnitFault {
-                    instance,
+                    instance: *instance,
                     place: Place::Max,
                     fault,
                 });

@@ -8,9 +8,11 @@ use Rattle.std.specs.Option.{IfSome}
 use Rattle.std.specs.Str.{bytes_eq}
 use Rattle.fixed_words.specs.Types.{lowest, highest, AreDecimals}
 use Rattle.port_solve.proofs.Setting.{left}
-use Rattle.trace_plan.specs.Fitting.{IsUnitNamed, IsFittedFor}
+use Rattle.trace_plan.specs.Fitting.{IsUnitNamed, IsFittedFor, AreMade, tells_max}
 use Rattle.trace_plan.specs.Keeps.{IsFitted}
+use Rattle.trace_plan.specs.Plans.{has_max}
 use Rattle.trace_plan.specs.declared.fitting.Fitted.{Fitted}
+use Rattle.trace_plan.specs.declared.fitting.Made.{Made}
 use Rattle.unit_exec.specs.Images.{Compiled, IsImageOf, IsCompiled, HasParams}
 use Rattle.unit_exec.proofs.CheckedUnits.{checked_units}
 use Rattle.unit_tree.specs.Components.{variable, start_word}
@@ -125,3 +127,22 @@ named_here units name place unit within is later named = record {
       ∙ ap (λ (u : Unit). cond (bytes_eq u.name name) (Some u) (unit_named (drop (place + 1) units) name)) (sym is)
       ∙ ap (λ same. cond same (Some unit) (unit_named (drop (place + 1) units) name)) named;
 }
+
+-- ---- Images that were made
+
+pub made_at : (system : System) (made : List Made) (place unit : ℕ) (params : List ℤ) (one : Made) → place < length made → one ≡ get_or made place one → one.unit ≡ unit → one.params.items ≡ params → AreMade system made → IsCompiled system unit params one.image.value
+made_at system [] place unit params one within is same_unit same_params are = absurd (omega (arith, within))
+made_at system (first ∷ made) zero unit params one within is same_unit same_params are =
+    let here : IsCompiled system one.unit one.params.items one.image.value = subst (λ (m : Made). IsCompiled system m.unit m.params.items m.image.value) (sym is) are.0 in
+    subst (λ n. IsCompiled system n params one.image.value) same_unit (subst (λ xs. IsCompiled system one.unit xs one.image.value) same_params here)
+made_at system (first ∷ made) (suc place) unit params one within is same_unit same_params are =
+    made_at system made place unit params one (omega (arith, within)) is same_unit same_params are.1
+
+-- ---- Those that set a limit
+
+pub fitted_limits : (members : List Member) (fitted : List Fitted) → AllZip IsFitted members fitted → map tells_max fitted ≡ map has_max members
+fitted_limits [] [] each = refl
+fitted_limits [] (one ∷ fitted) each = absurd each
+fitted_limits (member ∷ members) [] each = absurd each
+fitted_limits (member ∷ members) (one ∷ fitted) each =
+    ap (λ so. so ∷ map tells_max fitted) each.0.image.limit ∙ ap (λ rest. has_max member ∷ rest) (fitted_limits members fitted each.1)

@@ -1,7 +1,10 @@
 -- What is worked out for one instance.
-use Rattle.std.specs.Prelude.{◌≡◌, ℕ, List, slice_get, Some}
+use Rattle.std.specs.Prelude.{◌≡◌, ℕ, Bool, List, slice_get, is_some, Some}
+use Rattle.std.specs.List.{AllByRecursion}
 use Rattle.trace_plan.specs.Keeps.{IsFitted}
 use Rattle.trace_plan.specs.declared.fitting.Fitted.{Fitted}
+use Rattle.trace_plan.specs.declared.fitting.Made.{Made}
+use Rattle.unit_exec.specs.Images.{IsCompiled}
 use Rattle.unit_tree.specs.Compositions.{Member, member_with}
 use Rattle.unit_tree.specs.Names.{unit_named, unit_of_instance}
 use Rattle.unit_tree.specs.declared.system.Instance.{Instance}
@@ -19,3 +22,11 @@ pub record IsFittedFor (system : System) (instance : Instance) (fitted : Fitted)
   pub member : Member
   pub is : member_with system instance (unit_of_instance system instance) ≡ Some member
   pub fits : IsFitted member fitted
+
+-- Each of the images is that of its unit of the system, with its words of the parameters.
+abbrev pub AreMade : System → List Made → Type 0
+AreMade system made = AllByRecursion (λ (one : Made). IsCompiled system one.unit one.params.items one.image.value) made
+
+-- The code of what is fitted out tells a greatest step.
+abbrev pub tells_max : Fitted → Bool
+tells_max fitted = is_some fitted.image.value.program.limit

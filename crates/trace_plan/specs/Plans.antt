@@ -1,5 +1,5 @@
 -- Plans: what contracts see of one.
-use Rattle.std.specs.Prelude.{◌≡◌, ◌≤◌, ◌^◌, ℕ, ℤ, List, length, map, Some, slice_get}
+use Rattle.std.specs.Prelude.{◌≡◌, ◌≤◌, ◌^◌, ℕ, suc, Bool, ℤ, List, [], ◌∷◌, length, map, if◌then◌else◌, is_some, Some, slice_get}
 use Rattle.fixed_words.specs.Types.{lowest, highest}
 use Rattle.unit_tree.specs.Compositions.{Member, Composition}
 use Rattle.unit_tree.specs.declared.system.System.{System}
@@ -29,3 +29,16 @@ lowest_words member = map (λ input. lowest input.ty) member.component.unit.inpu
 
 abbrev pub highest_words : Member → List ℤ
 highest_words member = map (λ input. highest input.ty) member.component.unit.inputs
+
+-- The places of what is so, where the first has this place.
+abbrev pub places_from : ℕ → List Bool → List ℕ
+places_from place [] = []
+places_from place (so ∷ rest) = if so then place ∷ places_from (suc place) rest else places_from (suc place) rest
+
+-- A member sets a limit to its steps.
+abbrev pub has_max : Member → Bool
+has_max member = is_some member.component.unit.max
+
+-- The numbers of the instances that do, in their order.
+abbrev pub limited_in : Composition → List ℕ
+limited_in run = places_from 0 (map has_max run.members)

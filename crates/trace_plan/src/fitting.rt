@@ -1,9 +1,12 @@
 //! What each instance needs to run.
-ghost use Rattle.std.specs.Prelude.{◌≡◌, ◌≤◌, length, map, slice_get, IfOk, IfSome, IfNone, None};
+ghost use Rattle.std.specs.Prelude.{◌≡◌, ◌≤◌, length, map, IfOk, OnOk, IfSome, IfNone, None, IsSome, IsTrue};
 ghost use Rattle.std.specs.List.{AllByRecursion, AllZip};
 ghost use Rattle.fixed_words.specs.Types.{lowest, highest, AreDecimals};
-ghost use Rattle.trace_plan.specs.Fitting.{IsUnitNamed, IsFittedFor};
+ghost use Rattle.trace_plan.specs.Fitting.{IsUnitNamed, IsFittedFor, AreMade, tells_max};
 ghost use Rattle.trace_plan.specs.Keeps.{IsFitted};
+ghost use Rattle.trace_plan.specs.Plans.{places_from};
+ghost use Rattle.unit_exec.specs.Images.{IsCompiled, HasParams, unit_of_plain_form};
+ghost use Rattle.unit_tree.specs.declared.system.System.{System};
 ghost use Rattle.unit_tree.specs.Components.{start_word};
 ghost use Rattle.unit_tree.specs.Compositions.{literal_set, run_of};
 ghost use Rattle.unit_tree.specs.Names.{unit_named};
@@ -115,23 +118,79 @@ fn number_of(units: &[Unit], name: &[u8]) -> Option<usize>
     None
 }
 
-/// What an instance of a checked system needs, where its unit is declared.
+/// A unit of a checked system, told by its number, that was compiled with words of its parameters.
+#[derive(Drop)]
+pub(crate) struct Made {
+    pub(crate) unit: u32,
+    pub(crate) params: Vec<i64>,
+    pub(crate) image: Arc<Image>,
+}
+
+/// Whether the words are the same.
+fn same_words(one: &[i64], other: &[i64]) -> bool
+    ensures { IsTrue result → one.now ≡ other.now }
+{
+    one == other
+}
+
+/// The image that was made of a unit with these words of its parameters, if there is one.
+fn made_of<'a>(made: &'a [Made], unit: u32, params: &[i64]) -> Option<&'a Arc<Image>>
+    ensures { (checked : System) → AreMade checked made.now → IfSome result (λ image. IsCompiled checked unit params.now image.now.value) }
+{
+    for one in made {
+        if one.unit == unit && same_words(&one.params, params) {
+            return Some(&one.image);
+        }
+    }
+    None
+}
+
+/// The image of a unit with words of its parameters. It is made once, and shared by all instances that have the same.
+fn image_for(
+    alloc: Global,
+    checked: &Checked,
+    made: &mut Vec<Made>,
+    unit: u32,
+    params: Vec<i64>,
+) -> Result<Arc<Image>, NoMemory>
+    requires there { IsSome (unit_of_plain_form checked.now unit) }
+    requires one_each { HasParams checked.now unit params.items }
+    requires made { AreMade checked.now made.old.items }
+    ensures image { IfOk result (λ image. IsCompiled checked.now unit params.items image.value) }
+    ensures made { OnOk result (AreMade checked.now made.new.items) }
+{
+    if let Some(image) = made_of(made, unit, &params) {
+        return Arc::clone(image);
+    }
+    let image = Arc::new(alloc, compile(alloc, checked, unit, &params)?)?;
+    let shared = Arc::clone(&image)?;
+    made.push(Made {
+        unit,
+        params,
+        image,
+    })?;
+    Ok(shared)
+}
+
+/// What an instance of a checked system needs, where its unit is declared. `made` has the images that were made before.
 fn fit(
     alloc: Global,
     checked: &Checked,
+    made: &mut Vec<Made>,
     resolution: u8,
     instance: &Instance,
     number: u32,
 ) -> Result<Fitted, NoMemory>
     requires resolution { resolution ≡ resolution_of (plain_form checked.now) }
     requires unit { IsUnitNamed (plain_form checked.now).units instance.now.unit number }
-    ensures { IfOk result (IsFittedFor (plain_form checked.now) instance.now) }
+    requires made { AreMade checked.now made.old.items }
+    ensures fitted { IfOk result (IsFittedFor (plain_form checked.now) instance.now) }
+    ensures made { OnOk result (AreMade checked.now made.new.items) }
 {
     let unit = checked.system().units.get(number as usize).unwrap();
     let params = param_words(alloc, instance.settings.as_slice(), unit.params.as_slice())?;
-    let image = compile(alloc, checked, number, &params)?;
     Ok(Fitted {
-        image: Arc::new(alloc, image)?,
+        image: image_for(alloc, checked, made, number, params)?,
         factor: factor(resolution, unit),
         low: lowest_words(alloc, unit.inputs.as_slice())?,
         high: highest_words(alloc, unit.inputs.as_slice())?,
@@ -145,14 +204,29 @@ pub(crate) fn all_fitted(alloc: Global, checked: &Checked) -> Result<Vec<Fitted>
     let system = checked.system();
     let resolution = resolution(system);
     let mut all = Vec::new(alloc);
+    let mut made = Vec::new(alloc);
     for instance in system.instances.as_slice() {
         if let Some(number) = number_of(system.units.as_slice(), instance.unit.as_slice()) {
             // A system in range has far fewer units.
             let Ok(number) = u32::try_from(number) else {
                 return Err(AllocError);
             };
-            all.push(fit(alloc, checked, resolution, instance, number)?)?;
+            all.push(fit(alloc, checked, &mut made, resolution, instance, number)?)?;
         }
     }
     Ok(all)
+}
+
+/// The numbers of those whose code tells a greatest step, in their order.
+pub(crate) fn limited(alloc: Global, fitted: &[Fitted]) -> Result<Vec<u32>, NoMemory>
+    requires { length fitted.now ≤ 64 }
+    ensures { IfOk result (λ limited. limited.items ≡ places_from 0 (map tells_max fitted.now)) }
+{
+    let mut limited = Vec::new(alloc);
+    for instance in 0..fitted.len() {
+        if fitted[instance].image.code().program().limit.is_some() {
+            limited.push(instance as u32)?;
+        }
+    }
+    Ok(limited)
 }

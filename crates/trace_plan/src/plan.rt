@@ -2,7 +2,7 @@ ghost use Rattle.std.specs.Prelude.{◌≡◌, ◌<◌, ◌≤◌, ◌^◌, leng
 ghost use Rattle.trace_csv.specs.Columns.{columns_of};
 ghost use Rattle.trace_plan.specs.Faults.{IsRightPlanFault};
 ghost use Rattle.trace_plan.specs.Laws.{HasTitles, HasRows};
-ghost use Rattle.trace_plan.specs.Plans.{IsBounded, ForMember, lowest_words, highest_words};
+ghost use Rattle.trace_plan.specs.Plans.{IsBounded, ForMember, lowest_words, highest_words, limited_in};
 ghost use Rattle.unit_exec.specs.Images.{IsImageOf};
 ghost use Rattle.unit_tree.specs.Compositions.{run_of};
 ghost use Rattle.unit_tree.specs.Routes.{IsOrderOf};
@@ -10,7 +10,7 @@ ghost use Rattle.unit_tree.specs.WellFormed.{resolution_of};
 
 use crate::columns::columns;
 use crate::fault::PlanFault;
-use crate::fitting::{Fitted, all_fitted};
+use crate::fitting::{Fitted, all_fitted, limited};
 use crate::numbers::{Numbers, numbers_of};
 use crate::ordering::order_of;
 use std::alloc::Global;
@@ -25,6 +25,8 @@ pub struct Plan {
     checked: Checked,
     order: Order,
     fitted: Vec<Fitted>,
+    /// The instances that set a limit to steps.
+    limited: Vec<u32>,
     columns: Vec<Column>,
     numbers: Numbers,
 }
@@ -59,12 +61,14 @@ impl Plan {
     {
         let order = order_of(alloc, &checked)?;
         let fitted = all_fitted(alloc, &checked)?;
+        let limited = limited(alloc, &fitted)?;
         let columns = columns(alloc, &checked)?;
         let numbers = numbers_of(&checked);
         Ok(Plan {
             checked,
             order,
             fitted,
+            limited,
             columns,
             numbers,
         })
@@ -109,6 +113,13 @@ impl Plan {
         ensures coarsest { result ≤ 10 ^ 9 }
     {
         self.fitted[instance as usize].factor
+    }
+
+    /// The instances whose units set a limit to their steps by `max`, in their order.
+    pub fn limited(&self) -> &[u32]
+        ensures { result.now ≡ limited_in self.now.run }
+    {
+        &self.limited
     }
 
     /// The lowest and the highest words of the types of an instance's inputs, in their order.

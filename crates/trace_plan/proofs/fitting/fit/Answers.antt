@@ -20,14 +20,14 @@ param_words-requires c =
 pub factor-requires : goal.factor-requires
 factor-requires c = plain_low c.args.checked.now c.system.ensures.ranged c.system.ensures.well_formed (plain_form c.args.checked.now) refl c.args.resolution c.requires.resolution
 
-pub returns : goal.returns
-returns c =
+pub returns-clause-fitted : goal.returns-clause-fitted
+returns-clause-fitted c =
     let unit = c.unwrap-unit.result.now in
     let instance = c.args.instance.now in
     let at = unit_at c.args.checked.now c.system.result.now c.args.number unit c.system.ensures.plain (sym c.get.ensures.value ∙ ap option_copied c.unwrap-unit.ensures) in
     let words = c.in_ok-params.ensures ∙ ap (λ params. map (λ (param : Param). start_word param.ty (literal_set c.as_slice.result.now param)) params) c.as_slice-2.ensures ∙ ap (λ settings. map (λ (param : Param). start_word param.ty (literal_set settings param)) unit.params) c.as_slice.ensures in
-    let image = image_of c.args.checked.now c.args.number unit instance.settings c.deref.result.now c.in_ok-image.image at (c.deref.ensures.value ∙ words) c.in_ok-image.ensures in
+    let image = image_of c.args.checked.now c.args.number unit instance.settings c.in_ok-params.params.items c.in_ok-image_for.field-0.value at words c.in_ok-image_for.ensures.image in
     let low = c.in_ok-lowest_words.ensures ∙ ap (map (λ (input : Input). lowest input.ty)) c.as_slice-3.ensures in
     let high = c.in_ok-highest_words.ensures ∙ ap (map (λ (input : Input). highest input.ty)) c.as_slice-4.ensures in
-    fits_for (plain_form c.args.checked.now) instance unit _ (c.requires.unit.is ∙ sym c.requires.unit.at ∙ at) (subst (IsImageOf (component_with instance.settings unit)) (sym c.in_ok-new.ensures.ok) image)
+    fits_for (plain_form c.args.checked.now) instance unit _ (c.requires.unit.is ∙ sym c.requires.unit.at ∙ at) image
     (c.factor.ensures.power ∙ ap (λ r. 10 ^ (r - unwrap_or unit.resolution 0)) c.requires.resolution) c.factor.ensures.least c.factor.ensures.greatest low high
