@@ -1,5 +1,5 @@
 -- What a plan keeps.
-use Rattle.std.specs.Prelude.{◌≡◌, ◌≤◌, ◌^◌}
+use Rattle.std.specs.Prelude.{◌≡◌, ◌≤◌, ◌^◌, map}
 use Rattle.std.specs.List.{AllZip}
 use Rattle.trace_csv.specs.Columns.{columns_of}
 use Rattle.trace_plan.specs.Plans.{Planned, IsBounded, lowest_words, highest_words, limited_in}
@@ -37,6 +37,7 @@ pub record AreNumbersOf (system : System) (run : Composition) (numbers : Numbers
 pub record Keeps (plan : Inside) (run : Composition) : Type 0 where
   pub order : IsOrderOf run plan.order
   pub fitted : AllZip IsFitted run.members plan.fitted.items
+  pub factors : plan.factors.items ≡ map (λ one. one.factor) plan.fitted.items
   pub limited : plan.limited.items ≡ limited_in run
   pub columns : plan.columns.items ≡ columns_of plan.checked
   pub numbers : AreNumbersOf plan.checked run plan.numbers

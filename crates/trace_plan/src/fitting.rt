@@ -230,3 +230,14 @@ pub(crate) fn limited(alloc: Global, fitted: &[Fitted]) -> Result<Vec<u32>, NoMe
     }
     Ok(limited)
 }
+
+/// How many ticks of the system one local tick of each is.
+pub(crate) fn factors(alloc: Global, fitted: &[Fitted]) -> Result<Vec<u64>, NoMemory>
+    ensures { IfOk result (λ factors. factors.items ≡ map (λ one. one.factor) fitted.now) }
+{
+    let mut factors = Vec::with_capacity(alloc, fitted.len())?;
+    for one in fitted {
+        factors.push(one.factor)?;
+    }
+    Ok(factors)
+}

@@ -10,7 +10,7 @@ ghost use Rattle.unit_tree.specs.WellFormed.{resolution_of};
 
 use crate::columns::columns;
 use crate::fault::PlanFault;
-use crate::fitting::{Fitted, all_fitted, limited};
+use crate::fitting::{Fitted, all_fitted, factors, limited};
 use crate::numbers::{Numbers, numbers_of};
 use crate::ordering::order_of;
 use std::alloc::Global;
@@ -25,6 +25,8 @@ pub struct Plan {
     checked: Checked,
     order: Order,
     fitted: Vec<Fitted>,
+    /// The factor of each instance. They stand by themselves too, since a run goes through them at each row.
+    factors: Vec<u64>,
     /// The instances that set a limit to steps.
     limited: Vec<u32>,
     columns: Vec<Column>,
@@ -61,6 +63,7 @@ impl Plan {
     {
         let order = order_of(alloc, &checked)?;
         let fitted = all_fitted(alloc, &checked)?;
+        let factors = factors(alloc, &fitted)?;
         let limited = limited(alloc, &fitted)?;
         let columns = columns(alloc, &checked)?;
         let numbers = numbers_of(&checked);
@@ -68,6 +71,7 @@ impl Plan {
             checked,
             order,
             fitted,
+            factors,
             limited,
             columns,
             numbers,
@@ -112,7 +116,7 @@ impl Plan {
         ensures least { 1 ≤ result }
         ensures coarsest { result ≤ 10 ^ 9 }
     {
-        self.fitted[instance as usize].factor
+        self.factors[instance as usize]
     }
 
     /// The instances whose units set a limit to their steps by `max`, in their order.

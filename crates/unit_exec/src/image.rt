@@ -19,11 +19,11 @@ use unit_vm::{Code, Instruction, Program};
 /// A unit with words of its parameters, as code, and the words with which its states and inputs begin.
 #[derive(Drop)]
 pub struct Image {
+    /// Of each output the slot of the state that it shows and its type, if it does nothing else.
+    shown: Vec<Option<(u32, Ty)>>,
     code: Code,
     start: List<i64>,
     start_inputs: List<i64>,
-    /// Of each output the slot of the state that it shows and its type, if it does nothing else.
-    shown: Vec<Option<(u32, Ty)>>,
 }
 
 impl Model for Image {
@@ -160,10 +160,10 @@ fn image_of(alloc: Global, unit: &Unit, params: &[i64]) -> Result<Image, NoMemor
     let code = valid_code(alloc, &program)?;
     let shown = shown_states(alloc, code.program())?;
     Ok(Image {
+        shown,
         code,
         start: start_states(alloc, unit.states.as_slice())?,
         start_inputs: start_inputs(alloc, unit.inputs.as_slice())?,
-        shown,
     })
 }
 

@@ -17,9 +17,9 @@ use unit_vm::{Entry, Frame};
 #[derive(Drop)]
 pub struct Unit {
     image: Arc<Image>,
-    frame: Frame,
     state: Vec<i64>,
     inputs: Vec<i64>,
+    frame: Frame,
 }
 
 impl Model for Unit {
@@ -42,9 +42,9 @@ impl Unit {
         let inputs = Vec::from_slice(alloc, image.start_inputs())?;
         Ok(Unit {
             image,
-            frame,
             state,
             inputs,
+            frame,
         })
     }
 

@@ -10,12 +10,12 @@ use std::marker::Model;
 /// What a run works in: slots, room for the stacks, and what the last run left.
 #[derive(Drop)]
 pub struct Frame {
-    facts: CodeFacts,
-    pub(crate) cells: Vec<i64>,
-    pub(crate) loops: Vec<u32>,
     pub(crate) slots: Vec<i64>,
+    pub(crate) cells: Vec<i64>,
     pub(crate) accepted: u64,
     pub(crate) result: i64,
+    pub(crate) loops: Vec<u32>,
+    facts: CodeFacts,
 }
 
 impl Model for Frame {
@@ -40,12 +40,12 @@ impl Frame {
         let loops = vec![in alloc; 0u32; facts.loops as usize]?;
         let slots = vec![in alloc; 0i64; facts.slots as usize]?;
         Ok(Frame {
-            facts,
-            cells,
-            loops,
             slots,
+            cells,
             accepted: 0,
             result: 0,
+            loops,
+            facts,
         })
     }
 
