@@ -87,13 +87,15 @@ pub(crate) fn work_out<G: Gets>(
     }
 }
 
-/// The first fault by place, with one more where there is one.
-pub(crate) fn note(first: Option<Faulted>, place: u32, fault: Option<Fault>) -> Option<Faulted>
-    ensures { result ≡ noted first place fault }
+/// Keeps the first fault by place, with one more where there is one.
+pub(crate) fn note(first: &mut Option<Faulted>, place: u32, fault: Option<Fault>)
+    ensures { first.new ≡ noted first.old place fault }
 {
-    match (first, fault) {
-        (first, None) => first,
-        (Some(first), Some(_)) if first.place < place => Some(first),
-        (_, Some(fault)) => Some(Faulted { place, fault }),
+    let Some(fault) = fault else {
+        return;
+    };
+    match first {
+        Some(other) if other.place < place => {}
+        _ => *first = Some(Faulted { place, fault }),
     }
 }

@@ -48,7 +48,7 @@ fn work_out_all<G: Gets>(
     let mut first = None;
     for place in order.places() {
         let fault = work_out(gets, &routes[*place as usize], *place, ports, known);
-        first = note(first, *place, fault);
+        note(&mut first, *place, fault);
     }
     first
 }

@@ -20,10 +20,11 @@ use unit_tree::Column;
 /// The length of kept rows, in bytes, above which a writer of rows begins anew with the next one.
 const KEPT: usize = 16_384;
 
-/// Adds the time and the index of a point. `text` is room for the text of a field.
+/// Adds the time and the index of a point. `text` and `digits` are room for the text of a field.
 fn put_point(
     line: &mut LineWriter,
     text: &mut Vec<u8>,
+    digits: &mut Buffer,
     resolution: u8,
     point: Point,
 ) -> Result<(), NoMemory>
@@ -34,11 +35,17 @@ fn put_point(
     text.clear();
     seconds_text(resolution, point.t, text)?;
     put_field(line, text.as_slice())?;
-    put_field(line, Buffer::new().format(point.n).as_bytes())
+    put_field(line, digits.format(point.n).as_bytes())
 }
 
-/// Adds a word of the type. Integers, which need no room, go by way of the stack.
-fn put_word(line: &mut LineWriter, text: &mut Vec<u8>, ty: Ty, word: i64) -> Result<(), NoMemory>
+/// Adds a word of the type. Integers, which need no memory, go by way of `digits`.
+fn put_word(
+    line: &mut LineWriter,
+    text: &mut Vec<u8>,
+    digits: &mut Buffer,
+    ty: Ty,
+    word: i64,
+) -> Result<(), NoMemory>
     requires is_word { is_word_of ty word ≡ true }
     requires decimals { AreDecimals ty }
     ensures { (before : List ℕ) → (fields : List (List ℕ)) → HasFields (λ v. Some v.items) style.Necessary before line.old fields
@@ -50,7 +57,7 @@ fn put_word(line: &mut LineWriter, text: &mut Vec<u8>, ty: Ty, word: i64) -> Res
             word_text(ty, word, text)?;
             put_field(line, text.as_slice())
         }
-        _ => put_field(line, Buffer::new().format(word).as_bytes()),
+        _ => put_field(line, digits.format(word).as_bytes()),
     }
 }
 
@@ -58,6 +65,7 @@ fn put_word(line: &mut LineWriter, text: &mut Vec<u8>, ty: Ty, word: i64) -> Res
 fn put_column(
     line: &mut LineWriter,
     text: &mut Vec<u8>,
+    digits: &mut Buffer,
     column: Column,
     ports: &[i64],
 ) -> Result<(), NoMemory>
@@ -69,7 +77,7 @@ fn put_column(
     if column.event && ports[place - 1] == 0 {
         return put_field(line, b"");
     }
-    put_word(line, text, column.ty, ports[place])
+    put_word(line, text, digits, column.ty, ports[place])
 }
 
 /// Adds the fields of a row. `text` is room for the text of one field.
@@ -86,9 +94,11 @@ fn put_fields(
     ensures { (before : List ℕ) → HasFields (λ v. Some v.items) style.Necessary before line.old []
         → OnOk result (HasFields (λ v. Some v.items) style.Necessary before line.new (row_fields resolution columns.now point ports.now)) }
 {
-    put_point(line, text, resolution, point)?;
+    // One for all fields, since it is cleared when it is made.
+    let mut digits = Buffer::new();
+    put_point(line, text, &mut digits, resolution, point)?;
     for column in columns {
-        put_column(line, text, *column, ports)?;
+        put_column(line, text, &mut digits, *column, ports)?;
     }
     Ok(())
 }

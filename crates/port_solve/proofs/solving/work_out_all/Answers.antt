@@ -103,7 +103,7 @@ loop-place-preserved g c =
     let fault = rw (inv.system, inv.states) at e.fault in
     record {
       front = front_next run states c.requires.sound c.requires.states places order routes are_routes k within c.loop-place.known c.loop-place.ports (g.G.Gets.inputs c.loop-place.gets) inv.front known_count words_count route route_is _ _ told set;
-      first = rw c.note-first.ensures (first_next run states c.requires.sound c.requires.states places order routes are_routes k within c.loop-place.known c.loop-place.ports (g.G.Gets.inputs c.loop-place.gets) inv.front known_count words_count route route_is c.loop-place.first c.work_out-fault.result inv.first fault);
+      first = rw c.note.ensures (first_next run states c.requires.sound c.requires.states places order routes are_routes k within c.loop-place.known c.loop-place.ports (g.G.Gets.inputs c.loop-place.gets) inv.front known_count words_count route route_is c.loop-place.first c.work_out-fault.result inv.first fault);
       states = e.states ∙ inv.states;
       system = e.system ∙ inv.system;
     }
