@@ -2,8 +2,7 @@ use Rattle.std.proofs.Common.{◌∙◌, ◌^◌, ◌-◌, option_copied, map, u
 use Rattle.std.specs.List.{AllByRecursion}
 use Rattle.fixed_words.specs.Types.{lowest, highest, AreDecimals}
 use Rattle.unit_tree.specs.Components.{start_word}
-use Rattle.unit_tree.specs.Compositions.{literal_set, component_with}
-use Rattle.unit_exec.specs.Images.{IsImageOf}
+use Rattle.unit_tree.specs.Compositions.{literal_set}
 use Rattle.unit_tree.specs.declared.unit.Input.{Input}
 use Rattle.unit_tree.specs.Plain.{plain_form}
 use Rattle.unit_tree.specs.declared.unit.Param.{Param}

@@ -1,4 +1,3 @@
-use Rattle.std.proofs.Common.{◌≡◌, get_or}
 use Rattle.trace_plan.proofs.PlanLaws.{factor_within, factor_at, factor_there}
 use Rattle.trace_plan.proofs.plan.Plan.factor.Goals as goal
 
