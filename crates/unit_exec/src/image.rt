@@ -8,6 +8,7 @@ ghost use Rattle.unit_code.specs.UnitPrograms.{IsCompilable};
 ghost use Rattle.unit_exec.specs.Images.{IsImageOf, unit_of_plain_form, HasParams, IsCompiled};
 ghost use Rattle.unit_tree.specs.declared.unit.Input.{Input};
 ghost use Rattle.unit_tree.specs.declared.unit.State.{State};
+ghost use Rattle.unit_vm.specs.declared.program.Program.{Program};
 
 use fixed_words::{List, Literal, NoMemory, Ty, literal_word};
 use std::alloc::Global;
@@ -19,9 +20,11 @@ use unit_vm::{Code, Instruction, Program};
 /// A unit with words of its parameters, as code, and the words with which its states and inputs begin.
 #[derive(Drop)]
 pub struct Image {
+    /// What `shown` has of the first output, which is the only one of many units: it stands beside the code that a step reads.
+    first_shown: Option<(u32, Ty)>,
+    code: Code,
     /// Of each output the slot of the state that it shows and its type, if it does nothing else.
     shown: Vec<Option<(u32, Ty)>>,
-    code: Code,
     start: List<i64>,
     start_inputs: List<i64>,
 }
@@ -29,13 +32,14 @@ pub struct Image {
 impl Model for Image {
     ghost use Rattle.std.specs.Prelude.{◌≡◌};
     ghost use Rattle.unit_exec.specs.Images.{Compiled, HasStarts};
-    ghost use Rattle.unit_exec.specs.Showing.{ShowStates};
+    ghost use Rattle.std.specs.Prelude.{IfSome};
+    ghost use Rattle.unit_exec.specs.Showing.{Shows, ShowStates};
 
     ghost Value = { Compiled };
 
     ghost view = { λ i. record { program = i.code; start = i.start; start_inputs = i.start_inputs } };
 
-    ghost invariant = { λ i. HasStarts (record { program = i.code; start = i.start; start_inputs = i.start_inputs }) × ShowStates i.code i.shown.items };
+    ghost invariant = { λ i. HasStarts (record { program = i.code; start = i.start; start_inputs = i.start_inputs }) × ShowStates i.code i.shown.items × IfSome i.first_shown (Shows i.code 0) };
 }
 
 impl Image {
@@ -80,6 +84,9 @@ impl Image {
     pub(crate) fn shown(&self, output: u32) -> Option<(u32, Ty)>
         ensures { IfSome result (Shows self.now.program output) }
     {
+        if output == 0 {
+            return self.first_shown;
+        }
         *self.shown.get(output as usize)?
     }
 }
@@ -151,6 +158,13 @@ fn shown_states(alloc: Global, program: &Program) -> Result<Vec<Option<(u32, Ty)
     Ok(shown)
 }
 
+/// What the first output shows.
+fn first_of(shown: &[Option<(u32, Ty)>]) -> Option<(u32, Ty)>
+    ensures { (program : Program) → ShowStates program shown.now → IfSome result (Shows program 0) }
+{
+    *shown.first()?
+}
+
 /// The image of a unit that may be compiled.
 fn image_of(alloc: Global, unit: &Unit, params: &[i64]) -> Result<Image, NoMemory>
     requires { IsCompilable unit.now params.now }
@@ -160,8 +174,9 @@ fn image_of(alloc: Global, unit: &Unit, params: &[i64]) -> Result<Image, NoMemor
     let code = valid_code(alloc, &program)?;
     let shown = shown_states(alloc, code.program())?;
     Ok(Image {
-        shown,
+        first_shown: first_of(&shown),
         code,
+        shown,
         start: start_states(alloc, unit.states.as_slice())?,
         start_inputs: start_inputs(alloc, unit.inputs.as_slice())?,
     })
