@@ -1,4 +1,4 @@
-use Rattle.std.proofs.Common.{◌≡◌, ◌∙◌, sym, refl, option_copied, Some}
+use Rattle.std.proofs.Common.{◌≡◌, sym, Some}
 use Rattle.std.specs.Prelude.{slice_get}
 use Rattle.unit_exec.proofs.ShownStates.{noted_shows}
 use Rattle.unit_exec.proofs.image.first_of.Goals as goal

@@ -28,5 +28,5 @@ invariant_of-result-2 c = (
       (c.in_ok-start_inputs.ensures ∙ ap (map (λ input. start_word input.ty input.start)) c.as_slice-2.ensures),
   subst (λ program. ShowStates program c.in_ok-shown.shown.items) (c.program-2.ensures ∙ sym c.code.view_is) c.in_ok-shown.ensures,
   (let are = subst (λ program. ShowStates program c.in_ok-shown.shown.items) (c.program-2.ensures ∙ sym c.code.view_is) c.in_ok-shown.ensures in
-  c.first_of.ensures c.code.inside.program (subst (ShowStates c.code.inside.program) (sym c.deref.ensures.value) are)),
+      c.first_of.ensures c.code.inside.program (subst (ShowStates c.code.inside.program) (sym c.deref.ensures.value) are)),
 )
