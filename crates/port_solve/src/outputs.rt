@@ -87,7 +87,7 @@ pub(crate) fn work_out<G: Gets>(
     }
 }
 
-/// Keeps the first fault by place, with one more where there is one.
+/// Takes in a fault, where there is one: `first` stays the first by place.
 pub(crate) fn note(first: &mut Option<Faulted>, place: u32, fault: Option<Fault>)
     ensures { first.new ≡ noted first.old place fault }
 {

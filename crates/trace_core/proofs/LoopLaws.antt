@@ -225,7 +225,7 @@ none_told : {A : Type 0} (found : Option A) → is_some found ≡ false → foun
 none_told None is = refl
 none_told (Some one) is = absurd (cc)
 
--- Those from a place on that set a limit are to be asked; the others before the first of these told none.
+-- All before a place were asked, or set no limit. Those that wait are those from there on that set one.
 pub record Asking (t : ℕ) (members : List Member) (told : List (Result (Option ℕ) Fault)) (waiting : List ℕ) (count : ℕ) (limits : List ℕ) : Type 0 where
   pub place : ℕ
   pub within : place ≤ length members

@@ -1,4 +1,4 @@
--- Slots of steps: what a step that was made leaves, and which are not there yet.
+-- Slots of steps: the slot of a step that was made, and of one that wasn't made yet.
 use Rattle.std.specs.Prelude.{ℕ, Bool, true, false, Result, Ok, Err}
 use Rattle.fixed_words.specs.declared.types.Fault.{Fault}
 use Rattle.trace_core.specs.declared.seat.Slot.{Slot}

@@ -223,8 +223,8 @@ impl Run {
         &self.seats[instance as usize].before
     }
 
-    /// Whether a step is wanted of an instance. None is exactly where there is no such instance, the run ended, the instance is
-    /// held, or its step is there.
+    /// Whether a step is wanted of an instance. There is none exactly where there is no such instance, the run ended, the instance
+    /// is held, or its step is there.
     pub fn is_wanted(&self, instance: u32) -> bool
         ensures { IsTrue result ↔ IsWanted self.now instance }
     {
@@ -237,7 +237,7 @@ impl Run {
         }
     }
 
-    /// The step that is wanted of an instance, where one is.
+    /// The step that is wanted of an instance, where one is ([`Run::is_wanted`]).
     pub fn wants(&self, instance: u32) -> Option<Want<'_>>
         ensures exactly { IsSome result ↔ IsWanted self.now instance }
         ensures want { IfSome result (IsWantOf self.now instance) }

@@ -38,7 +38,8 @@ pub(crate) fn begin_all(plan: &Plan, seats: &mut [Seat], t: u64, h: u64)
     }
 }
 
-/// Asks the greatest step of each instance that has one at `t`, and proposes a step. The first fault of a `max` ends the run.
+/// Asks each instance whose unit has a `max` for its greatest step at `t`, and proposes a step. The first fault of a `max` ends the
+/// run.
 pub(crate) fn ask_limits(
     plan: &Plan,
     units: &mut Units,

@@ -30,15 +30,15 @@ lowest_words member = map (λ input. lowest input.ty) member.component.unit.inpu
 abbrev pub highest_words : Member → List ℤ
 highest_words member = map (λ input. highest input.ty) member.component.unit.inputs
 
--- The places of what is so, where the first has this place.
+-- The places, counted from this one, at which a list has `true`.
 abbrev pub places_from : ℕ → List Bool → List ℕ
 places_from place [] = []
 places_from place (so ∷ rest) = if so then place ∷ places_from (suc place) rest else places_from (suc place) rest
 
--- A member sets a limit to its steps.
+-- The unit of a member has a `max`.
 abbrev pub has_max : Member → Bool
 has_max member = is_some member.component.unit.max
 
--- The numbers of the instances that do, in their order.
+-- The numbers of the instances whose units have one, in their order.
 abbrev pub limited_in : Composition → List ℕ
 limited_in run = places_from 0 (map has_max run.members)

@@ -1,5 +1,5 @@
 //! What each instance needs to run.
-ghost use Rattle.std.specs.Prelude.{◌≡◌, ◌≤◌, length, map, IfOk, OnOk, IfSome, IfNone, None, IsSome, IsTrue};
+ghost use Rattle.std.specs.Prelude.{◌≡◌, ◌↔◌, ◌≤◌, length, map, IfOk, OnOk, IfSome, IfNone, None, IsSome, IsTrue};
 ghost use Rattle.std.specs.List.{AllByRecursion, AllZip};
 ghost use Rattle.fixed_words.specs.Types.{lowest, highest, AreDecimals};
 ghost use Rattle.trace_plan.specs.Fitting.{IsUnitNamed, IsFittedFor, AreMade, tells_max};
@@ -128,7 +128,7 @@ pub(crate) struct Made {
 
 /// Whether the words are the same.
 fn same_words(one: &[i64], other: &[i64]) -> bool
-    ensures { IsTrue result → one.now ≡ other.now }
+    ensures { IsTrue result ↔ (one.now ≡ other.now) }
 {
     one == other
 }

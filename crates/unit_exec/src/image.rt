@@ -20,7 +20,7 @@ use unit_vm::{Code, Instruction, Program};
 /// A unit with words of its parameters, as code, and the words with which its states and inputs begin.
 #[derive(Drop)]
 pub struct Image {
-    /// What `shown` has of the first output, which is the only one of many units: it stands beside the code that a step reads.
+    /// What `shown` has of the first output, the only one that many units have. It stands beside the code that a step reads.
     first_shown: Option<(u32, Ty)>,
     code: Code,
     /// Of each output the slot of the state that it shows and its type, if it does nothing else.

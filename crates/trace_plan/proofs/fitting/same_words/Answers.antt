@@ -3,4 +3,4 @@ use Rattle.std.proofs.lemmas.Bool.Decides.{Decides-int_eq}
 use Rattle.trace_plan.proofs.fitting.same_words.Goals as goal
 
 pub returns : goal.returns
-returns c = λ told. (slice_eq-Decides Decides-int_eq _ _ _ c.eq.ensures).0 told
+returns c = slice_eq-Decides Decides-int_eq _ _ _ c.eq.ensures
