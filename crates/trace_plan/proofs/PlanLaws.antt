@@ -33,12 +33,6 @@ module _ (plan : Inside) (keeps : IsPlan plan) (seen : Planned) (is : planned pl
         let beside = zip_at IsFitted seen.run.members plan.fitted.items instance member each member_is in
         subst (IsFitted member) (sym (got ∙ get_or_from_slice_get plan.fitted.items instance beside.other one beside.is)) beside.related
 
-    -- What holds of each, whatever its member is.
-    pub fitted_there : instance < length seen.run.members → (member : Member) × IsFitted member one
-    fitted_there within =
-        let there = at_place seen.run.members instance within in
-        (there.0, fitted_at there.0 there.1)
-
   factors_count : vec_len plan.factors ≡ length seen.run.members
   factors_count =
       let many = ap length keeps.factors ∙ length-map plan.fitted.items (λ (one : Fitted). one.factor) in
