@@ -20,8 +20,6 @@ mod laws;
 mod list;
 mod literals;
 mod operations;
-#[cfg(test)]
-mod tests;
 mod text;
 mod types;
 

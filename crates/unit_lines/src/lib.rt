@@ -12,8 +12,6 @@ mod expressions;
 mod laws;
 mod line_forms;
 mod lines;
-#[cfg(test)]
-mod tests;
 mod versions;
 
 pub use expressions::{expression, tokens_write_one_expression};

@@ -19,8 +19,6 @@ mod expressions;
 mod kinds;
 mod systems;
 mod tables;
-#[cfg(test)]
-mod tests;
 mod units;
 mod uses;
 

@@ -11,8 +11,6 @@
 
 mod joining;
 mod laws;
-#[cfg(test)]
-mod tests;
 
 pub use joining::{choice, joined, turns, when};
 pub use laws::{

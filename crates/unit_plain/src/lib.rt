@@ -9,8 +9,6 @@ mod copies;
 mod expressions;
 mod lines;
 mod systems;
-#[cfg(test)]
-mod tests;
 mod units;
 
 pub use systems::plain_form;

@@ -10,8 +10,6 @@ mod levels;
 mod lines;
 mod printing;
 mod steps;
-#[cfg(test)]
-mod tests;
 mod tokens;
 mod words;
 

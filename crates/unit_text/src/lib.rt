@@ -15,8 +15,6 @@ mod fault;
 mod laws;
 mod numbers;
 mod reading;
-#[cfg(test)]
-mod tests;
 
 pub use fault::TextFault;
 pub use laws::{nesting_is_by_parts, texts_are_answered_once};

@@ -13,8 +13,6 @@
 mod fault;
 mod lines;
 mod scanning;
-#[cfg(test)]
-mod tests;
 
 pub use fault::Unread;
 pub use lines::{cut_line, size};

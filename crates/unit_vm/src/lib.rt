@@ -30,8 +30,6 @@ mod reading;
 mod running;
 mod runs;
 mod superinstruction;
-#[cfg(test)]
-mod tests;
 mod turns;
 mod writing;
 

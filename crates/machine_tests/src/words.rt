@@ -1,8 +1,10 @@
-ghost use Rattle.std.specs.Prelude.{IsTrue};
 ghost use Rattle.std.specs.Bool.{OnTrue};
 ghost use Rattle.fixed_words.specs.Types.{AreDecimals};
 
-use super::*;
+use fixed_words::{
+    Boxed, Fault, List, Literal, LiteralFault, Ty, abs, add, div, fits, fix_div, fix_mul,
+    literal_word, mul, neg, read_literal, rem, scale_down, scale_up, sub, word_text,
+};
 use std::test::Fail;
 
 const LEAST: i64 = i64::MIN;

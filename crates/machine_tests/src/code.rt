@@ -1,7 +1,9 @@
-use crate::{Code, Entry, Frame, check_code, run};
+ghost use Rattle.unit_vm.specs.Valid.{HasFacts};
+
 use fixed_words::{Fault, List, NoMemory};
 use std::alloc::Global;
 use std::test::Fail;
+use unit_vm::{Code, CodeFacts, Entry, Frame, check_code, run};
 
 /// What a step leaves: how it ended, the state and the accepted length.
 #[derive(Clone, Copy, Debug, PartialEq, Eq)]
@@ -28,40 +30,40 @@ fn code_words(alloc: Global, step: &[i64]) -> Result<List<i64>, NoMemory> {
     Ok(words)
 }
 
-/// What the step leaves from state 7 over a length of 10; none where the words are no valid code.
-fn leaves(alloc: Global, step: &[i64]) -> Result<Option<Left>, NoMemory> {
-    let code = match Code::new(alloc, code_words(alloc, step)?)? {
-        Some(code) => code,
-        None => return Ok(None),
-    };
-    let mut frame = Frame::new(alloc, code.facts())?;
-    let slots = frame.slots();
-    if slots.len() == 3 {
-        slots[0] = 7;
-        slots[2] = 10;
-    }
-    let ended = run(&code, Entry::Step, &mut frame);
-    let state = match ended {
-        Ok(()) => frame.slots().first().copied().unwrap_or(0),
-        Err(_) => 0,
-    };
-    let accepted = match ended {
-        Ok(()) => frame.accepted(),
-        Err(_) => 0,
-    };
-    Ok(Some(Left {
-        ended,
-        state,
-        accepted,
-    }))
-}
-
 fn faulted(fault: Fault) -> Left {
     Left {
         ended: Err(fault),
         state: 0,
         accepted: 0,
     }
+}
+
+/// What the step leaves from state 7 over a length of 10.
+fn left_by(code: &Code, frame: &mut Frame) -> Left
+    requires { HasFacts code.now frame.old.facts }
+{
+    let slots = frame.slots();
+    if slots.len() == 3 {
+        slots[0] = 7;
+        slots[2] = 10;
+    }
+    match run(code, Entry::Step, frame) {
+        Ok(()) => Left {
+            ended: Ok(()),
+            state: frame.slots().first().copied().unwrap_or(0),
+            accepted: frame.accepted(),
+        },
+        Err(fault) => faulted(fault),
+    }
+}
+
+/// What the step leaves; none where the words are no valid code.
+fn leaves(alloc: Global, step: &[i64]) -> Result<Option<Left>, NoMemory> {
+    let Some(code) = Code::new(alloc, code_words(alloc, step)?)? else {
+        return Ok(None);
+    };
+    let mut frame = Frame::new(alloc, code.facts())?;
+    Ok(Some(left_by(&code, &mut frame)))
 }
 
 #[test]
@@ -122,66 +124,88 @@ fn unit_words(alloc: Global) -> Result<List<i64>, NoMemory> {
     )
 }
 
-/// What the entry gives for an input, and then what the result is behind a step: the local holds 5 before each run.
-fn gives(alloc: Global, entry: Entry, input: i64) -> Result<Result<(i64, i64), Fault>, Fail> {
-    let code = Code::new(alloc, unit_words(alloc)?)?.ok_or("no valid code")?;
-    if code.program().part(entry).is_none() {
-        return Err("no such entry".into());
-    }
-    let mut frame = Frame::new(alloc, code.facts())?;
+/// What an entry gives, and then what the result is behind a step, if that meets no fault.
+type Given = Result<(i64, Option<i64>), Fault>;
+
+/// What the entry gives for an input, if there is one: the local holds 5 before each run.
+fn given_by(code: &Code, frame: &mut Frame, entry: Entry, input: i64) -> Option<Given>
+    requires { HasFacts code.now frame.old.facts }
+{
+    code.program().part(entry)?;
     let slots = frame.slots();
     if slots.len() == 5 {
         slots[1] = input;
         slots[2] = 5;
     }
-    if let Err(fault) = run(&code, entry, &mut frame) {
-        return Ok(Err(fault));
+    if let Err(fault) = run(code, entry, frame) {
+        return Some(Err(fault));
     }
     let result = frame.result();
-    if run(&code, Entry::Step, &mut frame).is_err() {
-        return Err("the step faults".into());
+    match run(code, Entry::Step, frame) {
+        Ok(()) => Some(Ok((result, Some(frame.result())))),
+        Err(_) => Some(Ok((result, None))),
     }
-    Ok(Ok((result, frame.result())))
+}
+
+/// The same of the unit.
+fn gives(alloc: Global, entry: Entry, input: i64) -> Result<Option<Given>, NoMemory> {
+    let Some(code) = Code::new(alloc, unit_words(alloc)?)? else {
+        return Ok(None);
+    };
+    let mut frame = Frame::new(alloc, code.facts())?;
+    Ok(given_by(&code, &mut frame, entry, input))
 }
 
 #[test]
 fn each_entry_gives_its_result(rt: HostRuntime) -> Result<(), Fail> {
     let table = [
-        (Entry::Output(0), 44, Ok((0, 0))),
-        (Entry::Output(1), 44, Ok((44, 44))),
+        (Entry::Output(0), 44, Ok((0, Some(0)))),
+        (Entry::Output(1), 44, Ok((44, Some(44)))),
         (Entry::Output(1), 256, Err(Fault::Range)),
-        (Entry::Limit, 44, Ok((44, 44))),
+        (Entry::Limit, 44, Ok((44, Some(44)))),
         (Entry::Limit, -1, Err(Fault::Max)),
     ];
     for (entry, input, wanted) in table {
-        assert_eq!(rt; gives(rt.alloc(), entry, input)?, wanted);
+        assert_eq!(rt; gives(rt.alloc(), entry, input)?, Some(wanted));
     }
     Ok(())
 }
 
-#[test]
-fn thirty_nested_clamps_need_61_words(rt: HostRuntime) -> Result<(), Fail> {
-    let mut step = List::new(rt.alloc());
-    for _depth in 0..30 {
+/// The words of a step with so many clamps in each other.
+fn clamps(alloc: Global, depth: u32) -> Result<List<i64>, NoMemory> {
+    let mut step = List::new(alloc);
+    for _depth in 0..depth {
         for word in [0, 1, 0, 0] {
             step.push(word)?;
         }
     }
     step.push(0)?;
     step.push(9)?;
-    for _depth in 0..30 {
+    for _depth in 0..depth {
         step.push(12)?;
         step.push(0)?;
     }
     for word in [2, 6, 33, 0] {
         step.push(word)?;
     }
-    let words = code_words(rt.alloc(), step.as_slice())?;
-    let facts = check_code(rt.alloc(), words.as_slice())?.ok_or("no valid code")?;
-    assert_eq!(rt; facts.stack, 61);
-    assert_eq!(rt; facts.loops, 0);
-    assert_eq!(rt; facts.cost, 93);
-    assert_eq!(rt; facts.slots, 3);
+    Ok(step)
+}
+
+/// The facts of code with this step; none where it is no valid code.
+fn facts_of(alloc: Global, step: &[i64]) -> Result<Option<CodeFacts>, NoMemory> {
+    check_code(alloc, code_words(alloc, step)?.as_slice())
+}
+
+#[test]
+fn thirty_nested_clamps_need_61_words(rt: HostRuntime) -> Result<(), Fail> {
+    let step = clamps(rt.alloc(), 30)?;
+    let facts = CodeFacts {
+        stack: 61,
+        loops: 0,
+        cost: 93,
+        slots: 3,
+    };
+    assert_eq!(rt; facts_of(rt.alloc(), step.as_slice())?, Some(facts));
     assert_eq!(rt; leaves(rt.alloc(), step.as_slice())?, Some(ends_at(1, 10)));
     Ok(())
 }

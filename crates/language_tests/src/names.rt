@@ -1,9 +1,9 @@
-use crate::{
-    Declared, SystemNames, has_equals, presence_cost, presence_is_within, word_cost, word_is_within,
-};
 use fixed_words::{Boxed, List, Literal, NoMemory, Ty};
 use std::alloc::Global;
 use std::test::Fail;
+use unit_names::{
+    Declared, SystemNames, has_equals, presence_cost, presence_is_within, word_cost, word_is_within,
+};
 use unit_tree::{
     EventIn, EventOut, Expr, Input, Instance, Local, Name, Output, Param, PortName, State, System,
     Unit,

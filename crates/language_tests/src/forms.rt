@@ -1,7 +1,7 @@
-use crate::{expression, form_of_line};
 use fixed_words::NoMemory;
 use std::alloc::Global;
 use std::test::Fail;
+use unit_lines::{expression, form_of_line};
 use unit_tokens::{Unread, tokens};
 use unit_tree::{BinOp, Expr, LineForm, UnOp};
 
@@ -104,7 +104,7 @@ fn tree_text(alloc: Global, line: &[u8]) -> Result<String, Fail> {
 
 #[test]
 fn expressions_are_read(rt: HostRuntime) -> Result<(), Fail> {
-    let lines: [(&str, &str); 14] = [
+    let lines: [(&str, &str); 19] = [
         ("a - b - c", " a b - c -"),
         ("-a * b", " a neg b *"),
         ("not a == b", " a b == not"),
@@ -117,6 +117,11 @@ fn expressions_are_read(rt: HostRuntime) -> Result<(), Fail> {
         ("clamp(abs(a), -1, int(b))", " a abs number neg b int clamp"),
         ("present(u) != false", " u present false !="),
         ("if true then absent else u", " true absent u if"),
+        ("a <= b", " a b <="),
+        ("a > b", " a b >"),
+        ("a >= b", " a b >="),
+        ("a mod b", " a b mod"),
+        ("min(a, b)", " a b min"),
         ("9223372036854775807", " greatest"),
         ("9223372036854775808", "?"),
         ("a < b < c", "?"),

@@ -1,6 +1,6 @@
-use crate::{TextFault, read_system};
 use std::alloc::Global;
 use std::test::Fail;
+use unit_text::{TextFault, read_system};
 
 /// The line and the rule by which a text is refused; zeros where it is read.
 fn answer(alloc: Global, text: &[u8]) -> Result<(u32, u8), Fail> {

@@ -1,7 +1,7 @@
-use crate::plain_form;
 use fixed_words::{Boxed, List, Literal, NoMemory, Ty};
 use std::alloc::Global;
 use std::test::Fail;
+use unit_plain::plain_form;
 use unit_tree::{
     EventIn, EventOut, Expr, Input, Instance, Line, Name, Output, PortName, State, System, Unit,
     Wire,
