@@ -20,6 +20,25 @@ fn unit_of<'a>(tables: &'a Tables<'_>, instance: &[u8]) -> Option<&'a Unit>
     Some(unit.unit())
 }
 
+/// The canonical line, counted from 1, that declares the output of a name in the unit of an instance, in the system of the tables;
+/// none where no line does.
+fn declaring_line(
+    tables: &Tables<'_>,
+    instance: &[u8],
+    output: &[u8],
+) -> Result<Option<u32>, NoMemory>
+    ensures { IfOk result (λ line. line ≡ line_of_output tables.now (record { instance = instance.now; port = output.now })) }
+{
+    let Some(unit) = unit_of(tables, instance) else {
+        return Ok(None);
+    };
+    match past_all(Question::Declares { unit, output }, tables) {
+        Ok(_) => Ok(None),
+        Err(Stop::At(line)) => Ok(Some(line)),
+        Err(Stop::Full) => Err(AllocError),
+    }
+}
+
 /// The canonical line, counted from 1, that declares the output of a name in the unit of an instance; none where no line
 /// does. Both are told by their names.
 ///
@@ -33,12 +52,5 @@ pub fn line_of_output(
     ensures { IfOk result (λ line. line ≡ line_of_output system.now (record { instance = instance.now; port = output.now })) }
 {
     let tables = Tables::new(alloc, system)?;
-    let Some(unit) = unit_of(&tables, instance) else {
-        return Ok(None);
-    };
-    match past_all(Question::Declares { unit, output }, &tables) {
-        Ok(_) => Ok(None),
-        Err(Stop::At(line)) => Ok(Some(line)),
-        Err(Stop::Full) => Err(AllocError),
-    }
+    declaring_line(&tables, instance, output)
 }

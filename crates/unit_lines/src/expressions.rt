@@ -172,14 +172,14 @@ fn clamp(alloc: Global, budget: u8, tokens: &[Token]) -> Result<(Expr, Level, &[
 {
     let rest = after_symbol(Symbol::Open, tokens)?;
     let (value, _, rest) = part(alloc, budget, Level::Whole, rest)?;
+    let value = Boxed::new(alloc, value)?;
     let rest = after_symbol(Symbol::Comma, rest)?;
     let (low, _, rest) = part(alloc, budget, Level::Whole, rest)?;
+    let low = Boxed::new(alloc, low)?;
     let rest = after_symbol(Symbol::Comma, rest)?;
     let (high, _, rest) = part(alloc, budget, Level::Whole, rest)?;
-    let rest = after_symbol(Symbol::Close, rest)?;
-    let value = Boxed::new(alloc, value)?;
-    let low = Boxed::new(alloc, low)?;
     let high = Boxed::new(alloc, high)?;
+    let rest = after_symbol(Symbol::Close, rest)?;
     Ok((Expr::Clamp { value, low, high }, Level::Primary, rest))
 }
 
@@ -190,12 +190,12 @@ fn choice(alloc: Global, budget: u8, tokens: &[Token]) -> Result<(Expr, Level, &
     ensures { GivesExpression result (choice_at (deeper budget) tokens.now) }
 {
     let (cond, _, rest) = part(alloc, budget, Level::Whole, tokens)?;
+    let cond = Boxed::new(alloc, cond)?;
     let rest = after_then(rest)?;
     let (yes, _, rest) = part(alloc, budget, Level::Whole, rest)?;
+    let yes = Boxed::new(alloc, yes)?;
     let rest = after_else(rest)?;
     let (no, _, rest) = part(alloc, budget, Level::Whole, rest)?;
-    let cond = Boxed::new(alloc, cond)?;
-    let yes = Boxed::new(alloc, yes)?;
     let no = Boxed::new(alloc, no)?;
     Ok((Expr::Choose { cond, yes, no }, Level::Whole, rest))
 }

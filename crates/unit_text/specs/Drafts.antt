@@ -1,7 +1,9 @@
 -- A system as far as the lines of its text have come, with one line more.
-use Rattle.std.specs.Prelude.{ℕ, List, [], ◌∷◌, ◌++◌, length, Option, Some, None, if◌then◌else◌, nat_lt, option_and_then}
+use Rattle.std.specs.Prelude.{◌≡◌, ⊤, ℕ, Bool, true, false, List, [], ◌∷◌, ◌++◌, length, Option, Some, None, Result, Ok, Err, if◌then◌else◌, nat_lt, option_and_then}
 use Rattle.std.specs.Option.{option_map}
 use Rattle.fixed_words.specs.declared.types.Literal.{Literal}
+use Rattle.unit_tokens.specs.declared.fault.Unread.{Unread}
+use Rattle.unit_tokens.specs.declared.fault.Unread.TheVariants as unread
 use Rattle.unit_tree.specs.Parts.{bare_system, bare_unit}
 use Rattle.unit_tree.specs.declared.expr.Expr.{Expr}
 use Rattle.unit_tree.specs.declared.line.Line.{Line}
@@ -44,6 +46,12 @@ in_step system unit step = record { system = system; block = block.Step unit ste
 abbrev pub in_instance : System → Instance → Draft
 in_instance system instance = record { system = system; block = block.Instance instance }
 
+-- What is put leads to the new value, or is refused exactly where no value is wanted; want of memory says nothing.
+abbrev pub Puts : {A X : Type 0} → Result A Unread → X → Option X → Type 0
+Puts (Ok done) new wanted = wanted ≡ Some new
+Puts (Err unread.NoForm) new wanted = wanted ≡ None
+Puts (Err unread.NoMemory) new wanted = ⊤
+
 -- What may be said once: it is said where nothing was.
 abbrev pub once : {A B : Type 0} → Option A → B → Option B
 once (Some said) now = None
@@ -72,16 +80,24 @@ with_sample system port = record system { samples = system.samples ++ (port ∷ 
 abbrev pub bare_instance : List ℕ → List ℕ → Instance
 bare_instance name unit = record { name = name; unit = unit; settings = [] }
 
+-- With a limit, each of which may be told once.
+abbrev pub limit_form : System → LineForm → Option System
+limit_form system (form.Stop seconds) = with_stop system seconds
+limit_form system (form.Longest seconds) = with_longest system seconds
+limit_form system (form.Zero count) = with_zero system count
+limit_form system (form.Rows count) = with_rows system count
+limit_form system _ = None
+
+-- With a line that opens no block.
+abbrev pub single_form : System → LineForm → Option System
+single_form system (form.Connect wire) = Some (with_wire system wire)
+single_form system (form.Sample port) = Some (with_sample system port)
+single_form system some = limit_form system some
+
 abbrev pub top_form : System → LineForm → Option Draft
 top_form system (form.Unit name) = Some (in_unit system (bare_unit name))
 top_form system (form.Instance name unit) = Some (in_instance system (bare_instance name unit))
-top_form system (form.Connect wire) = Some (at_top (with_wire system wire))
-top_form system (form.Stop seconds) = option_map at_top (with_stop system seconds)
-top_form system (form.Longest seconds) = option_map at_top (with_longest system seconds)
-top_form system (form.Zero count) = option_map at_top (with_zero system count)
-top_form system (form.Rows count) = option_map at_top (with_rows system count)
-top_form system (form.Sample port) = Some (at_top (with_sample system port))
-top_form system _ = None
+top_form system some = option_map at_top (single_form system some)
 
 -- ---- In a unit
 
@@ -147,10 +163,14 @@ with_setting instance setting = record instance { settings = instance.settings +
 abbrev pub with_instance : System → Instance → Draft
 with_instance system instance = at_top (record system { instances = system.instances ++ (instance ∷ []) })
 
+-- With a setting.
+abbrev pub setting_form : Instance → LineForm → Option Instance
+setting_form instance (form.Setting setting) = Some (with_setting instance setting)
+setting_form instance _ = None
+
 abbrev pub instance_form : System → Instance → LineForm → Option Draft
-instance_form system instance (form.Setting setting) = Some (in_instance system (with_setting instance setting))
 instance_form system instance form.End = Some (with_instance system instance)
-instance_form system instance _ = None
+instance_form system instance some = option_map (in_instance system) (setting_form instance some)
 
 -- ---- In steps
 
@@ -215,10 +235,14 @@ form_in system (block.Instance instance) some = instance_form system instance so
 abbrev pub with_form : Draft → LineForm → Option Draft
 with_form draft some = form_in draft.system draft.block some
 
+-- Whether no block is open.
+abbrev pub is_top : OpenBlock → Bool
+is_top block.Top = true
+is_top _ = false
+
 -- The system, where no block is open.
 abbrev pub whole_by : System → OpenBlock → Option System
-whole_by system block.Top = Some system
-whole_by system _ = None
+whole_by system block = if is_top block then Some system else None
 
 abbrev pub whole_system : Draft → Option System
 whole_system draft = whole_by draft.system draft.block

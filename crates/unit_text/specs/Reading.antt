@@ -43,6 +43,11 @@ pub record IsHeadless (line : List ℕ) (rule : ℕ) : Type 0 where
   pub no_header : (version : ℕ) → some ≡ form.Header version → ⊥
   pub rule_is : rule ≡ headless_rule some
 
+-- A header tells its version, and any other form the rule that a first line of this form breaks.
+abbrev pub TellsVersion : LineForm → Result ℕ ℕ → Type 0
+TellsVersion some (Ok version) = some ≡ form.Header version
+TellsVersion some (Err rule) = ((version : ℕ) → some ≡ form.Header version → ⊥) × (rule ≡ headless_rule some)
+
 -- Such a line gives the version, or breaks a rule.
 abbrev pub FirstGives : List ℕ → Result ℕ ℕ → Type 0
 FirstGives line (Ok version) = HasForm (form.Header version) line

@@ -1,8 +1,9 @@
 //! A system as far as the lines of its text have come.
 ghost use Rattle.std.specs.Prelude.{◌≡◌, Some};
 ghost use Rattle.unit_tokens.specs.Scanning.{Gives};
+ghost use Rattle.unit_tokens.specs.declared.fault.Unread.TheVariants.{NoForm};
 ghost use Rattle.unit_tree.specs.Parts.{bare_unit};
-ghost use Rattle.unit_text.specs.Drafts.{bare_draft, at_top, in_unit, in_step, in_instance, bare_instance, with_wire, with_stop, with_longest, with_zero, with_rows, with_sample, with_resolution, with_param, with_state, with_local, with_input, with_event_in, with_output, with_event_out, with_max, with_step, with_unit, with_setting, with_instance, headed, with_form, top_form, declared_form, unit_form, and_line, in_block, turned, ended, line_in_step, step_form, instance_form, split_last, whole_system};
+ghost use Rattle.unit_text.specs.Drafts.{bare_draft, at_top, in_unit, in_step, in_instance, bare_instance, with_wire, with_stop, with_longest, with_zero, with_rows, with_sample, with_resolution, with_param, with_state, with_local, with_input, with_event_in, with_output, with_event_out, with_max, with_step, with_unit, with_setting, with_instance, headed, with_form, top_form, declared_form, unit_form, and_line, in_block, turned, ended, line_in_step, step_form, instance_form, split_last, whole_system, is_top, limit_form, single_form, setting_form, Puts};
 
 use fixed_words::{List, Literal};
 use std::alloc::Global;
@@ -16,7 +17,7 @@ use unit_tree::{
 const DEEPEST_BLOCK: usize = 16;
 
 /// What a block of step lines began with.
-#[derive(Debug, Drop)]
+#[derive(Drop)]
 pub enum Head {
     /// `if cond`
     Then(Expr),
@@ -27,7 +28,7 @@ pub enum Head {
 }
 
 /// An open block of step lines that another one stands in.
-#[derive(Debug, Drop)]
+#[derive(Drop)]
 pub struct Around {
     /// The lines before it in the block around it.
     pub before: List<Line>,
@@ -35,7 +36,7 @@ pub struct Around {
 }
 
 /// A step so far.
-#[derive(Debug, Drop)]
+#[derive(Drop)]
 pub struct StepSoFar {
     /// The lines of its innermost block.
     pub lines: List<Line>,
@@ -44,7 +45,7 @@ pub struct StepSoFar {
 }
 
 /// The block that is open, with what it holds so far.
-#[derive(Debug, Drop)]
+#[derive(Drop)]
 pub enum OpenBlock {
     Top,
     Unit(Unit),
@@ -52,8 +53,17 @@ pub enum OpenBlock {
     Instance(Instance),
 }
 
+impl OpenBlock {
+    /// Whether no block is open.
+    fn is_top(&self) -> bool
+        ensures { result ≡ is_top self.now }
+    {
+        matches!(self, OpenBlock::Top)
+    }
+}
+
 /// The parts of a text that are whole, as the system that they say, and the block that is open behind them.
-#[derive(Debug, Drop)]
+#[derive(Drop)]
 pub struct Draft {
     pub system: System,
     pub block: OpenBlock,
@@ -98,10 +108,7 @@ impl Draft {
         ensures { result ≡ whole_system self }
     {
         let Draft { system, block } = self;
-        match block {
-            OpenBlock::Top => Some(system),
-            _ => None,
-        }
+        if block.is_top() { Some(system) } else { None }
     }
 }
 
@@ -151,64 +158,79 @@ fn in_unit(system: System, unit: Unit) -> Draft
     }
 }
 
-/// With a connection more.
-fn with_wire(mut system: System, wire: Wire) -> Result<System, Unread>
-    ensures { Gives result (Some (with_wire system wire)) }
+/// Drops a form, as nothing else of this crate does with one that owns something. To check the drop of a value of so many variants
+/// takes a minute wherever it stands: so each arm of a `match` on a form moves it here, or moves what it holds.
+pub(crate) fn drop_form(_form: LineForm) {}
+
+/// Drops a draft, for the same reason.
+pub(crate) fn drop_draft(_draft: Draft) {}
+
+/// What is told of a line that may not stand where it does.
+fn misplaced(form: LineForm) -> Unread
+    ensures { result ≡ NoForm }
 {
-    system.wires.push(wire)?;
-    Ok(system)
+    drop_form(form);
+    Unread::NoForm
 }
 
-/// With where the run ends, which may be told once.
-fn with_stop(mut system: System, seconds: Literal) -> Result<System, Unread>
-    ensures { Gives result (with_stop system seconds) }
+/// Puts a connection behind the others.
+fn put_wire(system: &mut System, wire: Wire) -> Result<(), Unread>
+    ensures { Puts result system.new (Some (with_wire system.old wire)) }
+{
+    system.wires.push(wire)?;
+    Ok(())
+}
+
+/// Puts where the run ends, which may be told once.
+fn put_stop(system: &mut System, seconds: Literal) -> Result<(), Unread>
+    ensures { Puts result system.new (with_stop system.old seconds) }
 {
     if system.stop.is_some() {
         return Err(Unread::NoForm);
     }
     system.stop = Some(seconds);
-    Ok(system)
+    Ok(())
 }
 
-/// With the longest step, which may be told once.
-fn with_longest(mut system: System, seconds: Literal) -> Result<System, Unread>
-    ensures { Gives result (with_longest system seconds) }
+/// Puts the longest step, which may be told once.
+fn put_longest(system: &mut System, seconds: Literal) -> Result<(), Unread>
+    ensures { Puts result system.new (with_longest system.old seconds) }
 {
     if system.longest.is_some() {
         return Err(Unread::NoForm);
     }
     system.longest = Some(seconds);
-    Ok(system)
+    Ok(())
 }
 
-/// With the budget of steps of length zero, which may be told once.
-fn with_zero(mut system: System, count: u32) -> Result<System, Unread>
-    ensures { Gives result (with_zero system count) }
+/// Puts the budget of steps of length zero, which may be told once.
+fn put_zero(system: &mut System, count: u32) -> Result<(), Unread>
+    ensures { Puts result system.new (with_zero system.old count) }
 {
     if system.zero.is_some() {
         return Err(Unread::NoForm);
     }
     system.zero = Some(count);
-    Ok(system)
+    Ok(())
 }
 
-/// With the budget of rows, which may be told once.
-fn with_rows(mut system: System, count: u32) -> Result<System, Unread>
-    ensures { Gives result (with_rows system count) }
+/// Puts the budget of rows, which may be told once.
+fn put_rows(system: &mut System, count: u32) -> Result<(), Unread>
+    ensures { Puts result system.new (with_rows system.old count) }
 {
     if system.rows.is_some() {
         return Err(Unread::NoForm);
     }
     system.rows = Some(count);
-    Ok(system)
+    Ok(())
 }
 
-/// With a port that is sampled more.
-fn with_sample(mut system: System, port: PortName) -> Result<System, Unread>
-    ensures { Gives result (Some (with_sample system port)) }
+/// Puts a port that is sampled behind the others.
+fn put_sample(system: &mut System, port: PortName) -> Result<(), Unread>
+    ensures { Puts result system.new (Some (with_sample system.old port)) }
 {
     system.samples.push(port)?;
-    Ok(system)
+    Ok(())
 }
 
 /// An instance without settings.
@@ -222,8 +244,41 @@ fn bare_instance(alloc: Global, name: Name, unit: Name) -> Instance
     }
 }
 
+/// Puts a limit, each of which may be told once.
+fn put_limit(system: &mut System, form: &LineForm) -> Result<(), Unread>
+    ensures { Puts result system.new (limit_form system.old form.now) }
+{
+    match form {
+        LineForm::Stop(seconds) => put_stop(system, *seconds),
+        LineForm::Longest(seconds) => put_longest(system, *seconds),
+        LineForm::Zero(count) => put_zero(system, *count),
+        LineForm::Rows(count) => put_rows(system, *count),
+        _ => Err(Unread::NoForm),
+    }
+}
+
+/// The same, of an owned form.
+fn take_limit(system: &mut System, form: LineForm) -> Result<(), Unread>
+    ensures { Puts result system.new (limit_form system.old form) }
+{
+    let put = put_limit(system, &form);
+    drop_form(form);
+    put
+}
+
+/// Puts a line outside blocks that opens none.
+fn put_at_top(system: &mut System, form: LineForm) -> Result<(), Unread>
+    ensures { Puts result system.new (single_form system.old form) }
+{
+    match form {
+        LineForm::Connect(wire) => put_wire(system, wire),
+        LineForm::Sample(port) => put_sample(system, port),
+        _ => take_limit(system, form),
+    }
+}
+
 /// A line outside blocks.
-fn top_form(alloc: Global, system: System, form: LineForm) -> Result<Draft, Unread>
+fn top_form(alloc: Global, mut system: System, form: LineForm) -> Result<Draft, Unread>
     ensures { Gives result (top_form system form) }
 {
     match form {
@@ -231,109 +286,106 @@ fn top_form(alloc: Global, system: System, form: LineForm) -> Result<Draft, Unre
         LineForm::Instance { name, unit } => {
             Ok(in_instance(system, bare_instance(alloc, name, unit)))
         }
-        LineForm::Connect(wire) => Ok(at_top(with_wire(system, wire)?)),
-        LineForm::Stop(seconds) => Ok(at_top(with_stop(system, seconds)?)),
-        LineForm::Longest(seconds) => Ok(at_top(with_longest(system, seconds)?)),
-        LineForm::Zero(count) => Ok(at_top(with_zero(system, count)?)),
-        LineForm::Rows(count) => Ok(at_top(with_rows(system, count)?)),
-        LineForm::Sample(port) => Ok(at_top(with_sample(system, port)?)),
-        _ => Err(Unread::NoForm),
+        _ => {
+            put_at_top(&mut system, form)?;
+            Ok(at_top(system))
+        }
     }
 }
 
-/// With its resolution, which may be told once.
-fn with_resolution(mut unit: Unit, decimals: u8) -> Result<Unit, Unread>
-    ensures { Gives result (with_resolution unit decimals) }
+/// Puts a unit's resolution, which may be told once.
+fn put_resolution(unit: &mut Unit, decimals: u8) -> Result<(), Unread>
+    ensures { Puts result unit.new (with_resolution unit.old decimals) }
 {
     if unit.resolution.is_some() {
         return Err(Unread::NoForm);
     }
     unit.resolution = Some(decimals);
-    Ok(unit)
+    Ok(())
 }
 
-/// With a parameter more.
-fn with_param(mut unit: Unit, param: Param) -> Result<Unit, Unread>
-    ensures { Gives result (Some (with_param unit param)) }
+/// Puts a parameter behind the others.
+fn put_param(unit: &mut Unit, param: Param) -> Result<(), Unread>
+    ensures { Puts result unit.new (Some (with_param unit.old param)) }
 {
     unit.params.push(param)?;
-    Ok(unit)
+    Ok(())
 }
 
-/// With a state more.
-fn with_state(mut unit: Unit, state: State) -> Result<Unit, Unread>
-    ensures { Gives result (Some (with_state unit state)) }
+/// Puts a state behind the others.
+fn put_state(unit: &mut Unit, state: State) -> Result<(), Unread>
+    ensures { Puts result unit.new (Some (with_state unit.old state)) }
 {
     unit.states.push(state)?;
-    Ok(unit)
+    Ok(())
 }
 
-/// With a local more.
-fn with_local(mut unit: Unit, local: Local) -> Result<Unit, Unread>
-    ensures { Gives result (Some (with_local unit local)) }
+/// Puts a local behind the others.
+fn put_local(unit: &mut Unit, local: Local) -> Result<(), Unread>
+    ensures { Puts result unit.new (Some (with_local unit.old local)) }
 {
     unit.locals.push(local)?;
-    Ok(unit)
+    Ok(())
 }
 
-/// With an input more.
-fn with_input(mut unit: Unit, input: Input) -> Result<Unit, Unread>
-    ensures { Gives result (Some (with_input unit input)) }
+/// Puts an input behind the others.
+fn put_input(unit: &mut Unit, input: Input) -> Result<(), Unread>
+    ensures { Puts result unit.new (Some (with_input unit.old input)) }
 {
     unit.inputs.push(input)?;
-    Ok(unit)
+    Ok(())
 }
 
-/// With an event input more.
-fn with_event_in(mut unit: Unit, event: EventIn) -> Result<Unit, Unread>
-    ensures { Gives result (Some (with_event_in unit event)) }
+/// Puts an event input behind the others.
+fn put_event_in(unit: &mut Unit, event: EventIn) -> Result<(), Unread>
+    ensures { Puts result unit.new (Some (with_event_in unit.old event)) }
 {
     unit.events_in.push(event)?;
-    Ok(unit)
+    Ok(())
 }
 
-/// With an output more.
-fn with_output(mut unit: Unit, output: Output) -> Result<Unit, Unread>
-    ensures { Gives result (Some (with_output unit output)) }
+/// Puts an output behind the others.
+fn put_output(unit: &mut Unit, output: Output) -> Result<(), Unread>
+    ensures { Puts result unit.new (Some (with_output unit.old output)) }
 {
     unit.outputs.push(output)?;
-    Ok(unit)
+    Ok(())
 }
 
-/// With an event output more.
-fn with_event_out(mut unit: Unit, event: EventOut) -> Result<Unit, Unread>
-    ensures { Gives result (Some (with_event_out unit event)) }
+/// Puts an event output behind the others.
+fn put_event_out(unit: &mut Unit, event: EventOut) -> Result<(), Unread>
+    ensures { Puts result unit.new (Some (with_event_out unit.old event)) }
 {
     unit.events_out.push(event)?;
-    Ok(unit)
+    Ok(())
 }
 
-/// With its greatest step, which may be told once.
-fn with_max(mut unit: Unit, value: Expr) -> Result<Unit, Unread>
-    ensures { Gives result (with_max unit value) }
+/// Puts a unit's greatest step, which may be told once.
+fn put_max(unit: &mut Unit, value: Expr) -> Result<(), Unread>
+    ensures { Puts result unit.new (with_max unit.old value) }
 {
     if unit.max.is_some() {
         return Err(Unread::NoForm);
     }
     unit.max = Some(value);
-    Ok(unit)
+    Ok(())
 }
 
-/// A declaration, or another line that a unit says of itself.
-fn declared_form(unit: Unit, form: LineForm) -> Result<Unit, Unread>
-    ensures { Gives result (declared_form unit form) }
+/// Puts a declaration, or another line that a unit says of itself.
+fn put_declared(unit: &mut Unit, form: LineForm) -> Result<(), Unread>
+    ensures { Puts result unit.new (declared_form unit.old form) }
 {
     match form {
-        LineForm::Resolution(decimals) => with_resolution(unit, decimals),
-        LineForm::Param(param) => with_param(unit, param),
-        LineForm::State(state) => with_state(unit, state),
-        LineForm::Local(local) => with_local(unit, local),
-        LineForm::Input(input) => with_input(unit, input),
-        LineForm::EventInput(event) => with_event_in(unit, event),
-        LineForm::Output(output) => with_output(unit, output),
-        LineForm::EventOutput(event) => with_event_out(unit, event),
-        LineForm::Max(value) => with_max(unit, value),
-        _ => Err(Unread::NoForm),
+        LineForm::Resolution(decimals) => put_resolution(unit, decimals),
+        LineForm::Param(param) => put_param(unit, param),
+        LineForm::State(state) => put_state(unit, state),
+        LineForm::Local(local) => put_local(unit, local),
+        LineForm::Input(input) => put_input(unit, input),
+        LineForm::EventInput(event) => put_event_in(unit, event),
+        LineForm::Output(output) => put_output(unit, output),
+        LineForm::EventOutput(event) => put_event_out(unit, event),
+        LineForm::Max(value) => put_max(unit, value),
+        _ => Err(misplaced(form)),
     }
 }
 
@@ -360,13 +412,16 @@ fn with_unit(mut system: System, unit: Unit) -> Result<Draft, Unread>
 }
 
 /// A line in a unit.
-fn unit_form(alloc: Global, system: System, unit: Unit, form: LineForm) -> Result<Draft, Unread>
+fn unit_form(alloc: Global, system: System, mut unit: Unit, form: LineForm) -> Result<Draft, Unread>
     ensures { Gives result (unit_form system unit form) }
 {
     match form {
         LineForm::Step => with_step(alloc, system, unit),
         LineForm::End => with_unit(system, unit),
-        _ => Ok(in_unit(system, declared_form(unit, form)?)),
+        _ => {
+            put_declared(&mut unit, form)?;
+            Ok(in_unit(system, unit))
+        }
     }
 }
 
@@ -482,7 +537,7 @@ fn line_in_step(alloc: Global, step: StepSoFar, form: LineForm) -> Result<StepSo
         LineForm::If(cond) => in_block(alloc, step, Head::Then(cond)),
         LineForm::Repeat(count) => in_block(alloc, step, Head::Times(count)),
         LineForm::Else => turned(alloc, step),
-        _ => Err(Unread::NoForm),
+        _ => Err(misplaced(form)),
     }
 }
 
@@ -502,12 +557,22 @@ fn step_form(
     }
 }
 
-/// With a setting more.
-fn with_setting(mut instance: Instance, setting: Setting) -> Result<Instance, Unread>
-    ensures { Gives result (Some (with_setting instance setting)) }
+/// Puts a setting behind the others.
+fn put_setting(instance: &mut Instance, setting: Setting) -> Result<(), Unread>
+    ensures { Puts result instance.new (Some (with_setting instance.old setting)) }
 {
     instance.settings.push(setting)?;
-    Ok(instance)
+    Ok(())
+}
+
+/// Puts a line in an instance that does not end it.
+fn put_in_instance(instance: &mut Instance, form: LineForm) -> Result<(), Unread>
+    ensures { Puts result instance.new (setting_form instance.old form) }
+{
+    match form {
+        LineForm::Setting(setting) => put_setting(instance, setting),
+        _ => Err(misplaced(form)),
+    }
 }
 
 /// An instance is whole.
@@ -519,12 +584,14 @@ fn with_instance(mut system: System, instance: Instance) -> Result<Draft, Unread
 }
 
 /// A line in an instance.
-fn instance_form(system: System, instance: Instance, form: LineForm) -> Result<Draft, Unread>
+fn instance_form(system: System, mut instance: Instance, form: LineForm) -> Result<Draft, Unread>
     ensures { Gives result (instance_form system instance form) }
 {
     match form {
-        LineForm::Setting(setting) => Ok(in_instance(system, with_setting(instance, setting)?)),
         LineForm::End => with_instance(system, instance),
-        _ => Err(Unread::NoForm),
+        _ => {
+            put_in_instance(&mut instance, form)?;
+            Ok(in_instance(system, instance))
+        }
     }
 }

@@ -1,15 +1,14 @@
 //! Reading of a text, along its lines.
-ghost use Rattle.std.specs.Prelude.{◌≡◌, ◌<◌, ◌≤◌, length, true, false, IfOk};
+ghost use Rattle.std.specs.Prelude.{◌≡◌, ◌≤◌, true, false, IfOk};
 ghost use Rattle.std.specs.List.{list_all};
 ghost use Rattle.unit_tree.specs.Blocks.{no_lines, may_stand};
 ghost use Rattle.unit_tree.specs.Lines.{source_lines, size_of, is_blank_line};
 ghost use Rattle.unit_tree.specs.Printable.{IsPrintable};
 ghost use Rattle.unit_tree.specs.Texts.{text_limit};
 ghost use Rattle.unit_tokens.specs.Scanning.{Gives, ReadsAs};
-ghost use Rattle.unit_lines.specs.Seen.{TellsOf};
-ghost use Rattle.unit_text.specs.Reading.{IsWritten, headless_rule, FirstGives, IsFormOf, FormIn, and_group, LineGives, WholeGives, fault_at, AnswersAt, blank_rule, HeaderGives, AnswersText};
+ghost use Rattle.unit_text.specs.Reading.{IsWritten, headless_rule, TellsVersion, FirstGives, IsFormOf, FormIn, and_group, LineGives, WholeGives, fault_at, AnswersAt, blank_rule, HeaderGives, AnswersText};
 
-use crate::draft::Draft;
+use crate::draft::{Draft, drop_draft, drop_form};
 use crate::fault::TextFault;
 use crate::numbers::{Group, Mark, Place, note, numbers_in_order};
 use fixed_words::List;
@@ -70,18 +69,39 @@ fn headless_rule(form: &LineForm) -> u8
     }
 }
 
+/// The version that the form of a header gives, or the rule that a first line of another form breaks.
+fn version_told(form: &LineForm) -> Result<u8, u8>
+    ensures { TellsVersion form.now result }
+{
+    match form {
+        LineForm::Header(version) => Ok(*version),
+        other => Err(headless_rule(other)),
+    }
+}
+
+/// The same, of an owned form.
+fn version_in(form: LineForm) -> Result<u8, u8>
+    ensures { TellsVersion form result }
+{
+    let told = version_told(&form);
+    drop_form(form);
+    told
+}
+
 /// The version that the first line gives which is not blank.
 fn version_of(alloc: Global, line: &[u8], number: u32) -> Result<u8, TextFault>
     requires { IsWritten line.now }
     ensures { AnswersAt number (FirstGives line.now) result }
 {
-    let rule = match form_of_line(alloc, line) {
-        Ok(LineForm::Header(version)) => return Ok(version),
-        Ok(form) => headless_rule(&form),
-        Err(Unread::NoForm) => FORM_RULE,
+    let told = match form_of_line(alloc, line) {
+        Ok(form) => version_in(form),
+        Err(Unread::NoForm) => Err(FORM_RULE),
         Err(Unread::NoMemory) => return Err(TextFault::NoMemory),
     };
-    Err(TextFault::Line { line: number, rule })
+    match told {
+        Ok(version) => Ok(version),
+        Err(rule) => Err(TextFault::Line { line: number, rule }),
+    }
 }
 
 /// Whether a text of the version has the form.
@@ -104,6 +124,7 @@ fn form_in(alloc: Global, line: &[u8], version: u8) -> Result<LineForm, Unread>
     if is_form_of(version, &form) {
         Ok(form)
     } else {
+        drop_form(form);
         Err(Unread::NoForm)
     }
 }
@@ -147,7 +168,10 @@ fn with_written(
 {
     let form = match form_in(alloc, line, draft.system.version) {
         Ok(form) => form,
-        Err(unread) => return Err(at_line(unread, number, FORM_RULE)),
+        Err(unread) => {
+            drop_draft(draft);
+            return Err(at_line(unread, number, FORM_RULE));
+        }
     };
     match and_group(alloc, draft, form) {
         Ok(next) => Ok(next),
@@ -165,7 +189,10 @@ fn with_line(
     ensures { AnswersAt number (LineGives draft line.now) result }
 {
     match look_at(line) {
-        Seen::Broken(rule) => Err(TextFault::Line { line: number, rule }),
+        Seen::Broken(rule) => {
+            drop_draft(draft);
+            Err(TextFault::Line { line: number, rule })
+        }
         Seen::Blank => Ok((draft, None)),
         Seen::Written => with_written(alloc, draft, line, number),
     }
