@@ -34,6 +34,26 @@ fn repeat(code: &Code, frame: &mut Frame, rounds: u64)
     }
 }
 
+/// Makes so many steps. The answer has the nanoseconds that they took, and the state that they lead to.
+fn timed(rt: &HostRuntime, code: &Code, frame: &mut Frame, rounds: u64) -> io::Result<(u128, i64)>
+    requires { HasFacts code.now frame.old.facts }
+{
+    let start = Instant::now(rt)?;
+    repeat(code, frame, rounds);
+    let nanoseconds = start.elapsed(rt)?.as_nanos();
+    Ok((nanoseconds, frame.slots().first().copied().unwrap_or(0)))
+}
+
+/// The same of the code above; none where its words are not valid code.
+fn measured(rt: &HostRuntime, rounds: u64) -> io::Result<Option<(u128, i64)>> {
+    let words = List::from_slice(rt.alloc(), &WORDS)?;
+    let Some(code) = Code::new(rt.alloc(), words)? else {
+        return Ok(None);
+    };
+    let mut frame = Frame::new(rt.alloc(), code.facts())?;
+    timed(rt, &code, &mut frame, rounds).map(Some)
+}
+
 fn main(rt: HostRuntime) -> io::Result<()> {
     let mut told = None;
     for (position, word) in env::args(&rt)?.enumerate() {
@@ -45,16 +65,9 @@ fn main(rt: HostRuntime) -> io::Result<()> {
         }
     }
     let rounds: u64 = told.unwrap_or(10);
-    let words = List::from_slice(rt.alloc(), &WORDS)?;
-    let code = match Code::new(rt.alloc(), words)? {
-        Some(code) => code,
-        None => return println!(rt; "the words are not valid code"),
+    let Some((nanoseconds, state)) = measured(&rt, rounds)? else {
+        return println!(rt; "the words are not valid code");
     };
-    let mut frame = Frame::new(rt.alloc(), code.facts())?;
-    let start = Instant::now(&rt)?;
-    repeat(&code, &mut frame, rounds);
-    let nanoseconds = start.elapsed(&rt)?.as_nanos();
-    let state = frame.slots().first().copied().unwrap_or(0);
     if told.is_some() && rounds > 0 {
         let picoseconds = nanoseconds.saturating_mul(1_000)
             / u128::from(rounds)
