@@ -2,13 +2,13 @@
 use Rattle.std.proofs.Common.{◌≡◌, ℕ, ◌⊎◌, Bool, true, false, List, [], ◌∷◌, Some, refl, sym, ap, subst, ◌∙◌, inl, inr, arith}
 use Rattle.std.specs.Prelude.{codes}
 use Rattle.std.specs.Str.{bytes_eq}
-use Rattle.unit_accept.specs.Accepting.{IsAcceptedAs, IsRefusedAt, source_line}
-use Rattle.unit_accept.proofs.Acceptance.{judged_once, has_source}
+use Rattle.text_accept.specs.Accepting.{IsAcceptedAs, IsRefusedAt, source_line}
+use Rattle.text_accept.proofs.Acceptance.{judged_once, has_source}
 use Rattle.unit_tree.specs.Trace.{IsTraceOf}
 use Rattle.unit_tree.specs.declared.ending.Ending.{Ending}
 use Rattle.unit_tree.specs.declared.ending.Ending.TheVariants.{Completed, RowBudget, ZeroBudget, UnitFault, StepRefused}
 use Rattle.unit_tree.specs.declared.system.System.{System}
-use Rattle.unit_tree.proofs.EventLaws.{one_or_two}
+use Rattle.run_laws.proofs.EventLaws.{one_or_two}
 use Rattle.cosim_app.specs.Answer.{Answer, AnswersRun, IsOfUnservedVersion, Serves, RefusedBy, CommandAnswers, run_answer, refused_answer, accepted_answer, printed_answer, status_of}
 use Rattle.cosim_app.specs.Commands.{words_of}
 use Rattle.cosim_app.specs.declared.command_words.Command.{Command}

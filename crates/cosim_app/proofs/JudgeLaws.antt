@@ -3,11 +3,11 @@ use Rattle.std.proofs.Common.{◌≡◌, ℕ, ◌+◌, ◌<◌, List, [], length
 use Rattle.std.specs.Prelude.{IfSome}
 use Rattle.std.specs.Io.KnownBytes.{Appends, IsAtEnd}
 use Rattle.std.proofs.KnownBytes.{Appends-nil}
-use Rattle.unit_accept.specs.Accepting.{IsAcceptedAs, source_line}
-use Rattle.unit_accept.proofs.Acceptance.{as_many}
+use Rattle.text_accept.specs.Accepting.{IsAcceptedAs, source_line}
+use Rattle.text_accept.proofs.Acceptance.{as_many}
 use Rattle.unit_text.proofs.ReadingLaws.{long_refused}
 use Rattle.unit_tree.specs.Texts.{text_limit}
-use Rattle.unit_tokens.proofs.LineLemmas.{length_le_size_of}
+use Rattle.text_tokens.proofs.LineLemmas.{length_le_size_of}
 use Rattle.unit_tree.specs.Lines.{size_of}
 use Rattle.unit_tree.specs.declared.system.System.{System}
 use Rattle.cosim_io.specs.Pieces.{AppendsPrefix, ConsumesExactly}

@@ -4,7 +4,7 @@ use Rattle.cosim_io.proofs.PieceLemmas.{AppendsPrefix-nil, AppendsPrefix-whole}
 use Rattle.serial_run.specs.Reports.{PutsFront as RunFront, ReportsTrace}
 use Rattle.serial_run.specs.declared.report.Report.{Report}
 use Rattle.super_time.specs.declared.point.Point.{Point}
-use Rattle.unit_accept.specs.Accepting.{IsAcceptedAs}
+use Rattle.text_accept.specs.Accepting.{IsAcceptedAs}
 use Rattle.unit_tree.specs.Plain.{plain_form}
 use Rattle.unit_tree.specs.WellFormed.{resolution_of}
 use Rattle.unit_tree.specs.declared.ending.Ending.{Ending}

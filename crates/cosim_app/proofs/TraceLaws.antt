@@ -4,17 +4,17 @@ use Rattle.std.specs.List.{AllByRecursion}
 use Rattle.text_laws.proofs.ReadIsPrintable.{read_is_printable}
 use Rattle.trace_plan.specs.Faults.{IsRightPlanFault}
 use Rattle.trace_plan.specs.declared.fault.PlanFault.TheVariants.{Loop}
-use Rattle.unit_accept.specs.Accepting.{IsAcceptedAs}
+use Rattle.text_accept.specs.Accepting.{IsAcceptedAs}
 use Rattle.unit_tree.specs.Compositions.{composition_of}
 use Rattle.unit_tree.specs.Orders.{IsIn, HasNoCycle, IsFirstWithoutOrder}
-use Rattle.unit_tree.specs.RunLaws.{HasOneTrace, HasOneTraceOf}
+use Rattle.run_laws.specs.RunLaws.{HasOneTrace, HasOneTraceOf}
 use Rattle.unit_tree.specs.declared.system.PortName.{PortName}
 use Rattle.unit_tree.specs.declared.system.System.{System}
-use Rattle.unit_tree.proofs.EventLaws.{one_or_two, plain_form_1, version_1_without_events}
-use Rattle.unit_tree.proofs.NameLaws.{names_differ}
-use Rattle.unit_tree.proofs.PlaceOrders.{system_is_ordered}
-use Rattle.unit_tree.proofs.PositionLaws.{system_has_members}
-use Rattle.unit_tree.proofs.RunTraces.{one_trace, one_trace_of}
+use Rattle.run_laws.proofs.EventLaws.{one_or_two, plain_form_1, version_1_without_events}
+use Rattle.language_laws.proofs.NameLaws.{names_differ}
+use Rattle.run_laws.proofs.PlaceOrders.{system_is_ordered}
+use Rattle.run_laws.proofs.PositionLaws.{system_has_members}
+use Rattle.run_laws.proofs.RunTraces.{one_trace, one_trace_of}
 use Rattle.cosim_app.specs.Judgement.{IsWhole, IsServed}
 
 -- what a text is accepted as keeps all rules

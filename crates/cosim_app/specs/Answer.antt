@@ -3,7 +3,7 @@
 use Rattle.std.specs.Prelude.{◌≡◌, ℕ, List, [], ◌++◌, Some, codes, ◌⊎◌}
 use Rattle.super_time.specs.declared.point.Point.{Point}
 use Rattle.trace_csv.specs.TraceText.{trace_text}
-use Rattle.unit_accept.specs.Accepting.{IsAcceptedAs, IsRefusedAt, source_line}
+use Rattle.text_accept.specs.Accepting.{IsAcceptedAs, IsRefusedAt, source_line}
 use Rattle.unit_tree.specs.Canonical.{canonical_text}
 use Rattle.unit_tree.specs.Plain.{plain_form}
 use Rattle.unit_tree.specs.Trace.{Row, IsTraceOf}

@@ -1,6 +1,6 @@
 //! A command on its input, from the text to its verdict.
 ghost use Rattle.std.specs.Prelude.{◌≡◌, ◌<◌, length, Some};
-ghost use Rattle.unit_accept.specs.Accepting.{source_line};
+ghost use Rattle.text_accept.specs.Accepting.{source_line};
 ghost use Rattle.cosim_app.specs.Judgement.{JudgesText, JudgesInput, Refuses};
 
 use crate::command_words::Command;

@@ -9,7 +9,7 @@ use crate::status::Status;
 use crate::verdict::Verdict;
 use cosim_io::Sink;
 use std::alloc::Global;
-use unit_accept::accept_text;
+use text_accept::accept_text;
 use unit_print::print_system;
 use unit_text::TextFault;
 use unit_tree::System;

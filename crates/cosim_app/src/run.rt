@@ -1,6 +1,6 @@
 //! The command `run`.
 ghost use Rattle.std.specs.Prelude.{◌≡◌, ◌<◌, length, List, ℕ};
-ghost use Rattle.unit_accept.specs.Accepting.{IsAcceptedAs};
+ghost use Rattle.text_accept.specs.Accepting.{IsAcceptedAs};
 ghost use Rattle.cosim_app.specs.Answer.{status_of};
 ghost use Rattle.cosim_app.specs.Judgement.{IsServed, IsWhole, JudgesText, PutsTrace};
 ghost use Rattle.cosim_app.specs.declared.command_words.Command.TheVariants.{Run};
@@ -14,7 +14,7 @@ use serial_run::{CrewFault, run_alone};
 use std::alloc::Global;
 use std::sync::Arc;
 use trace_core::{Plan, PlanFault};
-use unit_accept::{AcceptedText, accept_text};
+use text_accept::{AcceptedText, accept_text};
 use unit_text::TextFault;
 use unit_tree::{Checked, Ending};
 

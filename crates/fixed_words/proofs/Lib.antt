@@ -1,6 +1,6 @@
 pub mod Floors
 pub mod Fractions
-pub mod Mended
+pub mod MendedQuotients
 pub mod Numbers
 pub mod Products
 pub mod ReadBack

@@ -1,8 +1,8 @@
 use fixed_words::NoMemory;
 use std::alloc::Global;
 use std::test::Fail;
-use unit_lines::{expression, form_of_line};
-use unit_tokens::{Unread, tokens};
+use text_lines::{expression, form_of_line};
+use text_tokens::{Unread, tokens};
 use unit_tree::{BinOp, Expr, LineForm, UnOp};
 
 fn operation(op: BinOp) -> &'static str {

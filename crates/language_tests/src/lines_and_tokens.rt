@@ -1,6 +1,6 @@
 use std::alloc::Global;
 use std::test::Fail;
-use unit_tokens::{Unread, cut_line, size, tokens};
+use text_tokens::{Unread, cut_line, size, tokens};
 use unit_tree::{Keyword, Symbol, Token};
 
 /// A letter for each token of a line, and `?` alone where it spells none.

@@ -4,7 +4,7 @@ use fixed_words::{List, NoMemory, Ty};
 use std::alloc::Global;
 use std::process::Abort;
 use std::test::Fail;
-use unit_pieces::{choice, joined, turns, when};
+use code_pieces::{choice, joined, turns, when};
 use unit_vm::{Code, Entry, Frame, Instruction, Program, Sizes, run};
 
 fn code(alloc: Global, items: &[Instruction]) -> Result<List<Instruction>, NoMemory> {

@@ -19,20 +19,20 @@ use Rattle.unit_tree.specs.Given.{input_numbered, given_by, IsInputWord}
 use Rattle.unit_tree.specs.Names.{is_among}
 use Rattle.unit_tree.specs.Ports.{Ports, Outlet, IsAmong, IsAssignment, input_word, seen_by, in_front, all_there, inputs_for, given_at, word_at, place_in, place_needed, needs_at}
 use Rattle.unit_tree.specs.Routes.{feeds_of, routes_of}
-use Rattle.unit_tree.specs.RunLaws.{AgreeOn}
+use Rattle.run_laws.specs.RunLaws.{AgreeOn}
 use Rattle.unit_tree.specs.WellFormed.{uses_other_input}
 use Rattle.unit_tree.specs.declared.order.InputAt.{InputAt}
 use Rattle.unit_tree.specs.declared.order.Route.{Route}
 use Rattle.unit_tree.specs.declared.order.StartWord.{StartWord}
 use Rattle.unit_tree.specs.declared.unit.Input.{Input}
 use Rattle.unit_tree.specs.declared.unit.Output.{Output}
-use Rattle.unit_tree.proofs.AssignmentLaws.{Defined, needs_of, needs_here, all_seen, side_at}
-use Rattle.unit_tree.proofs.EquationLaws.{all_among, all_behind}
-use Rattle.unit_tree.proofs.NameLaws.{Has, has_map}
-use Rattle.unit_tree.proofs.PlaceOrders.{has_at, Beside, zip_at, at_place, all_has}
-use Rattle.unit_tree.proofs.PlainNames.{each_has, map_has}
-use Rattle.unit_tree.proofs.RunTraces.{one_each}
-use Rattle.unit_tree.proofs.SeenLaws.{get_same, get_fits}
+use Rattle.run_laws.proofs.AssignmentLaws.{Defined, needs_of, needs_here, all_seen, side_at}
+use Rattle.run_laws.proofs.EquationLaws.{all_among, all_behind}
+use Rattle.language_laws.proofs.NameLaws.{Has, has_map}
+use Rattle.run_laws.proofs.PlaceOrders.{has_at, Beside, zip_at, at_place, all_has}
+use Rattle.language_laws.proofs.PlainNames.{each_has, map_has}
+use Rattle.run_laws.proofs.RunTraces.{one_each}
+use Rattle.run_laws.proofs.SeenLaws.{get_same, get_fits}
 use Rattle.port_solve.proofs.InputPlaces.{source_at, feed_is, has_feed}
 use Rattle.port_solve.proofs.SetWords.{word_after, shape_after}
 use Rattle.port_solve.proofs.OutputPlaces.{OutletAt, outlet_of, given_is, type_is}

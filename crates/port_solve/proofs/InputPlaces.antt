@@ -9,8 +9,8 @@ use Rattle.unit_tree.specs.Compositions.{Source, Start, AtPlace, Member, Composi
 use Rattle.unit_tree.specs.Routes.{inputs_in, inputs_of, fed_from, feeds_of, starts_at, routes_of}
 use Rattle.unit_tree.specs.declared.order.InputAt.{InputAt}
 use Rattle.unit_tree.specs.declared.order.StartWord.{StartWord}
-use Rattle.unit_tree.proofs.NameLaws.{Has, has_map}
-use Rattle.unit_tree.proofs.PlainNames.{has_flat, flat_has, map_has}
+use Rattle.language_laws.proofs.NameLaws.{Has, has_map}
+use Rattle.language_laws.proofs.PlainNames.{has_flat, flat_has, map_has}
 
 -- ---- Lists
 

@@ -13,8 +13,8 @@ use Rattle.unit_tree.specs.Ports.{Standing, Outlet, outlets_of, outlets, places_
 use Rattle.unit_tree.specs.Routes.{Numbered, outputs_in, feeds_of, route_at, routes_of}
 use Rattle.unit_tree.specs.declared.order.Route.{Route}
 use Rattle.unit_tree.specs.declared.unit.Output.{Output}
-use Rattle.unit_tree.proofs.AssignmentLaws.{needs_of}
-use Rattle.unit_tree.proofs.PlaceOrders.{zip_append, zip_at}
+use Rattle.run_laws.proofs.AssignmentLaws.{needs_of}
+use Rattle.run_laws.proofs.PlaceOrders.{zip_append, zip_at}
 
 -- ---- Outputs with their numbers beside outlets
 

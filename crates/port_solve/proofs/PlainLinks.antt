@@ -31,15 +31,15 @@ use Rattle.unit_tree.specs.declared.unit.EventOut.{EventOut}
 use Rattle.unit_tree.specs.declared.unit.Input.{Input}
 use Rattle.unit_tree.specs.declared.unit.Output.{Output}
 use Rattle.unit_tree.specs.declared.unit.Unit.{Unit}
-use Rattle.unit_tree.proofs.NameLaws.{Has, has_front, has_behind, has_either, has_map, or_false, PortsDiffer, ports_differ}
-use Rattle.unit_tree.proofs.PlaceOrders.{has_in, all_has}
-use Rattle.unit_tree.proofs.PlainCycles.{of_input, of_event_in}
-use Rattle.unit_tree.proofs.PlainNames.{each_has, has_flat, map_has, flat_has, IsPlain, word_is_plain, same_presence, words_on, plain_on, plain_wire, unit_line, output_line, event_line}
-use Rattle.unit_tree.proofs.PlainOrders.{plain_of, declared, named_has, output_is, plain_one, presence_one, becomes, presence_wire, wire_by, plain_named, comes_from, plain_differ, plain_unit_is, is_event_is}
-use Rattle.unit_tree.proofs.PortLaws.{among, has_among, output_has}
-use Rattle.unit_tree.proofs.SeenLaws.{and_false}
-use Rattle.port_solve.proofs.Judged.{UsesNeeds, IsJoined, inputs_differ, uses_needs, joined_wires}
-use Rattle.port_solve.proofs.Linked.{input_is, Joins, Linked}
+use Rattle.language_laws.proofs.NameLaws.{Has, has_front, has_behind, has_either, has_map, or_false, PortsDiffer, ports_differ}
+use Rattle.run_laws.proofs.PlaceOrders.{has_in, all_has}
+use Rattle.run_laws.proofs.PlainCycles.{of_input, of_event_in}
+use Rattle.language_laws.proofs.PlainNames.{each_has, has_flat, map_has, flat_has, IsPlain, word_is_plain, same_presence, words_on, plain_on, plain_wire, unit_line, output_line, event_line}
+use Rattle.run_laws.proofs.PlainOrders.{plain_of, declared, named_has, output_is, plain_one, presence_one, becomes, presence_wire, wire_by, plain_named, comes_from, plain_differ, plain_unit_is, is_event_is}
+use Rattle.run_laws.proofs.PortLaws.{among, has_among, output_has}
+use Rattle.run_laws.proofs.SeenLaws.{and_false}
+use Rattle.port_solve.proofs.JudgedFacts.{UsesNeeds, IsJoined, inputs_differ, uses_needs, joined_wires}
+use Rattle.port_solve.proofs.LinkedSystems.{input_is, Joins, Linked}
 use Rattle.port_solve.proofs.PlainUses.{Names, plain_names, presence_names, word_names}
 
 -- ---- What a rule on uses says of single names

@@ -12,8 +12,8 @@ use Rattle.unit_tree.specs.Compositions.{Source, Member, Composition}
 use Rattle.unit_tree.specs.Given.{with_input}
 use Rattle.unit_tree.specs.declared.order.InputAt.{InputAt}
 use Rattle.unit_tree.specs.declared.order.StartWord.{StartWord}
-use Rattle.unit_tree.proofs.NameLaws.{Has}
-use Rattle.unit_tree.proofs.PlaceOrders.{zip_at}
+use Rattle.language_laws.proofs.NameLaws.{Has}
+use Rattle.run_laws.proofs.PlaceOrders.{zip_at}
 use Rattle.port_solve.proofs.InputPlaces.{source_at}
 
 -- ---- One input

@@ -3,9 +3,9 @@ use Rattle.std.proofs.Common.{inl, inr, sym, subst}
 use Rattle.std.specs.Prelude.{◌==◌, if◌then◌else◌}
 use Rattle.port_solve.specs.Sound.{IsSound, RunsAreSound}
 use Rattle.unit_tree.specs.Compositions.{composition_of}
-use Rattle.unit_tree.proofs.EventLaws.{version_1_without_events, plain_form_1, plain_of_without_events, one_or_two}
-use Rattle.unit_tree.proofs.PlainOrders.{plain_of}
-use Rattle.port_solve.proofs.Linked.{is_sound}
+use Rattle.run_laws.proofs.EventLaws.{version_1_without_events, plain_form_1, plain_of_without_events, one_or_two}
+use Rattle.run_laws.proofs.PlainOrders.{plain_of}
+use Rattle.port_solve.proofs.LinkedSystems.{is_sound}
 use Rattle.port_solve.proofs.PlainLinks.{links_without_events, plain_links}
 
 pub runs_are_sound : RunsAreSound

@@ -10,7 +10,7 @@ use Rattle.std.specs.Str.{bytes_eq}
 use Rattle.fixed_words.specs.Operations.{Outcome}
 use Rattle.port_solve.specs.Solved.{HaveStates, HaveInputs}
 use Rattle.port_tests.specs.Bench.{IsRunOf, IsRunOfSome, IsUnitNamed, RunMembers, states_of, inputs_of}
-use Rattle.unit_code.specs.Calls.{output_by}
+use Rattle.code_units.specs.Calls.{output_by}
 use Rattle.unit_exec.specs.Running.{Running}
 use Rattle.unit_tree.specs.Components.{Component, get_of, start_word}
 use Rattle.unit_tree.specs.Compositions.{Member, Composition, component_with, literal_set, member_with}
@@ -22,8 +22,8 @@ use Rattle.unit_tree.specs.declared.unit.Input.{Input}
 use Rattle.unit_tree.specs.declared.unit.Output.{Output}
 use Rattle.unit_tree.specs.declared.unit.Param.{Param}
 use Rattle.unit_tree.specs.declared.unit.Unit.{Unit}
-use Rattle.port_solve.proofs.Setting.{left}
-use Rattle.unit_tree.proofs.PlaceOrders.{zip_at}
+use Rattle.port_solve.proofs.InputsSet.{left}
+use Rattle.run_laws.proofs.PlaceOrders.{zip_at}
 
 abbrev pub RunsMember : Member → Running → Type 0
 RunsMember member unit = IsRunOf member.component unit

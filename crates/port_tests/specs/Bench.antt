@@ -1,7 +1,7 @@
 -- Units that run as the components of a system.
 use Rattle.std.specs.Prelude.{◌≡◌, ℕ, ℤ, List, [], map, slice_get, Option, Some}
 use Rattle.std.specs.List.{AllZip}
-use Rattle.unit_code.specs.Calls.{HasWordsFor}
+use Rattle.code_units.specs.Calls.{HasWordsFor}
 use Rattle.unit_exec.specs.Images.{IsImageOf}
 use Rattle.unit_exec.specs.Running.{Running}
 use Rattle.unit_tree.specs.Components.{Component}

@@ -23,9 +23,9 @@ use Rattle.unit_tree.specs.WellFormed.{resolution_of}
 use Rattle.unit_tree.specs.declared.ending.Ending.{Ending}
 use Rattle.unit_tree.specs.declared.system.Column.{Column}
 use Rattle.unit_tree.specs.declared.system.System.{System}
-use Rattle.unit_tree.proofs.AssignmentLaws.{undefined_faults}
-use Rattle.unit_tree.proofs.PositionLaws.{system_has_members}
-use Rattle.unit_tree.proofs.RunTraces.{one_each, one_trace}
+use Rattle.run_laws.proofs.AssignmentLaws.{undefined_faults}
+use Rattle.run_laws.proofs.PositionLaws.{system_has_members}
+use Rattle.run_laws.proofs.RunTraces.{one_each, one_trace}
 use Rattle.serial_run.specs.Advances.{Moved, EndsThere, Advanced}
 use Rattle.serial_run.specs.Lines.{PutsRow, ShowsWords, header_of, lines_of, rows_here}
 use Rattle.serial_run.specs.Reports.{ReportsTrace, PutsFront, TellsFault}

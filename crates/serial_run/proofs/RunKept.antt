@@ -18,7 +18,7 @@ use Rattle.unit_tree.specs.Trace.{Stand, IsStand, Goes, Row, row_at, rows_of, ce
 use Rattle.unit_tree.specs.WellFormed.{resolution_of}
 use Rattle.unit_tree.specs.declared.system.Column.{Column}
 use Rattle.unit_tree.specs.declared.system.System.{System}
-use Rattle.unit_tree.proofs.RunTraces.{goes_to}
+use Rattle.run_laws.proofs.RunTraces.{goes_to}
 use Rattle.serial_run.specs.Advances.{IsFresh, Moved}
 use Rattle.serial_run.specs.Lines.{IsPut, PutsRow, header_of, lines_of, rows_here}
 use Rattle.serial_run.specs.Sums.{sum_shown}

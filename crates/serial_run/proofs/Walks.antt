@@ -12,8 +12,8 @@ use Rattle.unit_tree.specs.Ports.{IsAssignment, IsPlaceOrder}
 use Rattle.unit_tree.specs.Successor.{Position, goes, ends, first_position, successor}
 use Rattle.unit_tree.specs.Trace.{Stand, IsStand, Goes, Follows, IsTrace, Row, row_at, rows_of, last_point, HasWords, AreWordsOf}
 use Rattle.unit_tree.specs.declared.ending.Ending.{Ending}
-use Rattle.unit_tree.proofs.AssignmentLaws.{one_assignment}
-use Rattle.unit_tree.proofs.RunTraces.{one_each}
+use Rattle.run_laws.proofs.AssignmentLaws.{one_assignment}
+use Rattle.run_laws.proofs.RunTraces.{one_each}
 
 -- ---- Where a trace is passed
 

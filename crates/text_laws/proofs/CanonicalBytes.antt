@@ -12,8 +12,8 @@ use Rattle.unit_tree.specs.declared.line_form.LineForm.{LineForm}
 use Rattle.unit_tree.specs.declared.line_form.LineForm.TheVariants as form
 use Rattle.unit_tree.specs.declared.system.System.{System}
 use Rattle.unit_tree.specs.declared.token.Token.{Token}
-use Rattle.unit_tokens.proofs.TokenLemmas.{spells_one}
-use Rattle.text_laws.proofs.Apart.{starts_with}
+use Rattle.text_tokens.proofs.TokenLemmas.{spells_one}
+use Rattle.text_laws.proofs.TokensApart.{starts_with}
 use Rattle.text_laws.proofs.SpelledBytes.{is_spelled_byte, spelled_bytes, none_forbidden, spelled_is_code, spelled_no_return, spelled_no_end}
 use Rattle.text_laws.proofs.TokenTexts.{line_is_spelled}
 

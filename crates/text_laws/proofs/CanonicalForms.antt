@@ -15,7 +15,7 @@ use Rattle.unit_tree.specs.Phrases.{Whole, stands, nesting, numbers_fit, Writes}
 use Rattle.unit_tree.specs.Printable.{IsInRange, IsTailInRange, is_unsigned, is_word_literal, is_seconds, is_writable}
 use Rattle.unit_tree.specs.declared.expr.Expr.{Expr}
 use Rattle.unit_tree.specs.declared.line_form.LineForm.{LineForm}
-use Rattle.unit_tree.proofs.PhraseLaws.{right}
+use Rattle.language_laws.proofs.PhraseLaws.{right}
 use Rattle.text_laws.proofs.NestingOfPhrases.{canonical_numbers_fit}
 use Rattle.text_laws.proofs.ShortestLines.{unsigned_tokens}
 

@@ -24,7 +24,7 @@ use Rattle.unit_tree.specs.declared.system.Setting.{Setting}
 use Rattle.unit_tree.specs.declared.system.System.{System}
 use Rattle.unit_tree.specs.declared.system.Wire.{Wire}
 use Rattle.unit_tree.specs.declared.unit.Unit.{Unit}
-use Rattle.unit_tree.proofs.BlockLaws.{all_step_lines}
+use Rattle.language_laws.proofs.BlockLaws.{all_step_lines}
 use Rattle.text_laws.proofs.PlacedParts.{may_follow, is_shallow, unit_part_may_stand, inside_may_stand, part_may_stand, parts_may_stand, parts_placed, headed}
 use Rattle.text_laws.proofs.SpelledBytes.{all_joined, all_pass}
 

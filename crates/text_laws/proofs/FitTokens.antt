@@ -35,10 +35,10 @@ use Rattle.unit_tree.specs.declared.token.Keyword.TheVariants as word
 use Rattle.unit_tree.specs.declared.token.Symbol.TheVariants as sign
 use Rattle.unit_tree.specs.declared.token.Token.{Token}
 use Rattle.unit_tree.specs.declared.token.Token.TheVariants as token
-use Rattle.unit_tree.proofs.BlockLaws.{each_append}
+use Rattle.language_laws.proofs.BlockLaws.{each_append}
 use Rattle.unit_tree.proofs.FoldLemmas.{fold-Number, fold-Truth, fold-Var, fold-Time, fold-Step, fold-Unary, fold-Binary, fold-Clamp, fold-Choose, fold-Absent, fold-Present}
-use Rattle.unit_tokens.specs.Scanning.{keyword_of}
-use Rattle.unit_tokens.proofs.TableLemmas.{keyword_of_none}
+use Rattle.text_tokens.specs.Scanning.{keyword_of}
+use Rattle.text_tokens.proofs.TableLemmas.{keyword_of_none}
 
 -- ---- What fits
 

@@ -14,8 +14,8 @@ use Rattle.unit_tree.specs.Parts.{Part, UnitPart, unit_part_forms, part_forms, t
 use Rattle.unit_tree.specs.SourceLines.{unit_part_rank, part_rank, of_rank, by_rank, each_ranked, unit_lines_in_order, part_lines_in_order, in_canonical_order}
 use Rattle.unit_tree.specs.declared.line_form.LineForm.{LineForm}
 use Rattle.unit_tree.specs.declared.line_form.LineForm.TheVariants as form
-use Rattle.unit_tree.proofs.RankLaws.{each_once}
-use Rattle.unit_tree.proofs.SourceLaws.{forms_are}
+use Rattle.language_laws.proofs.RankLaws.{each_once}
+use Rattle.language_laws.proofs.SourceLaws.{forms_are}
 
 -- ---- What goes along with lines is put into order as they are
 

@@ -1,4 +1,3 @@
-pub mod Apart
 pub mod CanonicalBytes
 pub mod CanonicalForms
 pub mod CanonicalPlaces
@@ -10,14 +9,12 @@ pub mod NestingOfPhrases
 pub mod PlacedParts
 pub mod ReadBack
 pub mod ReadIsPrintable
-pub mod Refusing
+pub mod RefusalSteps
 pub mod ShortestLines
 pub mod ShortestPhrases
 pub mod SourceCounts
 pub mod SpelledBytes
 pub mod TokenTexts
 pub mod TokenWidths
-pub mod WorkedForms
-pub mod WorkedReads
-pub mod WorkedRefusals
+pub mod TokensApart
 pub mod WrittenForms

@@ -17,7 +17,7 @@ use Rattle.unit_tree.specs.declared.expr.Expr.{Expr}
 use Rattle.unit_tree.specs.declared.expr.UnOp.{UnOp}
 use Rattle.unit_tree.specs.declared.token.Token.{Token}
 use Rattle.unit_tree.proofs.FoldLemmas.{fold-Number, fold-Truth, fold-Var, fold-Time, fold-Step, fold-Unary, fold-Binary, fold-Clamp, fold-Choose, fold-Absent, fold-Present}
-use Rattle.unit_tree.proofs.PhraseLaws.{right}
+use Rattle.language_laws.proofs.PhraseLaws.{right}
 use Rattle.text_laws.proofs.ShortestPhrases.{primary_stands, placed_whole, again}
 
 -- ---- Nesting

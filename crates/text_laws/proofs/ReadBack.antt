@@ -12,7 +12,7 @@ use Rattle.unit_tree.specs.Tokens.{Spells}
 use Rattle.unit_tree.specs.declared.line_form.LineForm.{LineForm}
 use Rattle.unit_tree.specs.declared.line_form.LineForm.TheVariants as form
 use Rattle.unit_tree.specs.declared.system.System.{System}
-use Rattle.unit_tree.proofs.PartLaws.{system_is}
+use Rattle.language_laws.proofs.PartLaws.{system_is}
 use Rattle.text_laws.specs.Laws.{CanonicalTextIsReadBack}
 use Rattle.text_laws.proofs.CanonicalBytes.{canonical_lines, none_blank, canonical_codes, canonical_size}
 use Rattle.text_laws.proofs.CanonicalForms.{canonical_is_written}

@@ -18,9 +18,9 @@ use Rattle.unit_tree.specs.Texts.{BeginsVersion2, HasFormIn, HaveForms, line_lim
 use Rattle.unit_tree.specs.Tokens.{IsWord, IsName}
 use Rattle.unit_tree.specs.declared.line_form.LineForm.{LineForm}
 use Rattle.unit_tree.specs.declared.line_form.LineForm.TheVariants as form
-use Rattle.unit_tokens.proofs.TokenLemmas.{spells_one}
+use Rattle.text_tokens.proofs.TokenLemmas.{spells_one}
 use Rattle.text_laws.specs.Laws.{WhatIsReadIsPrintable}
-use Rattle.text_laws.proofs.Apart.{starts_with}
+use Rattle.text_laws.proofs.TokensApart.{starts_with}
 use Rattle.text_laws.proofs.CanonicalBytes.{not_blank}
 use Rattle.text_laws.proofs.FormsInOrder.{forms_in_order, each_in_order}
 use Rattle.text_laws.proofs.PlacedParts.{parts_keep_depth}

@@ -10,7 +10,7 @@ use Rattle.unit_tree.specs.Parts as parts
 use Rattle.unit_tree.specs.Parts.{Part, UnitPart, unit_part_forms, part_forms, text_forms, system_of}
 use Rattle.unit_tree.specs.SourceLines.{unit_part_rank, part_rank, of_rank, by_rank, each_ranked, unit_lines_in_order, part_lines_in_order, in_canonical_order, numbers_of}
 use Rattle.unit_tree.specs.Texts.{HasFormIn}
-use Rattle.unit_tree.proofs.SourceLaws.{forms_are}
+use Rattle.language_laws.proofs.SourceLaws.{forms_are}
 use Rattle.text_laws.specs.Laws.{SourceLinesAreOneForOne}
 
 -- ---- Two lists that go along with the same parts

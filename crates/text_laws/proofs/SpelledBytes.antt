@@ -12,7 +12,7 @@ use Rattle.unit_tree.specs.declared.token.Symbol.{Symbol}
 use Rattle.unit_tree.specs.declared.token.Symbol.TheVariants as sign
 use Rattle.unit_tree.specs.declared.token.Token.{Token}
 use Rattle.unit_tree.specs.declared.token.Token.TheVariants as token
-use Rattle.unit_tokens.proofs.TableLemmas.{keyword_is_word}
+use Rattle.text_tokens.proofs.TableLemmas.{keyword_is_word}
 
 -- What tokens and the blanks between them are made of: the bytes of code but `#`.
 abbrev pub is_spelled_byte : ℕ → Bool

@@ -14,7 +14,7 @@ use Rattle.unit_tree.specs.Tokens.{is_digit, is_letter, is_word_byte, begins_wit
 use Rattle.unit_tree.specs.declared.token.Symbol.{Symbol}
 use Rattle.unit_tree.specs.declared.token.Token.{Token}
 use Rattle.unit_tree.specs.declared.token.Token.TheVariants as token
-use Rattle.unit_tokens.proofs.TableLemmas.{is_word_text, keyword_is_word}
+use Rattle.text_tokens.proofs.TableLemmas.{is_word_text, keyword_is_word}
 
 -- Words and numbers begin and end with a byte of a word. Symbols do not.
 abbrev pub is_worded : Token → Bool

@@ -15,8 +15,8 @@ use Rattle.unit_tree.specs.Successor.{Position, when, first_told, step_end_of, s
 use Rattle.unit_tree.specs.Trace.{Stand, IsGoing, HasWords}
 use Rattle.unit_tree.specs.declared.ending.Ending.{Ending}
 use Rattle.unit_tree.specs.declared.ending.Ending.TheVariants.{ZeroBudget}
-use Rattle.unit_tree.proofs.EndLaws.{ends_in_order}
-use Rattle.unit_tree.proofs.PositionLaws.{agreed_is_at_most}
+use Rattle.run_laws.proofs.EndLaws.{ends_in_order}
+use Rattle.run_laws.proofs.PositionLaws.{agreed_is_at_most}
 
 -- ---- Where the successor leads
 

@@ -24,8 +24,8 @@ use Rattle.trace_core.proofs.StandLaws.{one_state, now_at_most}
 use Rattle.unit_tree.specs.Compositions.{Composition}
 use Rattle.unit_tree.specs.Successor.{limits, proposed, agreed, goes, ends, successor}
 use Rattle.unit_tree.specs.Trace.{Stand}
-use Rattle.unit_tree.proofs.PositionLaws.{agreed_is_at_most}
-use Rattle.unit_tree.proofs.StepLaws.{proposal_is_greatest}
+use Rattle.run_laws.proofs.PositionLaws.{agreed_is_at_most}
+use Rattle.run_laws.proofs.StepLaws.{proposal_is_greatest}
 
 -- ---- Full cells are full slots
 

@@ -18,8 +18,8 @@ use Rattle.unit_tree.specs.Ports.{Ports, Standing, first_some}
 use Rattle.unit_tree.specs.Successor.{when, first_told, step_end_of, redo_end_of}
 use Rattle.unit_tree.specs.declared.ending.Ending.{Ending}
 use Rattle.unit_tree.specs.declared.ending.Ending.TheVariants.{StepRefused}
-use Rattle.unit_tree.proofs.EffectKeeps.{step_keeps}
-use Rattle.unit_tree.proofs.PositionLaws.{Words}
+use Rattle.run_laws.proofs.EffectKeeps.{step_keeps}
+use Rattle.run_laws.proofs.PositionLaws.{Words}
 
 -- ---- One slot
 

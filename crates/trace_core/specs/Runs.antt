@@ -11,7 +11,7 @@ use Rattle.unit_exec.specs.declared.want.Want.{Want}
 use Rattle.unit_tree.specs.Compositions.{Member, Composition, AreMembers, run_of}
 use Rattle.unit_tree.specs.Negotiation.{is_held, all_inputs}
 use Rattle.unit_tree.specs.Ports.{IsPlaceOrder, first_some, port_fault}
-use Rattle.unit_tree.specs.RunLaws.{IsInBounds, IsInRows}
+use Rattle.run_laws.specs.RunLaws.{IsInBounds, IsInRows}
 use Rattle.unit_tree.specs.Successor.{Position, ends, proposed, agreed, is_redone, stop_end, row_end, max_end, trial_end, successor}
 use Rattle.unit_tree.specs.Trace.{Stand, IsStand, IsGoing, Reaches, Row, HasWords, cells_of_trial, cells_at}
 use Rattle.unit_tree.specs.declared.ending.Ending.{Ending}

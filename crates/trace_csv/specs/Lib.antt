@@ -1,5 +1,4 @@
 pub mod Columns
 pub mod Lines
 pub mod TraceText
-pub mod WorkedText
 pub mod Writers

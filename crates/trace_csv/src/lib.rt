@@ -7,8 +7,7 @@
 //!
 //! The layer above uses these calls, and puts the lines out. The definitions stand in `specs/`: `Columns` (which
 //! outputs the trace of a system shows, and their titles), `Lines` (a line of fields) and `TraceText` (the header, a row,
-//! and the text of a whole trace). `Writers` says what a writer of `csv` holds of lines. The law
-//! [`text_is_worked`] keeps them honest on a small trace with events.
+//! and the text of a whole trace). `Writers` says what a writer of `csv` holds of lines.
 #![tactic(auto)]
 
 mod header;
@@ -16,8 +15,6 @@ mod line;
 mod row;
 #[cfg(test)]
 mod tests;
-mod worked;
 
 pub use header::header_text;
 pub use row::{RowWriter, row_text};
-pub use worked::text_is_worked;

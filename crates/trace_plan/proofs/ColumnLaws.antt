@@ -26,10 +26,10 @@ use Rattle.unit_tree.specs.declared.system.PortName.{PortName}
 use Rattle.unit_tree.specs.declared.system.System.{System}
 use Rattle.unit_tree.specs.declared.unit.Output.{Output}
 use Rattle.unit_tree.specs.declared.unit.Unit.{Unit}
-use Rattle.unit_tree.proofs.PlaceOrders.{at_place, has_at}
-use Rattle.unit_tree.proofs.PlainNames.{each_has}
-use Rattle.unit_tree.proofs.PlainOrders.{named_has}
-use Rattle.unit_tree.proofs.SeenLaws.{get_fits}
+use Rattle.run_laws.proofs.PlaceOrders.{at_place, has_at}
+use Rattle.language_laws.proofs.PlainNames.{each_has}
+use Rattle.run_laws.proofs.PlainOrders.{named_has}
+use Rattle.run_laws.proofs.SeenLaws.{get_fits}
 use Rattle.trace_plan.proofs.ShownOutputs.{shown_of, unit_limited}
 
 -- ---- Each column by its port

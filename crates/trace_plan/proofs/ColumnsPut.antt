@@ -6,7 +6,7 @@ use Rattle.std.specs.List.{filter_map, cons_option, position_or_len}
 use Rattle.std.specs.Option.{option_map}
 use Rattle.std.specs.Str.{bytes_eq}
 use Rattle.fixed_words.specs.declared.types.Ty.{Ty}
-use Rattle.port_solve.proofs.Setting.{left}
+use Rattle.port_solve.proofs.InputsSet.{left}
 use Rattle.trace_csv.specs.Columns.{instance_number, output_number}
 use Rattle.trace_plan.specs.Shown.{IsPlaced, plain_column, type_and_event, starts_from}
 use Rattle.trace_plan.proofs.ShownOutputs.{placed_of}

@@ -7,7 +7,7 @@ use Rattle.std.specs.List.{AllByRecursion, AllZip, filter_map, cons_option}
 use Rattle.std.specs.Option.{IfSome}
 use Rattle.std.specs.Str.{bytes_eq}
 use Rattle.fixed_words.specs.Types.{lowest, highest, AreDecimals}
-use Rattle.port_solve.proofs.Setting.{left}
+use Rattle.port_solve.proofs.InputsSet.{left}
 use Rattle.trace_plan.specs.Fitting.{IsUnitNamed, IsFittedFor, AreMade, tells_max}
 use Rattle.trace_plan.specs.Keeps.{IsFitted}
 use Rattle.trace_plan.specs.Plans.{has_max}

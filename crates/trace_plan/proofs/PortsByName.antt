@@ -13,7 +13,7 @@ use Rattle.unit_tree.specs.declared.system.System.{System}
 use Rattle.unit_tree.specs.declared.unit.EventOut.{EventOut}
 use Rattle.unit_tree.specs.declared.unit.Output.{Output}
 use Rattle.unit_tree.specs.declared.unit.Unit.{Unit}
-use Rattle.unit_tree.proofs.PlainNames.{of_output, of_event}
+use Rattle.language_laws.proofs.PlainNames.{of_output, of_event}
 
 -- ---- The type of a port
 

@@ -22,9 +22,9 @@ use Rattle.unit_tree.specs.declared.line_form.LineForm.TheVariants as form
 use Rattle.unit_tree.specs.declared.system.Instance.{Instance}
 use Rattle.unit_tree.specs.declared.system.System.{System}
 use Rattle.unit_tree.specs.declared.unit.Unit.{Unit}
-use Rattle.unit_tree.proofs.NameLaws.{Has, has_front, has_behind, all_keep, or_false, Hold, instance_head, kept_parts, not_false}
-use Rattle.unit_tree.proofs.PlainNames.{each_has, has_flat, unit_line}
-use Rattle.unit_tree.proofs.SiteLaws.{line_at, sites_are}
+use Rattle.language_laws.proofs.NameLaws.{Has, has_front, has_behind, all_keep, or_false, Hold, instance_head, kept_parts, not_false}
+use Rattle.language_laws.proofs.PlainNames.{each_has, has_flat, unit_line}
+use Rattle.language_laws.proofs.SiteLaws.{line_at, sites_are}
 
 -- ---- A rule that looks at the line alone
 

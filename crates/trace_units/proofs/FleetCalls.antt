@@ -8,7 +8,7 @@ use Rattle.trace_plan.specs.Plans.{Planned}
 use Rattle.trace_units.specs.Fleets.{Fleet, ForUnit, Steps, with_state}
 use Rattle.trace_units.specs.Members.{RunMembers, states_of, inputs_of}
 use Rattle.trace_units.proofs.FleetLaws.{IsAt, unit_at, as_many, have_states, have_inputs, still_run, states_with, inputs_with, states_stay, inputs_stay, state_of_changed, state_there, inputs_there}
-use Rattle.unit_code.specs.Calls.{greatest_step_by, meaning_of}
+use Rattle.code_units.specs.Calls.{greatest_step_by, meaning_of}
 use Rattle.unit_exec.specs.Running.{Running}
 use Rattle.unit_exec.specs.Running as one
 use Rattle.unit_tree.specs.Components.{Moved, max_of, step_of}

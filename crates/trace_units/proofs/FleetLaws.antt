@@ -9,7 +9,7 @@ use Rattle.std.specs.Option.{option_map, option_and_then}
 use Rattle.fixed_words.specs.Operations.{Outcome}
 use Rattle.port_solve.specs.Solved.{HaveStates, HaveInputs}
 use Rattle.trace_units.specs.Members.{IsRunOf, RunMembers, states_of, inputs_of}
-use Rattle.unit_code.specs.Calls.{output_by}
+use Rattle.code_units.specs.Calls.{output_by}
 use Rattle.unit_exec.specs.Images.{Compiled, IsImageOf}
 use Rattle.unit_exec.specs.Running.{Running, opened}
 use Rattle.unit_tree.specs.Components.{Component, get_of, initial}

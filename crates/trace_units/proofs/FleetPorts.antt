@@ -7,7 +7,7 @@ use Rattle.trace_units.specs.Fleets.{Fleet}
 use Rattle.trace_units.specs.Members.{RunMembers, states_of, inputs_of}
 use Rattle.trace_units.proofs.FleetCalls.{seen_of}
 use Rattle.trace_units.proofs.FleetLaws.{Asks, unit_at, asks, asked_within, takes, set_within}
-use Rattle.unit_code.specs.Calls.{output_by}
+use Rattle.code_units.specs.Calls.{output_by}
 use Rattle.unit_exec.specs.Running.{Running}
 use Rattle.unit_tree.specs.Compositions.{Composition}
 use Rattle.unit_tree.specs.Given.{given_by, IsInputWord}

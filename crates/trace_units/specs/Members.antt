@@ -3,7 +3,7 @@ use Rattle.std.specs.Prelude.{◌≡◌, map, ℤ, List}
 use Rattle.std.specs.List.{AllZip}
 use Rattle.trace_units.specs.Fleets.{Fleet}
 use Rattle.trace_units.specs.declared.units.Units.TheInside.{Inside}
-use Rattle.unit_code.specs.Calls.{HasWordsFor}
+use Rattle.code_units.specs.Calls.{HasWordsFor}
 use Rattle.unit_exec.specs.Images.{IsImageOf}
 use Rattle.unit_exec.specs.Running.{Running}
 use Rattle.unit_tree.specs.Components.{Component}

@@ -16,7 +16,7 @@ use Rattle.unit_tree.specs.declared.line_form.LineForm.TheVariants as form
 use Rattle.unit_tree.specs.declared.system.System.{System}
 use Rattle.unit_tree.specs.declared.system.Wire.{Wire}
 use Rattle.unit_tree.specs.declared.unit.Unit.{Unit}
-use Rattle.unit_tree.proofs.PlainLemmas.{plain_depth, plain_cost, plain_line_cost}
+use Rattle.language_laws.proofs.PlainLemmas.{plain_depth, plain_cost, plain_line_cost}
 
 or_nothing : (met : Bool) → (met || false) ≡ met
 or_nothing true = refl

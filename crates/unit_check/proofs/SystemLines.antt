@@ -3,7 +3,7 @@ use Rattle.std.proofs.Common.{◌≡◌, List, [], ◌∷◌, ◌++◌, map, Opt
 use Rattle.std.specs.List.{flat_map}
 use Rattle.std.proofs.lemmas.Grind.{flat_map-append}
 use Rattle.std.proofs.lemmas.List.{map-append}
-use Rattle.unit_check.proofs.Sited.{line_sites}
+use Rattle.unit_check.proofs.SiteWalks.{line_sites}
 use Rattle.unit_tree.specs.Canonical.{optional, unit_parts, canonical_parts}
 use Rattle.unit_tree.specs.Parts as parts
 use Rattle.unit_tree.specs.Parts.{Part, UnitPart, line_forms, unit_of}
@@ -14,7 +14,7 @@ use Rattle.unit_tree.specs.declared.line_form.LineForm.TheVariants as form
 use Rattle.unit_tree.specs.declared.system.Instance.{Instance}
 use Rattle.unit_tree.specs.declared.system.System.{System}
 use Rattle.unit_tree.specs.declared.unit.Unit.{Unit}
-use Rattle.unit_tree.proofs.PartLaws.{unit_is}
+use Rattle.language_laws.proofs.PartLaws.{unit_is}
 
 -- ---- Parts as lines with their blocks
 

@@ -95,7 +95,7 @@ fn judge_tables(tables: &Tables<'_>) -> Result<(), CheckFault>
 ///
 /// A system that isn't is refused by the least rule that it breaks, at the first canonical line that breaks it. The rules
 /// are those from 8 on, but for that of cycles.
-#[tactic(auto, using(crate::proofs::Judging::kept, crate::proofs::Judging::refused))]
+#[tactic(auto, using(crate::proofs::RulesInTurn::kept, crate::proofs::RulesInTurn::refused))]
 pub fn judge(alloc: Global, system: &System) -> Result<(), CheckFault>
     requires ranged { IsRanged system.now }
     ensures ok { OnOk result (IsWellFormed system.now) }

@@ -5,7 +5,7 @@
 //! along a walk stands in `specs/Walks.antt` (the walk by the parts of a system), `specs/Rules.antt` (the tests) and
 //! `specs/Questions.antt` (what a walk asks).
 //!
-//! A system in range comes of a text, so the tests of these calls stand above the reader, in `unit_accept`.
+//! A system in range comes of a text, so the tests of these calls stand above the reader, in `text_accept`.
 #![tactic(auto)]
 
 mod checking;

@@ -22,7 +22,7 @@ fn is_event(found: Option<Declared>) -> bool
 }
 
 /// Whether a port is an event output.
-#[tactic(auto, using(crate::proofs::Wires::event_is))]
+#[tactic(auto, using(crate::proofs::PlainWires::event_is))]
 fn is_event_output(names: &SystemNames<'_>, port: &PortName) -> bool
     ensures { result ≡ is_event_output names.now port.now }
 {
@@ -30,7 +30,7 @@ fn is_event_output(names: &SystemNames<'_>, port: &PortName) -> bool
 }
 
 /// How many connections of the plain form a connection becomes.
-#[tactic(auto, using(crate::proofs::Wires::two_or_one))]
+#[tactic(auto, using(crate::proofs::PlainWires::two_or_one))]
 fn width(names: &SystemNames<'_>, wire: &Wire) -> u32
     ensures count { result ≡ length (plain_wires names.now wire.now) }
     ensures most { result ≤ 2 }
@@ -43,7 +43,7 @@ fn width(names: &SystemNames<'_>, wire: &Wire) -> u32
 }
 
 /// The first connection that is one too many in the plain form.
-#[tactic(auto, using(crate::proofs::Wires::first_exceeds, crate::proofs::Wires::none_exceeds, crate::proofs::Wires::next_count))]
+#[tactic(auto, using(crate::proofs::PlainWires::first_exceeds, crate::proofs::PlainWires::none_exceeds, crate::proofs::PlainWires::next_count))]
 fn first_wire_too_many(names: &SystemNames<'_>) -> Option<usize>
     ensures { (place : ℕ) → nat_lt 2048 (plain_wire_count names.now (place + 1)) ≡ is_from place result }
 {

@@ -425,7 +425,7 @@ fn past_numbered(walker: &Walker<'_>, place: usize, number: u32) -> Result<u32, 
     }
 }
 
-#[tactic(auto, using(crate::proofs::Units::unit_on))]
+#[tactic(auto, using(crate::proofs::NumberedWalks::unit_on))]
 fn past_units(walker: &Walker<'_>, number: u32) -> Result<u32, Stop>
     ensures { result ≡ units_walk (asked_of walker.now.question walker.now.tables.now) 0 walker.now.tables.now.units number }
 {

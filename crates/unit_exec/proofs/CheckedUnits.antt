@@ -2,13 +2,13 @@
 use Rattle.std.proofs.Common.{◌≡◌, ◌⊎◌, ℕ, zero, suc, ℤ, List, [], ◌∷◌, map, length, Some, slice_get, inl, inr, refl, sym, ap, ◌∙◌, subst}
 use Rattle.std.specs.Prelude.{◌==◌, cond}
 use Rattle.std.specs.List.{AllByRecursion, flat_map}
-use Rattle.unit_code.specs.UnitPrograms.{IsCompilable}
+use Rattle.code_units.specs.UnitPrograms.{IsCompilable}
 use Rattle.unit_tree.specs.Plain.{plain_form, plain_unit, plain_wires, samples_or_all}
 use Rattle.unit_tree.specs.Printable.{IsRanged}
 use Rattle.unit_tree.specs.WellFormed.{IsWellFormed}
 use Rattle.unit_tree.specs.declared.system.System.{System}
 use Rattle.unit_tree.specs.declared.unit.Unit.{Unit}
-use Rattle.unit_tree.proofs.EventLaws.{version_1_without_events, plain_form_1, one_or_two}
+use Rattle.run_laws.proofs.EventLaws.{version_1_without_events, plain_form_1, one_or_two}
 use Rattle.unit_exec.specs.Laws.{CheckedUnitsAreCompilable}
 use Rattle.unit_exec.proofs.CompilableUnits.{compilable}
 use Rattle.unit_exec.proofs.Declarations.{OfOutput, Declares, declares}

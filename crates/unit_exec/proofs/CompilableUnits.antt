@@ -9,12 +9,12 @@ use Rattle.std.proofs.lemmas.Grind.{flat_map-append}
 use Rattle.fixed_words.specs.Types.{kind_of, AreDecimals}
 use Rattle.fixed_words.specs.declared.types.Kind.{Kind}
 use Rattle.fixed_words.specs.declared.types.Kind.TheVariants as kinds
-use Rattle.unit_code.specs.Scopes.{scope_of}
-use Rattle.unit_code.specs.StepLines.{is_right_in}
-use Rattle.unit_code.specs.UnitPrograms.{IsCallable, IsRunnable, IsCompilable}
-use Rattle.unit_code.specs.declared.scope.Scope.{Scope}
-use Rattle.unit_code.proofs.FitPieces.{both, le_test}
-use Rattle.unit_code.proofs.NamesInSlots.{variables_are}
+use Rattle.code_units.specs.Scopes.{scope_of}
+use Rattle.code_units.specs.StepLines.{is_right_in}
+use Rattle.code_units.specs.UnitPrograms.{IsCallable, IsRunnable, IsCompilable}
+use Rattle.code_units.specs.declared.scope.Scope.{Scope}
+use Rattle.code_units.proofs.FitPieces.{both, le_test}
+use Rattle.code_units.proofs.NamesInSlots.{variables_are}
 use Rattle.unit_tree.specs.Canonical.{optional}
 use Rattle.unit_tree.specs.Components.{variables_of}
 use Rattle.unit_tree.specs.Costs.{expression_call_cost, step_call_cost}
@@ -35,8 +35,8 @@ use Rattle.unit_tree.specs.declared.system.System.{System}
 use Rattle.unit_tree.specs.declared.unit.EventOut.{EventOut}
 use Rattle.unit_tree.specs.declared.unit.Output.{Output}
 use Rattle.unit_tree.specs.declared.unit.Unit.{Unit}
-use Rattle.unit_tree.proofs.NameLaws.{Has, has_either, or_false, Hold}
-use Rattle.unit_tree.proofs.PlainNames.{map_has, flat_has}
+use Rattle.language_laws.proofs.NameLaws.{Has, has_either, or_false, Hold}
+use Rattle.language_laws.proofs.PlainNames.{map_has, flat_has}
 use Rattle.unit_exec.proofs.Declarations.{Declared, OfParam, OfState, OfLocal, OfInput, OfEventIn, OfOutput, OfEventOut, line_of, variable_of, Declares, AtLine, unit_limited}
 use Rattle.unit_exec.proofs.EventChoices.{word_names, word_events, presence_names, presence_events, word_ranged, presence_ranged, plain_ranged, presence_kinded}
 use Rattle.unit_exec.proofs.KindsOfRuns.{IsOf, kinded}

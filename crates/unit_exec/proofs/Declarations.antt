@@ -31,7 +31,7 @@ use Rattle.unit_tree.specs.declared.unit.Output.{Output}
 use Rattle.unit_tree.specs.declared.unit.Param.{Param}
 use Rattle.unit_tree.specs.declared.unit.State.{State}
 use Rattle.unit_tree.specs.declared.unit.Unit.{Unit}
-use Rattle.unit_tree.proofs.NameLaws.{Has, Distinct, bytes_of, or_false, Hold, hold_front, hold_behind, not_among, name_unsaid, has_front, has_behind}
+use Rattle.language_laws.proofs.NameLaws.{Has, Distinct, bytes_of, or_false, Hold, hold_front, hold_behind, not_among, name_unsaid, has_front, has_behind}
 use Rattle.unit_exec.proofs.UnitSites.{Passes, UnitHolds}
 
 -- ---- The list

@@ -9,7 +9,7 @@ use Rattle.fixed_words.specs.declared.types.Kind.{Kind}
 use Rattle.fixed_words.specs.declared.types.Kind.TheVariants as kinds
 use Rattle.fixed_words.specs.declared.types.Ty.{Ty}
 use Rattle.fixed_words.specs.declared.types.Ty.TheVariants as types
-use Rattle.unit_code.proofs.FitPieces.{both, le_test}
+use Rattle.code_units.proofs.FitPieces.{both, le_test}
 use Rattle.unit_tree.specs.Kinds.{same_kind, where_holds, KindsOfNames, kind_of_expression}
 use Rattle.unit_tree.specs.Names.{node_names, names_in, node_events, events_asked_in}
 use Rattle.unit_tree.specs.Plain.{plain_expression, with_choices, presence_of, zero_of, word_expression_of}
@@ -23,9 +23,9 @@ use Rattle.unit_tree.specs.declared.expr.Expr.TheFolds.{ind-Expr, map-Expr}
 use Rattle.unit_tree.specs.declared.expr.Expr.TheViews.{roll-Expr}
 use Rattle.unit_tree.specs.declared.expr.Expr.TheOpen.{Expr-F}
 use Rattle.unit_tree.proofs.FoldLemmas.{fold-Number, fold-Truth, fold-Unary, fold-Choose}
-use Rattle.unit_tree.proofs.KindLemmas.{kind-Truth, kind-Choose}
-use Rattle.unit_tree.proofs.NameLaws.{Has, has_front, has_behind, has_either}
-use Rattle.unit_tree.proofs.PlainLemmas.{same, choices-Number, choices-Truth, choices-Var, choices-Time, choices-Step, choices-Unary, choices-Binary, choices-Clamp, choices-Choose, choices-Absent, choices-Present}
+use Rattle.language_laws.proofs.KindLemmas.{kind-Truth, kind-Choose}
+use Rattle.language_laws.proofs.NameLaws.{Has, has_front, has_behind, has_either}
+use Rattle.language_laws.proofs.PlainLemmas.{same, choices-Number, choices-Truth, choices-Var, choices-Time, choices-Step, choices-Unary, choices-Binary, choices-Clamp, choices-Choose, choices-Absent, choices-Present}
 use Rattle.unit_exec.proofs.KindsOfRuns.{step_of}
 
 -- An expression that is one choice by itself.

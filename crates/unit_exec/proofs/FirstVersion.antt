@@ -30,8 +30,8 @@ use Rattle.unit_tree.specs.declared.system.System.{System}
 use Rattle.unit_tree.specs.declared.unit.Output.{Output}
 use Rattle.unit_tree.specs.declared.unit.Unit.{Unit}
 use Rattle.unit_tree.proofs.FoldLemmas.{fold-Unary, fold-Binary, fold-Clamp, fold-Choose, fold-Absent, fold-Present, fold-Assign, fold-If, fold-Repeat, fold-Accept}
-use Rattle.unit_tree.proofs.NameLaws.{Has, or_false, Hold}
-use Rattle.unit_tree.proofs.PlainLemmas.{plain-Number, plain-Truth, plain-Var, plain-Time, plain-Step, plain-Unary, plain-Binary, plain-Clamp, plain-Choose}
+use Rattle.language_laws.proofs.NameLaws.{Has, or_false, Hold}
+use Rattle.language_laws.proofs.PlainLemmas.{plain-Number, plain-Truth, plain-Var, plain-Time, plain-Step, plain-Unary, plain-Binary, plain-Clamp, plain-Choose}
 use Rattle.unit_exec.proofs.Declarations.{Declares, AtLine}
 use Rattle.unit_exec.proofs.LinesOfRuns.{all_parts}
 use Rattle.unit_exec.proofs.UnitSites.{Passes}

@@ -4,7 +4,7 @@ use Rattle.std.proofs.lemmas.Option.{get_or_from_slice_get, slice_get_within}
 use Rattle.std.specs.Prelude.{All, IsTrue, is_some, take, if◌then◌else◌, unsigned_abs, ⊤}
 use Rattle.fixed_words.specs.Operations.{Outcome}
 use Rattle.fixed_words.specs.declared.types.Fault.{Fault}
-use Rattle.unit_code.specs.Calls.{word_given, limit_given, moved_given, slots_with, output_by, greatest_step_with, greatest_step_by}
+use Rattle.code_units.specs.Calls.{word_given, limit_given, moved_given, slots_with, output_by, greatest_step_with, greatest_step_by}
 use Rattle.unit_exec.specs.Images.{Compiled}
 use Rattle.unit_tree.specs.Components.{Moved}
 use Rattle.unit_vm.specs.Frames.{Held, Leaves}

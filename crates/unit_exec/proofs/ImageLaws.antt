@@ -5,14 +5,14 @@ use Rattle.std.specs.List.{AllByRecursion}
 use Rattle.std.specs.Option.{IfSome, option_map}
 use Rattle.std.proofs.lemmas.List.{length-map}
 use Rattle.fixed_words.specs.Types.{AreDecimals}
-use Rattle.unit_code.specs.Calls.{Computes}
-use Rattle.unit_code.specs.Scopes.{scope_of}
-use Rattle.unit_code.specs.UnitPrograms.{output_code, limit_code, program_of, IsCompilable}
-use Rattle.unit_code.proofs.FitUnits.{made_of_pieces}
-use Rattle.unit_code.proofs.UnitsCompute.{units_compute}
+use Rattle.code_units.specs.Calls.{Computes}
+use Rattle.code_units.specs.Scopes.{scope_of}
+use Rattle.code_units.specs.UnitPrograms.{output_code, limit_code, program_of, IsCompilable}
+use Rattle.code_units.proofs.FitUnits.{made_of_pieces}
+use Rattle.code_units.proofs.UnitsCompute.{units_compute}
 use Rattle.unit_exec.specs.Images.{IsImageOf, HasStarts, HasParams}
 use Rattle.unit_exec.proofs.CheckedUnits.{checked_units}
-use Rattle.unit_pieces.proofs.WholePrograms.{piece_programs_have_facts_lem}
+use Rattle.code_pieces.proofs.WholePrograms.{piece_programs_have_facts_lem}
 use Rattle.unit_tree.specs.Components.{variable, variables_of, start_word}
 use Rattle.unit_tree.specs.Plain.{plain_form}
 use Rattle.unit_tree.specs.Printable.{IsRanged}
@@ -25,7 +25,7 @@ use Rattle.unit_tree.specs.declared.unit.Unit.{Unit}
 use Rattle.unit_vm.specs.Checking.{IsValid, IsNoCode}
 use Rattle.unit_vm.specs.Programs.{words_of}
 use Rattle.unit_vm.specs.declared.program.Program.{Program}
-use Rattle.unit_vm.proofs.Endings.{code_is_one_lem}
+use Rattle.unit_vm.proofs.RunEndings.{code_is_one_lem}
 
 pub found_there : (program : Program) (words : List ℤ) (found : Option Program) → IsValid program → words ≡ words_of program → IfNone found (IsNoCode words) → IsSome found
 found_there program words None valid is none = absurd (none valid.0 (record { program = program; written = is; valid = valid.1 }))

@@ -5,11 +5,11 @@ use Rattle.std.specs.Option.{option_and_then}
 use Rattle.std.proofs.lemmas.Bool.{and_parts}
 use Rattle.fixed_words.specs.declared.types.Kind.{Kind}
 use Rattle.fixed_words.specs.declared.types.Kind.TheVariants as kinds
-use Rattle.unit_code.specs.Expressions.{Coded, Coding, name_code, unary_kind_of, binary_kind_of, unary_joined, binary_joined, clamp_joined, choice_joined, node_code, code_of}
-use Rattle.unit_code.specs.Scopes.{named}
-use Rattle.unit_code.specs.declared.scope.Scope.{Scope}
-use Rattle.unit_code.proofs.FitPieces.{both}
-use Rattle.unit_code.proofs.Means.{same_kind_is}
+use Rattle.code_units.specs.Expressions.{Coded, Coding, name_code, unary_kind_of, binary_kind_of, unary_joined, binary_joined, clamp_joined, choice_joined, node_code, code_of}
+use Rattle.code_units.specs.Scopes.{named}
+use Rattle.code_units.specs.declared.scope.Scope.{Scope}
+use Rattle.code_units.proofs.FitPieces.{both}
+use Rattle.code_units.proofs.ExpressionsMean.{same_kind_is}
 use Rattle.unit_tree.specs.Kinds.{same_kind, is_number, where_holds, unary_kind, binary_kind, KindsOfNames, kind_of_expression}
 use Rattle.unit_tree.specs.Names.{node_names, names_in, node_events, events_asked_in}
 use Rattle.unit_tree.specs.Plain.{presence_name, plain_expression}
@@ -24,9 +24,9 @@ use Rattle.unit_tree.specs.declared.expr.Expr.TheFolds.{ind-Expr, map-Expr}
 use Rattle.unit_tree.specs.declared.expr.Expr.TheViews.{roll-Expr}
 use Rattle.unit_tree.specs.declared.expr.Expr.TheOpen.{Expr-F}
 use Rattle.unit_tree.proofs.FoldLemmas.{fold-Number, fold-Truth, fold-Var, fold-Time, fold-Step, fold-Unary, fold-Binary, fold-Clamp, fold-Choose, fold-Present}
-use Rattle.unit_tree.proofs.KindLemmas.{kind-Number, kind-Truth, kind-Var, kind-Time, kind-Step, kind-Unary, kind-Binary, kind-Clamp, kind-Choose, kind-Absent, kind-Present}
-use Rattle.unit_tree.proofs.NameLaws.{Has, has_front, has_behind}
-use Rattle.unit_tree.proofs.PlainLemmas.{plain-Number, plain-Truth, plain-Var, plain-Time, plain-Step, plain-Unary, plain-Binary, plain-Clamp, plain-Choose, plain-Present}
+use Rattle.language_laws.proofs.KindLemmas.{kind-Number, kind-Truth, kind-Var, kind-Time, kind-Step, kind-Unary, kind-Binary, kind-Clamp, kind-Choose, kind-Absent, kind-Present}
+use Rattle.language_laws.proofs.NameLaws.{Has, has_front, has_behind}
+use Rattle.language_laws.proofs.PlainLemmas.{plain-Number, plain-Truth, plain-Var, plain-Time, plain-Step, plain-Unary, plain-Binary, plain-Clamp, plain-Choose, plain-Present}
 
 -- ---- Kinds that are there
 

@@ -2,10 +2,10 @@
 use Rattle.std.proofs.Common.{◌≡◌, ◌≤◌, true, List, [], ◌∷◌, ◌++◌, map, Some, None, refl, sym, ap, ◌∙◌, subst}
 use Rattle.std.specs.Prelude.{⊤}
 use Rattle.std.specs.List.{AllByRecursion, flat_map}
-use Rattle.unit_code.specs.Scopes.{named}
-use Rattle.unit_code.specs.StepLines.{LineCoding, is_right_in, target_coded, all_coded, node_line_code, line_code, lines_code}
-use Rattle.unit_code.specs.declared.scope.Scope.{Scope}
-use Rattle.unit_code.proofs.FitPieces.{both, le_test}
+use Rattle.code_units.specs.Scopes.{named}
+use Rattle.code_units.specs.StepLines.{LineCoding, is_right_in, target_coded, all_coded, node_line_code, line_code, lines_code}
+use Rattle.code_units.specs.declared.scope.Scope.{Scope}
+use Rattle.code_units.proofs.FitPieces.{both, le_test}
 use Rattle.unit_tree.specs.Parts.{joined, block_forms, line_forms}
 use Rattle.unit_tree.specs.Plain.{plain_expression, node_plain_line, plain_line}
 use Rattle.unit_tree.specs.declared.line.Line as line

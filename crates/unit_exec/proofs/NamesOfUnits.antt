@@ -10,10 +10,10 @@ use Rattle.fixed_words.specs.declared.types.Kind.{Kind}
 use Rattle.fixed_words.specs.declared.types.Kind.TheVariants as kinds
 use Rattle.fixed_words.specs.declared.types.Ty.{Ty}
 use Rattle.fixed_words.specs.declared.types.Ty.TheVariants as types
-use Rattle.unit_code.specs.Expressions.{name_code}
-use Rattle.unit_code.specs.Scopes.{constants, slots_from, slot_variables, scope_of, named}
-use Rattle.unit_code.specs.declared.scope.Named.{Named}
-use Rattle.unit_code.proofs.NamesInSlots.{param_variables}
+use Rattle.code_units.specs.Expressions.{name_code}
+use Rattle.code_units.specs.Scopes.{constants, slots_from, slot_variables, scope_of, named}
+use Rattle.code_units.specs.declared.scope.Named.{Named}
+use Rattle.code_units.proofs.NamesInSlots.{param_variables}
 use Rattle.unit_tree.specs.Components.{variable, variables_of}
 use Rattle.unit_tree.specs.Names.{is_among, param_names, input_names, event_input_names, shared_names, step_uses, declared_in, kinds_in, Port, output_ports, input_ports}
 use Rattle.unit_tree.specs.Plain.{presence_name, plain_inputs, plain_unit}
@@ -29,8 +29,8 @@ use Rattle.unit_tree.specs.declared.unit.Output.{Output}
 use Rattle.unit_tree.specs.declared.unit.Param.{Param}
 use Rattle.unit_tree.specs.declared.unit.State.{State}
 use Rattle.unit_tree.specs.declared.unit.Unit.{Unit}
-use Rattle.unit_tree.proofs.NameLaws.{Has, Distinct, has_front, has_behind, has_either, has_map, same_bytes, bytes_of, true_is_false, found}
-use Rattle.unit_tree.proofs.PlainNames.{IsPlain, word_is_plain, map_has, flat_has, has_flat}
+use Rattle.language_laws.proofs.NameLaws.{Has, Distinct, has_front, has_behind, has_either, has_map, same_bytes, bytes_of, true_is_false, found}
+use Rattle.language_laws.proofs.PlainNames.{IsPlain, word_is_plain, map_has, flat_has, has_flat}
 use Rattle.unit_exec.proofs.Declarations.{Declared, OfParam, OfState, OfLocal, OfInput, OfEventIn, OfOutput, OfEventOut, line_of, variable_of, name_of, declarations, ports, front_lines, Declares, AtLine, each_line, names_apart}
 use Rattle.unit_exec.proofs.UnitSites.{Passes}
 

@@ -4,15 +4,15 @@ use Rattle.std.specs.Prelude.{if◌then◌else◌}
 use Rattle.std.proofs.lemmas.Option.{slice_get_within}
 use Rattle.std.specs.Option.{IfSome}
 use Rattle.std.specs.Prelude.{IsSome, Option, None}
-use Rattle.unit_code.specs.Calls.{output_by}
+use Rattle.code_units.specs.Calls.{output_by}
 use Rattle.unit_exec.specs.Showing.{Shows, ShowsBy, ShowStates}
 use Rattle.unit_vm.proofs.FusedLists.{each_more}
-use Rattle.unit_vm.proofs.Levels.{exists_at}
+use Rattle.unit_vm.proofs.LevelMeasure.{exists_at}
 use Rattle.unit_vm.specs.declared.program.Program.{Program}
 use Rattle.fixed_words.specs.Types.{is_word_of}
 use Rattle.fixed_words.specs.declared.types.Fault.TheVariants as fault
 use Rattle.fixed_words.specs.declared.types.Ty.{Ty}
-use Rattle.unit_code.specs.Calls.{word_given}
+use Rattle.code_units.specs.Calls.{word_given}
 use Rattle.unit_exec.specs.Running.{given_word}
 use Rattle.unit_vm.specs.Machine.{Work, State, Course, Ends, Faults, goes_on, loads, then_goes, after, opening, with_locals_zero, run_part}
 use Rattle.unit_vm.specs.declared.instruction.Instruction.{Instruction}

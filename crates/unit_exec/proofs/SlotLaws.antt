@@ -8,9 +8,9 @@ use Rattle.std.specs.List.{refill}
 use Rattle.std.specs.Prelude.{Option, Some, None, unwrap_or, unsigned_abs}
 use Rattle.fixed_words.specs.declared.types.Fault.{Fault}
 use Rattle.std.specs.Prelude.{Result, Ok, Err}
-use Rattle.unit_code.specs.Calls.{slots_with, HasWordsFor}
-use Rattle.unit_code.proofs.LinesMean.{step_is}
-use Rattle.unit_code.proofs.UnitsCompute.{zeroed, zeros_count}
+use Rattle.code_units.specs.Calls.{slots_with, HasWordsFor}
+use Rattle.code_units.proofs.LinesMean.{step_is}
+use Rattle.code_units.proofs.UnitsCompute.{zeroed, zeros_count}
 use Rattle.unit_exec.specs.Running.{overwritten}
 use Rattle.unit_vm.specs.Frames.{Held, Leaves}
 use Rattle.unit_vm.specs.Instructions.{slots_of}

@@ -6,12 +6,12 @@ use Rattle.std.specs.Option.{option_map, option_or}
 use Rattle.std.specs.Str.{bytes_eq}
 use Rattle.std.proofs.lemmas.List.{length-map}
 use Rattle.std.proofs.lemmas.List.Folds.{find-append}
-use Rattle.unit_code.specs.Scopes.{constants, slots_from, slot_variables, sizes_of, scope_of, named}
-use Rattle.unit_code.specs.StepLines.{may_store, target_coded}
-use Rattle.unit_code.specs.declared.scope.Named.{Named}
-use Rattle.unit_code.specs.declared.scope.Place.TheVariants.{Constant, Slot}
-use Rattle.unit_code.proofs.FitPieces.{both, le_test, lt_test}
-use Rattle.unit_code.proofs.ScopeLaws.{slots_behind}
+use Rattle.code_units.specs.Scopes.{constants, slots_from, slot_variables, sizes_of, scope_of, named}
+use Rattle.code_units.specs.StepLines.{may_store, target_coded}
+use Rattle.code_units.specs.declared.scope.Named.{Named}
+use Rattle.code_units.specs.declared.scope.Place.TheVariants.{Constant, Slot}
+use Rattle.code_units.proofs.FitPieces.{both, le_test, lt_test}
+use Rattle.code_units.proofs.ScopeLaws.{slots_behind}
 use Rattle.unit_tree.specs.Components.{variable}
 use Rattle.unit_tree.specs.Names.{is_among, param_names, input_names, output_names, declared_in, type_in, Port, input_ports, output_ports}
 use Rattle.unit_tree.specs.Plain.{plain_inputs, plain_unit}
@@ -25,8 +25,8 @@ use Rattle.unit_tree.specs.declared.unit.Output.{Output}
 use Rattle.unit_tree.specs.declared.unit.Param.{Param}
 use Rattle.unit_tree.specs.declared.unit.State.{State}
 use Rattle.unit_tree.specs.declared.unit.Unit.{Unit}
-use Rattle.unit_tree.proofs.NameLaws.{Has, has_front, has_behind, has_either, has_map, same_bytes, bytes_of, true_is_false}
-use Rattle.unit_tree.proofs.PlainNames.{map_has, flat_has}
+use Rattle.language_laws.proofs.NameLaws.{Has, has_front, has_behind, has_either, has_map, same_bytes, bytes_of, true_is_false}
+use Rattle.language_laws.proofs.PlainNames.{map_has, flat_has}
 use Rattle.unit_vm.specs.Instructions.{is_stored}
 use Rattle.unit_vm.specs.declared.program.Sizes.{Sizes}
 use Rattle.unit_exec.proofs.Declarations.{Declared, OfParam, OfState, OfLocal, OfInput, OfEventIn, OfOutput, OfEventOut, name_of, declarations, ports, Declares}

@@ -10,9 +10,9 @@ use Rattle.unit_tree.specs.declared.line_form.LineForm.{LineForm}
 use Rattle.unit_tree.specs.declared.line_form.LineForm.TheVariants as form
 use Rattle.unit_tree.specs.declared.system.System.{System}
 use Rattle.unit_tree.specs.declared.unit.Unit.{Unit}
-use Rattle.unit_tree.proofs.NameLaws.{all_keep, said, said_units, kept_parts, Hold, hold_all, hold_front}
-use Rattle.unit_tree.proofs.PartLaws.{unit_is}
-use Rattle.unit_tree.proofs.SiteLaws.{line_at, sites_are}
+use Rattle.language_laws.proofs.NameLaws.{all_keep, said, said_units, kept_parts, Hold, hold_all, hold_front}
+use Rattle.language_laws.proofs.PartLaws.{unit_is}
+use Rattle.language_laws.proofs.SiteLaws.{line_at, sites_are}
 
 -- A line keeps the rules on names, kinds, numbers, depths, costs and targets, is in range, and its names are words.
 pub record Passes (system : System) (site : Site) : Type 0 where

@@ -4,8 +4,8 @@ use Rattle.std.proofs.lemmas.List.{length-append}
 use Rattle.std.proofs.lemmas.Option.{slice_get-get_or}
 use Rattle.fixed_words.specs.Operations.{Outcome}
 use Rattle.fixed_words.specs.declared.types.Fault.{Fault}
-use Rattle.unit_code.specs.Calls.{word_given, limit_given, moved_given, slots_with, output_by, greatest_step_with, meaning_of, HasWordsFor}
-use Rattle.unit_code.proofs.UnitsCompute.{zeros_count}
+use Rattle.code_units.specs.Calls.{word_given, limit_given, moved_given, slots_with, output_by, greatest_step_with, meaning_of, HasWordsFor}
+use Rattle.code_units.proofs.UnitsCompute.{zeros_count}
 use Rattle.unit_exec.specs.Laws.{ValidProgramsAnswer}
 use Rattle.unit_exec.proofs.GivenAnswers.{GivesResult, output_well, limit_well}
 use Rattle.unit_tree.specs.Components.{Moved}
@@ -16,7 +16,7 @@ use Rattle.unit_vm.specs.declared.instruction.Instruction.{Instruction}
 use Rattle.unit_vm.specs.declared.program.CodeFacts.{CodeFacts}
 use Rattle.unit_vm.specs.declared.program.Entry.TheVariants as entry
 use Rattle.unit_vm.specs.declared.program.Program.{Program}
-use Rattle.unit_vm.proofs.Endings.{valid_runs_end_lem}
+use Rattle.unit_vm.proofs.RunEndings.{valid_runs_end_lem}
 
 word_there : (course : Course) → IsOver course → GivesResult course → (outcome : Outcome) × (word_given course ≡ Some outcome)
 word_there (Goes state) over gives = absurd over

@@ -1,9 +1,9 @@
 -- The image of a component: its program, and the words with which states and inputs begin.
 use Rattle.std.specs.Prelude.{◌≡◌, ℕ, ℤ, List, map, length, is_some, Option, slice_get}
 use Rattle.std.specs.Option.{IfSome}
-use Rattle.unit_code.specs.Calls.{Computes}
-use Rattle.unit_code.specs.Scopes.{sizes_of}
-use Rattle.unit_code.specs.UnitPrograms.{program_of}
+use Rattle.code_units.specs.Calls.{Computes}
+use Rattle.code_units.specs.Scopes.{sizes_of}
+use Rattle.code_units.specs.UnitPrograms.{program_of}
 use Rattle.unit_tree.specs.Components.{Component, initial, start_word}
 use Rattle.unit_tree.specs.Plain.{plain_form}
 use Rattle.unit_tree.specs.declared.system.System.{System}

@@ -2,8 +2,8 @@
 use Rattle.std.specs.Prelude.{◌<◌, Option, Result, ◌≡◌, ℕ, ℤ, List, length, Some, slice_get}
 use Rattle.fixed_words.specs.Operations.{Outcome}
 use Rattle.fixed_words.specs.declared.types.Fault.{Fault}
-use Rattle.unit_code.specs.Calls.{output_by, greatest_step_by, meaning_of, HasWordsFor}
-use Rattle.unit_code.specs.UnitPrograms.{IsCompilable}
+use Rattle.code_units.specs.Calls.{output_by, greatest_step_by, meaning_of, HasWordsFor}
+use Rattle.code_units.specs.UnitPrograms.{IsCompilable}
 use Rattle.unit_tree.specs.Components.{Moved}
 use Rattle.unit_tree.specs.Plain.{plain_form}
 use Rattle.unit_tree.specs.Printable.{IsRanged}

@@ -5,7 +5,7 @@ use Rattle.fixed_words.specs.Types.{is_word_of}
 use Rattle.fixed_words.specs.declared.types.Fault.{Fault}
 use Rattle.fixed_words.specs.declared.types.Fault.TheVariants as fault
 use Rattle.fixed_words.specs.declared.types.Ty.{Ty}
-use Rattle.unit_code.specs.Calls.{meaning_of}
+use Rattle.code_units.specs.Calls.{meaning_of}
 use Rattle.unit_exec.specs.Images.{Compiled}
 use Rattle.unit_vm.specs.Frames.{Held}
 use Rattle.unit_vm.specs.Valid.{HasFacts}

@@ -1,6 +1,6 @@
 //! A call as a run: the words of a component are put into the slots of a frame, and the code is run from an entry.
 ghost use Rattle.std.specs.Prelude.{◌≡◌, ◌+◌, ◌≤◌, ◌-◌, ◌<◌, ◌^◌, ◌∷◌, [], length, take, IsSome};
-ghost use Rattle.unit_code.specs.Calls.{slots_with, HasWordsFor};
+ghost use Rattle.code_units.specs.Calls.{slots_with, HasWordsFor};
 ghost use Rattle.unit_exec.specs.Running.{overwritten, given_word};
 ghost use Rattle.unit_vm.specs.Frames.{Leaves};
 ghost use Rattle.unit_vm.specs.Machine.{run_of};

@@ -4,7 +4,7 @@ ghost use Rattle.fixed_words.specs.Types.{AreDecimals};
 ghost use Rattle.unit_tree.specs.Components.{start_word};
 ghost use Rattle.unit_vm.specs.Checking.{IsValid};
 ghost use Rattle.std.specs.List.{AllByRecursion};
-ghost use Rattle.unit_code.specs.UnitPrograms.{IsCompilable};
+ghost use Rattle.code_units.specs.UnitPrograms.{IsCompilable};
 ghost use Rattle.unit_exec.specs.Images.{IsImageOf, unit_of_plain_form, HasParams, IsCompiled};
 ghost use Rattle.unit_tree.specs.declared.unit.Input.{Input};
 ghost use Rattle.unit_tree.specs.declared.unit.State.{State};
@@ -13,7 +13,7 @@ ghost use Rattle.unit_vm.specs.declared.program.Program.{Program};
 use fixed_words::{List, Literal, NoMemory, Ty, literal_word};
 use std::alloc::Global;
 use std::marker::Model;
-use unit_code::program;
+use code_units::program;
 use unit_tree::{Checked, Input, State, Unit};
 use unit_vm::{Code, Instruction, Program};
 
@@ -184,7 +184,7 @@ fn image_of(alloc: Global, unit: &Unit, params: &[i64]) -> Result<Image, NoMemor
 
 /// The image of a unit with words of its parameters. The unit is told by its number in the plain form of the system, which is
 /// what is run. The code of the image
-/// is the unit's program, which computes the calls of the component and, by `codes_cost_what_trees_do` of `unit_code`, costs
+/// is the unit's program, which computes the calls of the component and, by `codes_cost_what_trees_do` of `code_units`, costs
 /// at most what they cost by their trees.
 pub fn compile(
     alloc: Global,

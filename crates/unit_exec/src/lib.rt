@@ -6,7 +6,7 @@
 //! A [`Want`] names a step by what it depends on, for whoever is to make it.
 //!
 //! Definitions: `specs/Images.antt` (when an image is a component's), `specs/Running.antt` (a unit as it runs). What a
-//! run of code gives, and `meaning_of` a step, stand in `Calls` of `unit_code`. The law
+//! run of code gives, and `meaning_of` a step, stand in `Calls` of `code_units`. The law
 //! [`checked_units_are_compilable`] says that every unit of a checked system can be compiled. `specs/Showing.antt`, which need not
 //! be believed, says of which outputs an image notes the state that they show.
 #![tactic(auto)]

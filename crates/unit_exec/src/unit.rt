@@ -1,5 +1,5 @@
 ghost use Rattle.std.specs.Prelude.{◌≡◌, ◌+◌, ◌≤◌, ◌<◌, ◌^◌, length, Some, IfOk, slice_set};
-ghost use Rattle.unit_code.specs.Calls.{output_by, greatest_step_by};
+ghost use Rattle.code_units.specs.Calls.{output_by, greatest_step_by};
 ghost use Rattle.unit_exec.specs.Running.{opened, Steps};
 
 use crate::calls::{given, put, run_on, take_first};

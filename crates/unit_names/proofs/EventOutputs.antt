@@ -16,8 +16,8 @@ use Rattle.unit_tree.specs.declared.expr.Expr.TheVariants.{rolls-Number, rolls-T
 use Rattle.unit_tree.specs.declared.expr.Expr.TheViews.{roll-Expr}
 use Rattle.unit_tree.specs.declared.expr.UnOp.TheVariants as of
 use Rattle.unit_tree.proofs.FoldLemmas.{fold-Number, fold-Choose}
-use Rattle.unit_tree.proofs.KindLemmas.{kind-Number, kind-Truth, kind-Unary, kind-Choose}
-use Rattle.unit_tree.proofs.PlainLemmas.{choices-Number, choices-Truth, choices-Var, choices-Time, choices-Step, choices-Unary, choices-Binary, choices-Clamp, choices-Choose, choices-Absent, choices-Present}
+use Rattle.language_laws.proofs.KindLemmas.{kind-Number, kind-Truth, kind-Unary, kind-Choose}
+use Rattle.language_laws.proofs.PlainLemmas.{choices-Number, choices-Truth, choices-Var, choices-Time, choices-Step, choices-Unary, choices-Binary, choices-Clamp, choices-Choose, choices-Absent, choices-Present}
 
 -- ---- One node
 

@@ -1,7 +1,7 @@
 pub mod Costs
-pub mod Finding
-pub mod Naming
 pub mod EventOutputs
-pub mod Keeping
-pub mod Places
+pub mod FirstPlaces
+pub mod FoundEntries
+pub mod NodesByNames
 pub mod SamePorts
+pub mod UnitTables

@@ -7,8 +7,8 @@ use Rattle.unit_tree.specs.Names.{Port, instance_named, unit_at, unit_of_instanc
 use Rattle.unit_tree.specs.declared.system.PortName.{PortName}
 use Rattle.unit_tree.specs.declared.system.System.{System}
 use Rattle.unit_tree.specs.declared.unit.Unit.{Unit}
-use Rattle.unit_tree.proofs.NameLaws.{same_bytes, bytes_of}
-use Rattle.unit_names.proofs.Naming.{stands_at}
+use Rattle.language_laws.proofs.NameLaws.{same_bytes, bytes_of}
+use Rattle.unit_names.proofs.UnitTables.{stands_at}
 use Rattle.unit_names.specs.Entries.{Named, port_as_named}
 use Rattle.unit_names.specs.Found.{first_place, port_among}
 use Rattle.unit_names.specs.Systems.{instance_names, input_found, output_found}

@@ -119,7 +119,7 @@ impl<'a> SystemNames<'a> {
     }
 
     /// The first unit of a name.
-    #[tactic(auto, using(crate::proofs::Places::unit_at_place))]
+    #[tactic(auto, using(crate::proofs::FirstPlaces::unit_at_place))]
     pub fn unit_named(&self, name: &[u8]) -> Option<&UnitNames<'a>>
         ensures { option_copied result ≡ unit_named self.now.units name.now }
     {
@@ -127,7 +127,7 @@ impl<'a> SystemNames<'a> {
     }
 
     /// The first instance of a name.
-    #[tactic(auto, using(crate::proofs::Places::instance_at_place))]
+    #[tactic(auto, using(crate::proofs::FirstPlaces::instance_at_place))]
     pub fn instance_named(&self, name: &[u8]) -> Option<&'a Instance>
         ensures { option_copied result ≡ instance_named self.now name.now }
     {

@@ -148,7 +148,7 @@ impl<'a> UnitNames<'a> {
 
     /// The first place of a name among all that the unit declares, in canonical order of its lines: parameters,
     /// states, locals, inputs, event inputs, outputs, event outputs.
-    #[tactic(auto, using(crate::proofs::Naming::place_found))]
+    #[tactic(auto, using(crate::proofs::UnitTables::place_found))]
     pub fn first_place(&self, name: &[u8]) -> Option<usize>
         ensures { result ≡ first_place (declared_names self.now) name.now }
     {
@@ -156,7 +156,7 @@ impl<'a> UnitNames<'a> {
     }
 
     /// The type that a name is declared with.
-    #[tactic(auto, using(crate::proofs::Naming::type_found))]
+    #[tactic(auto, using(crate::proofs::UnitTables::type_found))]
     pub fn type_in(&self, name: &[u8]) -> Option<Ty>
         ensures { result ≡ type_in self.now name.now }
     {
@@ -164,7 +164,7 @@ impl<'a> UnitNames<'a> {
     }
 
     /// The type of a parameter.
-    #[tactic(auto, using(crate::proofs::Naming::param_found))]
+    #[tactic(auto, using(crate::proofs::UnitTables::param_found))]
     pub fn param_type(&self, name: &[u8]) -> Option<Ty>
         ensures { result ≡ option_map (λ param. param.ty) (param_named name.now self.now) }
     {
@@ -172,7 +172,7 @@ impl<'a> UnitNames<'a> {
     }
 
     /// Whether a name is a parameter.
-    #[tactic(auto, using(crate::proofs::Naming::param_stands))]
+    #[tactic(auto, using(crate::proofs::UnitTables::param_stands))]
     pub fn is_param(&self, name: &[u8]) -> bool
         ensures { result ≡ is_among (param_names self.now) name.now }
     {
@@ -180,7 +180,7 @@ impl<'a> UnitNames<'a> {
     }
 
     /// Whether a name is an input, be it an event input.
-    #[tactic(auto, using(crate::proofs::Naming::input_stands))]
+    #[tactic(auto, using(crate::proofs::UnitTables::input_stands))]
     pub fn is_input(&self, name: &[u8]) -> bool
         ensures { result ≡ is_among (input_names self.now) name.now }
     {
@@ -188,7 +188,7 @@ impl<'a> UnitNames<'a> {
     }
 
     /// Whether a name is an output, be it an event output.
-    #[tactic(auto, using(crate::proofs::Naming::output_stands))]
+    #[tactic(auto, using(crate::proofs::UnitTables::output_stands))]
     pub fn is_output(&self, name: &[u8]) -> bool
         ensures { result ≡ is_among (output_names self.now) name.now }
     {
@@ -196,7 +196,7 @@ impl<'a> UnitNames<'a> {
     }
 
     /// Whether a name may not be assigned: it is a parameter, an input or an output.
-    #[tactic(auto, using(crate::proofs::Naming::among_three))]
+    #[tactic(auto, using(crate::proofs::UnitTables::among_three))]
     pub fn is_read_only(&self, name: &[u8]) -> bool
         ensures { result ≡ is_among (param_names self.now ++ input_names self.now ++ output_names self.now) name.now }
     {
@@ -216,7 +216,7 @@ impl<'a> UnitNames<'a> {
     }
 
     /// The first input of a name, with its place among the inputs; event inputs come after the plain ones.
-    #[tactic(auto, using(crate::proofs::Naming::input_found))]
+    #[tactic(auto, using(crate::proofs::UnitTables::input_found))]
     pub fn input(&self, name: &[u8]) -> Option<Declared>
         ensures { result ≡ port_among (input_ports self.now) name.now }
     {
@@ -224,7 +224,7 @@ impl<'a> UnitNames<'a> {
     }
 
     /// The first output of a name, with its place among the outputs; event outputs come after the plain ones.
-    #[tactic(auto, using(crate::proofs::Naming::output_found))]
+    #[tactic(auto, using(crate::proofs::UnitTables::output_found))]
     pub fn output(&self, name: &[u8]) -> Option<Declared>
         ensures { result ≡ port_among (output_ports self.now) name.now }
     {
@@ -232,7 +232,7 @@ impl<'a> UnitNames<'a> {
     }
 
     /// Whether every expression may use a name.
-    #[tactic(auto, using(crate::proofs::Naming::shared_stands))]
+    #[tactic(auto, using(crate::proofs::UnitTables::shared_stands))]
     pub(crate) fn is_shared(&self, name: &[u8]) -> bool
         ensures { result ≡ is_among (shared_names self.now) name.now }
     {
@@ -240,7 +240,7 @@ impl<'a> UnitNames<'a> {
     }
 
     /// Whether a name is a local.
-    #[tactic(auto, using(crate::proofs::Naming::local_stands))]
+    #[tactic(auto, using(crate::proofs::UnitTables::local_stands))]
     pub(crate) fn is_local(&self, name: &[u8]) -> bool
         ensures { result ≡ is_among (map (λ local. local.name) self.now.locals) name.now }
     {
@@ -248,7 +248,7 @@ impl<'a> UnitNames<'a> {
     }
 
     /// Whether a name is an event input.
-    #[tactic(auto, using(crate::proofs::Naming::event_stands))]
+    #[tactic(auto, using(crate::proofs::UnitTables::event_stands))]
     pub(crate) fn is_event(&self, name: &[u8]) -> bool
         ensures { result ≡ is_among (event_input_names self.now) name.now }
     {

@@ -44,7 +44,7 @@ pub fn has_equals(names: &[Name]) -> bool
 }
 
 impl<'a> UnitNames<'a> {
-    #[tactic(auto, using(crate::proofs::Naming::among_two))]
+    #[tactic(auto, using(crate::proofs::UnitTables::among_two))]
     fn may_use(&self, asker: Asker, name: &[u8]) -> bool
         ensures { result ≡ is_among (uses_of asker self.now).names name.now }
     {
@@ -108,7 +108,7 @@ impl<'a> UnitNames<'a> {
     }
 
     /// Whether an expression uses only what it may, by what it stands for.
-    #[tactic(auto, using(crate::proofs::Keeping::nodes_are_kept))]
+    #[tactic(auto, using(crate::proofs::NodesByNames::nodes_are_kept))]
     pub fn keeps_to(&self, asker: Asker, expr: &Expr) -> bool
         ensures { result ≡ keeps_to (uses_of asker self.now) expr.now }
     {
@@ -141,7 +141,7 @@ impl<'a> UnitNames<'a> {
     }
 
     /// Whether an expression uses an input, be it in `present`, that is none of the needs.
-    #[tactic(auto, using(crate::proofs::Keeping::nodes_have_names))]
+    #[tactic(auto, using(crate::proofs::NodesByNames::nodes_have_names))]
     pub fn uses_other_input(&self, needs: &[Name], expr: &Expr) -> bool
         ensures { result ≡ uses_other_input self.now needs.now expr.now }
     {

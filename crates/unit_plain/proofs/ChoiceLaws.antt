@@ -1,6 +1,6 @@
 -- What the plain form makes of an event output's expression by its choices.
 use Rattle.std.proofs.Common.{◌≡◌, refl, ap, sym, subst, ◌∙◌}
-use Rattle.unit_tree.proofs.PlainLemmas.{choices-Number, choices-Truth, choices-Var, choices-Time, choices-Step, choices-Unary, choices-Binary, choices-Clamp, choices-Choose, choices-Present, plain-Choose}
+use Rattle.language_laws.proofs.PlainLemmas.{choices-Number, choices-Truth, choices-Var, choices-Time, choices-Step, choices-Unary, choices-Binary, choices-Clamp, choices-Choose, choices-Present, plain-Choose}
 use Rattle.unit_tree.specs.Plain.{plain_expression, with_choices}
 use Rattle.unit_tree.specs.declared.expr.Expr as expr
 use Rattle.unit_tree.specs.declared.expr.Expr.{Expr}

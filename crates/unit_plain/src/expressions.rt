@@ -117,7 +117,7 @@ fn boxed_presence(alloc: Global, value: &Expr) -> Result<Boxed<Expr>, NoMemory>
 /// The plain form of whether an event occurs, of an event output's expression: false for `absent`, and true for every
 /// other choice.
 #[cycle(presence)]
-#[tactic(auto, using(unit_tree::proofs::PlainLemmas::plain_laws))]
+#[tactic(auto, using(language_laws::proofs::PlainLemmas::plain_laws))]
 pub(crate) fn plain_presence(alloc: Global, value: &Expr) -> Result<Expr, NoMemory>
     ensures { IfOk result (λ plain. plain ≡ plain_expression (presence_of value.now)) }
 {
@@ -133,7 +133,7 @@ pub(crate) fn plain_presence(alloc: Global, value: &Expr) -> Result<Expr, NoMemo
 }
 
 /// The zero of a type's kind.
-#[tactic(auto, using(unit_tree::proofs::PlainLemmas::plain_laws))]
+#[tactic(auto, using(language_laws::proofs::PlainLemmas::plain_laws))]
 fn zero(alloc: Global, ty: Ty) -> Result<Expr, NoMemory>
     ensures { IfOk result (λ plain. plain ≡ plain_expression (zero_of ty)) }
 {
@@ -167,7 +167,7 @@ fn boxed_word(alloc: Global, ty: Ty, value: &Expr) -> Result<Boxed<Expr>, NoMemo
 
 /// The plain form of the event's word, of an event output's expression, with the zero of the type's kind for `absent`.
 #[cycle(word)]
-#[tactic(auto, using(unit_tree::proofs::PlainLemmas::plain_laws))]
+#[tactic(auto, using(language_laws::proofs::PlainLemmas::plain_laws))]
 pub(crate) fn plain_word(alloc: Global, ty: Ty, value: &Expr) -> Result<Expr, NoMemory>
     ensures { IfOk result (λ plain. plain ≡ plain_expression (word_expression_of ty value.now)) }
 {

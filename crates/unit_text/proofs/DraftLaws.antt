@@ -29,7 +29,7 @@ use Rattle.unit_text.proofs.DraftLemmas.{split_behind}
 use Rattle.unit_text.proofs.NestingLaws.{before_next, blocks_are, holding, in_unit_at, in_step_at, in_instance_at, blocks_around, in_step, header_has_rival}
 use Rattle.unit_text.proofs.AnswerLaws.{placed_at}
 use Rattle.unit_text.proofs.PartsAdded.{first_said, with_last, with_last_inside, system_and_part, unit_and_part}
-use Rattle.unit_text.proofs.Rivals.{stop_said, longest_said, zero_said, rows_said, resolution_said, max_said, step_said, text_before, unit_before}
+use Rattle.unit_text.proofs.SaidOnce.{stop_said, longest_said, zero_said, rows_said, resolution_said, max_said, step_said, text_before, unit_before}
 
 -- ---- The draft of what lines nest to
 

@@ -1,5 +1,5 @@
 -- Each line has one form, or none.
-use Rattle.unit_lines.proofs.FormsOfLines.{form_of, one_form}
+use Rattle.text_lines.proofs.FormsOfLines.{form_of, one_form}
 use Rattle.unit_text.proofs.Walks.{FormsAreKnown}
 
 pub known : FormsAreKnown

@@ -1,9 +1,9 @@
 -- What is answered of a line that has no form.
 use Rattle.std.proofs.Common.{ℕ, List, Err, inl, inr, refl}
 use Rattle.unit_tree.specs.declared.line_form.LineForm.{LineForm}
-use Rattle.unit_tokens.specs.Scanning.{ReadsAs}
-use Rattle.unit_tokens.specs.declared.fault.Unread.{Unread}
-use Rattle.unit_tokens.specs.declared.fault.Unread.TheVariants as unread
+use Rattle.text_tokens.specs.Scanning.{ReadsAs}
+use Rattle.text_tokens.specs.declared.fault.Unread.{Unread}
+use Rattle.text_tokens.specs.declared.fault.Unread.TheVariants as unread
 use Rattle.unit_text.specs.Reading.{IsWritten, FormIn, LineGives, fault_at, AnswersAt}
 use Rattle.unit_text.specs.declared.draft.Draft.{Draft}
 

@@ -22,7 +22,7 @@ use Rattle.unit_tree.specs.declared.line_form.LineForm.TheVariants as form
 use Rattle.unit_tree.specs.declared.system.Instance.{Instance}
 use Rattle.unit_tree.specs.declared.system.Setting.{Setting}
 use Rattle.unit_tree.proofs.FoldLemmas.{fold-Assign, fold-If, fold-Repeat, fold-Accept}
-use Rattle.unit_tree.proofs.OpenBlocks.{blocks_behind, lines_leave, unit_parts_leave, settings_leave, parts_leave}
+use Rattle.language_laws.proofs.OpenBlocks.{blocks_behind, lines_leave, unit_parts_leave, settings_leave, parts_leave}
 use Rattle.unit_text.specs.Laws.{NestingIsByParts}
 use Rattle.unit_text.specs.Drafts.{headed}
 use Rattle.unit_text.specs.Nesting as nesting

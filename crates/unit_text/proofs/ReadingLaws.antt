@@ -22,12 +22,12 @@ use Rattle.unit_text.specs.Drafts.{bare_draft, with_form, whole_by, whole_system
 use Rattle.unit_text.specs.Nesting.{Open, AtTop, InUnit, InStep, InInstance, Inner, Nested, headed_by, and_step_form, in_step, and_form_in, and_form, nested_forms, blocks_of}
 use Rattle.unit_text.specs.Numbering.{place_in, place_of, group_of, bare_numbers, with_group, with_line, marks_of, with_marks, in_order}
 use Rattle.unit_text.specs.Reading.{IsWritten, IsHeadless, FirstGives, FormIn, LineGives, WholeGives, blank_rule, FirstAt, HeadsText, HeadBreaks, HeaderGives, AnswersAt, AnswersText}
-use Rattle.unit_lines.specs.Seen.{IsClean, TellsOf}
+use Rattle.text_lines.specs.Seen.{IsClean, TellsOf}
 use Rattle.unit_text.specs.declared.draft.Around.{Around}
 use Rattle.unit_text.specs.declared.draft.Draft.{Draft}
 use Rattle.unit_text.specs.declared.fault.TextFault.{TextFault}
 use Rattle.unit_text.specs.declared.fault.TextFault.TheVariants as fault
-use Rattle.unit_lines.specs.declared.lines.Seen.TheVariants as told
+use Rattle.text_lines.specs.declared.lines.Seen.TheVariants as told
 use Rattle.unit_text.specs.declared.numbers.Group.{Group}
 use Rattle.unit_text.specs.declared.numbers.Mark.{Mark}
 use Rattle.unit_text.specs.declared.numbers.Numbers.{Numbers}
@@ -36,7 +36,7 @@ use Rattle.unit_text.proofs.AnswerLaws.{broken_at, ends_whole, ends_open, blank_
 use Rattle.unit_text.proofs.DraftLaws.{draft_of, open_of, draft_goes}
 use Rattle.unit_text.proofs.NumberLaws.{numbers_of, numbers_begin, numbers_more, lengths_more, numbers_end, marks_more}
 use Rattle.unit_text.proofs.NestingLaws.{is_held, before_next, blocks_are, blocks_around, whole_forms}
-use Rattle.text_laws.proofs.Refusing.{AreUnbroken}
+use Rattle.text_laws.proofs.RefusalSteps.{AreUnbroken}
 use Rattle.unit_text.proofs.Walks.{FormsAreKnown, FirstLine, first_is, begins_so, AreBlank, NestTo, BreaksLeast, blank_more, nest_blank, header_begins, line_nests, bytes_break, length_breaks, formless_breaks, place_breaks, first_place_breaks, headless_breaks}
 
 -- ---- Cutting lines

@@ -13,12 +13,12 @@ use Rattle.unit_tree.specs.Texts.{line_limit, BeginsVersion2, HasFormIn, HaveFor
 use Rattle.unit_tree.specs.declared.line_form.LineForm.{LineForm}
 use Rattle.unit_tree.specs.declared.line_form.LineForm.TheVariants as form
 use Rattle.unit_tree.specs.declared.token.Token.{Token}
-use Rattle.unit_tokens.proofs.TokenLemmas.{spells_one}
-use Rattle.unit_lines.specs.Laws.{HasOneForm}
-use Rattle.unit_lines.specs.Seen.{IsClean}
+use Rattle.text_tokens.proofs.TokenLemmas.{spells_one}
+use Rattle.text_lines.specs.Laws.{HasOneForm}
+use Rattle.text_lines.specs.Seen.{IsClean}
 use Rattle.unit_text.specs.Nesting.{Nested, headed_by, and_form, nested_forms}
 use Rattle.unit_text.proofs.NestingLaws.{before_next, is_held, adds}
-use Rattle.text_laws.proofs.Refusing.{IsUnbroken, AreUnbroken, IsLeast, unbroken, least}
+use Rattle.text_laws.proofs.RefusalSteps.{IsUnbroken, AreUnbroken, IsLeast, unbroken, least}
 
 abbrev pub is_written : List ℕ → Bool
 is_written line = not (is_blank_line line)

@@ -2,8 +2,8 @@
 use Rattle.std.specs.Prelude.{◌≡◌, ⊤, ℕ, Bool, true, false, List, [], ◌∷◌, ◌++◌, length, Option, Some, None, Result, Ok, Err, if◌then◌else◌, nat_lt, option_and_then}
 use Rattle.std.specs.Option.{option_map}
 use Rattle.fixed_words.specs.declared.types.Literal.{Literal}
-use Rattle.unit_tokens.specs.declared.fault.Unread.{Unread}
-use Rattle.unit_tokens.specs.declared.fault.Unread.TheVariants as unread
+use Rattle.text_tokens.specs.declared.fault.Unread.{Unread}
+use Rattle.text_tokens.specs.declared.fault.Unread.TheVariants as unread
 use Rattle.unit_tree.specs.Parts.{bare_system, bare_unit}
 use Rattle.unit_tree.specs.declared.expr.Expr.{Expr}
 use Rattle.unit_tree.specs.declared.line.Line.{Line}

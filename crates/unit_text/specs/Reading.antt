@@ -10,16 +10,16 @@ use Rattle.unit_tree.specs.SourceLines.{ReadsFrom}
 use Rattle.unit_tree.specs.Texts.{line_limit, IsRefused}
 use Rattle.unit_tree.specs.declared.line_form.LineForm.{LineForm}
 use Rattle.unit_tree.specs.declared.line_form.LineForm.TheVariants as form
-use Rattle.unit_tokens.specs.declared.fault.Unread.{Unread}
-use Rattle.unit_tokens.specs.declared.fault.Unread.TheVariants as unread
+use Rattle.text_tokens.specs.declared.fault.Unread.{Unread}
+use Rattle.text_tokens.specs.declared.fault.Unread.TheVariants as unread
 use Rattle.unit_text.specs.Drafts.{with_form, whole_system}
-use Rattle.unit_lines.specs.LineReading.{LineHas}
+use Rattle.text_lines.specs.LineReading.{LineHas}
 use Rattle.unit_text.specs.Numbering.{place_in, group_of, bare_numbers, with_marks, in_order}
-use Rattle.unit_lines.specs.Seen.{IsClean, TellsOf}
+use Rattle.text_lines.specs.Seen.{IsClean, TellsOf}
 use Rattle.unit_text.specs.declared.draft.Draft.{Draft}
 use Rattle.unit_text.specs.declared.fault.TextFault.{TextFault}
 use Rattle.unit_text.specs.declared.fault.TextFault.TheVariants as fault
-use Rattle.unit_lines.specs.declared.lines.Seen.TheVariants as told
+use Rattle.text_lines.specs.declared.lines.Seen.TheVariants as told
 use Rattle.unit_text.specs.declared.numbers.Group.{Group}
 use Rattle.unit_text.specs.declared.numbers.Mark.{Mark}
 use Rattle.unit_text.specs.declared.reading.ReadText.{ReadText}

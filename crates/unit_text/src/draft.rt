@@ -1,13 +1,13 @@
 //! A system as far as the lines of its text have come.
 ghost use Rattle.std.specs.Prelude.{◌≡◌, Some};
-ghost use Rattle.unit_tokens.specs.Scanning.{Gives};
-ghost use Rattle.unit_tokens.specs.declared.fault.Unread.TheVariants.{NoForm};
+ghost use Rattle.text_tokens.specs.Scanning.{Gives};
+ghost use Rattle.text_tokens.specs.declared.fault.Unread.TheVariants.{NoForm};
 ghost use Rattle.unit_tree.specs.Parts.{bare_unit};
 ghost use Rattle.unit_text.specs.Drafts.{bare_draft, at_top, in_unit, in_step, in_instance, bare_instance, with_wire, with_stop, with_longest, with_zero, with_rows, with_sample, with_resolution, with_param, with_state, with_local, with_input, with_event_in, with_output, with_event_out, with_max, with_step, with_unit, with_setting, with_instance, headed, with_form, top_form, declared_form, unit_form, and_line, in_block, turned, ended, line_in_step, step_form, instance_form, split_last, whole_system, is_top, limit_form, single_form, setting_form, Puts};
 
 use fixed_words::{List, Literal};
 use std::alloc::Global;
-use unit_tokens::Unread;
+use text_tokens::Unread;
 use unit_tree::{
     EventIn, EventOut, Expr, Input, Instance, Line, LineForm, Local, Name, Output, Param, PortName,
     Setting, State, System, Unit, Wire,

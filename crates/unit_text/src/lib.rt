@@ -3,7 +3,7 @@
 //!
 //! The layer above uses [`read_system`] with [`ReadText`] and [`TextFault`]. Two laws of reading are public functions without
 //! a body: each text is answered once ([`texts_are_answered_once`]), and nesting is by parts ([`nesting_is_by_parts`]); those
-//! on one line stand in `unit_lines`, those that need no reader in `text_laws`.
+//! on one line stand in `text_lines`, those that need no reader in `text_laws`.
 //!
 //! Definitions: `Texts` and `SourceLines` of `unit_tree`, with those that they cite; `specs/Laws.antt` states the laws. How the
 //! reading goes about it stands in `specs/Drafts.antt` (the system as far as its lines have come), `specs/Numbering.antt` (the

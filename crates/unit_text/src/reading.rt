@@ -5,7 +5,7 @@ ghost use Rattle.unit_tree.specs.Blocks.{no_lines, may_stand};
 ghost use Rattle.unit_tree.specs.Lines.{source_lines, size_of, is_blank_line};
 ghost use Rattle.unit_tree.specs.Printable.{IsPrintable};
 ghost use Rattle.unit_tree.specs.Texts.{text_limit};
-ghost use Rattle.unit_tokens.specs.Scanning.{Gives, ReadsAs};
+ghost use Rattle.text_tokens.specs.Scanning.{Gives, ReadsAs};
 ghost use Rattle.unit_text.specs.Reading.{IsWritten, headless_rule, TellsVersion, FirstGives, IsFormOf, FormIn, and_group, LineGives, WholeGives, fault_at, AnswersAt, blank_rule, HeaderGives, AnswersText};
 
 use crate::draft::{Draft, drop_draft, drop_form};
@@ -13,11 +13,11 @@ use crate::fault::TextFault;
 use crate::numbers::{Group, Mark, Place, note, numbers_in_order};
 use fixed_words::List;
 use std::alloc::Global;
-use unit_lines::{
+use text_lines::{
     LENGTH_RULE, LONGEST_LINE, Seen, VERSION_2, form_of_line, is_blank_line, is_of_version_2,
     look_at, without_return,
 };
-use unit_tokens::{Unread, cut_line, size};
+use text_tokens::{Unread, cut_line, size};
 use unit_tree::{LineForm, System};
 
 /// The most bytes of a text, with an end counted for each line.
@@ -252,7 +252,7 @@ fn blank_rule(text: &[u8]) -> u8
 }
 
 /// The version that the header of a text gives, the number of its line, and the text behind it.
-#[tactic(auto, using(unit_tokens::proofs::LineLemmas::length_le_size_of, crate::proofs::ReadingLaws::blank_none, crate::proofs::ReadingLaws::blank_next, crate::proofs::ReadingLaws::blank_end))]
+#[tactic(auto, using(text_tokens::proofs::LineLemmas::length_le_size_of, crate::proofs::ReadingLaws::blank_none, crate::proofs::ReadingLaws::blank_next, crate::proofs::ReadingLaws::blank_end))]
 fn header_of(alloc: Global, text: &[u8]) -> Result<(u8, u32, &[u8]), TextFault>
     requires { size_of text.now ≤ text_limit }
     ensures { HeaderGives text.now result }
@@ -282,7 +282,7 @@ fn header_of(alloc: Global, text: &[u8]) -> Result<(u8, u32, &[u8]), TextFault>
 }
 
 /// What a text says whose lines are not all blank.
-#[tactic(auto, using(unit_tokens::proofs::LineLemmas::length_le_size_of))]
+#[tactic(auto, using(text_tokens::proofs::LineLemmas::length_le_size_of))]
 fn read_lines(alloc: Global, text: &[u8]) -> Result<ReadText, TextFault>
     requires short { size_of text.now ≤ text_limit }
     requires written { list_all is_blank_line (source_lines text.now) ≡ false }

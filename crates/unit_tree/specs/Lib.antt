@@ -3,12 +3,10 @@ pub mod Canonical
 pub mod Components
 pub mod Compositions
 pub mod Costs
-pub mod Counter
 pub mod Effects
 pub mod Given
 pub mod Judged
 pub mod Kinds
-pub mod Language
 pub mod Levels
 pub mod LineForms
 pub mod Lines
@@ -22,7 +20,6 @@ pub mod Ports
 pub mod Printable
 pub mod Routed
 pub mod Routes
-pub mod RunLaws
 pub mod Sites
 pub mod SourceLines
 pub mod Successor
@@ -31,10 +28,3 @@ pub mod Tokens
 pub mod Trace
 pub mod Values
 pub mod WellFormed
-pub mod WorkedBlocks
-pub mod WorkedEvents
-pub mod WorkedKinds
-pub mod WorkedLimits
-pub mod WorkedPhrases
-pub mod WorkedRuns
-pub mod WorkedSystems

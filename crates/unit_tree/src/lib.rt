@@ -8,15 +8,14 @@
 //! operands an operation takes), `Values` (what an expression is worth), `Effects` (what step lines do),
 //! `Costs` (the static cost of a call) and `Components` (initial state, get, max and step of a unit). What a run of
 //! it is: `Compositions` (what is run, by numbers), `Ports` (port assignment), `Negotiation` (proposal, reply, agreed
-//! step), `Successor` and `Trace` (the one trace of a system); `Routes` and `Given` say it of calls by numbers, and
-//! `RunLaws` has the laws. How a system is written: `Lines` and `Tokens` (how a text is cut), `Phrases` (the grammar of
+//! step), `Successor` and `Trace` (the one trace of a system); `Routes` and `Given` say it of calls by numbers. How a
+//! system is written: `Lines` and `Tokens` (how a text is cut), `Phrases` (the grammar of
 //! expressions, whose levels are [`levels`] to code), `LineForms` (the forms of lines, each a [`LineForm`]), `Blocks` (where a form may stand),
 //! `Parts` and `Texts` (which text says which system, and where any other is refused), `Canonical` and
 //! `Printable` (the one printed text of a system). Which systems may run: `Names`, `Sites` and `WellFormed`
 //! (the lines that break each rule), and `Orders` (outputs without a cycle).
 //!
-//! `Language` has the laws of the language. The public functions without a body, as [`systems_are_worked`],
-//! are laws of these definitions; those of the files `Worked..` keep them honest on small cases.
+//! Their laws stand in `language_laws` and `run_laws`, and `worked_facts` keeps them honest on small cases.
 #![tactic(auto)]
 
 mod checked;
@@ -26,12 +25,10 @@ mod environment;
 mod evaluate;
 mod expr;
 mod gets;
-mod laws;
 pub mod levels;
 mod line;
 mod line_form;
 mod order;
-mod run_laws;
 mod system;
 mod token;
 mod unit;
@@ -44,21 +41,9 @@ pub use evaluate::value;
 pub use expr::{BinOp, Expr, UnOp};
 use fixed_words::List;
 pub use gets::Gets;
-pub use laws::{
-    blocks_are_worked, canonical_parts_say_the_system, canonical_phrases_are_right,
-    cycles_have_no_order, each_system_is_judged_once, events_are_worked,
-    kinds_and_costs_are_worked, limits_are_worked, lines_are_worked, orders_are_worked,
-    outputs_have_lines, phrases_are_worked, plain_lines_are_those, runs_are_worked,
-    sites_are_canonical_lines, source_lines_are_right, systems_are_worked, texts_are_refused_once,
-};
 pub use line::Line;
 pub use line_form::LineForm;
 pub use order::{InputAt, Order, Route, Routes, StartWord};
-pub use run_laws::{
-    assignments_are_unique, ends_are_judged_in_order, ordered_runs_have_one_trace,
-    outputs_look_at_needs, runs_keep_words, steps_are_negotiated, steps_keep_words,
-    systems_have_one_trace, undefined_outputs_fault,
-};
 pub use super_time::Point;
 pub use system::{Column, Instance, PortName, Setting, System, Wire};
 pub use token::{Keyword, Symbol, Token};

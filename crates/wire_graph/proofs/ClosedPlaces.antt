@@ -8,7 +8,7 @@ use Rattle.unit_tree.specs.Orders.{IsIn, HasNoOrder, IsFirstWithoutOrder, output
 use Rattle.unit_tree.specs.Ports.{IsAmong, IsOrderedAfter, needs_of_places, needs_at}
 use Rattle.unit_tree.specs.declared.system.PortName.{PortName}
 use Rattle.unit_tree.specs.declared.system.System.{System}
-use Rattle.unit_tree.proofs.NameLaws.{NamesDiffer, Wired}
+use Rattle.language_laws.proofs.NameLaws.{NamesDiffer, Wired}
 use Rattle.wire_graph.proofs.PlaceLists.{ordered, orderly, count_is, at_is, port_at, ports_at, places, place_back, among_places, among_ports}
 use Rattle.wire_graph.proofs.SortingLaws.{among_either, all_weaker}
 

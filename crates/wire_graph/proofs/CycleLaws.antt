@@ -2,16 +2,16 @@
 use Rattle.std.proofs.Common.{◌≡◌, ℕ, zero, suc, ◌+◌, ◌<◌, ◌≤◌, Bool, true, false, cond, List, [], ◌∷◌, ◌++◌, inl, inr, ◌⊎◌, refl, ap, sym, subst, ◌∙◌, arith, append-nil, append_assoc}
 use Rattle.std.specs.Prelude.{◌||◌}
 use Rattle.std.specs.List.{AllByRecursion, list_any}
-use Rattle.unit_tree.specs.Language.{CyclesAreJudgedOnce}
+use Rattle.language_laws.specs.Language.{CyclesAreJudgedOnce}
 use Rattle.unit_tree.specs.Names.{same_port}
 use Rattle.unit_tree.specs.Orders.{IsIn, IsOrderlyAfter, IsOrderly, HasNoCycle, HasNoOrder, IsFirstWithoutOrder, outputs_of, needed_by}
 use Rattle.unit_tree.specs.declared.system.PortName.{PortName}
 use Rattle.unit_tree.specs.declared.system.System.{System}
-use Rattle.unit_tree.proofs.NameLaws.{same_port_of, has_behind}
-use Rattle.unit_tree.proofs.OrderLaws.{each_in}
-use Rattle.unit_tree.proofs.PlaceOrders.{has_in, same_port_is}
-use Rattle.unit_tree.proofs.PlainOrders.{in_longer}
-use Rattle.unit_tree.proofs.PortLaws.{or_true, or_right}
+use Rattle.language_laws.proofs.NameLaws.{same_port_of, has_behind}
+use Rattle.language_laws.proofs.OrderLaws.{each_in}
+use Rattle.run_laws.proofs.PlaceOrders.{has_in, same_port_is}
+use Rattle.run_laws.proofs.PlainOrders.{in_longer}
+use Rattle.run_laws.proofs.PortLaws.{or_true, or_right}
 
 -- ---- Whether a port is among some
 

@@ -13,10 +13,10 @@ use Rattle.unit_tree.specs.declared.system.System.{System}
 use Rattle.unit_tree.specs.declared.unit.EventIn.{EventIn}
 use Rattle.unit_tree.specs.declared.unit.Input.{Input}
 use Rattle.unit_tree.specs.declared.unit.Unit.{Unit}
-use Rattle.unit_tree.proofs.NameLaws.{Has, has_front, has_behind, has_map}
-use Rattle.unit_tree.proofs.PlaceOrders.{all_has}
-use Rattle.unit_tree.proofs.PlainNames.{each_has, has_flat}
-use Rattle.unit_tree.proofs.PlainOrders.{plain_of}
+use Rattle.language_laws.proofs.NameLaws.{Has, has_front, has_behind, has_map}
+use Rattle.run_laws.proofs.PlaceOrders.{all_has}
+use Rattle.language_laws.proofs.PlainNames.{each_has, has_flat}
+use Rattle.run_laws.proofs.PlainOrders.{plain_of}
 use Rattle.wire_graph.specs.Origins.{HaveDecimals}
 
 -- ---- The lines of inputs

@@ -11,10 +11,10 @@ use Rattle.unit_tree.specs.Routes.{IsRoutedAfter, IsOrderOf, routes_of}
 use Rattle.unit_tree.specs.WellFormed.{IsWellFormed}
 use Rattle.unit_tree.specs.declared.order.Routes.{Routes}
 use Rattle.unit_tree.specs.declared.system.System.{System}
-use Rattle.unit_tree.proofs.EventLaws.{one_or_two, plain_form_1, plain_form_without_events}
-use Rattle.unit_tree.proofs.NameLaws.{NamesDiffer, Wired, names_differ, is_wired}
-use Rattle.unit_tree.proofs.PlainCycles.{plain_is_wired}
-use Rattle.unit_tree.proofs.PlainOrders.{plain_of, plain_names_differ}
+use Rattle.run_laws.proofs.EventLaws.{one_or_two, plain_form_1, plain_form_without_events}
+use Rattle.language_laws.proofs.NameLaws.{NamesDiffer, Wired, names_differ, is_wired}
+use Rattle.run_laws.proofs.PlainCycles.{plain_is_wired}
+use Rattle.run_laws.proofs.PlainOrders.{plain_of, plain_names_differ}
 use Rattle.wire_graph.specs.Faults.{IsNumbered, IsAtPlace, IsRightFault}
 use Rattle.wire_graph.specs.Sorting.{IsSorting, IsClosed}
 use Rattle.wire_graph.specs.declared.fault.OrderFault.{OrderFault}

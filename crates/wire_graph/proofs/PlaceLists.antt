@@ -20,11 +20,11 @@ use Rattle.unit_tree.specs.declared.unit.EventOut.{EventOut}
 use Rattle.unit_tree.specs.declared.unit.Input.{Input}
 use Rattle.unit_tree.specs.declared.unit.Output.{Output}
 use Rattle.unit_tree.specs.declared.unit.Unit.{Unit}
-use Rattle.unit_tree.proofs.NameLaws.{Has, Distinct, NamesDiffer, Wired, same_port_of, has_either, has_map, has_front, has_behind, found}
-use Rattle.unit_tree.proofs.OrderLaws.{each_in}
-use Rattle.unit_tree.proofs.PortLaws.{among, has_among, each_among, ports_in, output_has}
-use Rattle.unit_tree.proofs.PlaceOrders.{in_has, has_in, same_port_is, all_has, distinct_append}
-use Rattle.unit_tree.proofs.RunTraces.{one_each}
+use Rattle.language_laws.proofs.NameLaws.{Has, Distinct, NamesDiffer, Wired, same_port_of, has_either, has_map, has_front, has_behind, found}
+use Rattle.language_laws.proofs.OrderLaws.{each_in}
+use Rattle.run_laws.proofs.PortLaws.{among, has_among, each_among, ports_in, output_has}
+use Rattle.run_laws.proofs.PlaceOrders.{in_has, has_in, same_port_is, all_has, distinct_append}
+use Rattle.run_laws.proofs.RunTraces.{one_each}
 
 -- ---- Ports in lists
 

@@ -1,5 +1,5 @@
 use Rattle.std.proofs.Common.{◌≡◌, ◌<◌, ℕ, List, length, Some, Err, inl, refl, sym, subst}
-use Rattle.unit_accept.specs.Accepting.{AnswersText, source_line}
+use Rattle.text_accept.specs.Accepting.{AnswersText, source_line}
 use Rattle.unit_text.specs.declared.fault.TextFault.{TextFault}
 use Rattle.unit_tree.specs.declared.system.System.{System}
 use Rattle.cosim_app.specs.Judgement.{TellsAccepted}

@@ -1,5 +1,5 @@
 use Rattle.std.proofs.Common.{Err, refl, subst}
-use Rattle.unit_accept.specs.Accepting.{AnswersText}
+use Rattle.text_accept.specs.Accepting.{AnswersText}
 use Rattle.unit_text.specs.declared.fault.TextFault.{TextFault}
 use Rattle.unit_tree.specs.declared.system.System.{System}
 use Rattle.cosim_app.specs.Answer.{printed_text}

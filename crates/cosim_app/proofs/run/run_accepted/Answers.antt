@@ -1,5 +1,5 @@
 use Rattle.std.proofs.Common.{◌≡◌, List, ℕ, Some, inr, refl, sym, ap, subst, ◌∙◌}
-use Rattle.unit_accept.specs.Accepting.{source_line}
+use Rattle.text_accept.specs.Accepting.{source_line}
 use Rattle.unit_tree.specs.declared.system.System.{System}
 use Rattle.cosim_app.specs.declared.command_words.Command.TheVariants.{Run}
 use Rattle.cosim_app.proofs.JudgeLaws.{refuses}

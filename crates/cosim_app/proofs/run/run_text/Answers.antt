@@ -1,5 +1,5 @@
 use Rattle.std.proofs.Common.{Err, inl, refl, subst}
-use Rattle.unit_accept.specs.Accepting.{AnswersText}
+use Rattle.text_accept.specs.Accepting.{AnswersText}
 use Rattle.unit_text.specs.declared.fault.TextFault.{TextFault}
 use Rattle.cosim_app.specs.declared.command_words.Command.TheVariants.{Run}
 use Rattle.cosim_app.proofs.JudgeLaws.{puts_nothing, refuses, some_header}

@@ -1,7 +1,7 @@
 use Rattle.std.proofs.Common.{pos, ◌-ℤ◌, ◌+ℤ◌, w64, SFits, rules}
 use Rattle.std.specs.Int.RustNames.{int_div, int_rem}
 use Rattle.std.proofs.lemmas.Int.{to_z-of_z}
-use Rattle.fixed_words.proofs.Mended.{above_floor, at_floor_by_sign, at_floor_exactly}
+use Rattle.fixed_words.proofs.MendedQuotients.{above_floor, at_floor_by_sign, at_floor_exactly}
 use Rattle.fixed_words.proofs.operations.floor_and_rest.Goals as goal
 use Rattle.fixed_words.proofs.operations.floor_and_rest.Goals.{else-left-ne0-via-then-left-ne0+else-left-divisor, else-left-ne0-via-else-left-ne0}
 

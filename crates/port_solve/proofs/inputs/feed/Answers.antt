@@ -1,5 +1,5 @@
 use Rattle.std.proofs.Common.{◌<◌, ◌∙◌, length}
-use Rattle.port_solve.proofs.Setting.{all_left, one_fed}
+use Rattle.port_solve.proofs.InputsSet.{all_left, one_fed}
 use Rattle.port_solve.proofs.inputs.feed.Goals as goal
 use Rattle.unit_tree.specs.declared.order.InputAt.{InputAt}
 

@@ -3,7 +3,7 @@ use Rattle.std.proofs.lemmas.Int.{to_z-of_z}
 use Rattle.std.specs.Option.{option_and_then}
 use Rattle.std.specs.Result.{result_ok}
 use Rattle.port_solve.specs.Solved.{ports_told}
-use Rattle.port_solve.proofs.Setting.{told_known, told_unknown}
+use Rattle.port_solve.proofs.InputsSet.{told_known, told_unknown}
 use Rattle.port_solve.proofs.outputs.work_out.Goals as goal
 
 pub feed-requires : goal.feed-requires

@@ -1,5 +1,5 @@
 use Rattle.std.proofs.Common.{◌≡◌, ◌∙◌, length, ap}
-use Rattle.port_solve.proofs.Answered.{starts_fit, start_words, fault_within, fault_is_told, none_told, all_are_known, inputs_are}
+use Rattle.port_solve.proofs.PortAnswers.{starts_fit, start_words, fault_within, fault_is_told, none_told, all_are_known, inputs_are}
 use Rattle.port_solve.proofs.SetWords.{shape_after}
 use Rattle.port_solve.proofs.SoundRuns.{runs_are_sound}
 use Rattle.port_solve.proofs.solving.solve.Goals as goal

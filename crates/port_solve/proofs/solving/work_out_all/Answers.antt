@@ -1,7 +1,7 @@
 use Rattle.std.proofs.Common.{◌≡◌, ◌∙◌, length, get_or, refl, sym, ap, arith}
 use Rattle.std.proofs.lemmas.Option.{slice_get_read}
-use Rattle.port_solve.proofs.Ends.{start_front}
-use Rattle.port_solve.proofs.Loop.{in_range, asks, fits, front_next, first_next, is_assignment, have_words, have_inputs, is_first}
+use Rattle.port_solve.proofs.SolvedPorts.{start_front}
+use Rattle.port_solve.proofs.OrderLoop.{in_range, asks, fits, front_next, first_next, is_assignment, have_words, have_inputs, is_first}
 use Rattle.port_solve.proofs.solving.work_out_all.Goals as goal
 use Rattle.unit_tree.specs.Compositions.{run_of}
 use Rattle.unit_tree.specs.Ports.{IsPlaceOrder}

@@ -1,6 +1,6 @@
 use Rattle.std.proofs.Common.{◌≡◌, ◌≤◌, subst, rules}
 use Rattle.unit_tree.specs.Negotiation.{reply_of}
-use Rattle.unit_tree.proofs.StepLaws.{reply_is_at_most}
+use Rattle.run_laws.proofs.StepLaws.{reply_is_at_most}
 use Rattle.step_rule.proofs.rules.reply.Goals as goal
 
 pub returns-clause-at_most : goal.returns-clause-at_most

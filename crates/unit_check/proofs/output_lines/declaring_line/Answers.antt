@@ -1,5 +1,5 @@
 use Rattle.std.proofs.Common.{sym, ◌∙◌, ap, Err}
-use Rattle.unit_check.proofs.Declaring.{none_found, none_at_end, some_at_stop}
+use Rattle.unit_check.proofs.DeclaringLines.{none_found, none_at_end, some_at_stop}
 use Rattle.unit_check.specs.declared.walk.Stop.{Stop}
 use Rattle.unit_tree.specs.declared.system.PortName.{PortName}
 use Rattle.unit_check.proofs.output_lines.declaring_line.Goals as goal

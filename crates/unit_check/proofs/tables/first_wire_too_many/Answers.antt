@@ -1,6 +1,6 @@
 use Rattle.std.proofs.Common.{◌≡◌, ◌≤◌, length, ap, ◌∙◌, arith}
 use Rattle.unit_check.specs.Counts.{plain_wire_count}
-use Rattle.unit_check.proofs.Wires.{none_exceeds}
+use Rattle.unit_check.proofs.PlainWires.{none_exceeds}
 use Rattle.unit_check.proofs.tables.first_wire_too_many.Goals as goal
 
 pub returns : goal.returns

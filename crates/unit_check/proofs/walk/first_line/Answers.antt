@@ -2,7 +2,7 @@ use Rattle.std.proofs.Common.{sym, subst, Result, ℕ}
 use Rattle.unit_check.specs.Rules.{Says, defined}
 use Rattle.unit_check.specs.declared.walk.Stop.{Stop}
 use Rattle.unit_tree.specs.WellFormed.{lines_breaking}
-use Rattle.unit_check.proofs.Agreeing.{says_rule}
+use Rattle.unit_check.proofs.TestsByPlace.{says_rule}
 use Rattle.unit_check.proofs.walk.first_line.Goals as goal
 
 pub returns : goal.returns

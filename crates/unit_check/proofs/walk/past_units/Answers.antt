@@ -1,6 +1,6 @@
 use Rattle.std.proofs.Common.{◌∙◌}
 use Rattle.unit_check.specs.Questions.{asked_of}
-use Rattle.unit_check.proofs.Units.{passed}
+use Rattle.unit_check.proofs.NumberedWalks.{passed}
 use Rattle.unit_check.proofs.walk.past_units.Goals as goal
 
 pub loop-place-preserved : goal.loop-place-preserved

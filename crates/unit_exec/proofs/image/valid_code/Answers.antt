@@ -1,6 +1,6 @@
 use Rattle.unit_exec.proofs.image.valid_code.Goals as goal
 use Rattle.unit_exec.proofs.ImageLaws.{found_there, found_is}
-use Rattle.unit_vm.proofs.ReadsBack.{is_short}
+use Rattle.unit_vm.proofs.ValidCodeReadBack.{is_short}
 
 pub words-requires : goal.words-requires
 words-requires c = is_short c.args.program.now c.requires.0 c.requires.1

@@ -2,7 +2,7 @@ use Rattle.std.proofs.Common.{rules, ◌≡◌, None, bytes_eq}
 use Rattle.indexmap.specs.IndexMap.{get_by}
 use Rattle.std.specs.Cmp.Lexicographic.{bytes_decides, nat_list_eq_equiv}
 use Rattle.std.proofs.lemmas.Map.Text.{hash_map_updates_str}
-use Rattle.unit_names.proofs.Finding.{newly}
+use Rattle.unit_names.proofs.FoundEntries.{newly}
 use Rattle.unit_names.proofs.tables.note.Goals as goal
 
 pub returns-in_ok-insert : goal.returns-in_ok-insert

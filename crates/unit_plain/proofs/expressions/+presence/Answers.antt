@@ -1,5 +1,5 @@
 use Rattle.std.proofs.Common.{◌∙◌, ap, sym, true, false}
-use Rattle.unit_tree.proofs.PlainLemmas.{plain-Truth}
+use Rattle.language_laws.proofs.PlainLemmas.{plain-Truth}
 use Rattle.unit_tree.specs.Plain.{plain_expression, presence_of}
 use Rattle.unit_tree.specs.declared.expr.Expr as expr
 use Rattle.unit_tree.specs.declared.expr.Expr.{Expr}

@@ -1,7 +1,7 @@
 use Rattle.std.proofs.Common.{◌≡◌, length, refl, subst, arith, pos}
 use Rattle.std.proofs.lemmas.Option.{slice_get-get_or}
 use Rattle.unit_vm.specs.declared.instruction.Instruction.TheVariants.{Push}
-use Rattle.unit_vm.proofs.Going.{read_at}
+use Rattle.unit_vm.proofs.RunProgress.{read_at}
 use Rattle.unit_vm.proofs.JumpsStaying.{stay_more, all_stay, one_leaves, stays_told, StayBelow}
 use Rattle.unit_vm.proofs.around.jumps_stay.Goals as goal
 

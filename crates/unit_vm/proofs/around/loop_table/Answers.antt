@@ -2,7 +2,7 @@ use Rattle.std.proofs.Common.{◌<◌, ◌^◌, sym, subst, arith, ◌∙◌, ru
 use Rattle.std.proofs.lemmas.Option.{slice_get-get_or}
 use Rattle.unit_vm.specs.declared.instruction.Instruction.TheVariants.{Push}
 use Rattle.unit_vm.specs.Tables.{CanCount}
-use Rattle.unit_vm.proofs.Going.{read_at}
+use Rattle.unit_vm.proofs.RunProgress.{read_at}
 use Rattle.unit_vm.proofs.LoopTables.{walked_on, too_dear, place_small, depth_small, can_count, not_closed, whole_table, told_by, walked_as, walked_to}
 use Rattle.unit_vm.proofs.around.loop_table.Goals as goal
 

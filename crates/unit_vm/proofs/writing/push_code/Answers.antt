@@ -2,7 +2,7 @@ use Rattle.std.proofs.Common.{◌≡◌, pos, ◌∷◌, [], ◌++◌, rules}
 use Rattle.std.proofs.lemmas.Option.{slice_get-get_or}
 use Rattle.unit_vm.specs.declared.instruction.Instruction.TheVariants.{Push}
 use Rattle.unit_vm.specs.Instructions.{operation_of, argument_of}
-use Rattle.unit_vm.proofs.Going.{read_at}
+use Rattle.unit_vm.proofs.RunProgress.{read_at}
 use Rattle.unit_vm.proofs.WriteSteps.{code_more}
 use Rattle.unit_vm.proofs.writing.push_code.Goals as goal
 

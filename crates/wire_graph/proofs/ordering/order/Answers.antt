@@ -5,7 +5,7 @@ use Rattle.unit_tree.specs.Compositions.{HasNoEvents, composition_of, run_of}
 use Rattle.unit_tree.specs.Routes.{IsOrderOf, routes_of}
 use Rattle.unit_tree.specs.declared.system.System.{System}
 use Rattle.unit_tree.specs.declared.unit.Unit.{Unit}
-use Rattle.unit_tree.proofs.EventLaws.{plain_form_without_events}
+use Rattle.run_laws.proofs.EventLaws.{plain_form_without_events}
 use Rattle.wire_graph.specs.Origins.{HaveDecimals}
 use Rattle.wire_graph.proofs.DecimalLaws.{plain_decimals}
 use Rattle.wire_graph.proofs.OrderingLaws.{right_order, right_fault, first_left_at}

@@ -3,7 +3,7 @@ use Rattle.std.proofs.lemmas.Option.{get_or_from_slice_get}
 use Rattle.std.specs.Prelude.{IsSome}
 use Rattle.port_tests.specs.Bench.{Bench}
 use Rattle.port_tests.proofs.BenchLaws.{asks}
-use Rattle.unit_code.specs.Calls.{output_by}
+use Rattle.code_units.specs.Calls.{output_by}
 use Rattle.unit_exec.specs.Running.{Running}
 use Rattle.unit_tree.specs.Compositions.{run_of}
 use Rattle.unit_tree.specs.Given.{given_by}

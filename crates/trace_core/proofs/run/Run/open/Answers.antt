@@ -5,7 +5,7 @@ use Rattle.unit_tree.specs.Compositions.{AreMembers, run_of}
 use Rattle.unit_tree.specs.Plain.{plain_form}
 use Rattle.unit_tree.specs.Successor.{first_position}
 use Rattle.unit_tree.specs.Trace.{HasWords}
-use Rattle.unit_tree.proofs.PositionLaws.{positions_keep, system_has_members}
+use Rattle.run_laws.proofs.PositionLaws.{positions_keep, system_has_members}
 use Rattle.trace_core.proofs.run.Run.open.Goals as goal
 
 pub open_from-requires-clause-composed : goal.open_from-requires-clause-composed

@@ -6,7 +6,7 @@ use Rattle.unit_exec.specs.Showing.{Shows}
 use Rattle.unit_exec.proofs.ShownStates.{slot_within, shown_word, has_output}
 use Rattle.unit_vm.specs.declared.program.Program.{Program}
 use Rattle.std.proofs.lemmas.Int.{to_z-of_z}
-use Rattle.unit_code.specs.Calls.{output_by}
+use Rattle.code_units.specs.Calls.{output_by}
 use Rattle.unit_exec.specs.Running.{Running, given_word}
 use Rattle.std.proofs.lemmas.Option.{slice_get-get_or}
 use Rattle.unit_exec.proofs.GivenAnswers.{got}

@@ -1,7 +1,7 @@
 use Rattle.std.proofs.Common.{◌≡◌, ◌∙◌, true, not, is_some, ap, sym, rules, w64, to_z, of_z, SFits}
 use Rattle.std.specs.Prelude.{unsigned_abs}
 use Rattle.std.proofs.lemmas.Int.{to_z-of_z}
-use Rattle.unit_code.specs.Calls.{greatest_step_by}
+use Rattle.code_units.specs.Calls.{greatest_step_by}
 use Rattle.unit_exec.specs.Images.{Compiled}
 use Rattle.unit_exec.specs.Running.{Running}
 use Rattle.unit_exec.proofs.GivenAnswers.{limited}

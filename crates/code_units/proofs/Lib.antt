@@ -1,0 +1,10 @@
+pub mod CheapUnits
+pub mod ExpressionsMean
+pub mod FitLines
+pub mod FitPieces
+pub mod FitUnits
+pub mod Frames
+pub mod LinesMean
+pub mod NamesInSlots
+pub mod ScopeLaws
+pub mod UnitsCompute

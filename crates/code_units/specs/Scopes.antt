@@ -1,0 +1,46 @@
+-- Names as the code of a unit knows them. The words of parameters are constants of the code; states, inputs and locals
+-- have slots, in this order, and behind them stand the local time and the step.
+use Rattle.std.specs.Prelude.{ℕ, suc, ℤ, List, [], ◌∷◌, ◌++◌, map, length, Option}
+use Rattle.std.specs.List.{find}
+use Rattle.std.specs.Str.{bytes_eq}
+use Rattle.code_units.specs.declared.scope.Named.{Named}
+use Rattle.code_units.specs.declared.scope.Place.TheVariants.{Constant, Slot}
+use Rattle.code_units.specs.declared.scope.Scope.{Scope}
+use Rattle.unit_tree.specs.Components.{variable}
+use Rattle.unit_tree.specs.declared.environment.Variable.{Variable}
+use Rattle.unit_tree.specs.declared.unit.Param.{Param}
+use Rattle.unit_tree.specs.declared.unit.Unit.{Unit}
+use Rattle.unit_vm.specs.declared.program.Sizes.{Sizes}
+
+-- Parameters, each with its word.
+abbrev pub constants : List Param → List ℤ → List Named
+constants (param ∷ params) (word ∷ words) = record { name = param.name; ty = param.ty; place = Constant word } ∷ constants params words
+constants _ _ = []
+
+-- Variables in slots that follow one another.
+abbrev pub slots_from : ℕ → List Variable → List Named
+slots_from slot [] = []
+slots_from slot (first ∷ others) = record { name = first.name; ty = first.ty; place = Slot slot } ∷ slots_from (suc slot) others
+
+-- The variables that have slots.
+abbrev pub slot_variables : Unit → List Variable
+slot_variables unit =
+    map (λ state. variable state.name state.ty) unit.states
+    ++ (map (λ input. variable input.name input.ty) unit.inputs
+    ++ map (λ local. variable local.name local.ty) unit.locals)
+
+abbrev pub sizes_of : Unit → Sizes
+sizes_of unit = record { states = length unit.states; inputs = length unit.inputs; locals = length unit.locals }
+
+-- What the code of a unit with these words of its parameters sees.
+abbrev pub scope_of : Unit → List ℤ → Scope
+scope_of unit params = record {
+  names = constants unit.params params ++ slots_from 0 (slot_variables unit);
+  sizes = sizes_of unit;
+  time = length (slot_variables unit);
+  step = suc (length (slot_variables unit));
+}
+
+-- The first of a name.
+abbrev pub named : List Named → List ℕ → Option Named
+named names name = find (λ known. bytes_eq known.name name) names

@@ -1,0 +1,84 @@
+-- Code of step lines: a piece that changes slots and the accepted length, and keeps the stack as high as it was.
+use Rattle.std.specs.Prelude.{ℕ, Bool, true, false, ◌&&◌, nat_le, List, [], ◌∷◌, map, Option, Some, None}
+use Rattle.std.specs.Option.{option_map}
+use Rattle.fixed_words.specs.declared.types.Ty.{Ty}
+use Rattle.code_units.specs.Expressions.{code_of}
+use Rattle.code_units.specs.Scopes.{named}
+use Rattle.code_units.specs.declared.scope.Named.{Named}
+use Rattle.code_units.specs.declared.scope.Place.{Place}
+use Rattle.code_units.specs.declared.scope.Place.TheVariants.{Constant, Slot}
+use Rattle.code_units.specs.declared.scope.Scope.{Scope}
+use Rattle.code_pieces.specs.Pieces.{Piece, Nothing, One, Then, Choice, When, Turns}
+use Rattle.unit_tree.specs.Names.{depth_of}
+use Rattle.unit_tree.specs.Values.{is_ranged}
+use Rattle.unit_tree.specs.declared.expr.Expr.{Expr}
+use Rattle.unit_tree.specs.declared.line.Line.{Line, fold-Line}
+use Rattle.unit_tree.specs.declared.line.Line.TheOpen.{Line-F}
+use Rattle.unit_vm.specs.declared.instruction.Instruction.TheVariants.{Store, Accept}
+use Rattle.unit_vm.specs.declared.program.Sizes.{Sizes}
+use Rattle.unit_vm.specs.Instructions.{is_stored}
+
+-- The code of a line, and whether the line is one that may be run: each `if` in its expressions has one kind, they are
+-- in range and not too deep, its target has a slot that may be written, and it is repeated 1 to 1000 times.
+pub record LineCoded : Type 0 where
+  pub piece : Piece
+  pub is_right : Bool
+
+abbrev pub is_right_in : Scope → Expr → Bool
+is_right_in scope value = (code_of value scope).agrees && (is_ranged value && nat_le (depth_of value) 32)
+
+-- One after the other.
+abbrev pub nothing : LineCoded
+nothing = record { piece = Nothing; is_right = true }
+
+abbrev pub behind : LineCoded → LineCoded → LineCoded
+behind first others = record { piece = Then first.piece others.piece; is_right = first.is_right && others.is_right }
+
+abbrev pub sequence : List LineCoded → LineCoded
+sequence [] = nothing
+sequence (first ∷ others) = behind first (sequence others)
+
+-- A target's slot gets the word. What has no slot gets none.
+abbrev pub store_code : Place → Ty → Piece
+store_code (Slot slot) ty = One (Store slot ty)
+store_code (Constant word) ty = Nothing
+
+abbrev pub may_store : Sizes → Place → Bool
+may_store sizes (Slot slot) = is_stored sizes slot
+may_store sizes (Constant word) = false
+
+abbrev pub target_coded : Sizes → Option Named → LineCoded
+target_coded sizes None = record { piece = Nothing; is_right = false }
+target_coded sizes (Some found) = record { piece = store_code found.place found.ty; is_right = may_store sizes found.place }
+
+abbrev pub value_coded : Expr → Scope → LineCoded
+value_coded value scope = record { piece = (code_of value scope).piece; is_right = is_right_in scope value }
+
+abbrev pub if_coded : LineCoded → Option LineCoded → LineCoded
+if_coded then_lines None = record { piece = When then_lines.piece; is_right = then_lines.is_right }
+if_coded then_lines (Some else_lines) =
+    record { piece = Choice then_lines.piece else_lines.piece; is_right = then_lines.is_right && else_lines.is_right }
+
+abbrev pub repeat_coded : ℕ → LineCoded → LineCoded
+repeat_coded count body = record { piece = Turns count body.piece; is_right = (nat_le 1 count && nat_le count 1000) && body.is_right }
+
+abbrev pub LineCoding : Type 0
+LineCoding = Scope → LineCoded
+
+abbrev pub all_coded : Scope → List LineCoding → LineCoded
+all_coded scope lines = sequence (map (λ (line : LineCoding). line scope) lines)
+
+-- One line, with the code of each line of its blocks in its place.
+abbrev pub node_line_code : Line-F LineCoding → LineCoding
+node_line_code (Line-F.Assign target value) scope = behind (value_coded value scope) (target_coded scope.sizes (named scope.names target))
+node_line_code (Line-F.If cond then_lines else_lines) scope =
+    behind (value_coded cond scope) (if_coded (all_coded scope then_lines) (option_map (all_coded scope) else_lines))
+node_line_code (Line-F.Repeat count body) scope = repeat_coded count (all_coded scope body)
+node_line_code (Line-F.Accept value) scope = behind (value_coded value scope) (record { piece = One Accept; is_right = true })
+
+-- The code of a line, and of lines in their order.
+abbrev pub line_code : Line → LineCoding
+line_code = fold-Line LineCoding node_line_code
+
+abbrev pub lines_code : List Line → LineCoding
+lines_code lines scope = all_coded scope (map line_code lines)

@@ -1,0 +1,94 @@
+//! The program of a unit.
+ghost use Rattle.std.specs.Prelude.{◌≡◌, ◌≤◌, ◌++◌, ◌∷◌, [], map, length, IfOk};
+ghost use Rattle.std.specs.Option.{option_map};
+ghost use Rattle.code_units.specs.UnitPrograms.{output_code, limit_code, step_piece, program_in, program_of};
+ghost use Rattle.code_pieces.specs.Pieces.{part_code};
+ghost use Rattle.unit_vm.specs.declared.instruction.Instruction.TheVariants.{Done};
+
+use crate::expressions::value_code;
+use crate::lines::lines_code;
+use crate::scope::Scope;
+use fixed_words::{List, NoMemory};
+use std::alloc::Global;
+use unit_tree::{Expr, Line, Output, Unit};
+use unit_vm::{Instruction, Program};
+
+/// The code of an output's call.
+fn output_code(alloc: Global, scope: &Scope, output: &Output) -> Result<List<Instruction>, NoMemory>
+    ensures { IfOk result (λ code. code ≡ output_code scope.now output.now) }
+{
+    let mut code = value_code(alloc, scope, &output.value)?.into_code();
+    code.push(Instruction::Give(output.ty))?;
+    Ok(code)
+}
+
+/// The codes of outputs, in their order.
+fn output_codes(
+    alloc: Global,
+    scope: &Scope,
+    outputs: &[Output],
+) -> Result<List<List<Instruction>>, NoMemory>
+    ensures { IfOk result (λ codes. codes ≡ map (output_code scope.now) outputs.now) }
+{
+    let mut codes = List::new(alloc);
+    for output in outputs {
+        codes.push(output_code(alloc, scope, output)?)?;
+    }
+    Ok(codes)
+}
+
+/// The code of the call of the greatest step.
+fn limit_code(alloc: Global, scope: &Scope, value: &Expr) -> Result<List<Instruction>, NoMemory>
+    ensures { IfOk result (λ code. code ≡ limit_code scope.now value.now) }
+{
+    let mut code = value_code(alloc, scope, value)?.into_code();
+    code.push(Instruction::Limit)?;
+    Ok(code)
+}
+
+/// The code of a step: of its lines, if it has any, and the end.
+fn step_code(
+    alloc: Global,
+    scope: &Scope,
+    step: &Option<List<Line>>,
+) -> Result<List<Instruction>, NoMemory>
+    ensures { IfOk result (λ code. code ≡ part_code (step_piece scope.now step.now) Done) }
+{
+    let mut code = match step {
+        Some(lines) => lines_code(alloc, scope, lines.as_slice())?,
+        None => List::new(alloc),
+    };
+    code.push(Instruction::Done)?;
+    Ok(code)
+}
+
+/// The parts of a unit's program.
+fn program_in(alloc: Global, scope: &Scope, unit: &Unit) -> Result<Program, NoMemory>
+    ensures { IfOk result (λ program. program ≡ program_in scope.now unit.now) }
+{
+    let outputs = output_codes(alloc, scope, unit.outputs.as_slice())?;
+    let limit = match &unit.max {
+        Some(value) => Some(limit_code(alloc, scope, value)?),
+        None => None,
+    };
+    let step = step_code(alloc, scope, &unit.step)?;
+    Ok(Program {
+        sizes: scope.sizes,
+        outputs,
+        limit,
+        step,
+    })
+}
+
+/// The program of a unit with these words of its parameters: a part for each output, perhaps one for the
+/// greatest step, and one for the step.
+pub fn program(alloc: Global, unit: &Unit, params: &[i64]) -> Result<Program, NoMemory>
+    requires one_each { length params.now ≡ length unit.now.params }
+    requires states { length unit.now.states ≤ 64 }
+    requires inputs { length unit.now.inputs ≤ 32 }
+    requires locals { length unit.now.locals ≤ 64 }
+    ensures { IfOk result (λ program. program ≡ program_of unit.now params.now) }
+{
+    let scope = Scope::new(alloc, unit, params)?;
+    program_in(alloc, &scope, unit)
+}

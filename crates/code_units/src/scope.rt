@@ -1,0 +1,177 @@
+ghost use Rattle.std.specs.Prelude.{◌≡◌, ◌≤◌, ◌+◌, ◌<◌, ◌^◌, ◌++◌, map, length, IfOk, OnOk};
+ghost use Rattle.std.specs.Option.{option_copied};
+ghost use Rattle.code_units.specs.Scopes.{constants, slots_from, scope_of, named};
+ghost use Rattle.unit_tree.specs.Components.{variable};
+
+use fixed_words::{List, NoMemory, Ty};
+use std::alloc::Global;
+use unit_tree::{Input, Local, Name, Param, State, Unit};
+use unit_vm::Sizes;
+
+/// Where the word of a name is.
+#[derive(Clone, Copy, Debug)]
+pub enum Place {
+    /// Nowhere but in the code: the word of a parameter.
+    Constant(i64),
+    /// In a slot of the frame, by its number.
+    Slot(u32),
+}
+
+/// A name that code may use.
+#[derive(Debug, Drop)]
+pub struct Named {
+    pub name: Name,
+    pub ty: Ty,
+    pub place: Place,
+}
+
+/// What the code of a unit sees.
+#[derive(Debug, Drop)]
+pub struct Scope {
+    /// Parameters, states, inputs and locals, in this order. Of one name the first counts.
+    pub names: List<Named>,
+    /// How many slots of each kind the frame has.
+    pub sizes: Sizes,
+    /// The slot of the local time.
+    pub time: u32,
+    /// The slot of the local step.
+    pub step: u32,
+}
+
+/// What has a slot of its own.
+trait Declared {
+    ghost use Rattle.std.specs.Prelude.{◌≡◌};
+    ghost use Rattle.unit_tree.specs.declared.environment.Variable.{Variable};
+
+    ghost variable: { Self → Variable };
+
+    fn name(&self) -> &[u8]
+        ensures { result.now ≡ (variable self.now).name };
+
+    fn ty(&self) -> Ty
+        ensures { result ≡ (variable self.now).ty };
+}
+
+impl Declared for State {
+    ghost use Rattle.unit_tree.specs.Components.{variable as of};
+
+    ghost variable = { λ state. of state.name state.ty };
+
+    fn name(&self) -> &[u8] {
+        self.name.as_slice()
+    }
+
+    fn ty(&self) -> Ty {
+        self.ty
+    }
+}
+
+impl Declared for Input {
+    ghost use Rattle.unit_tree.specs.Components.{variable as of};
+
+    ghost variable = { λ input. of input.name input.ty };
+
+    fn name(&self) -> &[u8] {
+        self.name.as_slice()
+    }
+
+    fn ty(&self) -> Ty {
+        self.ty
+    }
+}
+
+impl Declared for Local {
+    ghost use Rattle.unit_tree.specs.Components.{variable as of};
+
+    ghost variable = { λ local. of local.name local.ty };
+
+    fn name(&self) -> &[u8] {
+        self.name.as_slice()
+    }
+
+    fn ty(&self) -> Ty {
+        self.ty
+    }
+}
+
+/// Puts parameters with their words behind names.
+fn push_constants(
+    alloc: Global,
+    names: &mut List<Named>,
+    params: &[Param],
+    words: &[i64],
+) -> Result<(), NoMemory>
+    requires { length words.now ≡ length params.now }
+    ensures { OnOk result (names.new ≡ names.old ++ constants params.now words.now) }
+{
+    for place in 0..params.len() {
+        let param = &params[place];
+        names.push(Named {
+            name: List::from_slice(alloc, param.name.as_slice())?,
+            ty: param.ty,
+            place: Place::Constant(words[place]),
+        })?;
+    }
+    Ok(())
+}
+
+/// Puts what has slots behind names, in slots that follow one another from the first one on.
+fn push_slots<T: Declared>(
+    alloc: Global,
+    names: &mut List<Named>,
+    first: u32,
+    items: &[T],
+) -> Result<(), NoMemory>
+    requires { first + length items.now < 2 ^ 32 }
+    ensures { OnOk result (names.new ≡ names.old ++ slots_from first (map T.variable items.now)) }
+{
+    for place in 0..items.len() {
+        let item = &items[place];
+        names.push(Named {
+            name: List::from_slice(alloc, item.name())?,
+            ty: item.ty(),
+            place: Place::Slot(first + place as u32),
+        })?;
+    }
+    Ok(())
+}
+
+impl Scope {
+    /// What the code of a unit with these words of its parameters sees.
+    pub fn new(alloc: Global, unit: &Unit, params: &[i64]) -> Result<Scope, NoMemory>
+        requires one_each { length params.now ≡ length unit.now.params }
+        requires states { length unit.now.states ≤ 64 }
+        requires inputs { length unit.now.inputs ≤ 32 }
+        requires locals { length unit.now.locals ≤ 64 }
+        ensures { IfOk result (λ scope. scope ≡ scope_of unit.now params.now) }
+    {
+        let states = unit.states.len() as u32;
+        let inputs = unit.inputs.len() as u32;
+        let locals = unit.locals.len() as u32;
+        let mut names = List::new(alloc);
+        push_constants(alloc, &mut names, unit.params.as_slice(), params)?;
+        push_slots(alloc, &mut names, 0, unit.states.as_slice())?;
+        push_slots(alloc, &mut names, states, unit.inputs.as_slice())?;
+        push_slots(alloc, &mut names, states + inputs, unit.locals.as_slice())?;
+        Ok(Scope {
+            names,
+            sizes: Sizes {
+                states,
+                inputs,
+                locals,
+            },
+            time: states + inputs + locals,
+            step: states + inputs + locals + 1,
+        })
+    }
+
+    /// The first of a name.
+    pub(crate) fn named(&self, name: &[u8]) -> Option<&Named>
+        ensures { option_copied result ≡ named self.now.names name.now }
+    {
+        self.names
+            .as_slice()
+            .iter()
+            .find(|known| known.name.as_slice() == name)
+    }
+}

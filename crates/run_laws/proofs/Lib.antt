@@ -1,0 +1,14 @@
+pub mod AssignmentLaws
+pub mod EffectKeeps
+pub mod EndLaws
+pub mod EquationLaws
+pub mod EventLaws
+pub mod PlaceOrders
+pub mod PlainCycles
+pub mod PlainOrders
+pub mod PortLaws
+pub mod PositionLaws
+pub mod RunSteps
+pub mod RunTraces
+pub mod SeenLaws
+pub mod StepLaws

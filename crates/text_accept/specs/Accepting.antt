@@ -1,0 +1,86 @@
+-- Which texts are accepted by the rules of the language, and at which line and by which rule any other is refused. The rules are
+-- judged in stages: those on the text and its lines, those on the system that it says, and at last that its outputs have an order.
+use Rattle.std.specs.Prelude.{◌≡◌, ℕ, ◌-◌, List, Option, Some, Result, Ok, Err, slice_get, ◌⊎◌, ⊤}
+use Rattle.unit_tree.specs.Orders.{HasNoCycle, IsFirstWithoutOrder, line_of_output}
+use Rattle.unit_tree.specs.SourceLines.{ReadsFrom}
+use Rattle.unit_tree.specs.Texts.{IsRefused}
+use Rattle.unit_tree.specs.WellFormed.{Refusal, IsWellFormed, refusal_of}
+use Rattle.unit_tree.specs.declared.system.PortName.{PortName}
+use Rattle.unit_tree.specs.declared.system.System.{System}
+use Rattle.unit_text.specs.declared.fault.TextFault.{TextFault}
+use Rattle.unit_text.specs.declared.fault.TextFault.TheVariants as fault
+use Rattle.text_accept.specs.declared.accepting.AcceptedText.{AcceptedText}
+use Rattle.text_accept.specs.declared.accepting.CheckedText.{CheckedText}
+
+-- The text says the system, whose canonical lines came from these lines of the text; no rule is broken, and its outputs have
+-- an order.
+pub record IsAcceptedAs (text : List ℕ) (system : System) (lines : List ℕ) : Type 0 where
+  pub reads : ReadsFrom text system lines
+  pub well_formed : IsWellFormed system
+  pub ordered : HasNoCycle system
+
+-- The line of the text that a canonical line came from, which counts from 1.
+abbrev pub source_line : List ℕ → ℕ → Option ℕ
+source_line lines item = slice_get lines (item - 1)
+
+-- The system that the text says breaks a rule: the least one, at the first canonical line that breaks it.
+pub record BreaksRule (text : List ℕ) (line rule : ℕ) : Type 0 where
+  pub system : System
+  pub lines : List ℕ
+  pub reads : ReadsFrom text system lines
+  pub refusal : Refusal
+  pub found : refusal_of system ≡ Some refusal
+  pub at : source_line lines refusal.at ≡ Some line
+  pub by : rule ≡ refusal.by
+
+-- The text says the system, and no line of this breaks a rule; whether its outputs have an order is not asked.
+pub record IsCheckedAs (text : List ℕ) (system : System) (lines : List ℕ) : Type 0 where
+  pub reads : ReadsFrom text system lines
+  pub well_formed : IsWellFormed system
+
+-- The text is refused by a rule on the text and its lines, or on the system that it says.
+abbrev pub IsRefusedBeforeOrder : List ℕ → ℕ → ℕ → Type 0
+IsRefusedBeforeOrder text line rule = IsRefused text line rule ⊎ BreaksRule text line rule
+
+-- The system keeps these rules, and some output has no order: the line is that of the first such output in its unit.
+pub record HasCycle (text : List ℕ) (line rule : ℕ) : Type 0 where
+  pub system : System
+  pub lines : List ℕ
+  pub reads : ReadsFrom text system lines
+  pub well_formed : IsWellFormed system
+  pub port : PortName
+  pub first : IsFirstWithoutOrder system port
+  pub item : ℕ
+  pub declared : line_of_output system port ≡ Some item
+  pub at : source_line lines item ≡ Some line
+  pub by : rule ≡ 15
+
+-- The text is refused at the line by the rule.
+abbrev pub IsRefusedAt : List ℕ → ℕ → ℕ → Type 0
+IsRefusedAt text line rule = IsRefused text line rule ⊎ (BreaksRule text line rule ⊎ HasCycle text line rule)
+
+-- ---- Answers
+
+-- A refusal at the line that a canonical line came from.
+abbrev pub IsAtSource : List ℕ → ℕ → ℕ → TextFault → Type 0
+IsAtSource lines item rule (fault.Line line by) = (source_line lines item ≡ Some line) × (by ≡ rule)
+IsAtSource lines item rule fault.NoMemory = ⊥
+
+-- The canonical line is that of the first output without an order.
+pub record IsLineOfCycle (system : System) (item : ℕ) : Type 0 where
+  pub port : PortName
+  pub first : IsFirstWithoutOrder system port
+  pub declared : line_of_output system port ≡ Some item
+
+-- The answer to a text up to the order of outputs; want of memory says nothing.
+abbrev pub ChecksText : List ℕ → Result CheckedText TextFault → Type 0
+ChecksText text (Ok read) = IsCheckedAs text read.checked read.lines
+ChecksText text (Err (fault.Line line rule)) = IsRefusedBeforeOrder text line rule
+ChecksText text (Err fault.NoMemory) = ⊤
+
+-- The answer to a text: the system that it is accepted as, or the line and the rule by which it is refused; want of memory says
+-- nothing.
+abbrev pub AnswersText : List ℕ → Result AcceptedText TextFault → Type 0
+AnswersText text (Ok read) = IsAcceptedAs text read.checked read.lines
+AnswersText text (Err (fault.Line line rule)) = IsRefusedAt text line rule
+AnswersText text (Err fault.NoMemory) = ⊤

@@ -1,0 +1,10 @@
+pub mod FormsOfLines
+pub mod Fronts
+pub mod InfixOperations
+pub mod LineEnds
+pub mod NextNames
+pub mod PhraseTokens
+pub mod ReadLines
+pub mod RoundTrip
+pub mod WrittenLines
+pub mod WrittenTrees

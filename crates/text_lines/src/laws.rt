@@ -1,0 +1,6 @@
+ghost use Rattle.text_lines.specs.Laws.{HasOneForm};
+
+/// A law: a line has one form at most.
+pub fn lines_have_one_form()
+    ensures { HasOneForm }
+{}

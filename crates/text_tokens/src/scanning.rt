@@ -1,0 +1,378 @@
+ghost use Rattle.std.specs.Prelude.{◌≡◌, ◌≤◌, ◌<◌, ◌+◌, ◌-◌, ◌*◌, ◌^◌, ◌∷◌, length, take, drop, IfOk};
+ghost use Rattle.std.specs.List.{prefix_len};
+ghost use Rattle.unit_tree.specs.Tokens.{is_blank, is_letter, is_digit, is_word_byte, keyword_text, symbol_text, number_from, begins_with};
+ghost use Rattle.text_tokens.specs.Scanning.{Gives, GivesFront, ReadsAs, keywords_from, symbols_from, keywords_like, symbols_like, keyword_of, symbol_of, word_token, word_at, bounded_number, fraction_of, number_token, number_at, symbol_at, token_at, TokensAre};
+
+use crate::fault::Unread;
+use fixed_words::List;
+use std::alloc::Global;
+use unit_tree::{Keyword, Symbol, Token};
+
+/// The most bytes that a name may have.
+const LONGEST_NAME: usize = 32;
+
+/// The most digits behind a point.
+const MOST_DECIMALS: usize = 9;
+
+/// The greatest number that a token may be.
+const GREATEST_NUMBER: u64 = 1 << 63;
+
+fn keyword_text(keyword: Keyword) -> &'static [u8]
+    ensures { result.now ≡ keyword_text keyword }
+{
+    match keyword {
+        Keyword::Cosim => b"cosim",
+        Keyword::Unit => b"unit",
+        Keyword::Resolution => b"resolution",
+        Keyword::Param => b"param",
+        Keyword::State => b"state",
+        Keyword::Local => b"local",
+        Keyword::Input => b"input",
+        Keyword::Output => b"output",
+        Keyword::Needs => b"needs",
+        Keyword::Max => b"max",
+        Keyword::Step => b"step",
+        Keyword::Repeat => b"repeat",
+        Keyword::Accept => b"accept",
+        Keyword::End => b"end",
+        Keyword::Instance => b"instance",
+        Keyword::Connect => b"connect",
+        Keyword::Stop => b"stop",
+        Keyword::Longest => b"longest",
+        Keyword::Zero => b"zero",
+        Keyword::Rows => b"rows",
+        Keyword::Sample => b"sample",
+        Keyword::If => b"if",
+        Keyword::Then => b"then",
+        Keyword::Else => b"else",
+        Keyword::And => b"and",
+        Keyword::Or => b"or",
+        Keyword::Not => b"not",
+        Keyword::Div => b"div",
+        Keyword::Mod => b"mod",
+        Keyword::Abs => b"abs",
+        Keyword::Min => b"min",
+        Keyword::Clamp => b"clamp",
+        Keyword::Int => b"int",
+        Keyword::Fix => b"fix",
+        Keyword::True => b"true",
+        Keyword::False => b"false",
+        Keyword::Time => b"t",
+        Keyword::Length => b"h",
+        Keyword::Event => b"event",
+        Keyword::Present => b"present",
+        Keyword::Absent => b"absent",
+    }
+}
+
+fn symbol_text(symbol: Symbol) -> &'static [u8]
+    ensures { result.now ≡ symbol_text symbol }
+{
+    match symbol {
+        Symbol::Assign => b":=",
+        Symbol::Arrow => b"->",
+        Symbol::Equals => b"==",
+        Symbol::Differs => b"!=",
+        Symbol::AtMost => b"<=",
+        Symbol::AtLeast => b">=",
+        Symbol::Colon => b":",
+        Symbol::Is => b"=",
+        Symbol::Less => b"<",
+        Symbol::Greater => b">",
+        Symbol::Plus => b"+",
+        Symbol::Minus => b"-",
+        Symbol::Star => b"*",
+        Symbol::Slash => b"/",
+        Symbol::Open => b"(",
+        Symbol::Close => b")",
+        Symbol::Comma => b",",
+        Symbol::Point => b".",
+    }
+}
+
+/// The keywords that begin with this byte: no more than four.
+fn keywords_from(first: u8) -> &'static [Keyword]
+    ensures { result.now ≡ keywords_from first }
+{
+    match first {
+        b'a' => &[Keyword::Accept, Keyword::And, Keyword::Abs, Keyword::Absent],
+        b'c' => &[Keyword::Cosim, Keyword::Connect, Keyword::Clamp],
+        b'd' => &[Keyword::Div],
+        b'e' => &[Keyword::End, Keyword::Else, Keyword::Event],
+        b'f' => &[Keyword::Fix, Keyword::False],
+        b'h' => &[Keyword::Length],
+        b'i' => &[Keyword::Input, Keyword::Instance, Keyword::If, Keyword::Int],
+        b'l' => &[Keyword::Local, Keyword::Longest],
+        b'm' => &[Keyword::Max, Keyword::Mod, Keyword::Min],
+        b'n' => &[Keyword::Needs, Keyword::Not],
+        b'o' => &[Keyword::Output, Keyword::Or],
+        b'p' => &[Keyword::Param, Keyword::Present],
+        b'r' => &[Keyword::Resolution, Keyword::Repeat, Keyword::Rows],
+        b's' => &[
+            Keyword::State,
+            Keyword::Step,
+            Keyword::Stop,
+            Keyword::Sample,
+        ],
+        b't' => &[Keyword::Then, Keyword::True, Keyword::Time],
+        b'u' => &[Keyword::Unit],
+        b'z' => &[Keyword::Zero],
+        _ => &[],
+    }
+}
+
+/// The symbols that begin with this byte: no more than two.
+fn symbols_from(first: u8) -> &'static [Symbol]
+    ensures { result.now ≡ symbols_from first }
+{
+    match first {
+        b'!' => &[Symbol::Differs],
+        b'(' => &[Symbol::Open],
+        b')' => &[Symbol::Close],
+        b'*' => &[Symbol::Star],
+        b'+' => &[Symbol::Plus],
+        b',' => &[Symbol::Comma],
+        b'-' => &[Symbol::Arrow, Symbol::Minus],
+        b'.' => &[Symbol::Point],
+        b'/' => &[Symbol::Slash],
+        b':' => &[Symbol::Assign, Symbol::Colon],
+        b'<' => &[Symbol::AtMost, Symbol::Less],
+        b'=' => &[Symbol::Equals, Symbol::Is],
+        b'>' => &[Symbol::AtLeast, Symbol::Greater],
+        _ => &[],
+    }
+}
+
+/// The keywords that begin with the text's first byte.
+fn keywords_like(text: &[u8]) -> &'static [Keyword]
+    ensures { result.now ≡ keywords_like text.now }
+{
+    match text {
+        [] => &[],
+        [first, ..] => keywords_from(*first),
+    }
+}
+
+/// The keyword that the text spells: one of the few that begin with its first byte.
+#[tactic(auto, unfolding(crate::specs::Scanning::keyword_of))]
+fn keyword_of(text: &[u8]) -> Option<Keyword>
+    ensures { result ≡ keyword_of text.now }
+{
+    keywords_like(text)
+        .iter()
+        .copied()
+        .find(|keyword| keyword_text(*keyword) == text)
+}
+
+/// The symbols that begin with the text's first byte.
+fn symbols_like(text: &[u8]) -> &'static [Symbol]
+    ensures { result.now ≡ symbols_like text.now }
+{
+    match text {
+        [] => &[],
+        [first, ..] => symbols_from(*first),
+    }
+}
+
+/// The symbol that the text spells: one of the few that begin with its first byte.
+#[tactic(auto, unfolding(crate::specs::Scanning::symbol_of))]
+fn symbol_of(text: &[u8]) -> Option<Symbol>
+    ensures { result ≡ symbol_of text.now }
+{
+    symbols_like(text)
+        .iter()
+        .copied()
+        .find(|symbol| symbol_text(*symbol) == text)
+}
+
+fn is_blank(byte: u8) -> bool
+    ensures { result ≡ is_blank byte }
+{
+    byte == b' ' || byte == b'\t'
+}
+
+fn is_digit(byte: u8) -> bool
+    ensures { result ≡ is_digit byte }
+{
+    byte.is_ascii_digit()
+}
+
+fn is_letter(byte: u8) -> bool
+    ensures { result ≡ is_letter byte }
+{
+    byte.is_ascii_alphabetic() || byte == b'_'
+}
+
+fn is_word_byte(byte: u8) -> bool
+    ensures { result ≡ is_word_byte byte }
+{
+    is_letter(byte) || is_digit(byte)
+}
+
+/// How many blanks come first.
+fn blanks_length(bytes: &[u8]) -> usize
+    ensures length { result ≡ prefix_len is_blank bytes.now }
+    ensures within { result ≤ length bytes.now }
+{
+    bytes.iter().take_while(|byte| is_blank(**byte)).count()
+}
+
+/// How many bytes of a word come first.
+fn word_length(bytes: &[u8]) -> usize
+    ensures length { result ≡ prefix_len is_word_byte bytes.now }
+    ensures within { result ≤ length bytes.now }
+{
+    bytes.iter().take_while(|byte| is_word_byte(**byte)).count()
+}
+
+/// How many digits come first.
+fn digits_length(bytes: &[u8]) -> usize
+    ensures length { result ≡ prefix_len is_digit bytes.now }
+    ensures within { result ≤ length bytes.now }
+{
+    bytes.iter().take_while(|byte| is_digit(**byte)).count()
+}
+
+fn word_token(alloc: Global, text: &[u8]) -> Result<Token, Unread>
+    ensures { Gives result (word_token text.now) }
+{
+    match keyword_of(text) {
+        Some(keyword) => Ok(Token::Keyword(keyword)),
+        None if text.len() > LONGEST_NAME => Err(Unread::NoForm),
+        None => Ok(Token::Name(List::from_slice(alloc, text)?)),
+    }
+}
+
+#[tactic(auto, unfolding(crate::specs::Scanning::word_at))]
+fn word_at(alloc: Global, bytes: &[u8]) -> Result<(Token, &[u8]), Unread>
+    ensures { GivesFront result (word_at bytes.now) }
+{
+    let (text, rest) = bytes.split_at(word_length(bytes));
+    Ok((word_token(alloc, text)?, rest))
+}
+
+/// The number that digits are written for, those of `before` counting first.
+#[tactic(auto, unfolding(crate::specs::Scanning::bounded_number), using(crate::proofs::NumberLemmas::bounded_number_at))]
+fn bounded_number(before: u64, digits: &[u8]) -> Result<u64, Unread>
+    requires { before ≤ 2 ^ 63 }
+    ensures number { Gives result (bounded_number before digits.now) }
+    ensures bound { IfOk result (λ number. number ≤ 2 ^ 63) }
+{
+    let mut number = before;
+    for digit in digits {
+        let value = u128::from(digit.saturating_sub(b'0'));
+        let longer = 10 * u128::from(number) + value;
+        if longer > u128::from(GREATEST_NUMBER) {
+            return Err(Unread::NoForm);
+        }
+        number = longer as u64;
+    }
+    Ok(number)
+}
+
+/// The digits of a fraction whose point comes first, and the rest; no digits where there is none.
+fn fraction_of(bytes: &[u8]) -> (&[u8], &[u8])
+    ensures digits { result.0.now ≡ (fraction_of bytes.now).0 }
+    ensures rest { result.1.now ≡ (fraction_of bytes.now).1 }
+{
+    match bytes {
+        [b'.', behind @ ..] => {
+            let length = digits_length(behind);
+            if length == 0 {
+                (&[], bytes)
+            } else {
+                behind.split_at(length)
+            }
+        }
+        _ => (&[], bytes),
+    }
+}
+
+#[tactic(auto, unfolding(crate::specs::Scanning::number_token))]
+fn number_token(whole: &[u8], fraction: &[u8]) -> Result<Token, Unread>
+    ensures { Gives result (number_token whole.now fraction.now) }
+{
+    if fraction.len() > MOST_DECIMALS {
+        return Err(Unread::NoForm);
+    }
+    let before = bounded_number(0, whole)?;
+    let digits = bounded_number(before, fraction)?;
+    let decimals = fraction.len() as u8;
+    Ok(Token::Number { digits, decimals })
+}
+
+fn begins_with_word_byte(bytes: &[u8]) -> bool
+    ensures { result ≡ begins_with is_word_byte bytes.now }
+{
+    match bytes {
+        [] => false,
+        [first, ..] => is_word_byte(*first),
+    }
+}
+
+#[tactic(auto, unfolding(crate::specs::Scanning::number_at))]
+fn number_at(bytes: &[u8]) -> Result<(Token, &[u8]), Unread>
+    ensures { GivesFront result (number_at bytes.now) }
+{
+    let (whole, behind) = bytes.split_at(digits_length(bytes));
+    let (fraction, rest) = fraction_of(behind);
+    if begins_with_word_byte(rest) {
+        return Err(Unread::NoForm);
+    }
+    Ok((number_token(whole, fraction)?, rest))
+}
+
+/// The bytes at the front, at most `count` of them, and the rest.
+#[tactic(auto, using(std::proofs::lemmas::List::take_min, std::proofs::lemmas::List::drop_min))]
+fn cut(bytes: &[u8], count: usize) -> (&[u8], &[u8])
+    ensures front { result.0.now ≡ take count bytes.now }
+    ensures rest { result.1.now ≡ drop count bytes.now }
+{
+    bytes.split_at(count.min(bytes.len()))
+}
+
+#[tactic(auto, unfolding(crate::specs::Scanning::symbol_at))]
+fn symbol_at(bytes: &[u8]) -> Result<(Token, &[u8]), Unread>
+    ensures { GivesFront result (symbol_at bytes.now) }
+{
+    let (pair, behind) = cut(bytes, 2);
+    if let Some(symbol) = symbol_of(pair) {
+        return Ok((Token::Symbol(symbol), behind));
+    }
+    let (single, behind) = cut(bytes, 1);
+    match symbol_of(single) {
+        Some(symbol) => Ok((Token::Symbol(symbol), behind)),
+        None => Err(Unread::NoForm),
+    }
+}
+
+/// The token at the front of bytes that begin with no blank.
+#[tactic(auto, unfolding(crate::specs::Scanning::token_at))]
+fn token_at(alloc: Global, bytes: &[u8]) -> Result<(Token, &[u8]), Unread>
+    ensures { GivesFront result (token_at bytes.now) }
+{
+    match bytes {
+        [] => Err(Unread::NoForm),
+        [first, ..] if is_letter(*first) => word_at(alloc, bytes),
+        [first, ..] if is_digit(*first) => number_at(bytes),
+        _ => symbol_at(bytes),
+    }
+}
+
+/// The tokens of a line.
+#[tactic(auto, using(crate::proofs::TokenLemmas::completes_none, crate::proofs::TokenLemmas::completes_more, crate::proofs::TokenLemmas::completes_end, crate::proofs::TokenLemmas::completes_fail, crate::proofs::TokenLemmas::token_at_shorter))]
+pub fn tokens(alloc: Global, line: &[u8]) -> Result<List<Token>, Unread>
+    ensures { ReadsAs result (TokensAre line.now) }
+{
+    let mut tokens = List::new(alloc);
+    let mut rest = line;
+    loop {
+        rest = rest.split_at(blanks_length(rest)).1;
+        if rest.is_empty() {
+            return Ok(tokens);
+        }
+        let (token, behind) = token_at(alloc, rest)?;
+        tokens.push(token)?;
+        rest = behind;
+    }
+}

@@ -1,5 +1,0 @@
-use Rattle.unit_accept.proofs.Acceptance.{judged_once}
-use Rattle.unit_accept.proofs.laws.texts_are_judged_once.Goals as goal
-
-pub returns : goal.returns
-returns c = judged_once

@@ -1,5 +1,0 @@
-use Rattle.unit_lines.proofs.WrittenTrees.{writes_one}
-use Rattle.unit_lines.proofs.expressions.tokens_write_one_expression.Goals as goal
-
-pub returns : goal.returns
-returns c = writes_one

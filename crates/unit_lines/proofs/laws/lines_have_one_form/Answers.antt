@@ -1,5 +1,0 @@
-use Rattle.unit_lines.proofs.FormsOfLines.{one_form}
-use Rattle.unit_lines.proofs.laws.lines_have_one_form.Goals as goal
-
-pub returns : goal.returns
-returns c = one_form

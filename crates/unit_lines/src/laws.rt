@@ -1,6 +1,0 @@
-ghost use Rattle.unit_lines.specs.Laws.{HasOneForm};
-
-/// A law: a line has one form at most.
-pub fn lines_have_one_form()
-    ensures { HasOneForm }
-{}

@@ -1,5 +1,0 @@
-use Rattle.unit_pieces.proofs.Following.{pieces_are_followed_lem}
-use Rattle.unit_pieces.proofs.laws.pieces_are_followed.Goals as goal
-
-pub returns : goal.returns
-returns c = pieces_are_followed_lem

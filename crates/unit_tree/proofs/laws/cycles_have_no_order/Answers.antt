@@ -1,5 +1,0 @@
-use Rattle.unit_tree.proofs.OrderLaws.{on_cycle as cycle, behind_cycle as behind}
-use Rattle.unit_tree.proofs.laws.cycles_have_no_order.Goals as goal
-
-pub returns : goal.returns
-returns c = record { on_cycle = cycle; behind_cycle = behind }

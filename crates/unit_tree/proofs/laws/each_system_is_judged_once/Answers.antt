@@ -1,5 +1,0 @@
-use Rattle.unit_tree.proofs.JudgementLaws.{well_formed as judged, refused as by_rule, only as no_other}
-use Rattle.unit_tree.proofs.laws.each_system_is_judged_once.Goals as goal
-
-pub returns : goal.returns
-returns c = record { well_formed = judged; refused = by_rule; only = no_other }

@@ -1,6 +1,0 @@
-use Rattle.unit_tree.proofs.RankLaws.{each_once}
-use Rattle.unit_tree.proofs.SourceLaws.{forms_are}
-use Rattle.unit_tree.proofs.laws.source_lines_are_right.Goals as goal
-
-pub returns : goal.returns
-returns c = record { forms = forms_are; each_once = each_once }

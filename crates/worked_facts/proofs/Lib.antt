@@ -1,0 +1,3 @@
+pub mod WorkedForms
+pub mod WorkedReads
+pub mod WorkedRefusals

@@ -1,0 +1,10 @@
+pub mod Counter
+pub mod WorkedBlocks
+pub mod WorkedEvents
+pub mod WorkedKinds
+pub mod WorkedLimits
+pub mod WorkedPhrases
+pub mod WorkedRuns
+pub mod WorkedSystems
+pub mod WorkedTexts
+pub mod WorkedTrace
