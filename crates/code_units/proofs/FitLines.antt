@@ -8,8 +8,8 @@ use Rattle.code_units.specs.Expressions.{code_of}
 use Rattle.code_units.specs.Scopes.{named}
 use Rattle.code_units.specs.StepLines.{LineCoded, LineCoding, is_right_in, nothing, behind, store_code, may_store, target_coded, value_coded, if_coded, repeat_coded, all_coded, node_line_code, line_code, lines_code}
 use Rattle.code_units.specs.declared.scope.Named.{Named}
-use Rattle.code_units.specs.declared.scope.Place.{Place}
-use Rattle.code_units.specs.declared.scope.Place.TheVariants.{Constant, Slot}
+use Rattle.code_units.specs.declared.scope.NamePlace.{NamePlace}
+use Rattle.code_units.specs.declared.scope.NamePlace.TheVariants.{Constant, Slot}
 use Rattle.code_units.specs.declared.scope.Scope.{Scope}
 use Rattle.code_units.proofs.FitPieces.{test_le, both, one_is, then_is, then_top, choice_is, choice_top, NamedFits, Known, type_known, fine}
 use Rattle.code_pieces.specs.Pieces.{Piece, One, When, Turns, cost, is_made, one_height, height_behind, top_of}
@@ -52,7 +52,7 @@ module _ (sizes : Sizes) where
     cheap = let x = f.cheap in let y = g.cheap in omega arith;
   }
 
-  place_good : (place : Place) (found : Named) → found.place ≡ place → NamedFits sizes (Some found) → GoodLines sizes (record { piece = store_code place found.ty; is_right = may_store sizes place }) 1 1
+  place_good : (place : NamePlace) (found : Named) → found.place ≡ place → NamedFits sizes (Some found) → GoodLines sizes (record { piece = store_code place found.ty; is_right = may_store sizes place }) 1 1
   place_good (Constant word) found at fits = record { moves = λ is. absurd (cc); cheap = omega arith }
   place_good (Slot slot) found at fits = record {
     moves = λ is. record {

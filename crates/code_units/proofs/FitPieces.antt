@@ -13,8 +13,8 @@ use Rattle.fixed_words.specs.declared.types.Ty.TheVariants as types
 use Rattle.code_units.specs.Expressions.{Coded, Coding, leaf, place_code, name_code, truth_code, unary_code, unary_kind_of, binary_code, binary_kind_of, and_perhaps, unary_joined, binary_joined, clamp_joined, choice_joined, node_code, code_of}
 use Rattle.code_units.specs.Scopes.{named}
 use Rattle.code_units.specs.declared.scope.Named.{Named}
-use Rattle.code_units.specs.declared.scope.Place.{Place}
-use Rattle.code_units.specs.declared.scope.Place.TheVariants.{Constant, Slot}
+use Rattle.code_units.specs.declared.scope.NamePlace.{NamePlace}
+use Rattle.code_units.specs.declared.scope.NamePlace.TheVariants.{Constant, Slot}
 use Rattle.code_units.specs.declared.scope.Scope.{Scope}
 use Rattle.code_pieces.specs.Pieces.{Piece, One, Then, Choice, cost, is_on, is_made, and_height, one_height, height_behind, top_of}
 use Rattle.unit_tree.specs.Costs.{node_cost, cost_of}
@@ -78,7 +78,7 @@ choice_top first second below top low one other =
 
 -- ---- Scopes whose slots are there and whose types are known
 
-abbrev pub PlaceFits : Sizes → Place → Type 0
+abbrev pub PlaceFits : Sizes → NamePlace → Type 0
 PlaceFits sizes (Slot slot) = slot < slots_of sizes
 PlaceFits sizes (Constant word) = ⊤
 
@@ -374,7 +374,7 @@ module _ (sizes : Sizes) where
   name_good None fits = leaf_good (Push _) kinds.Int true refl refl (λ is. refl) (λ is. tt)
   name_good (Some found) fits = placed found.place fits.0
     where
-      placed : (place : Place) → PlaceFits sizes place → Good sizes (leaf (place_code place) (kind_of found.ty)) true 1 1
+      placed : (place : NamePlace) → PlaceFits sizes place → Good sizes (leaf (place_code place) (kind_of found.ty)) true 1 1
       placed (Constant word) fit = leaf_good (Push word) (kind_of found.ty) true refl refl (λ is. refl) (λ is. type_kind found.ty fits.1)
       placed (Slot slot) fit = leaf_good (Load slot) (kind_of found.ty) true refl refl (λ is. lt_test slot (slots_of sizes) fit) (λ is. type_kind found.ty fits.1)
 

@@ -3,7 +3,7 @@ use Rattle.std.proofs.Common.{◌≡◌, ℕ, suc, ◌+◌, ℤ, List, [], ◌�
 use Rattle.std.proofs.lemmas.List.{length-map}
 use Rattle.code_units.specs.Scopes.{constants, slots_from, slot_variables, scope_of}
 use Rattle.code_units.specs.declared.scope.Named.{Named}
-use Rattle.code_units.specs.declared.scope.Place.TheVariants.{Slot}
+use Rattle.code_units.specs.declared.scope.NamePlace.TheVariants.{Slot}
 use Rattle.code_units.specs.declared.scope.Scope.{Scope}
 use Rattle.code_units.proofs.FitUnits.{slots_count}
 use Rattle.unit_tree.specs.Components.{variable}

@@ -5,8 +5,8 @@ use Rattle.fixed_words.specs.declared.types.Kind.{Kind}
 use Rattle.fixed_words.specs.declared.types.Kind.TheVariants as kinds
 use Rattle.code_units.specs.Scopes.{named}
 use Rattle.code_units.specs.declared.scope.Named.{Named}
-use Rattle.code_units.specs.declared.scope.Place.{Place}
-use Rattle.code_units.specs.declared.scope.Place.TheVariants.{Constant, Slot}
+use Rattle.code_units.specs.declared.scope.NamePlace.{NamePlace}
+use Rattle.code_units.specs.declared.scope.NamePlace.TheVariants.{Constant, Slot}
 use Rattle.code_units.specs.declared.scope.Scope.{Scope}
 use Rattle.code_pieces.specs.Pieces.{Piece, One, Then, Choice}
 use Rattle.unit_tree.specs.Kinds.{same_kind}
@@ -31,7 +31,7 @@ abbrev pub leaf : Instruction → Kind → Coded
 leaf instruction kind = record { piece = One instruction; kind = kind; agrees = true }
 
 -- A name: a constant is pushed, a slot is loaded. A name that is not declared is the Int 0.
-abbrev pub place_code : Place → Instruction
+abbrev pub place_code : NamePlace → Instruction
 place_code (Constant word) = Push word
 place_code (Slot slot) = Load slot
 

@@ -4,7 +4,7 @@ use Rattle.std.specs.Prelude.{ℕ, suc, ℤ, List, [], ◌∷◌, ◌++◌, map,
 use Rattle.std.specs.List.{find}
 use Rattle.std.specs.Str.{bytes_eq}
 use Rattle.code_units.specs.declared.scope.Named.{Named}
-use Rattle.code_units.specs.declared.scope.Place.TheVariants.{Constant, Slot}
+use Rattle.code_units.specs.declared.scope.NamePlace.TheVariants.{Constant, Slot}
 use Rattle.code_units.specs.declared.scope.Scope.{Scope}
 use Rattle.unit_tree.specs.Components.{variable}
 use Rattle.unit_tree.specs.declared.environment.Variable.{Variable}

@@ -5,8 +5,8 @@ use Rattle.fixed_words.specs.declared.types.Ty.{Ty}
 use Rattle.code_units.specs.Expressions.{code_of}
 use Rattle.code_units.specs.Scopes.{named}
 use Rattle.code_units.specs.declared.scope.Named.{Named}
-use Rattle.code_units.specs.declared.scope.Place.{Place}
-use Rattle.code_units.specs.declared.scope.Place.TheVariants.{Constant, Slot}
+use Rattle.code_units.specs.declared.scope.NamePlace.{NamePlace}
+use Rattle.code_units.specs.declared.scope.NamePlace.TheVariants.{Constant, Slot}
 use Rattle.code_units.specs.declared.scope.Scope.{Scope}
 use Rattle.code_pieces.specs.Pieces.{Piece, Nothing, One, Then, Choice, When, Turns}
 use Rattle.unit_tree.specs.Names.{depth_of}
@@ -39,11 +39,11 @@ sequence [] = nothing
 sequence (first ∷ others) = behind first (sequence others)
 
 -- A target's slot gets the word. What has no slot gets none.
-abbrev pub store_code : Place → Ty → Piece
+abbrev pub store_code : NamePlace → Ty → Piece
 store_code (Slot slot) ty = One (Store slot ty)
 store_code (Constant word) ty = Nothing
 
-abbrev pub may_store : Sizes → Place → Bool
+abbrev pub may_store : Sizes → NamePlace → Bool
 may_store sizes (Slot slot) = is_stored sizes slot
 may_store sizes (Constant word) = false
 

@@ -8,11 +8,11 @@ ghost use Rattle.code_pieces.specs.Pieces.{flat, choice_code};
 ghost use Rattle.unit_tree.specs.Values.{kind_of_number};
 ghost use Rattle.unit_vm.specs.declared.instruction.Instruction.TheVariants.{Clamp};
 
-use crate::scope::{Place, Scope};
+use crate::scope::{NamePlace, Scope};
 use fixed_words::{Kind, List, NoMemory, Ty};
 use std::alloc::Global;
 use code_pieces::{choice, joined};
-use unit_tree::{BinOp, Expr, UnOp};
+use unit_tree::{BinOp, Expr, UnOp, kind_of_number};
 use unit_vm::Instruction;
 
 /// Code that pushes a value of the kind.
@@ -31,26 +31,6 @@ impl ValueCode {
     }
 }
 
-fn type_kind(ty: Ty) -> Kind
-    ensures { result ≡ kind_of ty }
-{
-    match ty {
-        Ty::Bool => Kind::Bool,
-        Ty::Fixed(decimals) => Kind::Fixed(decimals),
-        _ => Kind::Int,
-    }
-}
-
-fn number_kind(decimals: u8) -> Kind
-    ensures { result ≡ kind_of_number decimals }
-{
-    if decimals == 0 {
-        Kind::Int
-    } else {
-        Kind::Fixed(decimals)
-    }
-}
-
 fn truth(told: bool) -> Instruction
     ensures { result ≡ truth_code told }
 {
@@ -61,12 +41,12 @@ fn truth(told: bool) -> Instruction
     }
 }
 
-fn placed(place: Place) -> Instruction
+fn placed(place: NamePlace) -> Instruction
     ensures { result ≡ place_code place }
 {
     match place {
-        Place::Constant(word) => Instruction::Push(word),
-        Place::Slot(slot) => Instruction::Load(slot),
+        NamePlace::Constant(word) => Instruction::Push(word),
+        NamePlace::Slot(slot) => Instruction::Load(slot),
     }
 }
 
@@ -222,7 +202,7 @@ fn name_value(alloc: Global, scope: &Scope, name: &[u8]) -> Result<ValueCode, No
     ensures kind { IfOk result (λ value. value.kind ≡ (name_code (named scope.now.names name.now)).kind) }
 {
     match scope.named(name) {
-        Some(found) => leaf(alloc, placed(found.place), type_kind(found.ty)),
+        Some(found) => leaf(alloc, placed(found.place), found.ty.kind()),
         None => leaf(alloc, Instruction::Push(0), Kind::Int),
     }
 }
@@ -234,7 +214,7 @@ pub(crate) fn value_code(alloc: Global, scope: &Scope, value: &Expr) -> Result<V
 {
     match value {
         Expr::Number { word, decimals } => {
-            leaf(alloc, Instruction::Push(*word), number_kind(*decimals))
+            leaf(alloc, Instruction::Push(*word), kind_of_number(*decimals))
         }
         Expr::Truth(told) => leaf(alloc, truth(*told), Kind::Bool),
         Expr::Var(name) => name_value(alloc, scope, name.as_slice()),

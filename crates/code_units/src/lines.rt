@@ -7,7 +7,7 @@ ghost use Rattle.code_pieces.specs.Pieces.{flat, choice_code, when_code};
 ghost use Rattle.unit_vm.specs.declared.instruction.Instruction.TheVariants.{Accept};
 
 use crate::expressions::value_code;
-use crate::scope::{Place, Scope};
+use crate::scope::{NamePlace, Scope};
 use fixed_words::{List, NoMemory};
 use std::alloc::Global;
 use code_pieces::{choice, joined, turns, when};
@@ -24,7 +24,7 @@ fn push_store(
 {
     let mut code = code;
     if let Some(found) = scope.named(target) {
-        if let Place::Slot(slot) = found.place {
+        if let NamePlace::Slot(slot) = found.place {
             code.push(Instruction::Store { slot, ty: found.ty })?;
         }
     }

@@ -10,7 +10,7 @@ use unit_vm::Sizes;
 
 /// Where the word of a name is.
 #[derive(Clone, Copy, Debug)]
-pub enum Place {
+pub enum NamePlace {
     /// Nowhere but in the code: the word of a parameter.
     Constant(i64),
     /// In a slot of the frame, by its number.
@@ -22,7 +22,7 @@ pub enum Place {
 pub struct Named {
     pub name: Name,
     pub ty: Ty,
-    pub place: Place,
+    pub place: NamePlace,
 }
 
 /// What the code of a unit sees.
@@ -109,7 +109,7 @@ fn push_constants(
         names.push(Named {
             name: List::from_slice(alloc, param.name.as_slice())?,
             ty: param.ty,
-            place: Place::Constant(words[place]),
+            place: NamePlace::Constant(words[place]),
         })?;
     }
     Ok(())
@@ -130,7 +130,7 @@ fn push_slots<T: Declared>(
         names.push(Named {
             name: List::from_slice(alloc, item.name())?,
             ty: item.ty(),
-            place: Place::Slot(first + place as u32),
+            place: NamePlace::Slot(first + place as u32),
         })?;
     }
     Ok(())

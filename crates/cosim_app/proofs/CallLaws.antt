@@ -11,7 +11,7 @@ use Rattle.cosim_app.specs.Answer.{Answer, CommandAnswers, IsAnswer, usage_answe
 use Rattle.cosim_app.specs.Commands.{words_of, HaveNoForm}
 use Rattle.cosim_app.specs.declared.command_words.Command.{Command}
 use Rattle.cosim_app.specs.Headline.{Streams, Gives, PutsNothing, EndsWith, BreaksARule, IsNotesText, Promises}
-use Rattle.cosim_app.specs.Judgement.{PutsAnswer, PutsFront, IsOwn, AnswersInput, TellsNote}
+use Rattle.cosim_app.specs.Judgement.{PutsAnswer, PutsAnswerFront, IsOwn, AnswersInput, TellsNote}
 use Rattle.cosim_app.specs.Notes.{usage_note, read_fault_note, write_fault_note, no_memory_note}
 use Rattle.cosim_app.specs.declared.status.Status.{Status}
 use Rattle.cosim_app.specs.declared.status.Status.TheVariants as status
@@ -30,11 +30,11 @@ usage_of words text answer not (inl found) = absurd (not found.command found.wor
 usage_of words text answer not (inr found) = found.1
 
 -- what was put begins each answer
-front_of : (command : Command) (words : List (List ℕ)) (text : List ℕ) (held held' : Option (List ℕ)) → words ≡ words_of command → PutsFront command text held held' → (answer : Answer) → IsAnswer words text answer → AppendsPrefix held held' answer.out
+front_of : (command : Command) (words : List (List ℕ)) (text : List ℕ) (held held' : Option (List ℕ)) → words ≡ words_of command → PutsAnswerFront command text held held' → (answer : Answer) → IsAnswer words text answer → AppendsPrefix held held' answer.out
 front_of command words text held held' is puts answer found =
     subst (λ (a : Answer). AppendsPrefix held held' a.out) (answers_same command text puts.answer answer puts.is (answer_of command words text answer is found)) puts.front
 
-fronts_of : (command : Command) (words : List (List ℕ)) (left held held' : Option (List ℕ)) → words ≡ words_of command → IfSome left (λ text. PutsFront command text held held') → IfSome left (λ text. (answer : Answer) → IsAnswer words text answer → AppendsPrefix held held' answer.out)
+fronts_of : (command : Command) (words : List (List ℕ)) (left held held' : Option (List ℕ)) → words ≡ words_of command → IfSome left (λ text. PutsAnswerFront command text held held') → IfSome left (λ text. (answer : Answer) → IsAnswer words text answer → AppendsPrefix held held' answer.out)
 fronts_of command words None held held' is puts = tt
 fronts_of command words (Some text) held held' is puts = front_of command words text held held' is puts
 
@@ -211,7 +211,7 @@ fixed_text_is : (words : List (List ℕ)) (left : Option (List ℕ)) (note : Lis
 fixed_text_is words None note is = tt
 fixed_text_is words (Some text) note is = is text
 
-pub facts_read_fault : (command : Command) (words : List (List ℕ)) (before now : Streams) → words ≡ words_of command → IfSome before.left (λ text. PutsFront command text before.held before.held) → Rose before.read_faults now.read_faults → now.held ≡ before.held → now.put_faults ≡ before.put_faults → Facts words before now status.ReadFault read_fault_note
+pub facts_read_fault : (command : Command) (words : List (List ℕ)) (before now : Streams) → words ≡ words_of command → IfSome before.left (λ text. PutsAnswerFront command text before.held before.held) → Rose before.read_faults now.read_faults → now.held ≡ before.held → now.put_faults ≡ before.put_faults → Facts words before now status.ReadFault read_fault_note
 facts_read_fault command words before now words_are nothing rose held puts = record {
   front = subst (λ (h : Option (List ℕ)). IfSome before.left (λ text. (answer : Answer) → IsAnswer words text answer → AppendsPrefix before.held h answer.out)) (sym held) (fronts_of command words before.left before.held before.held words_are nothing);
   untouched = λ _. record { held = held; faults = puts };
@@ -241,7 +241,7 @@ facts_read_fault command words before now words_are nothing rose held puts = rec
   no_memory_text = λ e. absurd (cc);
 }
 
-pub facts_write_fault : (command : Command) (words : List (List ℕ)) (before now : Streams) → words ≡ words_of command → IfSome before.left (λ text. PutsFront command text before.held now.held) → now.read_faults ≡ before.read_faults → Rose before.put_faults now.put_faults → Facts words before now status.WriteFault write_fault_note
+pub facts_write_fault : (command : Command) (words : List (List ℕ)) (before now : Streams) → words ≡ words_of command → IfSome before.left (λ text. PutsAnswerFront command text before.held now.held) → now.read_faults ≡ before.read_faults → Rose before.put_faults now.put_faults → Facts words before now status.WriteFault write_fault_note
 facts_write_fault command words before now words_are puts_front reads rose = record {
   front = fronts_of command words before.left before.held now.held words_are puts_front;
   untouched = λ e. absurd (write_fault_is_other e);
@@ -271,7 +271,7 @@ facts_write_fault command words before now words_are puts_front reads rose = rec
   no_memory_text = λ e. absurd (cc);
 }
 
-pub facts_no_memory : (command : Command) (words : List (List ℕ)) (before now : Streams) → words ≡ words_of command → IfSome before.left (λ text. PutsFront command text before.held now.held) → now.read_faults ≡ before.read_faults → now.put_faults ≡ before.put_faults → Facts words before now status.NoMemory no_memory_note
+pub facts_no_memory : (command : Command) (words : List (List ℕ)) (before now : Streams) → words ≡ words_of command → IfSome before.left (λ text. PutsAnswerFront command text before.held now.held) → now.read_faults ≡ before.read_faults → now.put_faults ≡ before.put_faults → Facts words before now status.NoMemory no_memory_note
 facts_no_memory command words before now words_are puts_front reads puts = record {
   front = fronts_of command words before.left before.held now.held words_are puts_front;
   untouched = λ e. absurd (no_memory_is_other e);

@@ -15,7 +15,7 @@ use Rattle.cosim_io.proofs.PieceLemmas.{AppendsPrefix-nil}
 use Rattle.cosim_app.specs.Answer.{Answer, IsOfUnservedVersion, RefusedBy, Serves, refused_answer, accepted_answer, printed_text, printed_answer}
 use Rattle.cosim_app.specs.declared.command_words.Command.{Command}
 use Rattle.cosim_app.specs.declared.command_words.Command.TheVariants.{Run, Check, Print}
-use Rattle.cosim_app.specs.Judgement.{PutsAnswer, PutsFront, PutsPiece, TellsAccepted, IsOwn, JudgesText, JudgesInput, Refuses}
+use Rattle.cosim_app.specs.Judgement.{PutsAnswer, PutsAnswerFront, PutsPiece, TellsAccepted, IsOwn, JudgesText, JudgesInput, Refuses}
 use Rattle.cosim_app.specs.Notes.{refused_note}
 use Rattle.cosim_app.proofs.CommandLaws.{command_answered}
 use Rattle.cosim_app.specs.declared.status.Status.{Status}
@@ -25,7 +25,7 @@ use Rattle.cosim_app.specs.declared.verdict.Verdict.TheVariants as verdict
 use Rattle.cosim_app.proofs.TraceLaws.{version_is_one, whole_of}
 
 -- nothing was put yet
-pub puts_nothing : (command : Command) (text : List ℕ) (held : Option (List ℕ)) → PutsFront command text held held
+pub puts_nothing : (command : Command) (text : List ℕ) (held : Option (List ℕ)) → PutsAnswerFront command text held held
 puts_nothing command text held =
     let some = command_answered command text in
     record { answer = some.0; is = some.1; front = AppendsPrefix-nil held some.0.out }
@@ -49,7 +49,7 @@ refuses command text held faults line rule verdict.ReadFault refused is = absurd
 refuses command text held faults line rule verdict.WriteFault refused is = absurd is
 
 -- nothing was put yet, whatever the input is
-pub nothing_put : (command : Command) (left : Option (List ℕ)) (held : Option (List ℕ)) → IfSome left (λ text. PutsFront command text held held)
+pub nothing_put : (command : Command) (left : Option (List ℕ)) (held : Option (List ℕ)) → IfSome left (λ text. PutsAnswerFront command text held held)
 nothing_put command None held = tt
 nothing_put command (Some text) held = puts_nothing command text held
 
@@ -99,9 +99,9 @@ gives_of : (command : Command) (left : Option (List ℕ)) (text : List ℕ) (hel
 gives_of command None text held held' given note whole puts = tt
 gives_of command (Some all) text held held' given note whole puts = subst (λ (t : List ℕ). PutsAnswer command t held held' given note) whole puts
 
-front_of : (command : Command) (left : Option (List ℕ)) (text : List ℕ) (held held' : Option (List ℕ)) → IfSome left (λ all. text ≡ all) → PutsFront command text held held' → IfSome left (λ all. PutsFront command all held held')
+front_of : (command : Command) (left : Option (List ℕ)) (text : List ℕ) (held held' : Option (List ℕ)) → IfSome left (λ all. text ≡ all) → PutsAnswerFront command text held held' → IfSome left (λ all. PutsAnswerFront command all held held')
 front_of command None text held held' whole puts = tt
-front_of command (Some all) text held held' whole puts = subst (λ (t : List ℕ). PutsFront command t held held') whole puts
+front_of command (Some all) text held held' whole puts = subst (λ (t : List ℕ). PutsAnswerFront command t held held') whole puts
 
 -- the verdict on the whole input is that on its text
 pub judges_whole : (command : Command) (left left' : Option (List ℕ)) (reads reads' : ℕ) (held held' : Option (List ℕ)) (puts puts' : ℕ) (text : List ℕ) (v : Verdict) → IfSome left (λ all. text ≡ all) → IsAtEnd left' → reads' ≡ reads → JudgesText command text held held' puts puts' v → JudgesInput command left left' reads reads' held held' puts puts' v
@@ -133,7 +133,7 @@ puts_whole command text held held' faults faults' answer bytes (verdict.Answered
 puts_whole command text held held' faults faults' answer bytes verdict.WriteFault serves out notes done puts =
     (record { answer = answer; is = inr serves; front = subst (AppendsPrefix held held') (sym out) puts.0 }, puts.1)
 puts_whole command text held held' faults faults' answer bytes verdict.NoMemory serves out notes done puts =
-    (subst (PutsFront command text held) (sym puts.0) (puts_nothing command text held), puts.1)
+    (subst (PutsAnswerFront command text held) (sym puts.0) (puts_nothing command text held), puts.1)
 puts_whole command text held held' faults faults' answer bytes verdict.ReadFault serves out notes done puts = absurd puts
 
 -- a text that is accepted, by the version of its system

@@ -11,7 +11,7 @@ use Rattle.unit_tree.specs.declared.ending.Ending.{Ending}
 use Rattle.unit_tree.specs.declared.ending.Ending.TheVariants.{Completed, RowBudget, ZeroBudget, UnitFault, StepRefused}
 use Rattle.unit_tree.specs.declared.system.System.{System}
 use Rattle.cosim_app.specs.Answer.{run_answer, status_of, traced_note, traced_text}
-use Rattle.cosim_app.specs.Judgement.{BeginsTrace, IsOwn, IsServed, JudgesText, PutsFront, PutsTrace, TellsTrace}
+use Rattle.cosim_app.specs.Judgement.{BeginsTrace, IsOwn, IsServed, JudgesText, PutsAnswerFront, PutsTrace, TellsTrace}
 use Rattle.cosim_app.specs.Notes.{ending_note}
 use Rattle.cosim_app.specs.declared.command_words.Command.TheVariants.{Run}
 use Rattle.cosim_app.specs.declared.status.Status.{Status}
@@ -75,7 +75,7 @@ begins_none system held served =
 
 -- ---- As an answer
 
-begins_answer : (text : List ℕ) (system : System) (lines : List ℕ) (held held' : Option (List ℕ)) → IsAcceptedAs text system lines → system.version ≡ 1 → BeginsTrace system held held' → PutsFront Run text held held'
+begins_answer : (text : List ℕ) (system : System) (lines : List ℕ) (held held' : Option (List ℕ)) → IsAcceptedAs text system lines → system.version ≡ 1 → BeginsTrace system held held' → PutsAnswerFront Run text held held'
 begins_answer text system lines held held' accepted version begins = record {
   answer = run_answer system begins.rows begins.last begins.ending;
   is = inr (record { system = system; lines = lines; accepted = accepted; version = version; rows = begins.rows; last = begins.last; ending = begins.ending; trace = begins.trace; is = refl });

@@ -29,7 +29,7 @@ pub record PutsAnswer (command : Command) (text : List ℕ) (held held' : Option
   pub same_status : given ≡ answer.status
 
 -- What was put begins the command's answer for the text.
-pub record PutsFront (command : Command) (text : List ℕ) (held held' : Option (List ℕ)) : Type 0 where
+pub record PutsAnswerFront (command : Command) (text : List ℕ) (held held' : Option (List ℕ)) : Type 0 where
   pub answer : Answer
   pub is : CommandAnswers command text answer
   pub front : AppendsPrefix held held' answer.out
@@ -48,8 +48,8 @@ IsOwn _ = ⊥
 abbrev pub JudgesText : Command → List ℕ → Option (List ℕ) → Option (List ℕ) → ℕ → ℕ → Verdict → Type 0
 JudgesText command text held held' faults faults' (verdict.Answered given note) =
     PutsAnswer command text held held' given note.items × IsOwn given × (faults' ≡ faults) × (given ≡ status.Refused → held' ≡ held)
-JudgesText command text held held' faults faults' verdict.WriteFault = PutsFront command text held held' × Rose faults faults'
-JudgesText command text held held' faults faults' verdict.NoMemory = PutsFront command text held held' × (faults' ≡ faults)
+JudgesText command text held held' faults faults' verdict.WriteFault = PutsAnswerFront command text held held' × Rose faults faults'
+JudgesText command text held held' faults faults' verdict.NoMemory = PutsAnswerFront command text held held' × (faults' ≡ faults)
 JudgesText command text held held' faults faults' verdict.ReadFault = ⊥
 
 -- The bytes were put, and there is no note; or a put failed, and what was put begins them; or there was no memory, and nothing
@@ -127,9 +127,9 @@ JudgesInput command left left' reads reads' held held' puts puts' (verdict.Answe
 JudgesInput command left left' reads reads' held held' puts puts' verdict.ReadFault =
     Rose reads reads' × (held' ≡ held) × (puts' ≡ puts)
 JudgesInput command left left' reads reads' held held' puts puts' verdict.WriteFault =
-    IfSome left (λ text. PutsFront command text held held') × (reads' ≡ reads) × Rose puts puts'
+    IfSome left (λ text. PutsAnswerFront command text held held') × (reads' ≡ reads) × Rose puts puts'
 JudgesInput command left left' reads reads' held held' puts puts' verdict.NoMemory =
-    IfSome left (λ text. PutsFront command text held held') × (reads' ≡ reads) × (puts' ≡ puts)
+    IfSome left (λ text. PutsAnswerFront command text held held') × (reads' ≡ reads) × (puts' ≡ puts)
 
 -- A note was told with its status; where telling it failed, the status is a write fault.
 abbrev pub TellsNote : Option (List ℕ) → Option (List ℕ) → ℕ → ℕ → List ℕ → Status → Status → Type 0

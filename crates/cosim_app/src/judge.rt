@@ -30,7 +30,7 @@ pub fn refuse(alloc: Global, line: u32, rule: u8) -> Verdict
 }
 
 /// The line that the first canonical line came from, which is the header's.
-pub fn first_line(lines: &[u32]) -> u32
+pub fn header_line(lines: &[u32]) -> u32
     requires { 0 < length lines.now }
     ensures { source_line lines.now 1 ≡ Some result }
 {

@@ -4,7 +4,7 @@ ghost use Rattle.cosim_app.specs.Answer.{printed_text};
 ghost use Rattle.cosim_app.specs.Judgement.{JudgesText, PutsPiece, TellsAccepted};
 ghost use Rattle.cosim_app.specs.declared.command_words.Command.TheVariants.{Check, Print};
 
-use crate::judge::{UNSERVED_RULE, first_line, refuse};
+use crate::judge::{UNSERVED_RULE, header_line, refuse};
 use crate::status::Status;
 use crate::verdict::Verdict;
 use cosim_io::Sink;
@@ -45,7 +45,7 @@ pub(crate) fn check_text<O: Sink>(alloc: Global, text: &[u8], out: &mut O) -> Ve
     match accept_text(alloc, text) {
         Ok(read) => {
             let version = read.checked.source().version;
-            let header = first_line(read.lines.as_slice());
+            let header = header_line(read.lines.as_slice());
             tell_accepted(alloc, version, header, out)
         }
         Err(TextFault::Line { line, rule }) => refuse(alloc, line, rule),

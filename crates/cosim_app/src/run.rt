@@ -5,7 +5,7 @@ ghost use Rattle.cosim_app.specs.Answer.{status_of};
 ghost use Rattle.cosim_app.specs.Judgement.{IsServed, IsWhole, JudgesText, PutsTrace};
 ghost use Rattle.cosim_app.specs.declared.command_words.Command.TheVariants.{Run};
 
-use crate::judge::{UNSERVED_RULE, first_line, refuse};
+use crate::judge::{UNSERVED_RULE, header_line, refuse};
 use crate::note;
 use crate::status::Status;
 use crate::verdict::Verdict;
@@ -73,7 +73,7 @@ fn run_accepted<O: Sink>(alloc: Global, read: AcceptedText, out: &mut O) -> Verd
     requires whole { IsWhole read.checked }
     ensures { (text : List ℕ) → IsAcceptedAs text read.checked read.lines → JudgesText Run text (O.held out.old) (O.held out.new) (O.faults out.old) (O.faults out.new) result }
 {
-    let header = first_line(read.lines.as_slice());
+    let header = header_line(read.lines.as_slice());
     if read.checked.source().version == 2 {
         return refuse(alloc, header, UNSERVED_RULE);
     }

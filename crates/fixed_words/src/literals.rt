@@ -7,7 +7,7 @@ ghost use Rattle.fixed_words.specs.Texts.{sign_text, truth_text};
 ghost use Rattle.fixed_words.specs.Literals.{IsLiteralText, IsSignedNumber, with_sign, scaled_number, word_of_literal, within_type};
 
 use crate::digits::{Unsigned, read_number};
-use crate::operations::{mul, ten_to_the};
+use crate::operations::{mul, unit_word};
 use crate::types::{Literal, LiteralFault, Ty, fits};
 
 /// The truth value that the text names, if it names one.
@@ -79,7 +79,7 @@ fn fixed_word(has: u8, word: i64, decimals: u8) -> Result<i64, LiteralFault>
     if decimals > has {
         return Err(LiteralFault::Form);
     }
-    mul(word, ten_to_the(has - decimals)).map_err(|_| LiteralFault::Range)
+    mul(word, unit_word(has - decimals)).map_err(|_| LiteralFault::Range)
 }
 
 /// The word of a literal as a value of the type.

@@ -5,10 +5,11 @@ ghost use Rattle.fixed_words.specs.Operations.{word_of, is_zero, floor_quotient,
 use crate::types::Fault;
 
 /// The power of ten, for at most 9 decimals.
-pub(crate) fn ten_to_the(decimals: u8) -> i64
+pub fn ten_to_the(decimals: u8) -> u32
     requires { decimals ≤ 9 }
-    ensures power { result ≡ ten_to decimals }
-    ensures positive { pos 1 ≤ℤ result }
+    ensures power { result ≡ 10 ^ decimals }
+    ensures least { 1 ≤ result }
+    ensures greatest { result ≤ 10 ^ 9 }
 {
     match decimals {
         0 => 1,
@@ -22,6 +23,15 @@ pub(crate) fn ten_to_the(decimals: u8) -> i64
         8 => 100_000_000,
         _ => 1_000_000_000,
     }
+}
+
+/// The word of one, as fixed point of at most 9 decimals.
+pub(crate) fn unit_word(decimals: u8) -> i64
+    requires { decimals ≤ 9 }
+    ensures power { result ≡ ten_to decimals }
+    ensures positive { pos 1 ≤ℤ result }
+{
+    i64::from(ten_to_the(decimals))
 }
 
 /// The sum, or [`Fault::Overflow`] where it does not fit 64 bits.
@@ -153,7 +163,7 @@ pub fn fix_mul(a: i64, b: i64, n: u8) -> Result<i64, Fault>
 {
     match a.checked_mul(b) {
         Some(product) => scale_down(product, n),
-        None => wide_quotient(a, b, ten_to_the(n)),
+        None => wide_quotient(a, b, unit_word(n)),
     }
 }
 
@@ -164,7 +174,7 @@ pub fn fix_div(a: i64, b: i64, n: u8) -> Result<i64, Fault>
     requires { n ≤ 9 }
     ensures { result ≡ fixed_quotient n a b }
 {
-    let unit = ten_to_the(n);
+    let unit = unit_word(n);
     match a.checked_mul(unit) {
         Some(scaled) => div(scaled, b),
         None if b == 0 => Err(Fault::ZeroDivisor),
@@ -178,7 +188,7 @@ pub fn scale_up(word: i64, n: u8) -> Result<i64, Fault>
     requires { n ≤ 9 }
     ensures { result ≡ scaled_up n word }
 {
-    mul(word, ten_to_the(n))
+    mul(word, unit_word(n))
 }
 
 /// The word divided by a positive number and rounded towards minus infinity. It is compiled for each number by itself,

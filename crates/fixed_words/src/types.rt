@@ -1,5 +1,5 @@
 ghost use Rattle.std.specs.Prelude.{◌≡◌};
-ghost use Rattle.fixed_words.specs.Types.{lowest, highest, is_word_of};
+ghost use Rattle.fixed_words.specs.Types.{kind_of, lowest, highest, is_word_of};
 
 /// The kind of an expression's value: operands and results are judged by it.
 ///
@@ -29,6 +29,19 @@ pub enum Ty {
     /// Fixed point with this many decimals, from 0 to 9: the value is the word divided by that power
     /// of ten, and every word is one.
     Fixed(u8),
+}
+
+impl Ty {
+    /// The kind of the type's values.
+    pub fn kind(self) -> Kind
+        ensures { result ≡ kind_of self }
+    {
+        match self {
+            Ty::Bool => Kind::Bool,
+            Ty::Fixed(decimals) => Kind::Fixed(decimals),
+            _ => Kind::Int,
+        }
+    }
 }
 
 /// What an operation, a store or a call of a component gives in place of a word.

@@ -14,7 +14,7 @@ use Rattle.port_solve.specs.Solved.{HaveStates, HaveInputs, word_in, ports_told}
 use Rattle.port_solve.specs.Sound.{types_of_places, Suits, IsSoundMember, IsSound}
 use Rattle.port_solve.specs.Steps.{with_words, all_with, set_from, asked, word_asked, fault_asked, FitsFeeds, fault_there}
 use Rattle.unit_tree.specs.Components.{start_word, get_of}
-use Rattle.unit_tree.specs.Compositions.{Source, Start, AtPlace, Member, Composition}
+use Rattle.unit_tree.specs.Compositions.{InputSource, Start, AtPlace, Member, Composition}
 use Rattle.unit_tree.specs.Given.{input_numbered, given_by, IsInputWord}
 use Rattle.unit_tree.specs.Names.{is_among}
 use Rattle.unit_tree.specs.Ports.{Ports, Outlet, IsAmong, IsAssignment, input_word, seen_by, in_front, all_there, inputs_for, given_at, word_at, place_in, place_needed, needs_at}
@@ -40,7 +40,7 @@ use Rattle.port_solve.proofs.OutputPlaces.{OutletAt, outlet_of, given_is, type_i
 -- ---- What is known at a front
 
 -- A source has its word: a start word, or one of an output of the front.
-abbrev pub Known : Ports → List ℕ → Source → ℤ → Type 0
+abbrev pub Known : Ports → List ℕ → InputSource → ℤ → Type 0
 Known right front (Start start) word = start ≡ word
 Known right front (AtPlace place) word = IsAmong front place × (slice_get right place ≡ Some (Some word))
 
@@ -50,7 +50,7 @@ Agreed told right place = slice_get told place ≡ slice_get right place
 -- The outputs of the front are told right, and the inputs that they feed have their words.
 pub record IsFront (run : Composition) (right : Ports) (front : List ℕ) (told : Ports) (inputs : List (List ℤ)) : Type 0 where
   pub words : AllByRecursion (Agreed told right) front
-  pub fed : (at : InputAt) (source : Source) (word : ℤ) → source_at run at ≡ Some source → Known right front source word → word_in inputs at ≡ word
+  pub fed : (at : InputAt) (source : InputSource) (word : ℤ) → source_at run at ≡ Some source → Known right front source word → word_in inputs at ≡ word
   pub shape : HaveInputs run inputs
 
 -- ---- Options
@@ -120,25 +120,25 @@ first_there None rest words is = absurd (cc)
 first_there (Some seen) rest words is = front_there seen rest words (all_there rest) refl is
 
 -- Of an input, with whether it is needed.
-defined_one : (right : Ports) (needed : Bool) (source : Source) (start one : ℤ) (rest : List ℕ) → cond needed (input_word right source) (Some start) ≡ Some one → AllByRecursion (Defined right) rest → AllByRecursion (Defined right) (cons_option (cond needed (place_in source) None) rest)
+defined_one : (right : Ports) (needed : Bool) (source : InputSource) (start one : ℤ) (rest : List ℕ) → cond needed (input_word right source) (Some start) ≡ Some one → AllByRecursion (Defined right) rest → AllByRecursion (Defined right) (cons_option (cond needed (place_in source) None) rest)
 defined_one right true (Start word) start one rest seen all = all
 defined_one right true (AtPlace place) start one rest seen all = ((one, some_some (slice_get right place) one seen), all)
 defined_one right false source start one rest seen all = all
 
-seen_defined : (right : Ports) (output : Output) (pairs : List (Input × Source)) (words : List ℤ) → all_there (map (seen_by right output) pairs) ≡ Some words → AllByRecursion (Defined right) (filter_map (place_needed output) pairs)
+seen_defined : (right : Ports) (output : Output) (pairs : List (Input × InputSource)) (words : List ℤ) → all_there (map (seen_by right output) pairs) ≡ Some words → AllByRecursion (Defined right) (filter_map (place_needed output) pairs)
 seen_defined right output [] words is = tt
 seen_defined right output ((input, source) ∷ pairs) words is =
     let first = first_there (seen_by right output (input, source)) (map (seen_by right output) pairs) words is in
     defined_one right (is_among output.needs input.name) source (start_word input.ty input.start) first.one (filter_map (place_needed output) pairs) first.one_is (seen_defined right output pairs first.others first.others_are)
 
-agree_one : (right : Ports) (front : List ℕ) (needed : Bool) (source : Source) (start one word : ℤ) (rest : List ℕ) → cond needed (input_word right source) (Some start) ≡ Some one → AllByRecursion (IsAmong front) (cons_option (cond needed (place_in source) None) rest) → ((w : ℤ) → Known right front source w → word ≡ w) → (needed ≡ true → one ≡ word) × AllByRecursion (IsAmong front) rest
+agree_one : (right : Ports) (front : List ℕ) (needed : Bool) (source : InputSource) (start one word : ℤ) (rest : List ℕ) → cond needed (input_word right source) (Some start) ≡ Some one → AllByRecursion (IsAmong front) (cons_option (cond needed (place_in source) None) rest) → ((w : ℤ) → Known right front source w → word ≡ w) → (needed ≡ true → one ≡ word) × AllByRecursion (IsAmong front) rest
 agree_one right front true (Start begin) start one word rest seen among at = (λ is. sym (at one (cc)), among)
 agree_one right front true (AtPlace place) start one word rest seen among at = (λ is. sym (at one (among.0, some_some (slice_get right place) one seen)), among.1)
 agree_one right front false source start one word rest seen among at = (λ is. absurd (cc), among)
 
-agree_along : (right : Ports) (front : List ℕ) (output : Output) (inputs : List Input) (sources : List Source) (seen words : List ℤ) → length sources ≡ length inputs → length words ≡ length inputs
+agree_along : (right : Ports) (front : List ℕ) (output : Output) (inputs : List Input) (sources : List InputSource) (seen words : List ℤ) → length sources ≡ length inputs → length words ≡ length inputs
     → all_there (map (seen_by right output) (zip inputs sources)) ≡ Some seen → AllByRecursion (IsAmong front) (filter_map (place_needed output) (zip inputs sources))
-    → ((k : ℕ) (source : Source) (word : ℤ) → slice_get sources k ≡ Some source → Known right front source word → get_or words k (pos 0) ≡ word)
+    → ((k : ℕ) (source : InputSource) (word : ℤ) → slice_get sources k ≡ Some source → Known right front source word → get_or words k (pos 0) ≡ word)
     → AgreeOn output.needs inputs seen words
 agree_along right front output [] sources [] [] same_sources same_words is among at = tt
 agree_along right front output [] sources [] (word ∷ words) same_sources same_words is among at = absurd (omega (arith, same_words))
@@ -154,7 +154,7 @@ agree_along right front output (input ∷ inputs) (source ∷ sources) seen (wor
 
 -- ---- The next output
 
-pub suits_at : (types : List Ty) (inputs : List Input) (sources : List Source) (k : ℕ) (input : Input) (source : Source) → AllByRecursion (Suits types) (zip inputs sources) → slice_get inputs k ≡ Some input → slice_get sources k ≡ Some source → Suits types (input, source)
+pub suits_at : (types : List Ty) (inputs : List Input) (sources : List InputSource) (k : ℕ) (input : Input) (source : InputSource) → AllByRecursion (Suits types) (zip inputs sources) → slice_get inputs k ≡ Some input → slice_get sources k ≡ Some source → Suits types (input, source)
 suits_at types [] sources k input source all input_is source_is = absurd (cc)
 suits_at types (i ∷ inputs) [] k input source all input_is source_is = absurd (cc)
 suits_at types (i ∷ inputs) (s ∷ sources) zero input source all input_is source_is =
@@ -202,12 +202,12 @@ module _ (run : Composition) (states : List (List ℤ)) (sound : IsSound run) (h
 
   -- ---- Words for inputs
 
-  record InputOf (at : InputAt) (source : Source) : Type 0 where
+  record InputOf (at : InputAt) (source : InputSource) : Type 0 where
     input : Input
     is_there : input_numbered run at.instance at.input ≡ Some input
     suits : Suits (types_of_places run) (input, source)
 
-  input_by : (at : InputAt) (source : Source) (found : Option Member) → slice_get run.members at.instance ≡ found → option_and_then (λ (member : Member). slice_get member.sources at.input) found ≡ Some source → InputOf at source
+  input_by : (at : InputAt) (source : InputSource) (found : Option Member) → slice_get run.members at.instance ≡ found → option_and_then (λ (member : Member). slice_get member.sources at.input) found ≡ Some source → InputOf at source
   input_by at source None found is = absurd (cc)
   input_by at source (Some member) found is =
       let member_sound = sound_member at.instance member found in
@@ -219,7 +219,7 @@ module _ (run : Composition) (states : List (List ℤ)) (sound : IsSound run) (h
         suits = suits_at (types_of_places run) member.component.unit.inputs member.sources at.input input.0 source member_sound.suits input.1 is;
       }
 
-  input_of : (at : InputAt) (source : Source) → source_at run at ≡ Some source → InputOf at source
+  input_of : (at : InputAt) (source : InputSource) → source_at run at ≡ Some source → InputOf at source
   input_of at source is = input_by at source (slice_get run.members at.instance) refl is
 
   -- A start word is one for its input.
@@ -291,7 +291,7 @@ module _ (run : Composition) (states : List (List ℤ)) (sound : IsSound run) (h
     pub is_given : IsSome (given_by run states inputs route.instance route.output)
     is_given = rw given refl
 
-    word_of_input : (k : ℕ) (source : Source) (word : ℤ) → slice_get member.sources k ≡ Some source → Known right front source word → get_or actual k (pos 0) ≡ word
+    word_of_input : (k : ℕ) (source : InputSource) (word : ℤ) → slice_get member.sources k ≡ Some source → Known right front source word → get_or actual k (pos 0) ≡ word
     word_of_input k source word there is_known =
         let source_is : source_at run (record { instance = route.instance; input = k }) ≡ Some source = ap (option_and_then (λ (m : Member). slice_get m.sources k)) at.member ∙ there in
         sym (ap (λ ws. get_or ws k (pos 0)) (get_or_from_slice_get inputs route.instance actual [] words_there.is))
@@ -386,7 +386,7 @@ module _ (run : Composition) (states : List (List ℤ)) (sound : IsSound run) (h
       sets word = set_from word route.feeds
 
       -- Where it has no word, nothing changes.
-      none_fed : word_at right outlet ≡ None → (a : InputAt) (source : Source) (word : ℤ) → source_at run a ≡ Some source → Known right (front ++ (place ∷ [])) source word → word_in inputs a ≡ word
+      none_fed : word_at right outlet ≡ None → (a : InputAt) (source : InputSource) (word : ℤ) → source_at run a ≡ Some source → Known right (front ++ (place ∷ [])) source word → word_in inputs a ≡ word
       none_fed none a (Start start) word is is_known = is_front.fed a (Start start) word is is_known
       none_fed none a (AtPlace q) word is is_known = elim (among_either front place q is_known.0) [
         | inl there ↦ is_front.fed a (AtPlace q) word is (there, is_known.1)
@@ -403,7 +403,7 @@ module _ (run : Composition) (states : List (List ℤ)) (sound : IsSound run) (h
             some_same : Some (Some v) ≡ Some (Some word) → v ≡ word
             some_same is = cc
 
-        before : (a : InputAt) (source : Source) (word : ℤ) → source_at run a ≡ Some source → Known right (front ++ (place ∷ [])) source word → (word_in inputs a ≡ word) ⊎ ((start : StartWord) × Has (all_with v route.feeds) start × (start.at ≡ a))
+        before : (a : InputAt) (source : InputSource) (word : ℤ) → source_at run a ≡ Some source → Known right (front ++ (place ∷ [])) source word → (word_in inputs a ≡ word) ⊎ ((start : StartWord) × Has (all_with v route.feeds) start × (start.at ≡ a))
         before a (Start start) word is is_known = inl (is_front.fed a (Start start) word is is_known)
         before a (AtPlace q) word is is_known = elim (among_either front place q is_known.0) [
           | inl there ↦ inl (is_front.fed a (AtPlace q) word is (there, is_known.1))
@@ -413,7 +413,7 @@ module _ (run : Composition) (states : List (List ℤ)) (sound : IsSound run) (h
               inr (record { at = a; word = v }, has_map (λ x. record { at = x; word = v }) route.feeds a has, refl)
         ]
 
-        agrees : (a : InputAt) (source : Source) (word : ℤ) → source_at run a ≡ Some source → Known right (front ++ (place ∷ [])) source word → (start : StartWord) → Has (all_with v route.feeds) start → start.at ≡ a → start.word ≡ word
+        agrees : (a : InputAt) (source : InputSource) (word : ℤ) → source_at run a ≡ Some source → Known right (front ++ (place ∷ [])) source word → (start : StartWord) → Has (all_with v route.feeds) start → start.at ≡ a → start.word ≡ word
         agrees a source word is is_known start has same_at =
             let from = map_has (λ x. record { at = x; word = v }) route.feeds start has in
             let fed = feed_is run place from.one (subst (λ feeds. Has feeds from.one) at.feeds from.has) in
@@ -425,11 +425,11 @@ module _ (run : Composition) (states : List (List ℤ)) (sound : IsSound run) (h
             some_same : Some source ≡ Some (AtPlace place) → source ≡ AtPlace place
             some_same is = cc
 
-        some_fed : (a : InputAt) (source : Source) (word : ℤ) → source_at run a ≡ Some source → Known right (front ++ (place ∷ [])) source word → word_in (with_words inputs (all_with v route.feeds)) a ≡ word
+        some_fed : (a : InputAt) (source : InputSource) (word : ℤ) → source_at run a ≡ Some source → Known right (front ++ (place ∷ [])) source word → word_in (with_words inputs (all_with v route.feeds)) a ≡ word
         some_fed a source word is is_known =
             word_after run same_sources a source is word (all_with v route.feeds) inputs is_front.shape (agrees a source word is is_known) (before a source word is is_known)
 
-      fed_by : (word : Option ℤ) → word_at right outlet ≡ word → (a : InputAt) (source : Source) (w : ℤ) → source_at run a ≡ Some source → Known right (front ++ (place ∷ [])) source w → word_in (with_words inputs (sets word)) a ≡ w
+      fed_by : (word : Option ℤ) → word_at right outlet ≡ word → (a : InputAt) (source : InputSource) (w : ℤ) → source_at run a ≡ Some source → Known right (front ++ (place ∷ [])) source w → word_in (with_words inputs (sets word)) a ≡ w
       fed_by None is = none_fed is
       fed_by (Some v) is = some_fed v is
 

@@ -5,7 +5,7 @@ use Rattle.std.proofs.lemmas.Map.Views.{exact_unsigned_eq}
 use Rattle.std.specs.Prelude.{slice_get, ◌==◌}
 use Rattle.std.specs.List.{enumerate_from, filter_map, cons_option}
 use Rattle.std.specs.Option.{option_and_then}
-use Rattle.unit_tree.specs.Compositions.{Source, Start, AtPlace, Member, Composition}
+use Rattle.unit_tree.specs.Compositions.{InputSource, Start, AtPlace, Member, Composition}
 use Rattle.unit_tree.specs.Routes.{inputs_in, inputs_of, fed_from, feeds_of, starts_at, routes_of}
 use Rattle.unit_tree.specs.declared.order.InputAt.{InputAt}
 use Rattle.unit_tree.specs.declared.order.StartWord.{StartWord}
@@ -68,24 +68,24 @@ kept f (first ∷ xs) y has = kept_of f first xs y (f first) refl (kept f xs y) 
 abbrev pub input_at : ℕ → ℕ → InputAt
 input_at instance number = record { instance = instance; input = number }
 
-abbrev pub source_at : Composition → InputAt → Option Source
+abbrev pub source_at : Composition → InputAt → Option InputSource
 source_at run at = option_and_then (λ member. slice_get member.sources at.input) (slice_get run.members at.instance)
 
-abbrev pair_as : ℕ → ℕ × Source → InputAt × Source
+abbrev pair_as : ℕ → ℕ × InputSource → InputAt × InputSource
 pair_as instance numbered = (input_at instance numbered.0, numbered.1)
 
 -- The inputs of a composition are those that have a source.
-pub source_is : (run : Composition) (at : InputAt) (source : Source) → Has (inputs_of run) (at, source) → source_at run at ≡ Some source
+pub source_is : (run : Composition) (at : InputAt) (source : InputSource) → Has (inputs_of run) (at, source) → source_at run at ≡ Some source
 source_is run at source has =
     let from = flat_has inputs_in (enumerate_from 0 run.members) (at, source) has in
     of_member from.one.0 from.one.1 (counted 0 run.members from.one.0 from.one.1 from.has) from.inside
   where
-    of_pair : (instance : ℕ) (member : Member) (numbered : ℕ × Source) → slice_get run.members instance ≡ Some member → slice_get member.sources numbered.0 ≡ Some numbered.1 → pair_as instance numbered ≡ (at, source) → source_at run at ≡ Some source
+    of_pair : (instance : ℕ) (member : Member) (numbered : ℕ × InputSource) → slice_get run.members instance ≡ Some member → slice_get member.sources numbered.0 ≡ Some numbered.1 → pair_as instance numbered ≡ (at, source) → source_at run at ≡ Some source
     of_pair instance member numbered member_is there is =
-        ap (source_at run) (sym (ap (λ (p : InputAt × Source). p.0) is))
+        ap (source_at run) (sym (ap (λ (p : InputAt × InputSource). p.0) is))
         ∙ ap (option_and_then (λ (m : Member). slice_get m.sources numbered.0)) member_is
         ∙ there
-        ∙ ap (λ (p : InputAt × Source). Some p.1) is
+        ∙ ap (λ (p : InputAt × InputSource). Some p.1) is
 
     of_member : (instance : ℕ) (member : Member) → Counted 0 run.members instance member → Has (inputs_in (instance, member)) (at, source) → source_at run at ≡ Some source
     of_member instance member found inside =
@@ -95,13 +95,13 @@ source_is run at source has =
         let source_there : slice_get member.sources pair.one.0 ≡ Some pair.one.1 = ap (slice_get member.sources) (omega (arith, there.number_is)) ∙ there.is in
         of_pair instance member pair.one member_is source_there pair.is
 
-has_source_by : (run : Composition) (at : InputAt) (source : Source) (found : Option Member) → slice_get run.members at.instance ≡ found → option_and_then (λ (member : Member). slice_get member.sources at.input) found ≡ Some source → Has (inputs_of run) (at, source)
+has_source_by : (run : Composition) (at : InputAt) (source : InputSource) (found : Option Member) → slice_get run.members at.instance ≡ found → option_and_then (λ (member : Member). slice_get member.sources at.input) found ≡ Some source → Has (inputs_of run) (at, source)
 has_source_by run at source None found is = absurd (cc)
 has_source_by run at source (Some member) found is =
     has_flat inputs_in (enumerate_from 0 run.members) (at.instance, member) (at, source) (has_counted 0 run.members at.instance at.instance member (omega arith) found)
     (has_map (pair_as at.instance) (enumerate_from 0 member.sources) (at.input, source) (has_counted 0 member.sources at.input at.input source (omega arith) is))
 
-pub has_source : (run : Composition) (at : InputAt) (source : Source) → source_at run at ≡ Some source → Has (inputs_of run) (at, source)
+pub has_source : (run : Composition) (at : InputAt) (source : InputSource) → source_at run at ≡ Some source → Has (inputs_of run) (at, source)
 has_source run at source is = has_source_by run at source (slice_get run.members at.instance) refl is
 
 -- ---- The inputs that an output feeds, and those that nothing is connected to
@@ -110,7 +110,7 @@ fed_by : (told : Bool) (at other : InputAt) (place p : ℕ) → (p == place) ≡
 fed_by true at other place p is fed = (cc fed, exact_unsigned_eq p place is)
 fed_by false at other place p is fed = absurd (cc)
 
-fed_is : (place : ℕ) (at other : InputAt) (source : Source) → fed_from place (at, source) ≡ Some other → (at ≡ other) × (source ≡ AtPlace place)
+fed_is : (place : ℕ) (at other : InputAt) (source : InputSource) → fed_from place (at, source) ≡ Some other → (at ≡ other) × (source ≡ AtPlace place)
 fed_is place at other (Start word) fed = absurd (cc)
 fed_is place at other (AtPlace p) fed = let both = fed_by (p == place) at other place p refl fed in (both.0, ap AtPlace both.1)
 
@@ -128,7 +128,7 @@ has_feed run place at is =
     eqb_same : (p : ℕ) → (p == p) ≡ true
     eqb_same p = elim (eqb_tells p p) [ inl both ↦ both.0 | inr both ↦ absurd (both.1 refl) ]
 
-start_is_by : (source : Source) (at : InputAt) (start : StartWord) → starts_at (at, source) ≡ Some start → (at ≡ start.at) × (source ≡ Start start.word)
+start_is_by : (source : InputSource) (at : InputAt) (start : StartWord) → starts_at (at, source) ≡ Some start → (at ≡ start.at) × (source ≡ Start start.word)
 start_is_by (Start word) at start is =
     let same : record { at = at; word = word } ≡ start = cc in (ap (λ (s : StartWord). s.at) same, ap (λ (s : StartWord). Start s.word) same)
 start_is_by (AtPlace place) at start is = absurd (cc)

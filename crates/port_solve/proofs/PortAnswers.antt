@@ -7,7 +7,7 @@ use Rattle.port_solve.specs.Sound.{IsSound}
 use Rattle.port_solve.specs.Steps.{with_words, IsFirst}
 use Rattle.port_solve.specs.declared.outputs.Faulted.{Faulted}
 use Rattle.port_solve.specs.declared.solving.PortFault.{PortFault}
-use Rattle.unit_tree.specs.Compositions.{Source, Start, AtPlace, Composition}
+use Rattle.unit_tree.specs.Compositions.{InputSource, Start, AtPlace, Composition}
 use Rattle.unit_tree.specs.Given.{IsInputWord}
 use Rattle.unit_tree.specs.Negotiation.{all_inputs}
 use Rattle.unit_tree.specs.Ports.{Ports, IsAmong, IsAssignment, IsOrderedAfter, port_fault, needs_of_places}
@@ -41,7 +41,7 @@ module _ (run : Composition) (states : List (List ℤ)) (sound : IsSound run) (h
         same_start : Some (Start start.word) ≡ Some (Start word) → start.word ≡ word
         same_start is = cc
 
-    its_start : (at : InputAt) (source : Source) → Has (inputs_of run) (at, source) → HasItsWord [] (with_words inputs (routes_of run).starts) (at, source)
+    its_start : (at : InputAt) (source : InputSource) → Has (inputs_of run) (at, source) → HasItsWord [] (with_words inputs (routes_of run).starts) (at, source)
     its_start at (Start word) has =
         let is = source_is run at (Start word) has in
         word_after run (same_sources run states sound have) at (Start word) is word (routes_of run).starts inputs shape (agrees at word is) (inr (record { at = at; word = word }, has_start run at word is, refl))

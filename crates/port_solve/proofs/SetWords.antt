@@ -8,7 +8,7 @@ use Rattle.std.specs.List.{AllZip}
 use Rattle.std.specs.Option.{option_and_then}
 use Rattle.port_solve.specs.Solved.{HaveInputs, word_in}
 use Rattle.port_solve.specs.Steps.{with_words}
-use Rattle.unit_tree.specs.Compositions.{Source, Member, Composition}
+use Rattle.unit_tree.specs.Compositions.{InputSource, Member, Composition}
 use Rattle.unit_tree.specs.Given.{with_input}
 use Rattle.unit_tree.specs.declared.order.InputAt.{InputAt}
 use Rattle.unit_tree.specs.declared.order.StartWord.{StartWord}
@@ -76,7 +76,7 @@ shape_after run (first ∷ starts) inputs shape = shape_after run starts (set_at
 
 -- ---- Inputs with a source are there
 
-pub record SourceIn (run : Composition) (inputs : List (List ℤ)) (at : InputAt) (source : Source) : Type 0 where
+pub record SourceIn (run : Composition) (inputs : List (List ℤ)) (at : InputAt) (source : InputSource) : Type 0 where
   pub member : Member
   pub member_is : slice_get run.members at.instance ≡ Some member
   pub is : slice_get member.sources at.input ≡ Some source
@@ -84,16 +84,16 @@ pub record SourceIn (run : Composition) (inputs : List (List ℤ)) (at : InputAt
   pub words_are : slice_get inputs at.instance ≡ Some words
   pub same : length words ≡ length member.component.unit.inputs
 
-source_by : (run : Composition) (inputs : List (List ℤ)) (at : InputAt) (source : Source) (found : Option Member) → HaveInputs run inputs → slice_get run.members at.instance ≡ found → option_and_then (λ (member : Member). slice_get member.sources at.input) found ≡ Some source → SourceIn run inputs at source
+source_by : (run : Composition) (inputs : List (List ℤ)) (at : InputAt) (source : InputSource) (found : Option Member) → HaveInputs run inputs → slice_get run.members at.instance ≡ found → option_and_then (λ (member : Member). slice_get member.sources at.input) found ≡ Some source → SourceIn run inputs at source
 source_by run inputs at source None shape found is = absurd (cc)
 source_by run inputs at source (Some member) shape found is =
     let beside = zip_at HasLength run.members inputs at.instance member shape found in
     record { member = member; member_is = found; is = is; words = beside.other; words_are = beside.is; same = beside.related }
 
-pub source_in : (run : Composition) (inputs : List (List ℤ)) (at : InputAt) (source : Source) → HaveInputs run inputs → source_at run at ≡ Some source → SourceIn run inputs at source
+pub source_in : (run : Composition) (inputs : List (List ℤ)) (at : InputAt) (source : InputSource) → HaveInputs run inputs → source_at run at ≡ Some source → SourceIn run inputs at source
 source_in run inputs at source shape is = source_by run inputs at source (slice_get run.members at.instance) shape refl is
 
-pub is_there : (run : Composition) (inputs : List (List ℤ)) (at : InputAt) (source : Source) → ((member : Member) → slice_get run.members at.instance ≡ Some member → length member.sources ≡ length member.component.unit.inputs) → HaveInputs run inputs → source_at run at ≡ Some source → IsThere inputs at
+pub is_there : (run : Composition) (inputs : List (List ℤ)) (at : InputAt) (source : InputSource) → ((member : Member) → slice_get run.members at.instance ≡ Some member → length member.sources ≡ length member.component.unit.inputs) → HaveInputs run inputs → source_at run at ≡ Some source → IsThere inputs at
 is_there run inputs at source one_each shape is =
     let from = source_in run inputs at source shape is in
     let words : get_or inputs at.instance [] ≡ from.words = get_or_from_slice_get inputs at.instance from.words [] from.words_are in
@@ -104,7 +104,7 @@ is_there run inputs at source one_each shape is =
 
 -- ---- All that is set
 
-module _ (run : Composition) (one_each : (at : ℕ) (member : Member) → slice_get run.members at ≡ Some member → length member.sources ≡ length member.component.unit.inputs) (at : InputAt) (source : Source) (is : source_at run at ≡ Some source) (word : ℤ) where
+module _ (run : Composition) (one_each : (at : ℕ) (member : Member) → slice_get run.members at ≡ Some member → length member.sources ≡ length member.component.unit.inputs) (at : InputAt) (source : InputSource) (is : source_at run at ≡ Some source) (word : ℤ) where
   there_now : (inputs : List (List ℤ)) → HaveInputs run inputs → IsThere inputs at
   there_now inputs shape = is_there run inputs at source (one_each at.instance) shape is
 

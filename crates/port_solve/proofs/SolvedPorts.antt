@@ -7,7 +7,7 @@ use Rattle.std.specs.List.{AllByRecursion, list_all}
 use Rattle.std.specs.Option.{option_map, option_and_then}
 use Rattle.port_solve.specs.Solved.{HaveStates, HaveInputs, HaveTheirWords, HasItsWord, word_in, ports_told}
 use Rattle.port_solve.specs.Sound.{types_of_places, IsSoundMember, IsSound}
-use Rattle.unit_tree.specs.Compositions.{Source, Start, AtPlace, Member, Composition}
+use Rattle.unit_tree.specs.Compositions.{InputSource, Start, AtPlace, Member, Composition}
 use Rattle.unit_tree.specs.Negotiation.{inputs_at, all_inputs}
 use Rattle.unit_tree.specs.Ports.{Ports, IsAmong, IsAssignment, IsOrderedAfter, IsPlaceOrder, input_word, needs_of_places, needs_at}
 use Rattle.unit_tree.specs.Routes.{inputs_of}
@@ -50,7 +50,7 @@ next_place run order k is_order within = next_of run (take k order) order k with
 pub start_front : (run : Composition) (right told : Ports) (inputs : List (List ℤ)) → HaveTheirWords run [] inputs → HaveInputs run inputs → IsFront run right [] told inputs
 start_front run right told inputs have shape = record { words = tt; fed = fed; shape = shape }
   where
-    fed : (at : InputAt) (source : Source) (word : ℤ) → source_at run at ≡ Some source → Known right [] source word → word_in inputs at ≡ word
+    fed : (at : InputAt) (source : InputSource) (word : ℤ) → source_at run at ≡ Some source → Known right [] source word → word_in inputs at ≡ word
     fed at (Start start) word is is_known = each_has (HasItsWord [] inputs) (inputs_of run) (at, Start start) have (has_source run at (Start start) is) ∙ is_known
     fed at (AtPlace place) word is is_known = absurd is_known.0
 
@@ -69,7 +69,7 @@ module _ (run : Composition) (states : List (List ℤ)) (right told : Ports) (in
   found_word at place (Some (Some word)) is there =
       is_front.fed at (AtPlace place) word is (is_order.all place (omega (arith, slice_get_within right place (Some word) there, right_count)), there)
 
-  its_word : (at : InputAt) (source : Source) → Has (inputs_of run) (at, source) → HasItsWord right inputs (at, source)
+  its_word : (at : InputAt) (source : InputSource) → Has (inputs_of run) (at, source) → HasItsWord right inputs (at, source)
   its_word at (Start start) has = is_front.fed at (Start start) start (source_is run at (Start start) has) refl
   its_word at (AtPlace place) has = found_word at place (slice_get right place) (source_is run at (AtPlace place) has) refl
 
@@ -97,7 +97,7 @@ all_there_at (Some word ∷ ports) zero all within = (word, refl)
 all_there_at (Some word ∷ ports) (suc place) all within = all_there_at ports place all (omega (arith, within))
 
 module _ (run : Composition) (states : List (List ℤ)) (sound : IsSound run) (have : HaveStates run states) (told : Ports) (inputs : List (List ℤ)) (count : length told ≡ length (needs_of_places run)) (all : list_all is_some told ≡ true) (their : HaveTheirWords run told inputs) (shape : HaveInputs run inputs) where
-  source_word : (member : Member) (instance k : ℕ) (source : Source) → slice_get run.members instance ≡ Some member → slice_get member.sources k ≡ Some source → (word : ℤ) × (input_word told source ≡ Some word)
+  source_word : (member : Member) (instance k : ℕ) (source : InputSource) → slice_get run.members instance ≡ Some member → slice_get member.sources k ≡ Some source → (word : ℤ) × (input_word told source ≡ Some word)
   source_word member instance k (Start word) member_is is = (word, refl)
   source_word member instance k (AtPlace place) member_is is =
       let member_sound = sound_member run states sound have instance member member_is in
@@ -112,7 +112,7 @@ module _ (run : Composition) (states : List (List ℤ)) (sound : IsSound run) (h
     member_sound : IsSoundMember (types_of_places run) member
     member_sound = sound_member run states sound have instance member member_is
 
-    word_is : (k : ℕ) (source : Source) → slice_get member.sources k ≡ Some source → get_or words k (pos 0) ≡ unwrap_or (input_word told source) (pos 0)
+    word_is : (k : ℕ) (source : InputSource) → slice_get member.sources k ≡ Some source → get_or words k (pos 0) ≡ unwrap_or (input_word told source) (pos 0)
     word_is k source is =
         let word = source_word member instance k source member_is is in
         let at : InputAt = record { instance = instance; input = k } in

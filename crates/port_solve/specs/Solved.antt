@@ -2,7 +2,7 @@
 use Rattle.std.specs.Prelude.{◌≡◌, Bool, ℤ, pos, List, [], map, length, zip, slice_index_or, if◌then◌else◌, Option, Some, None, IfSome, Result, Ok, Err}
 use Rattle.std.specs.List.{AllByRecursion, AllZip}
 use Rattle.port_solve.specs.declared.solving.PortFault.{PortFault}
-use Rattle.unit_tree.specs.Compositions.{Source, Composition}
+use Rattle.unit_tree.specs.Compositions.{InputSource, Composition}
 use Rattle.unit_tree.specs.Ports.{Ports, input_word}
 use Rattle.unit_tree.specs.Routes.{inputs_of}
 use Rattle.unit_tree.specs.declared.ending.Ending.{Ending}
@@ -25,7 +25,7 @@ abbrev pub word_in : List (List ℤ) → InputAt → ℤ
 word_in inputs at = slice_index_or (slice_index_or inputs at.instance []) at.input (pos 0)
 
 -- An input has its word, where this is defined.
-abbrev pub HasItsWord : Ports → List (List ℤ) → InputAt × Source → Type 0
+abbrev pub HasItsWord : Ports → List (List ℤ) → InputAt × InputSource → Type 0
 HasItsWord ports inputs (at, source) = IfSome (input_word ports source) (λ word. word_in inputs at ≡ word)
 
 -- Each input whose word is defined has it.

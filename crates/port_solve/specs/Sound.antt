@@ -4,7 +4,7 @@ use Rattle.std.specs.Prelude.{◌≡◌, true, false, List, map, length, zip, sl
 use Rattle.std.specs.List.{AllByRecursion, flat_map}
 use Rattle.fixed_words.specs.Types.{lowest, highest, is_word_of}
 use Rattle.fixed_words.specs.declared.types.Ty.{Ty}
-use Rattle.unit_tree.specs.Compositions.{Source, Start, AtPlace, Member, Composition, run_of}
+use Rattle.unit_tree.specs.Compositions.{InputSource, Start, AtPlace, Member, Composition, run_of}
 use Rattle.unit_tree.specs.Printable.{IsRanged}
 use Rattle.unit_tree.specs.WellFormed.{IsWellFormed, uses_other_input}
 use Rattle.unit_tree.specs.declared.system.System.{System}
@@ -20,7 +20,7 @@ HaveSameWords one other = (lowest one ≡ lowest other) × (highest one ≡ high
 
 -- The source of an input gives words of its type: its start word is one, and so are those of the output that it is connected
 -- to.
-abbrev pub Suits : List Ty → Input × Source → Type 0
+abbrev pub Suits : List Ty → Input × InputSource → Type 0
 Suits types (input, Start word) = is_word_of input.ty word ≡ true
 Suits types (input, AtPlace place) = (ty : Ty) × (slice_get types place ≡ Some ty) × HaveSameWords ty input.ty
 

@@ -9,7 +9,7 @@ use Rattle.std.specs.Result.{result_ok, result_err}
 use Rattle.std.proofs.lemmas.Bool.{and_parts}
 use Rattle.fixed_words.specs.Operations.{Outcome}
 use Rattle.unit_tree.specs.Components.{start_word, get_of}
-use Rattle.unit_tree.specs.Compositions.{Source, Start, AtPlace, Member, Composition}
+use Rattle.unit_tree.specs.Compositions.{InputSource, Start, AtPlace, Member, Composition}
 use Rattle.unit_tree.specs.Names.{is_among}
 use Rattle.unit_tree.specs.Ports.{Ports, Standing, Outlet, IsOrderedAfter, IsPlaceOrder, IsAssignment, input_word, seen_by, in_front, all_there, given_at, word_at, fault_at, port_fault, first_some, outlets, outlets_of, right_sides, place_in, place_needed, places_needed, needs_of_places, needs_at}
 use Rattle.run_laws.specs.RunLaws.{HasOneAssignment}
@@ -50,12 +50,12 @@ abbrev pub Agree : Ports → Ports → ℕ → Type 0
 Agree one other place = slice_get one place ≡ slice_get other place
 
 -- With whether the input is needed, and its source.
-pub seen_same : (one other : Ports) (needed : Bool) (source : Source) (start : ℤ) (rest : List ℕ) → AllByRecursion (Agree one other) (cons_option (cond needed (place_in source) None) rest) → (cond needed (input_word one source) (Some start) ≡ cond needed (input_word other source) (Some start)) × AllByRecursion (Agree one other) rest
+pub seen_same : (one other : Ports) (needed : Bool) (source : InputSource) (start : ℤ) (rest : List ℕ) → AllByRecursion (Agree one other) (cons_option (cond needed (place_in source) None) rest) → (cond needed (input_word one source) (Some start) ≡ cond needed (input_word other source) (Some start)) × AllByRecursion (Agree one other) rest
 seen_same one other true (Start word) start rest agree = (refl, agree)
 seen_same one other true (AtPlace place) start rest agree = (ap (λ found. option_and_then (λ word. word) found) agree.0, agree.1)
 seen_same one other false source start rest agree = (refl, agree)
 
-pub sees_same : (one other : Ports) (output : Output) (pairs : List (Input × Source)) → AllByRecursion (Agree one other) (filter_map (place_needed output) pairs) → map (seen_by one output) pairs ≡ map (seen_by other output) pairs
+pub sees_same : (one other : Ports) (output : Output) (pairs : List (Input × InputSource)) → AllByRecursion (Agree one other) (filter_map (place_needed output) pairs) → map (seen_by one output) pairs ≡ map (seen_by other output) pairs
 sees_same one other output [] agree = refl
 sees_same one other output ((input, source) ∷ pairs) agree =
     let here = seen_same one other (is_among output.needs input.name) source (start_word input.ty input.start) (filter_map (place_needed output) pairs) agree in
@@ -113,12 +113,12 @@ abbrev pub Defined : Ports → ℕ → Type 0
 Defined ports place = (word : ℤ) × (slice_get ports place ≡ Some (Some word))
 
 -- Of an input, with whether it is needed.
-pub seen_there : (ports : Ports) (needed : Bool) (source : Source) (start : ℤ) (rest : List ℕ) → AllByRecursion (Defined ports) (cons_option (cond needed (place_in source) None) rest) → ((word : ℤ) × (cond needed (input_word ports source) (Some start) ≡ Some word)) × AllByRecursion (Defined ports) rest
+pub seen_there : (ports : Ports) (needed : Bool) (source : InputSource) (start : ℤ) (rest : List ℕ) → AllByRecursion (Defined ports) (cons_option (cond needed (place_in source) None) rest) → ((word : ℤ) × (cond needed (input_word ports source) (Some start) ≡ Some word)) × AllByRecursion (Defined ports) rest
 seen_there ports true (Start word) start rest defined = ((word, refl), defined)
 seen_there ports true (AtPlace place) start rest defined = ((defined.0.0, ap (λ found. option_and_then (λ word. word) found) defined.0.1), defined.1)
 seen_there ports false source start rest defined = ((start, refl), defined)
 
-pub all_seen : (ports : Ports) (output : Output) (pairs : List (Input × Source)) → AllByRecursion (Defined ports) (filter_map (place_needed output) pairs) → (words : List ℤ) × (all_there (map (seen_by ports output) pairs) ≡ Some words)
+pub all_seen : (ports : Ports) (output : Output) (pairs : List (Input × InputSource)) → AllByRecursion (Defined ports) (filter_map (place_needed output) pairs) → (words : List ℤ) × (all_there (map (seen_by ports output) pairs) ≡ Some words)
 all_seen ports output [] defined = ([], refl)
 all_seen ports output ((input, source) ∷ pairs) defined =
     let here = seen_there ports (is_among output.needs input.name) source (start_word input.ty input.start) (filter_map (place_needed output) pairs) defined in

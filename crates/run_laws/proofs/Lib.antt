@@ -8,6 +8,7 @@ pub mod PlainCycles
 pub mod PlainOrders
 pub mod PortLaws
 pub mod PositionLaws
+pub mod Rests
 pub mod RunSteps
 pub mod RunTraces
 pub mod SeenLaws

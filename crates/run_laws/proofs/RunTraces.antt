@@ -1,4 +1,4 @@
--- A composition whose outputs have an order has exactly one trace.
+-- A position of a composition whose outputs have an order has exactly one rest, and the first one exactly one trace.
 use Rattle.std.proofs.Common.{◌≡◌, ℕ, zero, suc, ◌+◌, ◌-◌, ◌*◌, ◌<◌, ◌≤◌, ◌==◌, cond, Bool, true, false, List, [], ◌∷◌, length, Option, Some, None, refl, ap, sym, subst, ◌∙◌, arith}
 use Rattle.std.proofs.lemmas.Bool.Decides.{nat_tests}
 use Rattle.std.specs.Prelude.{◌&&◌}
@@ -6,9 +6,10 @@ use Rattle.std.specs.List.{AllZip}
 use Rattle.super_time.specs.declared.point.Point.{Point}
 use Rattle.unit_tree.specs.Compositions.{Composition, AreMembers, run_of}
 use Rattle.unit_tree.specs.Ports.{IsPlaceOrder, IsAssignment, first_some}
-use Rattle.run_laws.specs.RunLaws.{HasOneTrace, HasOneTraceOf}
+use Rattle.run_laws.specs.RestLaws.{HasOneRest}
+use Rattle.run_laws.specs.RunLaws.{IsInBounds, HasOneTrace, HasOneTraceOf}
 use Rattle.unit_tree.specs.Successor.{Position, when, first_position, limits, agreed, ends_at, ends_or, after, goes, zero_end}
-use Rattle.unit_tree.specs.Trace.{Stand, IsStand, Goes, Follows, IsTrace, HasWords, rows_of, last_point, cells_of}
+use Rattle.unit_tree.specs.Trace.{Stand, IsStand, Goes, Follows, GoesOnFrom, HasWords, rows_of, last_point, cells_of}
 use Rattle.unit_tree.specs.declared.ending.Ending.{Ending}
 use Rattle.unit_tree.specs.declared.system.System.{System}
 use Rattle.run_laws.proofs.AssignmentLaws.{none_at, one_assignment}
@@ -22,11 +23,6 @@ one_each R (x ∷ xs) [] all = absurd all
 one_each R (x ∷ xs) (y ∷ ys) all = let rest = one_each R xs ys all.1 in omega arith
 
 -- ---- What is left of a run, in steps
-
--- A position is within the stop and the budget of steps of length zero.
-pub record Within (run : Composition) (at : Position) : Type 0 where
-  pub stop : at.point.t ≤ run.stop
-  pub zeros : at.point.n ≤ run.zero_budget
 
 abbrev pub left_at : Composition → Point → ℕ
 left_at run point = (run.stop - point.t) * (run.zero_budget + 1) + (run.zero_budget - point.n)
@@ -63,7 +59,7 @@ nearer_by true run point h within zeros fits is open_budget = nearer_zero run po
 nearer_by false run point zero within zeros fits is open_budget = absurd (cc)
 nearer_by false run point (suc h) within zeros fits is open_budget = nearer_on run point h within fits
 
-pub next_is_nearer : (run : Composition) (stand : Stand) → AreMembers run → HasWords run stand.at → Within run stand.at → first_some (ends_at run stand.at stand.ports) ≡ None → Nearer run stand.at.point (after run stand.at stand.ports).point
+pub next_is_nearer : (run : Composition) (stand : Stand) → AreMembers run → HasWords run stand.at → IsInBounds run stand.at → first_some (ends_at run stand.at stand.ports) ≡ None → Nearer run stand.at.point (after run stand.at stand.ports).point
 next_is_nearer run stand are words within none =
     let h = agreed run stand.at stand.ports in
     let open_budget : ((h == 0) && (stand.at.point.n == run.zero_budget)) ≡ false = when_none _ _ (none_at (ends_at run stand.at stand.ports) 6 (zero_end run stand.at stand.ports) none refl) in
@@ -93,7 +89,7 @@ module _ (run : Composition) (order : List ℕ) (are : AreMembers run) (is_order
   rest_by (Some ending) stand is later = ([], ending, ap (λ end. ends_or end (after run stand.at stand.ports)) is)
   rest_by None stand is later = let next = later refl in (next.0 ∷ next.2.0, next.2.1, (next.1, next.2.2))
 
-  pub rest_of : (more : ℕ) (stand : Stand) → left run stand.at < more → HasWords run stand.at → Within run stand.at → Rest run stand
+  pub rest_of : (more : ℕ) (stand : Stand) → left run stand.at < more → HasWords run stand.at → IsInBounds run stand.at → Rest run stand
   rest_of zero stand less words within = absurd (omega arith)
   rest_of (suc more) stand less words within =
       rest_by (first_some (ends_at run stand.at stand.ports)) stand refl (λ none.
@@ -129,26 +125,31 @@ module _ (run : Composition) (order : List ℕ) (are : AreMembers run) (is_order
       let others = same_rest y xs ys e f (goes_keeps run here y are words q.0) (subst (λ (z : Stand). Follows run z xs e) same p.1) q.1 in
       (ap (λ z. z ∷ xs) same ∙ ap (λ zs. y ∷ zs) others.0, others.1)
 
-  pub same_trace : (xs ys : List Stand) (e f : Ending) → HasWords run (first_position run) → IsTrace run xs e → IsTrace run ys f → (xs ≡ ys) × (e ≡ f)
-  same_trace [] ys e f words p q = absurd p
-  same_trace (x ∷ xs) [] e f words p q = absurd q
-  same_trace (x ∷ xs) (y ∷ ys) e f words p q =
+  pub same_rests : (at : Position) (xs ys : List Stand) (e f : Ending) → HasWords run at → GoesOnFrom run at xs e → GoesOnFrom run at ys f → (xs ≡ ys) × (e ≡ f)
+  same_rests at [] ys e f words p q = absurd p
+  same_rests at (x ∷ xs) [] e f words p q = absurd q
+  same_rests at (x ∷ xs) (y ∷ ys) e f words p q =
       let same : x ≡ y = same_stand x y (subst (HasWords run) (sym p.0) words) p.1 q.1 (p.0 ∙ sym q.0) in
       let others = same_rest y xs ys e f (subst (HasWords run) (sym q.0) words) (subst (λ (z : Stand). Follows run z xs e) same p.2) q.2 in
       (ap (λ z. z ∷ xs) same ∙ ap (λ zs. y ∷ zs) others.0, others.1)
 
-  pub one_trace : HasOneTrace run
-  one_trace =
-      let words = (positions_keep run are).first in
-      let assigned = one_assignment run order (first_position run).states is_order (one_each _ run.members (first_position run).states words) in
-      let start : Stand = record { at = first_position run; ports = assigned.ports } in
-      let rest = rest_of (suc (left run (first_position run))) start (omega arith) words (record { stop = omega arith; zeros = omega arith }) in
+  pub one_rest : (at : Position) → HasWords run at → IsInBounds run at → HasOneRest run at
+  one_rest at words within =
+      let assigned = one_assignment run order at.states is_order (one_each _ run.members at.states words) in
+      let start : Stand = record { at = at; ports = assigned.ports } in
+      let rest = rest_of (suc (left run at)) start (omega arith) words (record { stop = within.stop; zeros = within.zeros }) in
       record {
         stands = start ∷ rest.0;
         ending = rest.1;
-        is_trace = (refl, assigned.is_assignment, rest.2);
-        is_only = λ other end is. same_trace other (start ∷ rest.0) end rest.1 words is (refl, assigned.is_assignment, rest.2);
+        goes_on = (refl, assigned.is_assignment, rest.2);
+        is_only = λ other end is. same_rests at other (start ∷ rest.0) end rest.1 words is (refl, assigned.is_assignment, rest.2);
       }
+
+  -- a trace is the rest of the first position
+  pub one_trace : HasOneTrace run
+  one_trace =
+      let one = one_rest (first_position run) (positions_keep run are).first (record { stop = omega arith; zeros = omega arith }) in
+      record { stands = one.stands; ending = one.ending; is_trace = one.goes_on; is_only = one.is_only }
 
 -- where what is run has one trace, the system has one list of rows, one last point, one end and one count of cells
 pub one_trace_of : (system : System) → HasOneTrace (run_of system) → HasOneTraceOf system

@@ -1,4 +1,5 @@
 //! Laws of the definitions of a run.
+ghost use Rattle.run_laws.specs.RestLaws.{TailsGoOn, PositionsHaveOneRest, RestsEndTraces};
 ghost use Rattle.run_laws.specs.RunLaws.{AssignmentsAreUnique, UndefinedOutputsFault, OutputsLookAtNeeds, OutputsAreWords, ProposalsAreGreatest, RepliesAreAtMost, AgreedStepsAreLeast, AgreedStepsAreAtMost, StepsKeepWords, SystemsHaveMembers, RunsKeepWords, StepsOfRunsAreRight, StandsOfTracesAreRight, FirstEndsAreJudgedInOrder, EndsAreJudgedInOrder, OrderedRunsHaveOneTrace, PlainFormsHaveNoEvents, SystemsHavePlaceOrders, SystemsHaveOneTrace, RunsHavePlaceOrders, RunsHaveOneTrace, SystemsHaveOneOutcome};
 
 /// A law: where the outputs have an order, there is exactly one port assignment.
@@ -65,4 +66,19 @@ pub fn systems_have_one_trace()
     ensures run_trace { RunsHaveOneTrace }
     ensures outcome { SystemsHaveOneOutcome }
     ensures plain { PlainFormsHaveNoEvents }
+{}
+
+/// A law: from each stand of a trace its later stands go on, and its number is its place.
+pub fn tails_go_on()
+    ensures { TailsGoOn }
+{}
+
+/// A law: a position with words, within the stop and the zero budget, has exactly one rest where the places have an order.
+pub fn positions_have_one_rest()
+    ensures { PositionsHaveOneRest }
+{}
+
+/// A law: a trace ends with the rest of each of its positions, with the same end.
+pub fn rests_end_traces()
+    ensures { RestsEndTraces }
 {}

@@ -2,7 +2,7 @@
 ghost use Rattle.std.specs.Prelude.{◌≡◌, ◌≤◌, ◌<◌, ◌*◌, ◌/◌, ◌%◌, ◌^◌, ◌==◌, ◌++◌, Some, None, if◌then◌else◌, OnOk, OnErr};
 ghost use Rattle.super_time.specs.Seconds.{AreDecimalsOf, seconds_of, seconds_text_of, within_run};
 
-use fixed_words::{Literal, NoMemory, magnitude_text};
+use fixed_words::{Literal, NoMemory, magnitude_text, ten_to_the};
 
 /// Why a literal is no number of ticks that a run may have.
 #[derive(Clone, Copy, Debug, PartialEq, Eq)]
@@ -15,33 +15,12 @@ pub enum SecondsFault {
     TooLarge,
 }
 
-/// The power of ten, for at most 9 decimals.
-fn ten_to_the(decimals: u8) -> u128
-    requires { decimals ≤ 9 }
-    ensures power { result ≡ 10 ^ decimals }
-    ensures least { 1 ≤ result }
-    ensures greatest { result ≤ 10 ^ 9 }
-{
-    match decimals {
-        0 => 1,
-        1 => 10,
-        2 => 100,
-        3 => 1_000,
-        4 => 10_000,
-        5 => 100_000,
-        6 => 1_000_000,
-        7 => 10_000_000,
-        8 => 100_000_000,
-        _ => 1_000_000_000,
-    }
-}
-
 /// So many units of a power of ten.
-fn product(number: u64, unit: u128) -> u128
+fn product(number: u64, unit: u32) -> u128
     requires { unit ≤ 10 ^ 9 }
     ensures { result ≡ number * unit }
 {
-    u128::from(number) * unit
+    u128::from(number) * u128::from(unit)
 }
 
 /// Ticks as those of a run, which has at most 10^15.
@@ -63,7 +42,7 @@ fn ticks(resolution: u8, number: u64, decimals: u8) -> Result<u64, SecondsFault>
         ≡ within_run (if (number * 10 ^ resolution) % 10 ^ decimals == 0 then Some (number * 10 ^ resolution / 10 ^ decimals) else None) }
 {
     let parts = product(number, ten_to_the(resolution));
-    let unit = ten_to_the(decimals);
+    let unit = u128::from(ten_to_the(decimals));
     if parts % unit == 0 {
         of_run(parts / unit)
     } else {

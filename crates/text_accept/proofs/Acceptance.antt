@@ -24,7 +24,7 @@ use Rattle.unit_text.specs.Laws.{IsAnsweredOnce}
 use Rattle.unit_text.proofs.AnswerLaws.{answered_once}
 use Rattle.unit_text.proofs.KnownForms.{known}
 use Rattle.wire_graph.proofs.CycleLaws.{cycles_are_judged_once as judged_cycles}
-use Rattle.text_accept.specs.Laws.{IsJudged, EveryTextIsJudgedOnce}
+use Rattle.text_accept.specs.Laws.{IsAcceptedOrRefused, EveryTextIsJudgedOnce}
 use Rattle.text_accept.specs.Accepting.{IsAcceptedAs, source_line, BreaksRule, HasCycle, IsRefusedAt}
 
 -- ---- One system, and one list of lines
@@ -145,21 +145,21 @@ cycle_is_refused text system lines port from well first =
     let source = has_source text system lines declared.0 from low (omega (arith, high)) in
     (source.0, inr (inr (record { system = system; lines = lines; reads = from; well_formed = well; port = port; first = first; item = declared.0; declared = declared.1; at = source.1; by = refl })))
 
-judged_by_order : CyclesAreJudgedOnce → (text : List ℕ) (system : System) (lines : List ℕ) → ReadsFrom text system lines → IsWellFormed system → IsJudged text
+judged_by_order : CyclesAreJudgedOnce → (text : List ℕ) (system : System) (lines : List ℕ) → ReadsFrom text system lines → IsWellFormed system → IsAcceptedOrRefused text
 judged_by_order cycles text system lines from well = by_order (cycles.judged system)
   where
-    by_order : HasNoCycle system ⊎ ((port : PortName) × IsFirstWithoutOrder system port) → IsJudged text
+    by_order : HasNoCycle system ⊎ ((port : PortName) × IsFirstWithoutOrder system port) → IsAcceptedOrRefused text
     by_order (inl ordered) = inl (system, lines, record { reads = from; well_formed = well; ordered = ordered })
     by_order (inr (port, first)) = let refused = cycle_is_refused text system lines port from well first in inr (refused.0, 15, refused.1)
 
-judged_by_rules : CyclesAreJudgedOnce → (text : List ℕ) (system : System) (lines : List ℕ) → ReadsFrom text system lines → (found : Option Refusal) → refusal_of system ≡ found → IsJudged text
+judged_by_rules : CyclesAreJudgedOnce → (text : List ℕ) (system : System) (lines : List ℕ) → ReadsFrom text system lines → (found : Option Refusal) → refusal_of system ≡ found → IsAcceptedOrRefused text
 judged_by_rules cycles text system lines from None is = judged_by_order cycles text system lines from ((well_formed system).1 is)
 judged_by_rules cycles text system lines from (Some refusal) is = let refused = broken_is_refused text system lines refusal from is in inr (refused.0, refusal.by, refused.1)
 
-pub judged : CyclesAreJudgedOnce → (text : List ℕ) → IsJudged text
+pub judged : CyclesAreJudgedOnce → (text : List ℕ) → IsAcceptedOrRefused text
 judged cycles text = by_answer (once text).answered
   where
-    by_answer : ((system : System) × Reads text system) ⊎ ((line : ℕ) × (rule : ℕ) × IsRefused text line rule) → IsJudged text
+    by_answer : ((system : System) × Reads text system) ⊎ ((line : ℕ) × (rule : ℕ) × IsRefused text line rule) → IsAcceptedOrRefused text
     by_answer (inl (system, reads)) =
         let lines = in_canonical_order reads.parts (numbers_of (source_lines text)) in
         judged_by_rules cycles text system lines (record { reads = reads; are_lines = refl }) (refusal_of system) refl

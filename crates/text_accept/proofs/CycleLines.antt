@@ -4,7 +4,7 @@ use Rattle.std.specs.Prelude.{slice_get, IsSome}
 use Rattle.text_laws.proofs.ReadIsPrintable.{read_is_printable}
 use Rattle.text_accept.specs.Accepting.{IsAcceptedAs, IsCheckedAs, IsLineOfCycle}
 use Rattle.text_accept.specs.Marks.{IsWithoutMark}
-use Rattle.text_accept.proofs.SourceCycles.{IsMadeOf, Source, source_of, without_cycle, name_is_plain}
+use Rattle.text_accept.proofs.SourceCycles.{IsMadeOf, SourceOutput, source_of, without_cycle, name_is_plain}
 use Rattle.unit_tree.specs.Compositions.{run_of}
 use Rattle.unit_tree.specs.Orders.{IsIn, IsFirstWithoutOrder, line_of_output, outputs_of}
 use Rattle.unit_tree.specs.Plain.{plain_form, presence_name, presence_port}
@@ -30,7 +30,7 @@ numbered_once system instance output one other a b =
     sym a.is ∙ ap (λ (c : Named). port_named c.0 a.declared.name) component ∙ ap (λ (o : Output). port_named b.component.0 o.name) declared ∙ b.is
 
 -- The port of the system, from the names of the plain form without the mark.
-pub same_source : (system : System) → IsRanged system → IsWellFormed system → (names : PortName) (without : List ℕ) (source : Source system names) → IsWithoutMark names.port without → port_named names.instance without ≡ source.port
+pub same_source : (system : System) → IsRanged system → IsWellFormed system → (names : PortName) (without : List ℕ) (source : SourceOutput system names) → IsWithoutMark names.port without → port_named names.instance without ≡ source.port
 same_source system ranged kept names without source mark = by source.makes
   where
     by : IsMadeOf system names source.port → port_named names.instance without ≡ source.port

@@ -185,7 +185,7 @@ split_makes true system port made (inl is) = inr (sym is)
 split_makes true system port made (inr (inl is)) = inl (sym is)
 split_makes true system port made (inr (inr none)) = absurd none
 
-pub record Source (system : System) (made : PortName) : Type 0 where
+pub record SourceOutput (system : System) (made : PortName) : Type 0 where
   pub port : PortName
   pub first : IsFirstWithoutOrder system port
   pub stands : IsIn (outputs_of system) port
@@ -198,10 +198,10 @@ first_stands system port first = subst (λ outputs. IsIn outputs port) (sym firs
     behind [] = inl refl
     behind (other ∷ before) = inr (behind before)
 
-pub source_of : (system : System) (made : PortName) → IsRanged system → IsWellFormed system → IsFirstWithoutOrder (plain_form system) made → Source system made
+pub source_of : (system : System) (made : PortName) → IsRanged system → IsWellFormed system → IsFirstWithoutOrder (plain_form system) made → SourceOutput system made
 source_of system made ranged kept first = by_version (one_or_two system.version ranged.version.0 ranged.version.1)
   where
-    by_version : (system.version ≡ 1) ⊎ (system.version ≡ 2) → Source system made
+    by_version : (system.version ≡ 1) ⊎ (system.version ≡ 2) → SourceOutput system made
     by_version (inl is) =
         let same = subst (λ s. IsFirstWithoutOrder s made) (plain_form_1 system is) first in
         record { port = made; first = same; stands = first_stands system made same; makes = inl refl }

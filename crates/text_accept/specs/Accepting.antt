@@ -80,7 +80,7 @@ ChecksText text (Err fault.NoMemory) = ⊤
 
 -- The answer to a text: the system that it is accepted as, or the line and the rule by which it is refused; want of memory says
 -- nothing.
-abbrev pub AnswersText : List ℕ → Result AcceptedText TextFault → Type 0
-AnswersText text (Ok read) = IsAcceptedAs text read.checked read.lines
-AnswersText text (Err (fault.Line line rule)) = IsRefusedAt text line rule
-AnswersText text (Err fault.NoMemory) = ⊤
+abbrev pub AnswersAcceptance : List ℕ → Result AcceptedText TextFault → Type 0
+AnswersAcceptance text (Ok read) = IsAcceptedAs text read.checked read.lines
+AnswersAcceptance text (Err (fault.Line line rule)) = IsRefusedAt text line rule
+AnswersAcceptance text (Err fault.NoMemory) = ⊤

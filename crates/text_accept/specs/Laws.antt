@@ -4,13 +4,13 @@ use Rattle.unit_tree.specs.declared.system.System.{System}
 use Rattle.text_accept.specs.Accepting.{IsAcceptedAs, IsRefusedAt}
 
 -- The text is accepted, or refused.
-abbrev pub IsJudged : List ℕ → Type 0
-IsJudged text =
+abbrev pub IsAcceptedOrRefused : List ℕ → Type 0
+IsAcceptedOrRefused text =
     ((system : System) × (lines : List ℕ) × IsAcceptedAs text system lines) ⊎ ((line : ℕ) × (rule : ℕ) × IsRefusedAt text line rule)
 
 -- It is so in one way alone.
 pub record IsJudgedOnce (text : List ℕ) : Type 0 where
-  pub judged : IsJudged text
+  pub judged : IsAcceptedOrRefused text
   pub one_system : (one other : System) (ones others : List ℕ) → IsAcceptedAs text one ones → IsAcceptedAs text other others → (one ≡ other) × (ones ≡ others)
   pub one_refusal : (line by other rule : ℕ) → IsRefusedAt text line by → IsRefusedAt text other rule → (line ≡ other) × (by ≡ rule)
   pub not_both : (system : System) (lines : List ℕ) (line rule : ℕ) → IsAcceptedAs text system lines → IsRefusedAt text line rule → ⊥

@@ -1,6 +1,6 @@
 //! A text, read and judged by all rules.
 ghost use Rattle.std.specs.Prelude.{◌≡◌, ◌≤◌, ⊤, length, IfOk, IfErr};
-ghost use Rattle.text_accept.specs.Accepting.{AnswersText, ChecksText, IsAtSource, IsLineOfCycle};
+ghost use Rattle.text_accept.specs.Accepting.{AnswersAcceptance, ChecksText, IsAtSource, IsLineOfCycle};
 ghost use Rattle.text_accept.specs.Marks.{IsWithoutMark};
 ghost use Rattle.wire_graph.specs.Faults.{IsRightFault};
 ghost use Rattle.wire_graph.specs.declared.fault.OrderFault.TheVariants.{Loop};
@@ -44,7 +44,7 @@ fn at_source(lines: &[u32], item: u32, rule: u8) -> TextFault
 }
 
 /// Reads a text and judges the system that it says, but for the order of its outputs.
-fn check_text(alloc: Global, text: &[u8]) -> Result<CheckedText, TextFault>
+fn read_and_check(alloc: Global, text: &[u8]) -> Result<CheckedText, TextFault>
     ensures { ChecksText text.now result }
 {
     let ReadText { system, lines } = read_system(alloc, text)?;
@@ -86,9 +86,9 @@ fn line_of_cycle(
 /// A text that breaks a rule is refused by the first stage that finds one, at its line and by the rule: on the text and its
 /// lines, on the system, and at last on the order of its outputs.
 pub fn accept_text(alloc: Global, text: &[u8]) -> Result<AcceptedText, TextFault>
-    ensures { AnswersText text.now result }
+    ensures { AnswersAcceptance text.now result }
 {
-    let CheckedText { checked, lines } = check_text(alloc, text)?;
+    let CheckedText { checked, lines } = read_and_check(alloc, text)?;
     match order(alloc, &checked) {
         Ok(_) => Ok(AcceptedText { checked, lines }),
         Err(OrderFault::Loop { instance, output }) => {

@@ -103,18 +103,18 @@ abbrev ended : List LineForm → List ℕ
 ended lines = flat_map (λ some. line_text some ++ (10 ∷ [])) lines
 
 -- The first line goes up to the first LF.
-first_line : (line rest : List ℕ) → list_all is_spelled_byte line ≡ true → lines_of (line ++ (10 ∷ rest)) ≡ line ∷ lines_of rest
-first_line [] rest spelled = refl
-first_line (byte ∷ line) rest spelled =
+first_line_is : (line rest : List ℕ) → list_all is_spelled_byte line ≡ true → lines_of (line ++ (10 ∷ rest)) ≡ line ∷ lines_of rest
+first_line_is [] rest spelled = refl
+first_line_is (byte ∷ line) rest spelled =
     let parts = and_parts (is_spelled_byte byte) (list_all is_spelled_byte line) spelled in
-    rw (spelled_no_end byte parts.0) (ap (onto_first byte) (first_line line rest parts.1))
+    rw (spelled_no_end byte parts.0) (ap (onto_first byte) (first_line_is line rest parts.1))
 
 -- The lines of such a text are the texts of the lines.
 lines_are : (lines : List LineForm) → AllByRecursion IsSpelled lines → lines_of (ended lines) ≡ map line_text lines
 lines_are [] spelled = refl
 lines_are (first ∷ others) spelled =
     ap lines_of (append_assoc (line_text first) (10 ∷ []) (ended others))
-    ∙ first_line (line_text first) (ended others) spelled.0.bytes
+    ∙ first_line_is (line_text first) (ended others) spelled.0.bytes
     ∙ ap (λ lines. line_text first ∷ lines) (lines_are others spelled.1)
 
 -- None of them loses a CR.

@@ -6,7 +6,7 @@ ghost use Rattle.text_tokens.specs.Scanning.{Gives, GivesFront, ReadsAs, keyword
 use crate::fault::Unread;
 use fixed_words::List;
 use std::alloc::Global;
-use unit_tree::{Keyword, Symbol, Token};
+use unit_tree::{Keyword, Symbol, Token, is_word_byte};
 
 /// The most bytes that a name may have.
 const LONGEST_NAME: usize = 32;
@@ -16,79 +16,6 @@ const MOST_DECIMALS: usize = 9;
 
 /// The greatest number that a token may be.
 const GREATEST_NUMBER: u64 = 1 << 63;
-
-fn keyword_text(keyword: Keyword) -> &'static [u8]
-    ensures { result.now ≡ keyword_text keyword }
-{
-    match keyword {
-        Keyword::Cosim => b"cosim",
-        Keyword::Unit => b"unit",
-        Keyword::Resolution => b"resolution",
-        Keyword::Param => b"param",
-        Keyword::State => b"state",
-        Keyword::Local => b"local",
-        Keyword::Input => b"input",
-        Keyword::Output => b"output",
-        Keyword::Needs => b"needs",
-        Keyword::Max => b"max",
-        Keyword::Step => b"step",
-        Keyword::Repeat => b"repeat",
-        Keyword::Accept => b"accept",
-        Keyword::End => b"end",
-        Keyword::Instance => b"instance",
-        Keyword::Connect => b"connect",
-        Keyword::Stop => b"stop",
-        Keyword::Longest => b"longest",
-        Keyword::Zero => b"zero",
-        Keyword::Rows => b"rows",
-        Keyword::Sample => b"sample",
-        Keyword::If => b"if",
-        Keyword::Then => b"then",
-        Keyword::Else => b"else",
-        Keyword::And => b"and",
-        Keyword::Or => b"or",
-        Keyword::Not => b"not",
-        Keyword::Div => b"div",
-        Keyword::Mod => b"mod",
-        Keyword::Abs => b"abs",
-        Keyword::Min => b"min",
-        Keyword::Clamp => b"clamp",
-        Keyword::Int => b"int",
-        Keyword::Fix => b"fix",
-        Keyword::True => b"true",
-        Keyword::False => b"false",
-        Keyword::Time => b"t",
-        Keyword::Length => b"h",
-        Keyword::Event => b"event",
-        Keyword::Present => b"present",
-        Keyword::Absent => b"absent",
-    }
-}
-
-fn symbol_text(symbol: Symbol) -> &'static [u8]
-    ensures { result.now ≡ symbol_text symbol }
-{
-    match symbol {
-        Symbol::Assign => b":=",
-        Symbol::Arrow => b"->",
-        Symbol::Equals => b"==",
-        Symbol::Differs => b"!=",
-        Symbol::AtMost => b"<=",
-        Symbol::AtLeast => b">=",
-        Symbol::Colon => b":",
-        Symbol::Is => b"=",
-        Symbol::Less => b"<",
-        Symbol::Greater => b">",
-        Symbol::Plus => b"+",
-        Symbol::Minus => b"-",
-        Symbol::Star => b"*",
-        Symbol::Slash => b"/",
-        Symbol::Open => b"(",
-        Symbol::Close => b")",
-        Symbol::Comma => b",",
-        Symbol::Point => b".",
-    }
-}
 
 /// The keywords that begin with this byte: no more than four.
 fn keywords_from(first: u8) -> &'static [Keyword]
@@ -161,7 +88,7 @@ fn keyword_of(text: &[u8]) -> Option<Keyword>
     keywords_like(text)
         .iter()
         .copied()
-        .find(|keyword| keyword_text(*keyword) == text)
+        .find(|keyword| keyword.text() == text)
 }
 
 /// The symbols that begin with the text's first byte.
@@ -182,7 +109,7 @@ fn symbol_of(text: &[u8]) -> Option<Symbol>
     symbols_like(text)
         .iter()
         .copied()
-        .find(|symbol| symbol_text(*symbol) == text)
+        .find(|symbol| symbol.text() == text)
 }
 
 fn is_blank(byte: u8) -> bool
@@ -201,12 +128,6 @@ fn is_letter(byte: u8) -> bool
     ensures { result ≡ is_letter byte }
 {
     byte.is_ascii_alphabetic() || byte == b'_'
-}
-
-fn is_word_byte(byte: u8) -> bool
-    ensures { result ≡ is_word_byte byte }
-{
-    is_letter(byte) || is_digit(byte)
 }
 
 /// How many blanks come first.

@@ -6,7 +6,7 @@ ghost use Rattle.trace_plan.specs.Lengths.{IsReadable};
 ghost use Rattle.unit_tree.specs.Compositions.{ticks_or, default_zeros, default_rows, factor_of, run_of};
 ghost use Rattle.unit_tree.specs.WellFormed.{unit_resolution, resolution_of};
 
-use fixed_words::Literal;
+use fixed_words::{Literal, ten_to_the};
 use super_time::read_seconds;
 use unit_tree::{Checked, System, Unit};
 
@@ -20,27 +20,6 @@ pub(crate) struct Numbers {
     pub(crate) row_limit: u64,
 }
 
-/// The power of ten, for at most 9 decimals.
-fn ten_to_the(decimals: u8) -> u64
-    requires { decimals ≤ 9 }
-    ensures power { result ≡ 10 ^ decimals }
-    ensures least { 1 ≤ result }
-    ensures greatest { result ≤ 10 ^ 9 }
-{
-    match decimals {
-        0 => 1,
-        1 => 10,
-        2 => 100,
-        3 => 1_000,
-        4 => 10_000,
-        5 => 100_000,
-        6 => 1_000_000,
-        7 => 10_000_000,
-        8 => 100_000_000,
-        _ => 1_000_000_000,
-    }
-}
-
 /// How many ticks of a system of a resolution one local tick of a unit is.
 pub(crate) fn factor(resolution: u8, unit: &Unit) -> u64
     requires { resolution ≤ 9 }
@@ -49,7 +28,7 @@ pub(crate) fn factor(resolution: u8, unit: &Unit) -> u64
     ensures greatest { result ≤ 10 ^ 9 }
 {
     let own = unit.resolution.unwrap_or(0);
-    ten_to_the(resolution.saturating_sub(own))
+    u64::from(ten_to_the(resolution.saturating_sub(own)))
 }
 
 /// The resolution of a unit that may be there: 0 where it has none.

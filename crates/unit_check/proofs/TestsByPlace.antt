@@ -11,8 +11,8 @@ use Rattle.unit_check.proofs.SitePlaces.{all_both, all_leads, all_two, Inside, i
 use Rattle.unit_check.proofs.SystemLines.{instance_block, whole, sites_are}
 use Rattle.unit_check.specs.Rules.{Says, breaks_of, defined, test_of}
 use Rattle.unit_check.specs.Walks.{test_at, system_walk}
-use Rattle.unit_check.specs.declared.rules.Rule.{Rule}
-use Rattle.unit_check.specs.declared.rules.Rule.TheVariants as by
+use Rattle.unit_check.specs.declared.rules.SystemRule.{SystemRule}
+use Rattle.unit_check.specs.declared.rules.SystemRule.TheVariants as by
 use Rattle.unit_tree.specs.LineForms.{tail_of, tail_speaks_of_events}
 use Rattle.unit_tree.specs.Printable.{IsRanged, IsInRange}
 use Rattle.unit_tree.specs.Sites.{TopScope, InstanceScope, Site, Headed, sites, sites_of, holds}
@@ -72,10 +72,10 @@ all_known system ranged =
 
 -- ---- The rules
 
-abbrev Agrees : Rule → System → Site → Type 0
+abbrev Agrees : SystemRule → System → Site → Type 0
 Agrees rule system site = test_at (test_of rule system) site ≡ breaks_of rule system site
 
-agree_at : (rule : Rule) (system : System) → AllByRecursion UnitInRange system.units → (site : Site) → Known system site → Agrees rule system site
+agree_at : (rule : SystemRule) (system : System) → AllByRecursion UnitInRange system.units → (site : Site) → Known system site → Agrees rule system site
 unfolding test_of breaks_of
 agree_at by.NamesDiffer system units site known = redeclares_is system site.scope site.earlier site.line known.stands.rest known.stands.cut known.held
 agree_at by.NamesAreDeclared system units site known = refl
@@ -95,7 +95,7 @@ agree_at by.TargetsMayChange system units site known = refl
 agree_at by.InstanceIsThere system units site known = refl
 agree_at by.NothingRepeats system units site known = repeats_is system site.scope site.earlier site.line known.stands.rest known.stands.cut known.held
 
-pub says_rule : (rule : Rule) (system : System) → IsRanged system → Says (system_walk (test_of rule system) system 1) (lines_breaking (defined rule) system)
+pub says_rule : (rule : SystemRule) (system : System) → IsRanged system → Says (system_walk (test_of rule system) system 1) (lines_breaking (defined rule) system)
 says_rule rule system ranged =
     let along = system_goes (test_of rule system) system 1 in
     let agree = all_leads (Known system) (Agrees rule system) (agree_at rule system (units_in_range system ranged)) (sites_of system) (all_known system ranged) in

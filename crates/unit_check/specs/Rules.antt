@@ -7,8 +7,8 @@ use Rattle.unit_check.specs.Ranges.{is_of_wrong_kind_at, is_out_of_range_at, mis
 use Rattle.unit_check.specs.Walks.{Test}
 use Rattle.unit_check.specs.declared.checking.CheckFault.{CheckFault}
 use Rattle.unit_check.specs.declared.checking.CheckFault.TheVariants as fault
-use Rattle.unit_check.specs.declared.rules.Rule.{Rule}
-use Rattle.unit_check.specs.declared.rules.Rule.TheVariants as by
+use Rattle.unit_check.specs.declared.rules.SystemRule.{SystemRule}
+use Rattle.unit_check.specs.declared.rules.SystemRule.TheVariants as by
 use Rattle.unit_check.specs.declared.walk.Stop.{Stop}
 use Rattle.unit_check.specs.declared.walk.Stop.TheVariants as stop
 use Rattle.unit_tree.specs.Sites.{Site}
@@ -17,7 +17,7 @@ use Rattle.unit_tree.specs.WellFormed.{Refusal, rule, redeclares, misnames, is_o
 use Rattle.unit_tree.specs.declared.system.System.{System}
 
 -- The number of a rule.
-abbrev pub number_of : Rule → ℕ
+abbrev pub number_of : SystemRule → ℕ
 number_of by.NamesDiffer = 8
 number_of by.NamesAreDeclared = 9
 number_of by.KindsFit = 10
@@ -36,7 +36,7 @@ number_of by.InstanceIsThere = 23
 number_of by.NothingRepeats = 24
 
 -- The test of a line that breaks the rule.
-unfoldable pub breaks_of : Rule → System → Site → Bool
+unfoldable pub breaks_of : SystemRule → System → Site → Bool
 breaks_of by.NamesDiffer = redeclares
 breaks_of by.NamesAreDeclared = λ system site. misnames system site.scope site.line
 breaks_of by.KindsFit = is_of_wrong_kind
@@ -55,11 +55,11 @@ breaks_of by.InstanceIsThere = λ system site. lacks_instance system site.line
 breaks_of by.NothingRepeats = repeats_itself
 
 -- The rule as the definitions have it.
-abbrev pub defined : Rule → well_formed.Rule
+abbrev pub defined : SystemRule → well_formed.SystemRule
 defined some = rule (number_of some) (breaks_of some)
 
 -- The same test, by the place of the line.
-unfoldable pub test_of : Rule → System → Test
+unfoldable pub test_of : SystemRule → System → Test
 test_of by.NamesDiffer system scope place line = redeclares_at system scope place line
 test_of by.NamesAreDeclared system scope place line = misnames system scope line
 test_of by.KindsFit system scope place line = is_of_wrong_kind_at system scope line
@@ -78,7 +78,7 @@ test_of by.InstanceIsThere system scope place line = lacks_instance system line
 test_of by.NothingRepeats system scope place line = repeats_at system scope place line
 
 -- The rules, in the order in which they are judged.
-abbrev pub all_rules : List Rule
+abbrev pub all_rules : List SystemRule
 all_rules =
     by.NamesDiffer ∷ by.NamesAreDeclared ∷ by.KindsFit ∷ by.LiteralsFit
     ∷ by.NeedsAreNamed ∷ by.InputsConnectOnce ∷ by.EndsMatch ∷ by.CountsFit
@@ -86,7 +86,7 @@ all_rules =
     ∷ by.RowsFit ∷ by.TargetsMayChange ∷ by.InstanceIsThere ∷ by.NothingRepeats
     ∷ []
 
-abbrev pub judged : List well_formed.Rule
+abbrev pub judged : List well_formed.SystemRule
 judged = map defined all_rules
 
 -- ---- What the code answers

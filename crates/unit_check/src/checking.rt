@@ -4,9 +4,9 @@ ghost use Rattle.unit_check.specs.Rules.{TellsRule, Tells, IsFaultOf, defined, j
 ghost use Rattle.unit_tree.specs.Printable.{IsRanged};
 ghost use Rattle.unit_tree.specs.WellFormed.{lines_breaking, refusal_by, IsWellFormed};
 
-use crate::rules::Rule;
-use crate::tables::Tables;
-use crate::walk::{Stop, first_line};
+use crate::rules::SystemRule;
+use crate::tables::SystemTables;
+use crate::walk::{Stop, first_broken_line};
 use fixed_words::NoMemory;
 use std::alloc::Global;
 use thiserror::Error;
@@ -35,12 +35,12 @@ impl From<NoMemory> for CheckFault {
 }
 
 /// Judges a system by one rule.
-fn judge_by(rule: Rule, tables: &Tables<'_>) -> Result<(), CheckFault>
+fn judge_by(rule: SystemRule, tables: &SystemTables<'_>) -> Result<(), CheckFault>
     requires ranged { IsRanged tables.now }
     ensures ok { OnOk result (lines_breaking (defined rule) tables.now ≡ []) }
     ensures err { IfErr result (TellsRule (number_of rule) (lines_breaking (defined rule) tables.now)) }
 {
-    match first_line(rule, tables) {
+    match first_broken_line(rule, tables) {
         Ok(_) => Ok(()),
         Err(Stop::At(item)) => Err(CheckFault::Line {
             item,
@@ -51,7 +51,7 @@ fn judge_by(rule: Rule, tables: &Tables<'_>) -> Result<(), CheckFault>
 }
 
 /// Judges a system by rules, in their order.
-fn judge_by_all(rules: &[Rule], tables: &Tables<'_>) -> Result<(), CheckFault>
+fn judge_by_all(rules: &[SystemRule], tables: &SystemTables<'_>) -> Result<(), CheckFault>
     requires ranged { IsRanged tables.now }
     ensures ok { OnOk result (refusal_by (map defined rules.now) tables.now ≡ None) }
     ensures err { IfErr result (λ why. Tells why (refusal_by (map defined rules.now) tables.now)) }
@@ -63,29 +63,29 @@ fn judge_by_all(rules: &[Rule], tables: &Tables<'_>) -> Result<(), CheckFault>
 }
 
 /// Judges a system by all rules.
-fn judge_tables(tables: &Tables<'_>) -> Result<(), CheckFault>
+fn judge_tables(tables: &SystemTables<'_>) -> Result<(), CheckFault>
     requires ranged { IsRanged tables.now }
     ensures ok { OnOk result (refusal_by judged tables.now ≡ None) }
     ensures err { IfErr result (λ why. Tells why (refusal_by judged tables.now)) }
 {
     judge_by_all(
         &[
-            Rule::NamesDiffer,
-            Rule::NamesAreDeclared,
-            Rule::KindsFit,
-            Rule::LiteralsFit,
-            Rule::NeedsAreNamed,
-            Rule::InputsConnectOnce,
-            Rule::EndsMatch,
-            Rule::CountsFit,
-            Rule::DepthFits,
-            Rule::CostFits,
-            Rule::StopIsThere,
-            Rule::TimesAreTicks,
-            Rule::RowsFit,
-            Rule::TargetsMayChange,
-            Rule::InstanceIsThere,
-            Rule::NothingRepeats,
+            SystemRule::NamesDiffer,
+            SystemRule::NamesAreDeclared,
+            SystemRule::KindsFit,
+            SystemRule::LiteralsFit,
+            SystemRule::NeedsAreNamed,
+            SystemRule::InputsConnectOnce,
+            SystemRule::EndsMatch,
+            SystemRule::CountsFit,
+            SystemRule::DepthFits,
+            SystemRule::CostFits,
+            SystemRule::StopIsThere,
+            SystemRule::TimesAreTicks,
+            SystemRule::RowsFit,
+            SystemRule::TargetsMayChange,
+            SystemRule::InstanceIsThere,
+            SystemRule::NothingRepeats,
         ],
         tables,
     )
@@ -101,7 +101,7 @@ pub fn judge(alloc: Global, system: &System) -> Result<(), CheckFault>
     ensures ok { OnOk result (IsWellFormed system.now) }
     ensures refused { IfErr result (IsFaultOf system.now) }
 {
-    match Tables::new(alloc, system) {
+    match SystemTables::new(alloc, system) {
         Ok(tables) => judge_tables(&tables),
         Err(_) => Err(CheckFault::NoMemory),
     }

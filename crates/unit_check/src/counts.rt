@@ -3,7 +3,7 @@ ghost use Rattle.std.specs.Prelude.{◌≡◌, ◌+◌, ◌-◌, ◌*◌, nat_lt
 ghost use Rattle.unit_check.specs.Counts.{exceeds_in_unit, exceeds_on_top, exceeds_at};
 ghost use Rattle.unit_check.specs.Walks.{scope_of, form_of};
 
-use crate::tables::Tables;
+use crate::tables::SystemTables;
 use crate::walk::{FormRef, ScopeRef};
 use unit_tree::Unit;
 
@@ -62,7 +62,7 @@ fn exceeds_in_unit(unit: &Unit, place: usize, line: FormRef<'_>) -> bool
 }
 
 /// Rule 16, outside of blocks.
-fn exceeds_on_top(tables: &Tables<'_>, place: usize, line: FormRef<'_>) -> bool
+fn exceeds_on_top(tables: &SystemTables<'_>, place: usize, line: FormRef<'_>) -> bool
     ensures { result ≡ exceeds_on_top tables.now place (form_of line.entry) }
 {
     match line {
@@ -75,7 +75,7 @@ fn exceeds_on_top(tables: &Tables<'_>, place: usize, line: FormRef<'_>) -> bool
 
 /// Rule 16.
 pub(crate) fn exceeds(
-    tables: &Tables<'_>,
+    tables: &SystemTables<'_>,
     scope: ScopeRef<'_, '_>,
     place: usize,
     line: FormRef<'_>,

@@ -11,7 +11,7 @@ ghost use Rattle.unit_tree.specs.WellFormed.{mistakes_kind, on_literal, is_misfo
 
 use crate::walk::{FormRef, ScopeRef};
 use fixed_words::{Kind, Literal, LiteralFault, Ty, literal_word};
-use unit_names::{SystemNames, UnitNames, kind_of};
+use unit_names::{SystemNames, UnitNames};
 use unit_tree::{Expr, Instance, Setting};
 
 // ---- Kinds
@@ -21,7 +21,7 @@ fn mistakes_in_unit(unit: &UnitNames<'_>, line: FormRef<'_>) -> bool
     ensures { result ≡ mistakes_kind (UnitScope unit.now) (form_of line.entry) }
 {
     match line {
-        FormRef::Output(output) => !unit.has_kind(Some(kind_of(output.ty)), &output.value),
+        FormRef::Output(output) => !unit.has_kind(Some(output.ty.kind()), &output.value),
         FormRef::EventOutput(event) => !unit.has_word_kind(event.ty, &event.value),
         FormRef::Max(value) => !unit.has_kind(Some(Kind::Int), value),
         _ => false,

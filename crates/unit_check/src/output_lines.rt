@@ -5,14 +5,14 @@ ghost use Rattle.unit_tree.specs.Names.{instance_named, unit_of_instance};
 ghost use Rattle.unit_tree.specs.Orders.{line_of_output};
 
 use crate::question::Question;
-use crate::tables::Tables;
+use crate::tables::SystemTables;
 use crate::walk::{Stop, past_all};
 use fixed_words::NoMemory;
 use std::alloc::{AllocError, Global};
 use unit_tree::{System, Unit};
 
 /// The unit of an instance, by the instance's name.
-fn unit_of<'a>(tables: &'a Tables<'_>, instance: &[u8]) -> Option<&'a Unit>
+fn unit_of<'a>(tables: &'a SystemTables<'_>, instance: &[u8]) -> Option<&'a Unit>
     ensures { option_copied result ≡ option_and_then (unit_of_instance tables.now) (instance_named tables.now instance.now) }
 {
     let found = tables.names().instance_named(instance)?;
@@ -23,7 +23,7 @@ fn unit_of<'a>(tables: &'a Tables<'_>, instance: &[u8]) -> Option<&'a Unit>
 /// The canonical line, counted from 1, that declares the output of a name in the unit of an instance, in the system of the tables;
 /// none where no line does.
 fn declaring_line(
-    tables: &Tables<'_>,
+    tables: &SystemTables<'_>,
     instance: &[u8],
     output: &[u8],
 ) -> Result<Option<u32>, NoMemory>
@@ -51,6 +51,6 @@ pub fn line_of_output(
 ) -> Result<Option<u32>, NoMemory>
     ensures { IfOk result (λ line. line ≡ line_of_output system.now (record { instance = instance.now; port = output.now })) }
 {
-    let tables = Tables::new(alloc, system)?;
+    let tables = SystemTables::new(alloc, system)?;
     declaring_line(&tables, instance, output)
 }

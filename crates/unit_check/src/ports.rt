@@ -10,7 +10,7 @@ ghost use Rattle.unit_tree.specs.WellFormed.{same_type, joins_other_types};
 ghost use Rattle.unit_tree.specs.declared.line_form.LineForm.TheVariants as form;
 
 use crate::name_lines::is_before;
-use crate::tables::Tables;
+use crate::tables::SystemTables;
 use crate::walk::{FormRef, ScopeRef};
 use fixed_words::Ty;
 use unit_names::{Declared, SystemNames, has_equals};
@@ -29,7 +29,7 @@ fn first_setting(settings: &[Setting], name: &Name) -> Option<usize>
 }
 
 /// Rule 13.
-pub(crate) fn connects_again(tables: &Tables<'_>, place: usize, line: FormRef<'_>) -> bool
+pub(crate) fn connects_again(tables: &SystemTables<'_>, place: usize, line: FormRef<'_>) -> bool
     ensures { result ≡ connects_again_at tables.now place (form_of line.entry) }
 {
     match line {
@@ -109,7 +109,7 @@ fn sets_again(scope: ScopeRef<'_, '_>, place: usize, setting: &Setting) -> bool
 
 /// Rule 24.
 pub(crate) fn repeats(
-    tables: &Tables<'_>,
+    tables: &SystemTables<'_>,
     scope: ScopeRef<'_, '_>,
     place: usize,
     line: FormRef<'_>,

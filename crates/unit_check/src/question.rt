@@ -5,8 +5,8 @@ ghost use Rattle.unit_check.specs.Questions.{asked_of};
 ghost use Rattle.unit_check.specs.Walks.{scope_of, form_of};
 ghost use Rattle.unit_tree.specs.Orders.{declares_output};
 
-use crate::rules::{Rule, breaks};
-use crate::tables::Tables;
+use crate::rules::{SystemRule, breaks};
+use crate::tables::SystemTables;
 use crate::walk::{FormRef, ScopeRef};
 use unit_names::UnitNames;
 use unit_tree::Unit;
@@ -15,7 +15,7 @@ use unit_tree::Unit;
 #[derive(Clone, Copy)]
 pub(crate) enum Question<'q> {
     /// Whether it breaks the rule.
-    Breaks(Rule),
+    Breaks(SystemRule),
     /// Whether it declares the output of this name in the unit.
     Declares { unit: &'q Unit, output: &'q [u8] },
 }
@@ -45,7 +45,7 @@ fn declares(unit: &Unit, output: &[u8], scope: ScopeRef<'_, '_>, line: FormRef<'
 /// The answer of a line.
 pub(crate) fn answers(
     question: Question<'_>,
-    tables: &Tables<'_>,
+    tables: &SystemTables<'_>,
     scope: ScopeRef<'_, '_>,
     place: usize,
     line: FormRef<'_>,

@@ -9,12 +9,12 @@ use crate::measures::{costs_too_much, has_deep_expression};
 use crate::name_lines::{assigns_read_only, hides_need, misnames, redeclares};
 use crate::ports::{connects_again, joins_other_types, repeats};
 use crate::run_lines::{has_too_many_rows, lacks_instance, lacks_stop, mistimes};
-use crate::tables::Tables;
+use crate::tables::SystemTables;
 use crate::walk::{FormRef, ScopeRef};
 
 /// A rule of a system.
 #[derive(Clone, Copy, Debug, PartialEq, Eq)]
-pub(crate) enum Rule {
+pub(crate) enum SystemRule {
     /// Names of units, of instances, and in one unit differ.
     NamesDiffer,
     /// Names are declared, and may be used where they are.
@@ -49,28 +49,28 @@ pub(crate) enum Rule {
     NothingRepeats,
 }
 
-impl Rule {
+impl SystemRule {
     /// Its number.
     pub(crate) fn number(self) -> u8
         ensures { result ≡ number_of self }
     {
         match self {
-            Rule::NamesDiffer => 8,
-            Rule::NamesAreDeclared => 9,
-            Rule::KindsFit => 10,
-            Rule::LiteralsFit => 11,
-            Rule::NeedsAreNamed => 12,
-            Rule::InputsConnectOnce => 13,
-            Rule::EndsMatch => 14,
-            Rule::CountsFit => 16,
-            Rule::DepthFits => 17,
-            Rule::CostFits => 18,
-            Rule::StopIsThere => 19,
-            Rule::TimesAreTicks => 20,
-            Rule::RowsFit => 21,
-            Rule::TargetsMayChange => 22,
-            Rule::InstanceIsThere => 23,
-            Rule::NothingRepeats => 24,
+            SystemRule::NamesDiffer => 8,
+            SystemRule::NamesAreDeclared => 9,
+            SystemRule::KindsFit => 10,
+            SystemRule::LiteralsFit => 11,
+            SystemRule::NeedsAreNamed => 12,
+            SystemRule::InputsConnectOnce => 13,
+            SystemRule::EndsMatch => 14,
+            SystemRule::CountsFit => 16,
+            SystemRule::DepthFits => 17,
+            SystemRule::CostFits => 18,
+            SystemRule::StopIsThere => 19,
+            SystemRule::TimesAreTicks => 20,
+            SystemRule::RowsFit => 21,
+            SystemRule::TargetsMayChange => 22,
+            SystemRule::InstanceIsThere => 23,
+            SystemRule::NothingRepeats => 24,
         }
     }
 }
@@ -78,8 +78,8 @@ impl Rule {
 /// Whether a line of a system breaks a rule.
 #[tactic(auto, unfolding(crate::specs::Rules::test_of))]
 pub(crate) fn breaks(
-    rule: Rule,
-    tables: &Tables<'_>,
+    rule: SystemRule,
+    tables: &SystemTables<'_>,
     scope: ScopeRef<'_, '_>,
     place: usize,
     line: FormRef<'_>,
@@ -87,21 +87,21 @@ pub(crate) fn breaks(
     ensures { result ≡ test_of rule tables.now (scope_of scope.entry) place (form_of line.entry) }
 {
     match rule {
-        Rule::NamesDiffer => redeclares(tables.names(), scope, place, line),
-        Rule::NamesAreDeclared => misnames(tables.names(), scope, line),
-        Rule::KindsFit => is_of_wrong_kind(tables.names(), scope, line),
-        Rule::LiteralsFit => is_out_of_range(tables.names(), scope, line),
-        Rule::NeedsAreNamed => hides_need(scope, line),
-        Rule::InputsConnectOnce => connects_again(tables, place, line),
-        Rule::EndsMatch => joins_other_types(tables.names(), line),
-        Rule::CountsFit => exceeds(tables, scope, place, line),
-        Rule::DepthFits => has_deep_expression(scope, line),
-        Rule::CostFits => costs_too_much(scope, line),
-        Rule::StopIsThere => lacks_stop(tables.names(), line),
-        Rule::TimesAreTicks => mistimes(tables.names(), line),
-        Rule::RowsFit => has_too_many_rows(tables.names(), line),
-        Rule::TargetsMayChange => assigns_read_only(scope, line),
-        Rule::InstanceIsThere => lacks_instance(tables.names(), line),
-        Rule::NothingRepeats => repeats(tables, scope, place, line),
+        SystemRule::NamesDiffer => redeclares(tables.names(), scope, place, line),
+        SystemRule::NamesAreDeclared => misnames(tables.names(), scope, line),
+        SystemRule::KindsFit => is_of_wrong_kind(tables.names(), scope, line),
+        SystemRule::LiteralsFit => is_out_of_range(tables.names(), scope, line),
+        SystemRule::NeedsAreNamed => hides_need(scope, line),
+        SystemRule::InputsConnectOnce => connects_again(tables, place, line),
+        SystemRule::EndsMatch => joins_other_types(tables.names(), line),
+        SystemRule::CountsFit => exceeds(tables, scope, place, line),
+        SystemRule::DepthFits => has_deep_expression(scope, line),
+        SystemRule::CostFits => costs_too_much(scope, line),
+        SystemRule::StopIsThere => lacks_stop(tables.names(), line),
+        SystemRule::TimesAreTicks => mistimes(tables.names(), line),
+        SystemRule::RowsFit => has_too_many_rows(tables.names(), line),
+        SystemRule::TargetsMayChange => assigns_read_only(scope, line),
+        SystemRule::InstanceIsThere => lacks_instance(tables.names(), line),
+        SystemRule::NothingRepeats => repeats(tables, scope, place, line),
     }
 }

@@ -59,14 +59,14 @@ fn first_wire_too_many(names: &SystemNames<'_>) -> Option<usize>
 
 /// What is known of a system. Contracts see it as the system.
 #[derive(Drop)]
-pub(crate) struct Tables<'a> {
+pub(crate) struct SystemTables<'a> {
     names: SystemNames<'a>,
     connected: PortPlaces<'a>,
     sampled: PortPlaces<'a>,
     wire_too_many: Option<usize>,
 }
 
-impl<'a> Model for Tables<'a> {
+impl<'a> Model for SystemTables<'a> {
     ghost use Rattle.std.specs.Coded.{codes};
     ghost use Rattle.std.specs.Prelude.{◌≡◌, ◌+◌, ℕ, nat_lt, map};
     ghost use Rattle.unit_check.specs.Counts.{plain_wire_count, is_from};
@@ -87,16 +87,16 @@ impl<'a> Model for Tables<'a> {
         × ((place : ℕ) → nat_lt 2048 (plain_wire_count tables.names (place + 1)) ≡ is_from place tables.wire_too_many) };
 }
 
-impl<'a> Tables<'a> {
+impl<'a> SystemTables<'a> {
     /// Of a system.
-    pub(crate) fn new(alloc: Global, system: &'a System) -> Result<Tables<'a>, NoMemory>
+    pub(crate) fn new(alloc: Global, system: &'a System) -> Result<SystemTables<'a>, NoMemory>
         ensures { IfOk result (λ tables. tables ≡ system.now) }
     {
         let names = SystemNames::new(alloc, system)?;
         let connected = places_of_connections(alloc, system.wires.as_slice())?;
         let sampled = places_of_samples(alloc, system.samples.as_slice())?;
         let wire_too_many = first_wire_too_many(&names);
-        Ok(Tables {
+        Ok(SystemTables {
             names,
             connected,
             sampled,

@@ -30,8 +30,8 @@ ghost use Rattle.unit_check.specs.Walks.{
 };
 
 use crate::question::{Question, answers};
-use crate::rules::Rule;
-use crate::tables::Tables;
+use crate::rules::SystemRule;
+use crate::tables::SystemTables;
 use fixed_words::{List, Literal};
 use unit_names::UnitNames;
 use unit_tree::{
@@ -92,7 +92,7 @@ pub enum Stop {
 #[derive(Clone, Copy)]
 pub(crate) struct Walker<'a> {
     question: Question<'a>,
-    tables: &'a Tables<'a>,
+    tables: &'a SystemTables<'a>,
 }
 
 impl Walker<'_> {
@@ -561,7 +561,7 @@ fn past_system(walker: &Walker<'_>) -> Result<u32, Stop>
 }
 
 /// One more than there are lines, or why a walk with a question stops.
-pub(crate) fn past_all(question: Question<'_>, tables: &Tables<'_>) -> Result<u32, Stop>
+pub(crate) fn past_all(question: Question<'_>, tables: &SystemTables<'_>) -> Result<u32, Stop>
     ensures { result ≡ system_walk (asked_of question.entry tables.now) tables.now 1 }
 {
     let walker = Walker { question, tables };
@@ -569,7 +569,7 @@ pub(crate) fn past_all(question: Question<'_>, tables: &Tables<'_>) -> Result<u3
 }
 
 /// The first line that breaks a rule; else one more than there are lines.
-pub(crate) fn first_line(rule: Rule, tables: &Tables<'_>) -> Result<u32, Stop>
+pub(crate) fn first_broken_line(rule: SystemRule, tables: &SystemTables<'_>) -> Result<u32, Stop>
     requires ranged { IsRanged tables.now }
     ensures { Says result (lines_breaking (defined rule) tables.now) }
 {

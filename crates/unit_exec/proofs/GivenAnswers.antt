@@ -11,7 +11,7 @@ use Rattle.unit_vm.specs.Frames.{Held, Leaves}
 use Rattle.unit_vm.specs.Instructions.{flow_of, fits_role}
 use Rattle.unit_vm.specs.Loops.{cost_of}
 use Rattle.unit_vm.specs.Machine.{Work, Did, Does, Fails, Lacks, State, Course, Goes, Ends, Faults, Stuck, goes_on, branches, turns_back, ends_with, ends, follows, turn, then_goes, act, after, opening, run_part, run_of}
-use Rattle.unit_vm.specs.Programs.{Part, output_part, with_limit}
+use Rattle.unit_vm.specs.Programs.{CodePart, output_part, with_limit}
 use Rattle.unit_vm.specs.Valid.{IsPart, AreParts, HasFacts}
 use Rattle.unit_vm.specs.declared.instruction.Flow.{Flow}
 use Rattle.unit_vm.specs.declared.instruction.Flow.TheVariants as flow
@@ -98,7 +98,7 @@ each_fits : (kind : Role) (code : List Instruction) → All (λ instruction. IsT
 each_fits kind code all place instruction is =
     subst (λ (i : Instruction). fits_role kind i ≡ true) (get_or_from_slice_get code place instruction instruction is) (all place instruction (slice_get_within code place instruction is))
 
-pub record HasHeights (sizes : Sizes) (part : Part) : Type 0 where
+pub record HasHeights (sizes : Sizes) (part : CodePart) : Type 0 where
   pub heights : List ℕ
   pub valid : IsPart sizes part heights
 
@@ -109,7 +109,7 @@ output_at sizes (first ∷ outputs) (heights ∷ marks) are zero code is =
     let same : first ≡ code = cc in subst (λ c. HasHeights sizes (output_part c)) same (record { heights = heights; valid = are.0 })
 output_at sizes (first ∷ outputs) (heights ∷ marks) are (suc number) code is = output_at sizes outputs marks are.1 number code is
 
-limit_at : (sizes : Sizes) (limit : Option (List Instruction)) (step : Part) (marks : List (List ℕ)) → AreParts sizes (with_limit limit step) marks → (code : List Instruction) → limit ≡ Some code → HasHeights sizes (record { role = role.Limit; code = code })
+limit_at : (sizes : Sizes) (limit : Option (List Instruction)) (step : CodePart) (marks : List (List ℕ)) → AreParts sizes (with_limit limit step) marks → (code : List Instruction) → limit ≡ Some code → HasHeights sizes (record { role = role.Limit; code = code })
 limit_at sizes None step marks are code is = absurd (cc)
 limit_at sizes (Some some) step [] are code is = absurd are
 limit_at sizes (Some some) step (heights ∷ marks) are code is =

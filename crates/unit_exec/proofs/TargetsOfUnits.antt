@@ -9,7 +9,7 @@ use Rattle.std.proofs.lemmas.List.Folds.{find-append}
 use Rattle.code_units.specs.Scopes.{constants, slots_from, slot_variables, sizes_of, scope_of, named}
 use Rattle.code_units.specs.StepLines.{may_store, target_coded}
 use Rattle.code_units.specs.declared.scope.Named.{Named}
-use Rattle.code_units.specs.declared.scope.Place.TheVariants.{Constant, Slot}
+use Rattle.code_units.specs.declared.scope.NamePlace.TheVariants.{Constant, Slot}
 use Rattle.code_units.proofs.FitPieces.{both, le_test, lt_test}
 use Rattle.code_units.proofs.ScopeLaws.{slots_behind}
 use Rattle.unit_tree.specs.Components.{variable}

@@ -12,17 +12,6 @@ use crate::units::UnitNames;
 use fixed_words::{Kind, Ty};
 use unit_tree::{BinOp, Expr, UnOp};
 
-/// The kind of a type's values.
-pub fn kind_of(ty: Ty) -> Kind
-    ensures { result ≡ kind_of ty }
-{
-    match ty {
-        Ty::Bool => Kind::Bool,
-        Ty::Fixed(decimals) => Kind::Fixed(decimals),
-        _ => Kind::Int,
-    }
-}
-
 /// Whether two kinds are one.
 pub fn is_same_kind(one: Kind, other: Kind) -> bool
     ensures { result ≡ same_kind one other }
@@ -51,16 +40,6 @@ fn where_holds(test: bool, kind: Kind) -> Option<Kind>
     ensures { result ≡ where_holds test kind }
 {
     if test { Some(kind) } else { None }
-}
-
-fn kind_of_number(decimals: u8) -> Kind
-    ensures { result ≡ kind_of_number decimals }
-{
-    if decimals == 0 {
-        Kind::Int
-    } else {
-        Kind::Fixed(decimals)
-    }
 }
 
 fn unary_kind(op: UnOp, x: Kind) -> Option<Kind>
@@ -124,7 +103,7 @@ impl<'a> UnitNames<'a> {
     pub fn kind_named(&self, name: &[u8]) -> Option<Kind>
         ensures { result ≡ kinds_in self.now name.now }
     {
-        Some(kind_of(self.type_in(name)?))
+        Some(self.type_in(name)?.kind())
     }
 
     /// The kind of an expression; none where an operand has a wrong one, a name is not declared, or `absent` stands in
@@ -182,7 +161,7 @@ impl<'a> UnitNames<'a> {
         ensures { result ≡ kind_of_expression (word_expression_of ty expr.now) (kinds_in self.now) }
     {
         match expr {
-            Expr::Absent => Some(kind_of(ty)),
+            Expr::Absent => Some(ty.kind()),
             Expr::Choose { cond, yes, no } => choice_kind(
                 self.kind(cond.get()),
                 self.word_kind(ty, yes.get()),
@@ -196,6 +175,6 @@ impl<'a> UnitNames<'a> {
     pub fn has_word_kind(&self, ty: Ty, expr: &Expr) -> bool
         ensures { result ≡ has_kind (Some (kind_of ty)) (word_expression_of ty expr.now) (kinds_in self.now) }
     {
-        is_of_kind(self.word_kind(ty, expr), Some(kind_of(ty)))
+        is_of_kind(self.word_kind(ty, expr), Some(ty.kind()))
     }
 }

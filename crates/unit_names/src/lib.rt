@@ -24,7 +24,7 @@ mod uses;
 
 pub use choices::{presence_cost, presence_is_within, word_cost, word_is_within};
 pub use expressions::{cost, is_within, line_cost, lines_cost};
-pub use kinds::{is_same_kind, kind_of};
+pub use kinds::is_same_kind;
 pub use systems::SystemNames;
 pub use tables::Declared;
 pub use units::UnitNames;

@@ -11,6 +11,5 @@ mod lines;
 mod printing;
 mod steps;
 mod tokens;
-mod words;
 
 pub use printing::print_system;

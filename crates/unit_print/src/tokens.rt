@@ -7,16 +7,9 @@ ghost use Rattle.unit_tree.specs.Tokens.{is_word_byte, begins_with};
 ghost use Rattle.unit_tree.specs.declared.token.Token.TheVariants as token;
 ghost use Rattle.unit_print.specs.Growing.{with_token};
 
-use crate::words::{keyword_text, symbol_text};
 use fixed_words::NoMemory;
 use itoa::Buffer;
-use unit_tree::{Keyword, Symbol};
-
-fn is_word_byte(byte: u8) -> bool
-    ensures { result ≡ is_word_byte byte }
-{
-    byte.is_ascii_alphanumeric() || byte == b'_'
-}
+use unit_tree::{Keyword, Symbol, is_word_byte};
 
 fn begins_with_word_byte(bytes: &[u8]) -> bool
     ensures { result ≡ begins_with is_word_byte bytes.now }
@@ -52,14 +45,14 @@ fn put(text: &mut Vec<u8>, bytes: &[u8]) -> Result<(), NoMemory>
 pub(crate) fn keyword(text: &mut Vec<u8>, word: Keyword) -> Result<(), NoMemory>
     ensures { OnOk result (text.new.items ≡ with_token text.old.items (keyword word)) }
 {
-    put(text, keyword_text(word))
+    put(text, word.text())
 }
 
 #[tactic(auto, unfolding(crate::specs::Growing::with_token))]
 pub(crate) fn symbol(text: &mut Vec<u8>, spelled: Symbol) -> Result<(), NoMemory>
     ensures { OnOk result (text.new.items ≡ with_token text.old.items (symbol spelled)) }
 {
-    put(text, symbol_text(spelled))
+    put(text, spelled.text())
 }
 
 #[tactic(auto, unfolding(crate::specs::Growing::with_token))]

@@ -12,8 +12,8 @@ use Rattle.unit_text.specs.declared.numbers.Group.{Group}
 use Rattle.unit_text.specs.declared.numbers.Group.TheVariants as lines
 use Rattle.unit_text.specs.declared.numbers.Mark.{Mark}
 use Rattle.unit_text.specs.declared.numbers.Numbers.{Numbers}
-use Rattle.unit_text.specs.declared.numbers.Place.{Place}
-use Rattle.unit_text.specs.declared.numbers.Place.TheVariants as place
+use Rattle.unit_text.specs.declared.numbers.BlockPlace.{BlockPlace}
+use Rattle.unit_text.specs.declared.numbers.BlockPlace.TheVariants as place
 use Rattle.unit_text.specs.declared.numbers.UnitNumbers.{UnitNumbers}
 
 -- The numbers that slices hold, one after the other.
@@ -23,14 +23,14 @@ joined_slices = flat_map (λ slice. slice.now)
 -- ---- Places
 
 -- Where a line behind the open block stands.
-abbrev pub place_in : OpenBlock → Place
+abbrev pub place_in : OpenBlock → BlockPlace
 place_in block.Top = place.Top
 place_in (block.Unit unit) = place.Unit
 place_in (block.Step unit step) = place.Step
 place_in (block.Instance instance) = place.Instance
 
 -- The same of what lines nest to.
-abbrev pub place_of : Open → Place
+abbrev pub place_of : Open → BlockPlace
 place_of AtTop = place.Top
 place_of (InUnit name unit_parts) = place.Unit
 place_of (InStep name unit_parts inner) = place.Step
@@ -72,7 +72,7 @@ bare_numbers header = record {
 -- ---- Groups
 
 -- The group of a line that stands in this place, behind the header. None where it may not stand there.
-abbrev pub group_of : Place → LineForm → Option Group
+abbrev pub group_of : BlockPlace → LineForm → Option Group
 group_of place.Step some = Some lines.Step
 group_of place.Instance some = Some lines.Instances
 group_of place.Unit (form.Resolution decimals) = Some lines.Resolution
@@ -146,7 +146,7 @@ with_group numbers None number = numbers
 with_group numbers (Some some) number = with_number numbers some number
 
 -- A line behind the header, which stands in this place.
-abbrev pub with_line : Numbers → Place → LineForm → ℕ → Numbers
+abbrev pub with_line : Numbers → BlockPlace → LineForm → ℕ → Numbers
 with_line numbers at some number = with_group numbers (group_of at some) number
 
 -- ---- Marks

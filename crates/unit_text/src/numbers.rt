@@ -1,6 +1,6 @@
 //! The numbers of the lines of a text, group by group.
 ghost use Rattle.std.specs.Prelude.{◌≡◌, ◌++◌, IfOk, OnOk};
-ghost use Rattle.unit_text.specs.declared.numbers.Place.TheVariants as place;
+ghost use Rattle.unit_text.specs.declared.numbers.BlockPlace.TheVariants as place;
 ghost use Rattle.unit_text.specs.Numbering.{joined_slices, no_unit_numbers, bare_numbers, place_in, group_of, in_unit_group, unit_in_order, unit_end, with_number, with_marks, marks_of, in_order};
 
 use crate::draft::OpenBlock;
@@ -10,23 +10,23 @@ use unit_tree::LineForm;
 
 /// Where a line stands: what is open before it.
 #[derive(Clone, Copy, Debug, PartialEq, Eq)]
-pub enum Place {
+pub enum BlockPlace {
     Top,
     Unit,
     Step,
     Instance,
 }
 
-impl Place {
+impl BlockPlace {
     /// Where a line behind this block stands.
-    pub fn of(block: &OpenBlock) -> Place
+    pub fn of(block: &OpenBlock) -> BlockPlace
         ensures { result ≡ place_in block.now }
     {
         match block {
-            OpenBlock::Top => Place::Top,
-            OpenBlock::Unit(_) => Place::Unit,
-            OpenBlock::Step { .. } => Place::Step,
-            OpenBlock::Instance(_) => Place::Instance,
+            OpenBlock::Top => BlockPlace::Top,
+            OpenBlock::Unit(_) => BlockPlace::Unit,
+            OpenBlock::Step { .. } => BlockPlace::Step,
+            OpenBlock::Instance(_) => BlockPlace::Instance,
         }
     }
 }
@@ -96,14 +96,14 @@ impl Group {
     }
 
     /// The group of a line that stands in this place.
-    pub fn of(place: Place, form: &LineForm) -> Option<Group>
+    pub fn of(place: BlockPlace, form: &LineForm) -> Option<Group>
         ensures { result ≡ group_of place form.now }
     {
         match place {
-            Place::Top => Group::at_top(form),
-            Place::Unit => Group::in_unit(form),
-            Place::Step => Some(Group::Step),
-            Place::Instance => Some(Group::Instances),
+            BlockPlace::Top => Group::at_top(form),
+            BlockPlace::Unit => Group::in_unit(form),
+            BlockPlace::Step => Some(Group::Step),
+            BlockPlace::Instance => Some(Group::Instances),
         }
     }
 }

@@ -10,7 +10,7 @@ ghost use Rattle.unit_text.specs.Reading.{IsWritten, headless_rule, TellsVersion
 
 use crate::draft::{Draft, drop_draft, drop_form};
 use crate::fault::TextFault;
-use crate::numbers::{Group, Mark, Place, note, numbers_in_order};
+use crate::numbers::{Group, Mark, BlockPlace, note, numbers_in_order};
 use fixed_words::List;
 use std::alloc::Global;
 use text_lines::{
@@ -151,7 +151,7 @@ pub struct ReadText {
 fn and_group(alloc: Global, draft: Draft, form: LineForm) -> Result<(Draft, Option<Group>), Unread>
     ensures { Gives result (and_group draft form) }
 {
-    let group = Group::of(Place::of(&draft.block), &form);
+    let group = Group::of(BlockPlace::of(&draft.block), &form);
     let next = draft.with_form(alloc, form)?;
     Ok((next, group))
 }

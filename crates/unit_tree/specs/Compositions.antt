@@ -21,16 +21,16 @@ use Rattle.unit_tree.specs.declared.unit.Unit.{Unit}
 
 -- Where the word of an input comes from: its start word, or the output at a place. Places count all outputs, by
 -- instance and then by declaration, from 0.
-pub data Source : Type 0 where
-  Start : ℤ → Source
-  AtPlace : ℕ → Source
+pub data InputSource : Type 0 where
+  Start : ℤ → InputSource
+  AtPlace : ℕ → InputSource
 
 -- An instance as it is run: its component, how many ticks of the system one of its local ticks is, and the source
 -- of each of its inputs.
 pub record Member : Type 0 where
   pub component : Component
   pub factor : ℕ
-  pub sources : List Source
+  pub sources : List InputSource
 
 -- A local tick is one of the system at least, each parameter has a word, and each input a source.
 pub record IsMember (member : Member) : Type 0 where
@@ -66,11 +66,11 @@ abbrev pub place_of : System → PortName → ℕ
 place_of system port = position_or_len (same_port port) (outputs_of system)
 
 -- The source of an input, from the outputs that are connected to it. More than one is in no system that is run.
-abbrev pub source_from : System → Input → List PortName → Source
+abbrev pub source_from : System → Input → List PortName → InputSource
 source_from system input [] = Start (start_word input.ty input.start)
 source_from system input (port ∷ others) = AtPlace (place_of system port)
 
-abbrev pub source_of : System → Instance → Input → Source
+abbrev pub source_of : System → Instance → Input → InputSource
 source_of system instance input = source_from system input (sources_of system (port_of instance input.name))
 
 -- An instance's local tick, in ticks of the system.

@@ -6,7 +6,7 @@ use Rattle.std.specs.Option.{option_map, option_and_then}
 use Rattle.std.specs.Result.{result_ok, result_err}
 use Rattle.fixed_words.specs.Operations.{Outcome}
 use Rattle.unit_tree.specs.Components.{start_word, get_of}
-use Rattle.unit_tree.specs.Compositions.{Source, Start, AtPlace, Member, Composition}
+use Rattle.unit_tree.specs.Compositions.{InputSource, Start, AtPlace, Member, Composition}
 use Rattle.unit_tree.specs.Names.{is_among}
 use Rattle.unit_tree.specs.declared.ending.Ending.{Ending}
 use Rattle.unit_tree.specs.declared.ending.Ending.TheVariants.{UnitFault}
@@ -19,7 +19,7 @@ abbrev pub Ports : Type 0
 Ports = List (Option ℤ)
 
 -- The word of an input by its source.
-abbrev pub input_word : Ports → Source → Option ℤ
+abbrev pub input_word : Ports → InputSource → Option ℤ
 input_word ports (Start word) = Some word
 input_word ports (AtPlace place) = option_and_then (λ word. word) (slice_get ports place)
 
@@ -46,7 +46,7 @@ outlets run states = flat_map outlets_of (enumerate_from 0 (zip run.members stat
 
 -- What an output sees of an input: its word where it needs it. An input that it does not need shows its start word,
 -- whatever its word is; the rules on needs keep such an input out of the output's value.
-abbrev pub seen_by : Ports → Output → Input × Source → Option ℤ
+abbrev pub seen_by : Ports → Output → Input × InputSource → Option ℤ
 seen_by ports output (input, source) =
     if is_among output.needs input.name then input_word ports source else Some (start_word input.ty input.start)
 
@@ -102,11 +102,11 @@ port_fault run states ports = first_some (map (fault_at ports) (outlets run stat
 -- ---- Orders of places
 
 -- The place that an input in the needs of an output takes its word from, where it is connected.
-abbrev pub place_in : Source → Option ℕ
+abbrev pub place_in : InputSource → Option ℕ
 place_in (Start word) = None
 place_in (AtPlace place) = Some place
 
-abbrev pub place_needed : Output → Input × Source → Option ℕ
+abbrev pub place_needed : Output → Input × InputSource → Option ℕ
 place_needed output (input, source) = if is_among output.needs input.name then place_in source else None
 
 -- The places that a member's output needs.

@@ -2,7 +2,7 @@
 use Rattle.std.specs.Prelude.{◌≡◌, ℕ, ◌<◌, ◌==◌, List, [], ◌∷◌, ◌++◌, map, length, if◌then◌else◌, slice_get, Option, Some, None, ⊤}
 use Rattle.std.specs.List.{AllByRecursion, enumerate_from, flat_map, filter_map}
 use Rattle.std.specs.Option.{option_map, unwrap_or}
-use Rattle.unit_tree.specs.Compositions.{Source, Start, AtPlace, Member, Composition}
+use Rattle.unit_tree.specs.Compositions.{InputSource, Start, AtPlace, Member, Composition}
 use Rattle.unit_tree.specs.Ports.{IsAmong, IsPlaceOrder, places_needed}
 use Rattle.unit_tree.specs.declared.order.InputAt.{InputAt}
 use Rattle.unit_tree.specs.declared.order.Route.{Route}
@@ -12,14 +12,14 @@ use Rattle.unit_tree.specs.declared.order.StartWord.{StartWord}
 -- ---- The routes of a composition
 
 -- Each input of a composition, with its source.
-abbrev pub inputs_in : ℕ × Member → List (InputAt × Source)
+abbrev pub inputs_in : ℕ × Member → List (InputAt × InputSource)
 inputs_in (instance, member) =
     map (λ counted. (record { instance = instance; input = counted.0 }, counted.1)) (enumerate_from 0 member.sources)
 
-abbrev pub inputs_of : Composition → List (InputAt × Source)
+abbrev pub inputs_of : Composition → List (InputAt × InputSource)
 inputs_of run = flat_map inputs_in (enumerate_from 0 run.members)
 
-abbrev pub fed_from : ℕ → InputAt × Source → Option InputAt
+abbrev pub fed_from : ℕ → InputAt × InputSource → Option InputAt
 fed_from place (at, Start word) = None
 fed_from place (at, AtPlace other) = if other == place then Some at else None
 
@@ -27,7 +27,7 @@ fed_from place (at, AtPlace other) = if other == place then Some at else None
 abbrev pub feeds_of : Composition → ℕ → List InputAt
 feeds_of run place = filter_map (fed_from place) (inputs_of run)
 
-abbrev pub starts_at : InputAt × Source → Option StartWord
+abbrev pub starts_at : InputAt × InputSource → Option StartWord
 starts_at (at, Start word) = Some (record { at = at; word = word })
 starts_at (at, AtPlace place) = None
 

@@ -1,5 +1,5 @@
 -- The trace of a system: the one list of positions from the start, each the successor of the one before.
-use Rattle.std.specs.Prelude.{◌≡◌, ℕ, zero, suc, ◌+◌, true, ◌&&◌, is_some, is_none, ℤ, List, [], ◌∷◌, if◌then◌else◌, Option, Some, None, Result}
+use Rattle.std.specs.Prelude.{◌≡◌, ℕ, zero, suc, ◌+◌, true, ◌&&◌, is_some, is_none, ℤ, List, [], ◌∷◌, ◌++◌, length, if◌then◌else◌, Option, Some, None, Result}
 use Rattle.std.specs.List.{AllZip, count_by, filter_map, sum_by}
 use Rattle.fixed_words.specs.Types.{is_word_of}
 use Rattle.fixed_words.specs.declared.types.Fault.{Fault}
@@ -30,10 +30,14 @@ abbrev pub Follows : Composition → Stand → List Stand → Ending → Type 0
 Follows run one [] ending = successor run one.at one.ports ≡ ends ending
 Follows run one (next ∷ others) ending = Goes run one next × Follows run next others ending
 
--- The stands are the trace, and it ends so.
+-- From the position the stands follow, the first of them at it, and the run ends so.
+abbrev pub GoesOnFrom : Composition → Position → List Stand → Ending → Type 0
+GoesOnFrom run at [] ending = ⊥
+GoesOnFrom run at (first ∷ others) ending = (first.at ≡ at) × IsStand run first × Follows run first others ending
+
+-- The stands are the trace, and it ends so: they go on from the first position.
 abbrev pub IsTrace : Composition → List Stand → Ending → Type 0
-IsTrace run [] ending = ⊥
-IsTrace run (first ∷ others) ending = (first.at ≡ first_position run) × IsStand run first × Follows run first others ending
+IsTrace run = GoesOnFrom run (first_position run)
 
 -- At the stand the run comes to its trial: no output faults, it is not at its stop, it may have more rows,
 -- and no `max` faults.
@@ -73,6 +77,25 @@ abbrev pub last_point : List Stand → Point
 last_point [] = record { t = 0; n = 0 }
 last_point (stand ∷ []) = stand.at.point
 last_point (stand ∷ later ∷ others) = last_point (later ∷ others)
+
+-- ---- The rest of a position
+
+-- The rest of a position: the rows from there, the point at which the run ends, and how it ends.
+pub record IsRest (run : Composition) (at : Position) (rows : List Row) (last : Point) (ending : Ending) : Type 0 where
+  pub stands : List Stand
+  pub goes_on : GoesOnFrom run at stands ending
+  pub rows_are : rows ≡ rows_of run stands
+  pub last_is : last ≡ last_point stands
+
+-- The position of a number in a trace: that of the stand at this place.
+pub record IsPositionOf (run : Composition) (number : ℕ) (at : Position) : Type 0 where
+  pub before : List Stand
+  pub here : Stand
+  pub later : List Stand
+  pub ending : Ending
+  pub trace : IsTrace run (before ++ (here ∷ later)) ending
+  pub place : number ≡ length before
+  pub is : at ≡ here.at
 
 -- ---- The trace of a system
 

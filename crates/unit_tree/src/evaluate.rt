@@ -1,6 +1,5 @@
 //! Expressions and step lines, computed as they are defined: small and slow, to compare faster code with.
 ghost use Rattle.std.specs.Prelude.{◌≡◌, ◌≤◌, ◌<◌, ◌^◌, ◌↔◌, length, IsTrue, IfOk, not};
-ghost use Rattle.fixed_words.specs.Types.{kind_of};
 ghost use Rattle.fixed_words.specs.Operations.{is_zero};
 ghost use Rattle.unit_tree.specs.Values.{as_kind, kind_of_number, truth as truth_value, holds, value_of, value_of_name, with_decimals, whole_part, product_of, ratio_of, unary_value, binary_value, clamped_value, IsKind, IsUnary, is_ranged, AreTyped, IsSound};
 
@@ -10,17 +9,8 @@ use fixed_words::{
     Fault, Kind, Ty, abs, add, div, fix_div, fix_mul, mul, neg, rem, scale_down, scale_up, sub,
 };
 
-fn kind(ty: Ty) -> Kind
-    ensures { result ≡ kind_of ty }
-{
-    match ty {
-        Ty::Bool => Kind::Bool,
-        Ty::Fixed(decimals) => Kind::Fixed(decimals),
-        _ => Kind::Int,
-    }
-}
-
-fn number_kind(decimals: u8) -> Kind
+/// The kind of a number that is written with so many decimals.
+pub fn kind_of_number(decimals: u8) -> Kind
     ensures { result ≡ kind_of_number decimals }
 {
     if decimals == 0 {
@@ -62,7 +52,7 @@ fn named(variables: &[Variable], words: &[i64], name: &[u8]) -> Value
     for (place, variable) in variables.iter().enumerate() {
         if variable.name.as_slice() == name {
             return Value {
-                kind: kind(variable.ty),
+                kind: variable.ty.kind(),
                 word: words[place],
             };
         }
@@ -189,7 +179,7 @@ pub fn value(expr: &Expr, env: &Environment) -> Result<Value, Fault>
 {
     match expr {
         Expr::Number { word, decimals } => Ok(Value {
-            kind: number_kind(*decimals),
+            kind: kind_of_number(*decimals),
             word: *word,
         }),
         Expr::Truth(told) => Ok(truth(*told)),

@@ -37,7 +37,7 @@ pub use checked::Checked;
 pub use effects::run_lines;
 pub use ending::{Ending, Place};
 pub use environment::{Environment, Value, Variable};
-pub use evaluate::value;
+pub use evaluate::{kind_of_number, value};
 pub use expr::{BinOp, Expr, UnOp};
 use fixed_words::List;
 pub use gets::Gets;
@@ -46,7 +46,7 @@ pub use line_form::LineForm;
 pub use order::{InputAt, Order, Route, Routes, StartWord};
 pub use super_time::Point;
 pub use system::{Column, Instance, PortName, Setting, System, Wire};
-pub use token::{Keyword, Symbol, Token};
+pub use token::{Keyword, Symbol, Token, is_word_byte};
 pub use unit::{EventIn, EventOut, Input, Local, Output, Param, State, Unit};
 
 /// A name as its bytes: a word of at most 32 bytes that is not reserved.

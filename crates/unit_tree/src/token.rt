@@ -1,3 +1,6 @@
+ghost use Rattle.std.specs.Prelude.{◌≡◌};
+ghost use Rattle.unit_tree.specs.Tokens.{is_word_byte, keyword_text, symbol_text};
+
 use crate::Name;
 
 /// A reserved word, which cannot be a name.
@@ -48,6 +51,57 @@ pub enum Keyword {
     Absent,
 }
 
+impl Keyword {
+    /// The word as it is written.
+    pub fn text(self) -> &'static [u8]
+        ensures { result.now ≡ keyword_text self }
+    {
+        match self {
+            Keyword::Cosim => b"cosim",
+            Keyword::Unit => b"unit",
+            Keyword::Resolution => b"resolution",
+            Keyword::Param => b"param",
+            Keyword::State => b"state",
+            Keyword::Local => b"local",
+            Keyword::Input => b"input",
+            Keyword::Output => b"output",
+            Keyword::Needs => b"needs",
+            Keyword::Max => b"max",
+            Keyword::Step => b"step",
+            Keyword::Repeat => b"repeat",
+            Keyword::Accept => b"accept",
+            Keyword::End => b"end",
+            Keyword::Instance => b"instance",
+            Keyword::Connect => b"connect",
+            Keyword::Stop => b"stop",
+            Keyword::Longest => b"longest",
+            Keyword::Zero => b"zero",
+            Keyword::Rows => b"rows",
+            Keyword::Sample => b"sample",
+            Keyword::If => b"if",
+            Keyword::Then => b"then",
+            Keyword::Else => b"else",
+            Keyword::And => b"and",
+            Keyword::Or => b"or",
+            Keyword::Not => b"not",
+            Keyword::Div => b"div",
+            Keyword::Mod => b"mod",
+            Keyword::Abs => b"abs",
+            Keyword::Min => b"min",
+            Keyword::Clamp => b"clamp",
+            Keyword::Int => b"int",
+            Keyword::Fix => b"fix",
+            Keyword::True => b"true",
+            Keyword::False => b"false",
+            Keyword::Time => b"t",
+            Keyword::Length => b"h",
+            Keyword::Event => b"event",
+            Keyword::Present => b"present",
+            Keyword::Absent => b"absent",
+        }
+    }
+}
+
 /// A symbol of the language.
 #[derive(Clone, Copy, Debug, PartialEq, Eq)]
 pub enum Symbol {
@@ -76,6 +130,41 @@ pub enum Symbol {
     Close,
     Comma,
     Point,
+}
+
+impl Symbol {
+    /// The symbol as it is written.
+    pub fn text(self) -> &'static [u8]
+        ensures { result.now ≡ symbol_text self }
+    {
+        match self {
+            Symbol::Assign => b":=",
+            Symbol::Arrow => b"->",
+            Symbol::Equals => b"==",
+            Symbol::Differs => b"!=",
+            Symbol::AtMost => b"<=",
+            Symbol::AtLeast => b">=",
+            Symbol::Colon => b":",
+            Symbol::Is => b"=",
+            Symbol::Less => b"<",
+            Symbol::Greater => b">",
+            Symbol::Plus => b"+",
+            Symbol::Minus => b"-",
+            Symbol::Star => b"*",
+            Symbol::Slash => b"/",
+            Symbol::Open => b"(",
+            Symbol::Close => b")",
+            Symbol::Comma => b",",
+            Symbol::Point => b".",
+        }
+    }
+}
+
+/// Whether a byte may stand in a word: a letter, a digit or `_`.
+pub fn is_word_byte(byte: u8) -> bool
+    ensures { result ≡ is_word_byte byte }
+{
+    byte.is_ascii_alphanumeric() || byte == b'_'
 }
 
 /// A token of a line.

@@ -2,7 +2,7 @@ ghost use Rattle.std.specs.Prelude.{◌≡◌, ◌≤◌, map, IfOk, IfSome, IfN
 ghost use Rattle.unit_vm.specs.Programs.{output_part, with_limit};
 ghost use Rattle.unit_vm.specs.Valid.{HasFacts, greatest};
 ghost use Rattle.unit_vm.specs.Tables.{heights_in};
-ghost use Rattle.unit_vm.specs.Judged.{all_allowed, IsJudged, IsNoPart, AreJudged, AreNoParts, IsNoProgram, is_sized, merged, step_part};
+ghost use Rattle.unit_vm.specs.Judged.{all_allowed, IsJudgedPart, IsNoPart, AreJudged, AreNoParts, IsNoProgram, is_sized, merged, step_part};
 
 use crate::around::{jumps_stay, loop_table};
 use crate::heights::height_table;
@@ -66,7 +66,7 @@ fn judge_part(
     requires states { sizes.states ≤ 64 }
     requires inputs { sizes.inputs ≤ 32 }
     requires locals { sizes.locals ≤ 64 }
-    ensures some { IfOk result (λ found. IfSome found (λ facts. IsJudged sizes (record { role = role; code = code.now }) facts)) }
+    ensures some { IfOk result (λ found. IfSome found (λ facts. IsJudgedPart sizes (record { role = role; code = code.now }) facts)) }
     ensures none { IfOk result (λ found. IfNone found (IsNoPart sizes (record { role = role; code = code.now }))) }
 {
     if !are_allowed(sizes, role, code) {

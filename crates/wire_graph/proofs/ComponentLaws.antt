@@ -3,7 +3,7 @@
 use Rattle.std.proofs.Common.{◌≡◌, true, false, List, [], ◌∷◌, ◌++◌, map, Option, Some, None, refl, ap, sym, subst, ◌∙◌, append-nil}
 use Rattle.std.specs.Prelude.{zip}
 use Rattle.std.specs.List.{AllByRecursion, AllZip, flat_map, filter_map, cons_option}
-use Rattle.unit_tree.specs.Compositions.{Source, HasNoEvents, source_of, member_with, members_of}
+use Rattle.unit_tree.specs.Compositions.{InputSource, HasNoEvents, source_of, member_with, members_of}
 use Rattle.unit_tree.specs.Names.{Port, output_ports, unit_of_instance}
 use Rattle.unit_tree.specs.Orders.{port_of, outputs_in, outputs_of}
 use Rattle.unit_tree.specs.declared.system.Instance.{Instance}
@@ -64,7 +64,7 @@ module _ (system : System) where
   inputs_beside instance [] = refl
   inputs_beside instance (input ∷ inputs) = ap (λ rest. input_of system instance.name input ∷ rest) (inputs_beside instance inputs)
 
-  sources_beside : (instance : Instance) (inputs : List Input) → map (λ (one : Input × Source). one.1) (map (input_of system instance.name) inputs) ≡ map (source_of system instance) inputs
+  sources_beside : (instance : Instance) (inputs : List Input) → map (λ (one : Input × InputSource). one.1) (map (input_of system instance.name) inputs) ≡ map (source_of system instance) inputs
   sources_beside instance [] = refl
   sources_beside instance (input ∷ inputs) = ap (λ rest. source_of system instance input ∷ rest) (sources_beside instance inputs)
 

@@ -5,7 +5,7 @@ use Rattle.std.specs.List.{AllByRecursion, position_from}
 use Rattle.fixed_words.specs.Types.{AreDecimals}
 use Rattle.indexmap.specs.IndexMap.{IndexMap, get_by}
 use Rattle.unit_tree.specs.Compositions as run
-use Rattle.unit_tree.specs.Compositions.{Source, source_from}
+use Rattle.unit_tree.specs.Compositions.{InputSource, source_from}
 use Rattle.unit_tree.specs.Names.{same_port}
 use Rattle.unit_tree.specs.Orders.{outputs_of, sources_of}
 use Rattle.unit_tree.specs.declared.system.PortName.{PortName}
@@ -17,7 +17,7 @@ use Rattle.wire_graph.specs.Wiring.{Named, port_with, port_named, targets_of}
 use Rattle.wire_graph.specs.declared.origins.Member.{Member}
 use Rattle.wire_graph.specs.declared.origins.Origin.{Origin}
 use Rattle.wire_graph.specs.declared.origins.Origin.TheVariants.{Start, AtPlace}
-use Rattle.wire_graph.specs.declared.origins.Tables.{Tables}
+use Rattle.wire_graph.specs.declared.origins.OriginTables.{OriginTables}
 use Rattle.wire_graph.specs.declared.origins.WiredInput.{WiredInput}
 
 -- A table has for each port its first place among some.
@@ -25,7 +25,7 @@ abbrev pub Finds : {S : Type 0} → List PortName → IndexMap (Bor (List ℕ) �
 Finds ports table = (key : Bor (List ℕ) × Bor (List ℕ)) → get_by (λ other. same_port (port_with key) (port_with other)) table ≡ position_from (same_port (port_with key)) 0 ports
 
 -- The tables of a system: the places of its outputs, and the connections by the inputs that they lead to.
-pub record AreTables (system : System) (tables : Tables) : Type 0 where
+pub record AreTables (system : System) (tables : OriginTables) : Type 0 where
   pub places : Finds (outputs_of system) tables.places
   pub count : tables.count ≡ length (outputs_of system)
   pub targets : Finds (targets_of system.wires) tables.targets
@@ -39,22 +39,22 @@ abbrev pub source_behind : Bor Wire → PortName
 source_behind wire = wire.now.from
 
 -- The source that an origin tells.
-abbrev pub origin_of : Origin → Source
+abbrev pub origin_of : Origin → InputSource
 origin_of (Start word) = run.Start word
 origin_of (AtPlace place) = run.AtPlace place
 
 -- An input with its source.
-abbrev pub wired_input : WiredInput → Input × Source
+abbrev pub wired_input : WiredInput → Input × InputSource
 wired_input wired = (wired.input.now, origin_of wired.origin)
 
 -- The same of an instance by its name.
-abbrev pub input_of : System → List ℕ → Input → Input × Source
+abbrev pub input_of : System → List ℕ → Input → Input × InputSource
 input_of system name input = (input, source_from system input (sources_of system (port_named name input.name)))
 
 -- A component with the sources of its inputs, by what the routes rest on.
-abbrev pub member_behind : Member → Unit × List (Input × Source)
+abbrev pub member_behind : Member → Unit × List (Input × InputSource)
 member_behind member = (member.unit.now, map wired_input member.inputs.items)
 
 -- The same of a component of the system.
-abbrev pub member_of : System → Named → Unit × List (Input × Source)
+abbrev pub member_of : System → Named → Unit × List (Input × InputSource)
 member_of system component = (component.1, map (input_of system component.0) component.1.inputs)

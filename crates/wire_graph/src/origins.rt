@@ -40,7 +40,7 @@ pub(crate) struct Member<'a> {
 
 /// The places of outputs by their names, how many there are, and which connection leads to an input.
 #[derive(Drop)]
-pub(crate) struct Tables<'a> {
+pub(crate) struct OriginTables<'a> {
     pub(crate) places: IndexMap<PortKey<'a>, usize>,
     pub(crate) count: usize,
     pub(crate) targets: IndexMap<PortKey<'a>, usize>,
@@ -86,7 +86,7 @@ fn start_of(ty: Ty, start: Literal) -> i64
 }
 
 /// The place of an output.
-fn place<'a>(system: &System, tables: &Tables<'a>, port: PortKey<'a>) -> usize
+fn place<'a>(system: &System, tables: &OriginTables<'a>, port: PortKey<'a>) -> usize
     requires { AreTables system.now tables.now }
     ensures { result ≡ place_of system.now (port_with port.entry) }
 {
@@ -98,7 +98,7 @@ fn place<'a>(system: &System, tables: &Tables<'a>, port: PortKey<'a>) -> usize
 }
 
 /// The first connection that leads to an input.
-fn wire_to<'a>(system: &'a System, tables: &Tables<'a>, port: PortKey<'a>) -> Option<&'a Wire>
+fn wire_to<'a>(system: &'a System, tables: &OriginTables<'a>, port: PortKey<'a>) -> Option<&'a Wire>
     requires { AreTables system.now tables.now }
     ensures { option_map source_behind result ≡ slice_get (sources_of system.now (port_with port.entry)) 0 }
 {
@@ -111,7 +111,7 @@ fn wire_to<'a>(system: &'a System, tables: &Tables<'a>, port: PortKey<'a>) -> Op
 /// Where the word of an input of a component comes from.
 fn input_origin<'a>(
     system: &'a System,
-    tables: &Tables<'a>,
+    tables: &OriginTables<'a>,
     name: &'a [u8],
     input: &'a Input,
 ) -> Result<Origin, NoMemory>
@@ -132,7 +132,7 @@ fn input_origin<'a>(
 fn wired_inputs<'a>(
     alloc: Global,
     system: &'a System,
-    tables: &Tables<'a>,
+    tables: &OriginTables<'a>,
     component: Component<'a>,
 ) -> Result<Vec<WiredInput<'a>>, NoMemory>
     requires tables { AreTables system.now tables.now }
@@ -151,7 +151,7 @@ fn wired_inputs<'a>(
 pub(crate) fn members<'a>(
     alloc: Global,
     system: &'a System,
-    tables: &Tables<'a>,
+    tables: &OriginTables<'a>,
     components: &[Component<'a>],
 ) -> Result<Vec<Member<'a>>, NoMemory>
     requires tables { AreTables system.now tables.now }

@@ -10,7 +10,7 @@ ghost use Rattle.wire_graph.specs.Origins.{AreTables, HaveDecimals, wired_input,
 ghost use Rattle.wire_graph.specs.Routing.{needs_in, bare, numbered_in, wired_in, wired_among, fed, routed_by, routes_from};
 
 use crate::components::{Component, components, output_keys, target_keys};
-use crate::origins::{Member, Origin, Tables, WiredInput, members, number, table_of};
+use crate::origins::{Member, Origin, OriginTables, WiredInput, members, number, table_of};
 use fixed_words::{List, NoMemory};
 use std::alloc::Global;
 use unit_tree::{InputAt, Name, Output, Route, Routes, StartWord, System};
@@ -148,7 +148,7 @@ fn tables<'a>(
     alloc: Global,
     system: &'a System,
     components: &[Component<'a>],
-) -> Result<Tables<'a>, NoMemory>
+) -> Result<OriginTables<'a>, NoMemory>
     requires { outputs_named (map named_of components.now) ≡ outputs_of system.now }
     ensures { IfOk result (AreTables system.now) }
 {
@@ -156,7 +156,7 @@ fn tables<'a>(
     let targets = target_keys(alloc, system.wires.as_slice())?;
     let places = table_of(alloc, &outputs)?;
     let targets = table_of(alloc, &targets)?;
-    Ok(Tables {
+    Ok(OriginTables {
         places,
         count: outputs.len(),
         targets,

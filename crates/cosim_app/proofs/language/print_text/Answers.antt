@@ -1,5 +1,5 @@
 use Rattle.std.proofs.Common.{Err, refl, subst}
-use Rattle.text_accept.specs.Accepting.{AnswersText}
+use Rattle.text_accept.specs.Accepting.{AnswersAcceptance}
 use Rattle.unit_text.specs.declared.fault.TextFault.{TextFault}
 use Rattle.unit_tree.specs.declared.system.System.{System}
 use Rattle.cosim_app.specs.Answer.{printed_text}
@@ -16,7 +16,7 @@ returns-in-Ok g c =
 pub returns-in-Err-Line : goal.returns-in-Err-Line
 returns-in-Err-Line g c =
     refuses Print c.args.text.now (g.O.Sink.held c.args.out.now) (g.O.Sink.faults c.args.out.now) c.in-Err-Line.line c.in-Err-Line.rule c.refuse.result
-    (subst (λ (why : TextFault). AnswersText c.args.text.now (Err why)) c.in-Err-Line.field-0-is c.in-Err-Line.ensures) c.refuse.ensures
+    (subst (λ (why : TextFault). AnswersAcceptance c.args.text.now (Err why)) c.in-Err-Line.field-0-is c.in-Err-Line.ensures) c.refuse.ensures
 
 pub returns-in-Err-NoMemory : goal.returns-in-Err-NoMemory
 returns-in-Err-NoMemory g c = (puts_nothing Print c.args.text.now (g.O.Sink.held c.args.out.now), refl)

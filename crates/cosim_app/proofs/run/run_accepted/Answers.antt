@@ -12,13 +12,13 @@ run_system-requires g c = record { served = served_of c.args.read.checked c.requ
 
 pub returns-then-source-eq2 : goal.returns-then-source-eq2
 returns-then-source-eq2 g c = λ text accepted.
-    refuses Run text (g.O.Sink.held c.args.out.now) (g.O.Sink.faults c.args.out.now) c.first_line-header.result 25 c.refuse.result
+    refuses Run text (g.O.Sink.held c.args.out.now) (g.O.Sink.faults c.args.out.now) c.header_line-header.result 25 c.refuse.result
     (inr (record {
       system = c.args.read.checked;
       lines = c.args.read.lines;
       accepted = accepted;
       version = sym (ap (λ (s : System). s.version) c.source.ensures) ∙ c.if-source-eq2.true;
-      at = subst (λ (lines : List ℕ). source_line lines 1 ≡ Some c.first_line-header.result) c.as_slice.ensures c.first_line-header.ensures;
+      at = subst (λ (lines : List ℕ). source_line lines 1 ≡ Some c.header_line-header.result) c.as_slice.ensures c.header_line-header.ensures;
       by = refl;
     }))
     c.refuse.ensures

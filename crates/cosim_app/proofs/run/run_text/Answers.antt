@@ -1,5 +1,5 @@
 use Rattle.std.proofs.Common.{Err, inl, refl, subst}
-use Rattle.text_accept.specs.Accepting.{AnswersText}
+use Rattle.text_accept.specs.Accepting.{AnswersAcceptance}
 use Rattle.unit_text.specs.declared.fault.TextFault.{TextFault}
 use Rattle.cosim_app.specs.declared.command_words.Command.TheVariants.{Run}
 use Rattle.cosim_app.proofs.JudgeLaws.{puts_nothing, refuses, some_header}
@@ -18,7 +18,7 @@ returns-in-Ok g c = c.run_accepted.ensures c.args.text.now c.in-Ok.ensures
 pub returns-in-Err-Line : goal.returns-in-Err-Line
 returns-in-Err-Line g c =
     refuses Run c.args.text.now (g.O.Sink.held c.args.out.now) (g.O.Sink.faults c.args.out.now) c.in-Err-Line.line c.in-Err-Line.rule c.refuse.result
-    (inl (subst (λ (why : TextFault). AnswersText c.args.text.now (Err why)) c.in-Err-Line.field-0-is c.in-Err-Line.ensures)) c.refuse.ensures
+    (inl (subst (λ (why : TextFault). AnswersAcceptance c.args.text.now (Err why)) c.in-Err-Line.field-0-is c.in-Err-Line.ensures)) c.refuse.ensures
 
 pub returns-in-Err-NoMemory : goal.returns-in-Err-NoMemory
 returns-in-Err-NoMemory g c = (puts_nothing Run c.args.text.now (g.O.Sink.held c.args.out.now), refl)

@@ -1,7 +1,7 @@
 use Rattle.std.proofs.Common.{◌≡◌, ◌≤◌, sym, subst, ap, ◌∙◌, length, ℕ, List}
 use Rattle.unit_check.specs.Rules.{IsFaultOf}
 use Rattle.text_accept.proofs.Acceptance.{refusal_inside}
-use Rattle.text_accept.proofs.accepting.check_text.Goals as goal
+use Rattle.text_accept.proofs.accepting.read_and_check.Goals as goal
 
 pub at_source-requires-clause-first : goal.at_source-requires-clause-first
 at_source-requires-clause-first c =

@@ -3,7 +3,7 @@ use Rattle.unit_check.specs.Rules.{Says, defined}
 use Rattle.unit_check.specs.declared.walk.Stop.{Stop}
 use Rattle.unit_tree.specs.WellFormed.{lines_breaking}
 use Rattle.unit_check.proofs.TestsByPlace.{says_rule}
-use Rattle.unit_check.proofs.walk.first_line.Goals as goal
+use Rattle.unit_check.proofs.walk.first_broken_line.Goals as goal
 
 pub returns : goal.returns
 returns c =
