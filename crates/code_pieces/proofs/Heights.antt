@@ -7,6 +7,7 @@ use Rattle.unit_vm.specs.declared.instruction.Instruction.TheVariants.{Jump, Nex
 use Rattle.unit_vm.specs.Instructions.{takes, leaves}
 use Rattle.code_pieces.specs.Pieces.{Piece, Nothing, One, Then, Choice, When, Turns, flat, popped, and_height, one_height, height_behind, top_of}
 use Rattle.code_pieces.proofs.ItemPlaces.{HasAt, has_front, has_back, has_to}
+use Rattle.list_laws.proofs.Truths.{le_told}
 
 -- The height behind a piece, where there is one.
 abbrev pub left : Piece → ℕ → ℕ
@@ -49,9 +50,6 @@ if_told false n told e = absurd (nothing told e)
   where
     nothing : (told : ℕ) → None ≡ Some told → ⊥
     nothing told e = cc
-
-le_told : (a b : ℕ) → IsTrue (nat_le a b) → a ≤ b
-le_told a b e = grind (arith, nat_tests)
 
 eq_told : (a b : ℕ) → IsTrue (nat_eq a b) → a ≡ b
 eq_told a b e = grind (arith, nat_tests)

@@ -7,6 +7,7 @@ use Rattle.unit_vm.specs.declared.instruction.Flow.TheVariants as flow
 use Rattle.unit_vm.specs.declared.program.Sizes.{Sizes}
 use Rattle.unit_vm.specs.Instructions.{flow_of, is_argued}
 use Rattle.code_pieces.specs.Pieces.{Piece, Nothing, One, Then, Choice, When, Turns, is_on, is_made}
+use Rattle.list_laws.proofs.Truths.{le_told}
 
 abbrev pub Made : Sizes → Piece → Type 0
 Made sizes Nothing = ⊤
@@ -19,9 +20,6 @@ Made sizes (Turns count body) = (1 ≤ count) × (count ≤ 1000) × Made sizes 
 both : (a b : Bool) → IsTrue (a && b) → IsTrue a × IsTrue b
 both true b h = (refl, h)
 both false b h = absurd (cc)
-
-le_told : (a b : ℕ) → IsTrue (nat_le a b) → a ≤ b
-le_told a b e = grind (arith, nat_tests)
 
 on_told : (f : Flow) → IsTrue (is_on f) → f ≡ flow.On
 on_told flow.On h = refl

@@ -16,6 +16,7 @@ use Rattle.cosim_app.specs.declared.command_words.Command.TheVariants.{Run, Chec
 use Rattle.cosim_app.specs.declared.status.Status.{Status}
 use Rattle.cosim_app.specs.declared.status.Status.TheVariants as status
 use Rattle.cosim_app.proofs.TraceLaws.{one_outcome, whole_of}
+use Rattle.list_laws.proofs.Options.{some_same}
 
 -- ---- Words
 
@@ -125,13 +126,10 @@ served_same Check text one other a b = a.is ∙ sym b.is
 served_same Print text one other a b =
     a.is ∙ ap printed_answer ((judged_once text).one_system a.system b.system a.lines b.lines a.accepted b.accepted).0 ∙ sym b.is
 
-some_is : (one other : ℕ) → Some one ≡ Some other → one ≡ other
-some_is one other same = cc
-
 unserved_same : (text : List ℕ) (line by other rule : ℕ) → IsOfUnservedVersion text line by → IsOfUnservedVersion text other rule → (line ≡ other) × (by ≡ rule)
 unserved_same text line by other rule a b =
     let same = (judged_once text).one_system a.system b.system a.lines b.lines a.accepted b.accepted in
-    (some_is line other (sym a.at ∙ ap (λ lines. source_line lines 1) same.1 ∙ b.at), a.by ∙ sym b.by)
+    (some_same line other (sym a.at ∙ ap (λ lines. source_line lines 1) same.1 ∙ b.at), a.by ∙ sym b.by)
 
 -- and refused at one line by one rule
 served_or_refused : (text : List ℕ) (line by other rule : ℕ) → IsRefusedAt text line by ⊎ IsOfUnservedVersion text line by → IsRefusedAt text other rule ⊎ IsOfUnservedVersion text other rule → (line ≡ other) × (by ≡ rule)

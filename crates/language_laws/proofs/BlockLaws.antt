@@ -21,6 +21,7 @@ use Rattle.unit_tree.specs.declared.system.System.{System}
 use Rattle.unit_tree.specs.declared.unit.Unit.{Unit}
 use Rattle.unit_tree.proofs.FoldLemmas.{fold-Assign, fold-If, fold-Repeat, fold-Accept}
 use Rattle.language_laws.proofs.PartLaws.{grouped, unit_is}
+use Rattle.list_laws.proofs.Lists.{all_of_two}
 
 -- ---- Lists that are cut at a member
 
@@ -207,12 +208,6 @@ Stepped = (some : Line) × AreStepLines some
 
 abbrev line_in : Stepped → Line
 line_in one = one.0
-
-all_of_two : (test : LineForm → Bool) (xs ys : List LineForm) → list_all test xs ≡ true → list_all test ys ≡ true → list_all test (xs ++ ys) ≡ true
-all_of_two test [] ys on_xs on_ys = on_ys
-all_of_two test (x ∷ xs) ys on_xs on_ys =
-    let both = and_parts (test x) (list_all test xs) on_xs in
-    rw (both.0) (all_of_two test xs ys both.1 on_ys)
 
 joined_are : (lines : List Stepped) → list_all is_step_line (joined (map line_forms (map line_in lines))) ≡ true
 joined_are [] = refl

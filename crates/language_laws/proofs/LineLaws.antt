@@ -4,7 +4,7 @@ use Rattle.std.specs.Prelude.{◌&&◌, ◌||◌}
 use Rattle.std.specs.List.{AllByRecursion, flat_map, filter_map, cons_option, list_any, find, enumerate_from}
 use Rattle.std.specs.Option.{option_map, option_and_then}
 use Rattle.std.specs.Str.{bytes_eq}
-use Rattle.std.proofs.lemmas.List.{append-nil}
+use Rattle.std.proofs.lemmas.List.{append-nil, map-append}
 use Rattle.std.proofs.lemmas.Slice.Eq.{bytes_eq-Decides}
 use Rattle.unit_tree.specs.Canonical.{optional, unit_parts, canonical_parts}
 use Rattle.unit_tree.specs.Names.{Port, output_ports, unit_named, unit_of_instance, instance_named, unit_at}
@@ -21,36 +21,17 @@ use Rattle.unit_tree.specs.declared.system.System.{System}
 use Rattle.unit_tree.specs.declared.unit.Unit.{Unit}
 use Rattle.language_laws.proofs.BlockLaws.{heads, site_at, headed_of, in_unit, unit_part, parts_behind, each_front, each_append, one_more, each_headed, canonical_are}
 use Rattle.language_laws.proofs.PartLaws.{grouped_ten, unit_is}
+use Rattle.list_laws.proofs.Lists.{each_so, of_mapped, front_of, back_of, of_flat}
+use Rattle.list_laws.proofs.Truths.{or_false}
+use Rattle.language_laws.proofs.NameLaws.{all_keep}
 
 -- ---- Facts of each of many
-
-pub front_of : {A : Type 0} (P : A → Type 0) (xs ys : List A) → AllByRecursion P (xs ++ ys) → AllByRecursion P xs
-front_of P [] ys all = _
-front_of P (x ∷ xs) ys all = (all.0, front_of P xs ys all.1)
-
-pub back_of : {A : Type 0} (P : A → Type 0) (xs ys : List A) → AllByRecursion P (xs ++ ys) → AllByRecursion P ys
-back_of P [] ys all = all
-back_of P (x ∷ xs) ys all = back_of P xs ys all.1
-
-pub of_mapped : {A B : Type 0} (P : B → Type 0) (f : A → B) (xs : List A) → AllByRecursion P (map f xs) → AllByRecursion (λ x. P (f x)) xs
-of_mapped P f [] all = _
-of_mapped P f (x ∷ xs) all = (all.0, of_mapped P f xs all.1)
-
-pub of_flat : {A B : Type 0} (P : B → Type 0) (f : A → List B) (xs : List A) → AllByRecursion P (flat_map f xs) → AllByRecursion (λ x. AllByRecursion P (f x)) xs
-of_flat P f [] all = _
-of_flat P f (x ∷ xs) all = (front_of P (f x) (flat_map f xs) all, of_flat P f xs (back_of P (f x) (flat_map f xs) all))
 
 -- ---- No line breaks a rule
 
 pub kept_on : (test : Bool) (number : ℕ) (rest : List ℕ) → cons_option (cond test (Some number) None) rest ≡ [] → (test ≡ false) × (rest ≡ [])
 kept_on true number rest none = absurd (cc none)
 kept_on false number rest none = (refl, none)
-
-pub unbroken_from : (breaks : Site → Bool) (number : ℕ) (all : List Site) → filter_map (number_where breaks) (enumerate_from number all) ≡ [] → AllByRecursion (λ site. breaks site ≡ false) all
-unbroken_from breaks number [] none = _
-unbroken_from breaks number (site ∷ all) none =
-    let both = kept_on (breaks site) number (filter_map (number_where breaks) (enumerate_from (number + 1) all)) none in
-    (both.0, unbroken_from breaks (number + 1) all both.1)
 
 -- A fact of all sites holds of the one of each head.
 pub each_at_head : (P : Site → Type 0) (scope : Scope) (earlier : List LineForm) (front : List Headed) (this : Headed) (others : List Headed) → AllByRecursion P (sites scope earlier (front ++ (this ∷ others))) → P (site_at scope earlier front this)
@@ -64,10 +45,6 @@ all_heads Q scope earlier (first ∷ others) all =
     ((all.0, front_of (λ site. Q site.scope site.line) first.block (sites scope (earlier ++ (first.head ∷ [])) others) all.1), all_heads Q scope (earlier ++ (first.head ∷ [])) others (back_of (λ site. Q site.scope site.line) first.block (sites scope (earlier ++ (first.head ∷ [])) others) all.1))
 
 -- ---- Instances have names of their own
-
-pub map_split : {A B : Type 0} (f : A → B) (xs ys : List A) → map f (xs ++ ys) ≡ map f xs ++ map f ys
-map_split f [] ys = refl
-map_split f (x ∷ xs) ys = ap (λ rest. f x ∷ rest) (map_split f xs ys)
 
 pub names_before : (units : List Unit) (instances : List Instance) → filter_map instance_declared (heads (map headed_of (map unit_part units ++ map parts.HasInstance instances))) ≡ map (λ instance. instance.name) instances
 names_before [] [] = refl
@@ -87,11 +64,11 @@ fresh system before later instance kept cut =
     let parts_are : canonical_parts system ≡ (map unit_part system.units ++ map parts.HasInstance before) ++ (parts.HasInstance instance ∷ (map parts.HasInstance later ++ parts_behind system)) =
     canonical_are system
     ∙ ap (λ all. map unit_part system.units ++ (map parts.HasInstance all ++ parts_behind system)) cut
-    ∙ ap (λ all. map unit_part system.units ++ (all ++ parts_behind system)) (map_split parts.HasInstance before (instance ∷ later))
+    ∙ ap (λ all. map unit_part system.units ++ (all ++ parts_behind system)) (map-append parts.HasInstance before (instance ∷ later))
     ∙ ap (λ all. map unit_part system.units ++ all) (append_assoc (map parts.HasInstance before) (parts.HasInstance instance ∷ map parts.HasInstance later) (parts_behind system))
     ∙ sym (append_assoc (map unit_part system.units) (map parts.HasInstance before) (parts.HasInstance instance ∷ (map parts.HasInstance later ++ parts_behind system))) in
     let heads_are : alone (form.Header system.version) ∷ flat_map headed_part (canonical_parts system) ≡ front ++ (headed_of (parts.HasInstance instance) ∷ others) =
-    ap (λ all. alone (form.Header system.version) ∷ all) (each_headed (canonical_parts system) ∙ ap (map headed_of) parts_are ∙ map_split headed_of (map unit_part system.units ++ map parts.HasInstance before) (parts.HasInstance instance ∷ (map parts.HasInstance later ++ parts_behind system))) in
+    ap (λ all. alone (form.Header system.version) ∷ all) (each_headed (canonical_parts system) ∙ ap (map headed_of) parts_are ∙ map-append headed_of (map unit_part system.units ++ map parts.HasInstance before) (parts.HasInstance instance ∷ (map parts.HasInstance later ++ parts_behind system))) in
     let here = each_at_head (λ site. redeclares system site ≡ false) TopScope [] front (headed_of (parts.HasInstance instance)) others (subst (λ all. AllByRecursion (λ site. redeclares system site ≡ false) (sites TopScope [] all)) heads_are kept) in
     let not_said = middle_false (says_again bytes_eq unit_declared (site_at TopScope [] front (headed_of (parts.HasInstance instance)))) (says_again bytes_eq instance_declared (site_at TopScope [] front (headed_of (parts.HasInstance instance)))) (says_again bytes_eq name_declared (site_at TopScope [] front (headed_of (parts.HasInstance instance)))) here in
     ap (list_any (bytes_eq instance.name)) (sym (names_before system.units before)) ∙ not_said
@@ -106,14 +83,10 @@ turned true one other is none =
     absurd (cc (told, none))
 turned false one other is none = refl
 
-pub either_false : (one other : Bool) → (one || other) ≡ false → (one ≡ false) × (other ≡ false)
-either_false true other none = absurd (cc none)
-either_false false other none = (refl, none)
-
 pub first_named : (before later : List Instance) (instance : Instance) → list_any (bytes_eq instance.name) (map (λ one. one.name) before) ≡ false → find (λ one. bytes_eq one.name instance.name) (before ++ (instance ∷ later)) ≡ Some instance
 first_named [] later instance none = ap (λ test. cond test (Some instance) (find (λ one. bytes_eq one.name instance.name) later)) (same_name instance.name)
 first_named (first ∷ before) later instance none =
-    let both = either_false (bytes_eq instance.name first.name) (list_any (bytes_eq instance.name) (map (λ one. one.name) before)) none in
+    let both = or_false (bytes_eq instance.name first.name) (list_any (bytes_eq instance.name) (map (λ one. one.name) before)) none in
     let apart : bytes_eq first.name instance.name ≡ false = turned (bytes_eq first.name instance.name) first.name instance.name refl both.0 in
     ap (λ test. cond test (Some first) (find (λ one. bytes_eq one.name instance.name) (before ++ (instance ∷ later)))) apart ∙ first_named before later instance both.1
 
@@ -179,10 +152,6 @@ pub mapped : {A B : Type 0} (P : B → Type 0) (f : A → B) (xs : List A) → A
 mapped P f [] all = _
 mapped P f (x ∷ xs) all = (all.0, mapped P f xs all.1)
 
-pub each_so : {A : Type 0} (P Q : A → Type 0) → ((x : A) → P x → Q x) → (xs : List A) → AllByRecursion P xs → AllByRecursion Q xs
-each_so P Q so [] all = _
-each_so P Q so (x ∷ xs) all = (so x all.0, each_so P Q so xs all.1)
-
 -- Where no line of the unit declares an output of the name, no output has it.
 pub no_output : (name : List ℕ) (unit : Unit) → AllByRecursion (λ site. Unnamed name unit site.scope site.line) (headed_of (unit_part unit)).block → AllByRecursion (λ one. bytes_eq one.name name ≡ false) (output_ports unit)
 no_output name unit none =
@@ -237,7 +206,7 @@ by_unit system port instance (Some unit) is found stands =
 pub has_line : (system : System) (port : PortName) → IsWellFormed system → IsIn (outputs_of system) port → (line : ℕ) × (line_of_output system port ≡ Some line)
 has_line system port well stands =
     let from = from_instance system system.instances port stands in
-    let kept = unbroken_from (redeclares system) 1 (sites_of system) well.0 in
+    let kept = all_keep (redeclares system) 1 (sites_of system) well.0 in
     let named : port.instance ≡ from.instance.name = named_instance from.instance (outputs_in (unit_of_instance system from.instance)) port from.is_in in
     let found : instance_named system port.instance ≡ Some from.instance =
     ap (instance_named system) named ∙ ap (find (λ one. bytes_eq one.name from.instance.name)) from.cut ∙ first_named from.before from.later from.instance (fresh system from.before from.later from.instance kept from.cut) in

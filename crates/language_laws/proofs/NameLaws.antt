@@ -22,49 +22,16 @@ use Rattle.unit_tree.specs.declared.unit.EventOut.{EventOut}
 use Rattle.unit_tree.specs.declared.unit.Output.{Output}
 use Rattle.unit_tree.specs.declared.unit.Unit.{Unit}
 use Rattle.language_laws.proofs.PartLaws.{unit_is}
+use Rattle.list_laws.proofs.Members.{Has, Distinct, has_front, has_behind, has_map}
+use Rattle.list_laws.proofs.Truths.{or_false, true_is_false}
 
 -- ---- Lists whose elements differ
-
-abbrev pub Has : {A : Type 0} → List A → A → Type 0
-Has [] x = ⊥
-Has (first ∷ others) x = (first ≡ x) ⊎ Has others x
-
-abbrev pub Distinct : {A : Type 0} → List A → Type 0
-Distinct [] = ⊤
-Distinct (first ∷ others) = (Has others first → ⊥) × Distinct others
-
-pub has_front : {A : Type 0} (front behind : List A) (x : A) → Has front x → Has (front ++ behind) x
-has_front [] behind x has = absurd has
-has_front (first ∷ front) behind x (inl is) = inl is
-has_front (first ∷ front) behind x (inr has) = inr (has_front front behind x has)
-
-pub has_behind : {A : Type 0} (front behind : List A) (x : A) → Has behind x → Has (front ++ behind) x
-has_behind [] behind x has = has
-has_behind (first ∷ front) behind x has = inr (has_behind front behind x has)
-
-pub has_either : {A : Type 0} (front behind : List A) (x : A) → Has (front ++ behind) x → Has front x ⊎ Has behind x
-has_either [] behind x has = inr has
-has_either (first ∷ front) behind x (inl is) = inl (inl is)
-has_either (first ∷ front) behind x (inr has) = elim (has_either front behind x has) [ inl h ↦ inl (inr h) | inr h ↦ inr h ]
-
-pub has_map : {A B : Type 0} (f : A → B) (xs : List A) (x : A) → Has xs x → Has (map f xs) (f x)
-has_map f [] x has = absurd has
-has_map f (first ∷ others) x (inl is) = inl (ap f is)
-has_map f (first ∷ others) x (inr has) = inr (has_map f others x has)
 
 pub same_bytes : (one other : List ℕ) → bytes_eq one other ≡ true → one ≡ other
 same_bytes one other is = (bytes_eq-Decides one other).0 is
 
 pub bytes_of : (one other : List ℕ) → one ≡ other → bytes_eq one other ≡ true
 bytes_of one other is = (bytes_eq-Decides one other).1 is
-
-pub true_is_false : {A : Type 0} (b : Bool) → b ≡ true → b ≡ false → A
-true_is_false true is isnt = absurd (cc)
-true_is_false false is isnt = absurd (cc)
-
-pub or_false : (one other : Bool) → (one || other) ≡ false → (one ≡ false) × (other ≡ false)
-or_false false other is = (refl, is)
-or_false true other is = absurd (cc)
 
 -- What equals none of some is not among them.
 pub not_among : {B : Type 0} (same : B → B → Bool) (tells : (one other : B) → one ≡ other → same one other ≡ true) (name : B) (names : List B) → list_any (same name) names ≡ false → Has names name → ⊥

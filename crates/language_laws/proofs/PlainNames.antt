@@ -17,7 +17,7 @@ use Rattle.unit_tree.specs.declared.system.Wire.{Wire}
 use Rattle.unit_tree.specs.declared.unit.EventOut.{EventOut}
 use Rattle.unit_tree.specs.declared.unit.Output.{Output}
 use Rattle.unit_tree.specs.declared.unit.Unit.{Unit}
-use Rattle.language_laws.proofs.NameLaws.{Has, has_either, has_map, has_front, has_behind}
+use Rattle.list_laws.proofs.Members.{Has, has_front, has_behind, has_either, has_map}
 
 -- ---- Lists
 

@@ -19,6 +19,7 @@ use Rattle.unit_tree.specs.declared.line_form.LineForm.TheVariants as form
 use Rattle.unit_tree.specs.declared.unit.Unit.{Unit}
 use Rattle.language_laws.proofs.BlockLaws.{all_step_lines}
 use Rattle.language_laws.proofs.PartLaws.{grouped, grouped_ten}
+use Rattle.list_laws.proofs.Lists.{all_of_two}
 
 -- ---- Lines that go along with themselves
 
@@ -364,7 +365,7 @@ samples_ordered : (given : List _) → flat_map ordered (map parts.Samples given
 samples_ordered [] = refl
 samples_ordered (x ∷ given) = ap (λ rest. part_forms (parts.Samples x) ++ rest) (samples_ordered given)
 
-version_is : (version : ℕ) (all : List Part) → (system_of version all).version ≡ version
+pub version_is : (version : ℕ) (all : List Part) → (system_of version all).version ≡ version
 version_is version [] = refl
 version_is version (parts.HasUnit name inside ∷ all) = version_is version all
 version_is version (parts.HasInstance instance ∷ all) = version_is version all
@@ -451,10 +452,6 @@ steps_open_none [] told = refl
 steps_open_none (x ∷ lines) told =
     let both = and_parts (is_step_line x) (list_all is_step_line lines) told in
     rw (opens_none x both.0) (steps_open_none lines both.1)
-
-all_of_two : (test : LineForm → Bool) (xs ys : List LineForm) → list_all test xs ≡ true → list_all test ys ≡ true → list_all test (xs ++ ys) ≡ true
-all_of_two test [] ys on_xs on_ys = on_ys
-all_of_two test (x ∷ xs) ys on_xs on_ys = let both = and_parts (test x) (list_all test xs) on_xs in rw (both.0) (all_of_two test xs ys both.1 on_ys)
 
 part_opens_none : (part : UnitPart) → list_all (λ line. not (opens_unit line)) (unit_part_forms part) ≡ true
 part_opens_none (parts.Resolution decimals) = refl

@@ -28,14 +28,13 @@ use Rattle.unit_tree.specs.declared.unit.Input.{Input}
 use Rattle.unit_tree.specs.declared.unit.Output.{Output}
 use Rattle.run_laws.proofs.AssignmentLaws.{Defined, needs_of, needs_here, all_seen, side_at}
 use Rattle.run_laws.proofs.EquationLaws.{all_among, all_behind}
-use Rattle.language_laws.proofs.NameLaws.{Has, has_map}
-use Rattle.run_laws.proofs.PlaceOrders.{has_at, Beside, zip_at, at_place, all_has}
 use Rattle.language_laws.proofs.PlainNames.{each_has, map_has}
-use Rattle.run_laws.proofs.RunTraces.{one_each}
 use Rattle.run_laws.proofs.SeenLaws.{get_same, get_fits}
 use Rattle.port_solve.proofs.InputPlaces.{source_at, feed_is, has_feed}
 use Rattle.port_solve.proofs.SetWords.{word_after, shape_after}
 use Rattle.port_solve.proofs.OutputPlaces.{OutletAt, outlet_of, given_is, type_is}
+use Rattle.list_laws.proofs.Members.{Has, has_map, has_at, at_place, all_has}
+use Rattle.list_laws.proofs.Pairs.{Beside, zip_at, one_each}
 
 -- ---- What is known at a front
 

@@ -9,8 +9,8 @@ use Rattle.unit_tree.specs.Compositions.{InputSource, Start, AtPlace, Member, Co
 use Rattle.unit_tree.specs.Routes.{inputs_in, inputs_of, fed_from, feeds_of, starts_at, routes_of}
 use Rattle.unit_tree.specs.declared.order.InputAt.{InputAt}
 use Rattle.unit_tree.specs.declared.order.StartWord.{StartWord}
-use Rattle.language_laws.proofs.NameLaws.{Has, has_map}
 use Rattle.language_laws.proofs.PlainNames.{has_flat, flat_has, map_has}
+use Rattle.list_laws.proofs.Members.{Has, has_map}
 
 -- ---- Lists
 

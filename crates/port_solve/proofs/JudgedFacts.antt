@@ -19,8 +19,10 @@ use Rattle.unit_tree.specs.declared.unit.EventOut.{EventOut}
 use Rattle.unit_tree.specs.declared.unit.Input.{Input}
 use Rattle.unit_tree.specs.declared.unit.Output.{Output}
 use Rattle.unit_tree.specs.declared.unit.Unit.{Unit}
-use Rattle.language_laws.proofs.NameLaws.{Distinct, bytes_of, or_false, all_keep, Hold, hold_all, hold_front, hold_behind, apart, Keeps, name_unsaid, all_declaring, declaring_head, said, said_units, drop_last, outputs_hold, kept_parts, wire_head}
+use Rattle.language_laws.proofs.NameLaws.{bytes_of, all_keep, Hold, hold_all, hold_front, hold_behind, apart, Keeps, name_unsaid, all_declaring, declaring_head, said, said_units, drop_last, outputs_hold, kept_parts, wire_head}
 use Rattle.language_laws.proofs.PartLaws.{unit_is}
+use Rattle.list_laws.proofs.Members.{Distinct}
+use Rattle.list_laws.proofs.Truths.{or_false}
 
 -- ---- Units
 

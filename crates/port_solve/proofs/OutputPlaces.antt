@@ -14,7 +14,7 @@ use Rattle.unit_tree.specs.Routes.{Numbered, outputs_in, feeds_of, route_at, rou
 use Rattle.unit_tree.specs.declared.order.Route.{Route}
 use Rattle.unit_tree.specs.declared.unit.Output.{Output}
 use Rattle.run_laws.proofs.AssignmentLaws.{needs_of}
-use Rattle.run_laws.proofs.PlaceOrders.{zip_append, zip_at}
+use Rattle.list_laws.proofs.Pairs.{zip_append, zip_at}
 
 -- ---- Outputs with their numbers beside outlets
 

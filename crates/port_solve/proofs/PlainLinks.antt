@@ -31,8 +31,8 @@ use Rattle.unit_tree.specs.declared.unit.EventOut.{EventOut}
 use Rattle.unit_tree.specs.declared.unit.Input.{Input}
 use Rattle.unit_tree.specs.declared.unit.Output.{Output}
 use Rattle.unit_tree.specs.declared.unit.Unit.{Unit}
-use Rattle.language_laws.proofs.NameLaws.{Has, has_front, has_behind, has_either, has_map, or_false, PortsDiffer, ports_differ}
-use Rattle.run_laws.proofs.PlaceOrders.{has_in, all_has}
+use Rattle.language_laws.proofs.NameLaws.{PortsDiffer, ports_differ}
+use Rattle.run_laws.proofs.PlaceOrders.{has_in}
 use Rattle.run_laws.proofs.PlainCycles.{of_input, of_event_in}
 use Rattle.language_laws.proofs.PlainNames.{each_has, has_flat, map_has, flat_has, IsPlain, word_is_plain, same_presence, words_on, plain_on, plain_wire, unit_line, output_line, event_line}
 use Rattle.run_laws.proofs.PlainOrders.{plain_of, declared, named_has, output_is, plain_one, presence_one, becomes, presence_wire, wire_by, plain_named, comes_from, plain_differ, plain_unit_is, is_event_is}
@@ -41,6 +41,8 @@ use Rattle.run_laws.proofs.SeenLaws.{and_false}
 use Rattle.port_solve.proofs.JudgedFacts.{UsesNeeds, IsJoined, inputs_differ, uses_needs, joined_wires}
 use Rattle.port_solve.proofs.LinkedSystems.{input_is, Joins, Linked}
 use Rattle.port_solve.proofs.PlainUses.{Names, plain_names, presence_names, word_names}
+use Rattle.list_laws.proofs.Members.{Has, has_front, has_behind, has_either, has_map, all_has}
+use Rattle.list_laws.proofs.Truths.{or_false, not_false}
 
 -- ---- What a rule on uses says of single names
 
@@ -65,10 +67,6 @@ shown_by true other holds = ap not (holds refl)
 
 int_same : (one other : ℤ) → int_eq one other ≡ true → one ≡ other
 int_same one other is = (signed_Decides one other).0 is
-
-not_false : (b : Bool) → not b ≡ false → b ≡ true
-not_false true is = refl
-not_false false is = absurd (cc)
 
 same_words : (one other : Port) → differ (Some one) (Some other) ≡ false → HaveSameWords one.ty other.ty
 same_words one other is =

@@ -18,8 +18,6 @@ use Rattle.unit_tree.specs.declared.order.InputAt.{InputAt}
 use Rattle.unit_tree.specs.declared.order.Route.{Route}
 use Rattle.unit_tree.specs.declared.order.StartWord.{StartWord}
 use Rattle.run_laws.proofs.AssignmentLaws.{undefined_faults}
-use Rattle.language_laws.proofs.NameLaws.{Has}
-use Rattle.run_laws.proofs.PlaceOrders.{at_place, all_has}
 use Rattle.unit_tree.proofs.RouteLaws.{count_is}
 use Rattle.port_solve.proofs.SolvedPorts.{told_count, known_all, all_right}
 use Rattle.port_solve.proofs.FirstFault.{no_port_fault, is_port_fault}
@@ -27,6 +25,7 @@ use Rattle.port_solve.proofs.Fronts.{one_state, same_sources, start_fits}
 use Rattle.port_solve.proofs.InputPlaces.{source_at, source_is, start_is, has_start}
 use Rattle.port_solve.proofs.OutputPlaces.{outlet_of}
 use Rattle.port_solve.proofs.SetWords.{word_after}
+use Rattle.list_laws.proofs.Members.{Has, at_place, all_has}
 
 -- ---- Start words
 

@@ -12,9 +12,9 @@ use Rattle.unit_tree.specs.Compositions.{InputSource, Member, Composition}
 use Rattle.unit_tree.specs.Given.{with_input}
 use Rattle.unit_tree.specs.declared.order.InputAt.{InputAt}
 use Rattle.unit_tree.specs.declared.order.StartWord.{StartWord}
-use Rattle.language_laws.proofs.NameLaws.{Has}
-use Rattle.run_laws.proofs.PlaceOrders.{zip_at}
 use Rattle.port_solve.proofs.InputPlaces.{source_at}
+use Rattle.list_laws.proofs.Members.{Has}
+use Rattle.list_laws.proofs.Pairs.{zip_at, zip_set}
 
 -- ---- One input
 
@@ -55,13 +55,6 @@ set_other inputs at other word there differ = elim (eqb_tells other.instance at.
 ]
 
 -- ---- Shapes
-
-zip_set : {A B : Type 0} (R : A → B → Type 0) (xs : List A) (ys : List B) (k : ℕ) (default y : B) → AllZip R xs ys → ((x : A) → R x (get_or ys k default) → R x y) → AllZip R xs (set ys k y)
-zip_set R [] [] k default y all one = tt
-zip_set R [] (first ∷ ys) k default y all one = absurd all
-zip_set R (x ∷ xs) [] k default y all one = absurd all
-zip_set R (x ∷ xs) (first ∷ ys) zero default y all one = (one x all.0, all.1)
-zip_set R (x ∷ xs) (first ∷ ys) (suc k) default y all one = (all.0, zip_set R xs ys k default y all.1 one)
 
 abbrev HasLength : Member → List ℤ → Type 0
 HasLength member words = length words ≡ length member.component.unit.inputs

@@ -14,13 +14,12 @@ use Rattle.unit_tree.specs.Routes.{inputs_of}
 use Rattle.unit_tree.specs.declared.order.InputAt.{InputAt}
 use Rattle.run_laws.proofs.AssignmentLaws.{are_equations, outlets_count}
 use Rattle.run_laws.proofs.EquationLaws.{each_among, same_lists}
-use Rattle.language_laws.proofs.NameLaws.{Has}
-use Rattle.run_laws.proofs.PlaceOrders.{zip_at, at_place, all_has}
 use Rattle.language_laws.proofs.PlainNames.{each_has}
-use Rattle.run_laws.proofs.RunTraces.{one_each}
 use Rattle.port_solve.proofs.Fronts.{Known, Agreed, IsFront, HasWords, one_state, sound_member, suits_at}
 use Rattle.port_solve.proofs.InputPlaces.{source_at, source_is, has_source}
 use Rattle.port_solve.proofs.OutputPlaces.{types_count}
+use Rattle.list_laws.proofs.Members.{Has, at_place, all_has}
+use Rattle.list_laws.proofs.Pairs.{zip_at, one_each}
 
 -- ---- Along an order
 

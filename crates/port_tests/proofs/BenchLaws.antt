@@ -23,7 +23,7 @@ use Rattle.unit_tree.specs.declared.unit.Output.{Output}
 use Rattle.unit_tree.specs.declared.unit.Param.{Param}
 use Rattle.unit_tree.specs.declared.unit.Unit.{Unit}
 use Rattle.port_solve.proofs.InputsSet.{left}
-use Rattle.run_laws.proofs.PlaceOrders.{zip_at}
+use Rattle.list_laws.proofs.Pairs.{zip_at, zip_set}
 
 abbrev pub RunsMember : Member → Running → Type 0
 RunsMember member unit = IsRunOf member.component unit
@@ -110,13 +110,6 @@ module _ (run : Composition) (units : List Running) (runs : RunMembers run units
 
 abbrev pub with_word : Running → ℕ → ℤ → Running
 with_word unit number word = record unit { inputs = set unit.inputs number word }
-
-zip_set : {A B : Type 0} (R : A → B → Type 0) (xs : List A) (ys : List B) (k : ℕ) (default y : B) → AllZip R xs ys → ((x : A) → R x (get_or ys k default) → R x y) → AllZip R xs (set ys k y)
-zip_set R [] [] k default y all one = tt
-zip_set R [] (first ∷ ys) k default y all one = absurd all
-zip_set R (x ∷ xs) [] k default y all one = absurd all
-zip_set R (x ∷ xs) (first ∷ ys) zero default y all one = (one x all.0, all.1)
-zip_set R (x ∷ xs) (first ∷ ys) (suc k) default y all one = (all.0, zip_set R xs ys k default y all.1 one)
 
 words_at_place : (all : List Running) (place : ℕ) (default : Running) → place < length all → get_or (inputs_of all) place [] ≡ (get_or all place default).inputs
 words_at_place [] place default within = absurd (omega (arith, within))

@@ -16,20 +16,17 @@ use Rattle.unit_tree.specs.declared.unit.EventIn.{EventIn}
 use Rattle.unit_tree.specs.declared.unit.EventOut.{EventOut}
 use Rattle.unit_tree.specs.declared.unit.Unit.{Unit}
 use Rattle.run_laws.proofs.PlainOrders.{plain_of}
+use Rattle.list_laws.proofs.Truths.{or_false}
 
 -- ---- Lines that declare no event port
 
 abbrev has_event : List LineForm → Bool
 has_event = list_any is_event_port
 
-neither : (one other : Bool) → (one || other) ≡ false → (one ≡ false) × (other ≡ false)
-neither true other told = absurd (cc told)
-neither false other told = (refl, told)
-
 in_both : (one other : List LineForm) → has_event (one ++ other) ≡ false → (has_event one ≡ false) × (has_event other ≡ false)
 in_both [] other told = (refl, told)
 in_both (line ∷ one) other told =
-    let first = neither (is_event_port line) (has_event (one ++ other)) told in
+    let first = or_false (is_event_port line) (has_event (one ++ other)) told in
     let rest = in_both one other first.1 in
     (rw (first.0, rest.0) refl, rest.1)
 

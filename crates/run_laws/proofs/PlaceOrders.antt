@@ -20,16 +20,14 @@ use Rattle.unit_tree.specs.declared.unit.EventOut.{EventOut}
 use Rattle.unit_tree.specs.declared.unit.Input.{Input}
 use Rattle.unit_tree.specs.declared.unit.Output.{Output}
 use Rattle.unit_tree.specs.declared.unit.Unit.{Unit}
-use Rattle.language_laws.proofs.NameLaws.{Has, Distinct, NamesDiffer, Wired, same_port_of, has_either, has_map, has_front, has_behind, same_bytes, found}
+use Rattle.language_laws.proofs.NameLaws.{NamesDiffer, Wired, same_port_of, same_bytes, found}
 use Rattle.language_laws.proofs.OrderLaws.{each_in}
 use Rattle.run_laws.proofs.PortLaws.{among, has_among, each_among, ports_in, output_has}
-use Rattle.run_laws.proofs.RunTraces.{one_each}
+use Rattle.list_laws.proofs.Members.{Has, Distinct, has_front, has_behind, has_either, has_map, has_at, at_place, all_has, distinct_append}
+use Rattle.list_laws.proofs.Pairs.{zip_append, zip_at, one_each}
+use Rattle.list_laws.proofs.Truths.{true_is_false}
 
 -- ---- Ports in lists
-
-pub true_is_false : {A : Type 0} (b : Bool) → b ≡ true → b ≡ false → A
-true_is_false true is isnt = absurd (cc)
-true_is_false false is isnt = absurd (cc)
 
 pub in_has : (ports : List PortName) (port : PortName) → IsIn ports port → Has ports port
 in_has [] port stands = stands
@@ -60,11 +58,6 @@ pub found_at : (ports : List PortName) (port : PortName) → IsIn ports port →
 found_at [] port stands = absurd stands
 found_at (first ∷ ports) port stands = found_by (same_port port first) port first ports (position_or_len (same_port port) ports) refl stands (λ later. found_at ports port later)
 
-pub has_at : {A : Type 0} (xs : List A) (k : ℕ) (x : A) → slice_get xs k ≡ Some x → Has xs x
-has_at [] k x is = absurd (cc)
-has_at (first ∷ others) zero x is = inl (cc)
-has_at (first ∷ others) (suc k) x is = inr (has_at others k x is)
-
 pub place_by : (told : Bool) (port first : PortName) (later k : ℕ) → same_port port first ≡ told → (first ≡ port → ⊥) → later ≡ k → cond (not told) (1 + later) 0 ≡ suc k
 place_by true port first later k is other same = absurd (other (sym (same_port_is port first is)))
 place_by false port first later k is other same = omega arith
@@ -79,37 +72,6 @@ place_is (first ∷ ports) (suc k) port apart is =
     place_by (same_port port first) port first (position_or_len (same_port port) ports) k refl (λ same. apart.0 (subst (Has ports) (sym same) (has_at ports k port is))) (place_is ports k port apart.1 is)
 
 -- ---- Lists side by side
-
-pub zip_append : {A B : Type 0} (R : A → B → Type 0) (xs xs' : List A) (ys ys' : List B) → AllZip R xs ys → AllZip R xs' ys' → AllZip R (xs ++ xs') (ys ++ ys')
-zip_append R [] xs' [] ys' one other = other
-zip_append R [] xs' (y ∷ ys) ys' one other = absurd one
-zip_append R (x ∷ xs) xs' [] ys' one other = absurd one
-zip_append R (x ∷ xs) xs' (y ∷ ys) ys' one other = (one.0, zip_append R xs xs' ys ys' one.1 other)
-
-pub record Beside {A B : Type 0} (R : A → B → Type 0) (x : A) (ys : List B) (k : ℕ) : Type 0 where
-  pub other : B
-  pub is : slice_get ys k ≡ Some other
-  pub related : R x other
-
-pub zip_at : {A B : Type 0} (R : A → B → Type 0) (xs : List A) (ys : List B) (k : ℕ) (x : A) → AllZip R xs ys → slice_get xs k ≡ Some x → Beside R x ys k
-zip_at R [] ys k x all is = absurd (cc)
-zip_at R (first ∷ xs) [] k x all is = absurd all
-zip_at R (first ∷ xs) (y ∷ ys) zero x all is = let same : first ≡ x = cc in record { other = y; is = refl; related = subst (λ z. R z y) same all.0 }
-zip_at R (first ∷ xs) (y ∷ ys) (suc k) x all is = let later = zip_at R xs ys k x all.1 is in record { other = later.other; is = later.is; related = later.related }
-
-pub at_place : {A : Type 0} (xs : List A) (k : ℕ) → k < length xs → (x : A) × (slice_get xs k ≡ Some x)
-at_place [] k within = absurd (omega arith)
-at_place (x ∷ xs) zero within = (x, refl)
-at_place (x ∷ xs) (suc k) within = at_place xs k (omega (arith, within))
-
-pub all_has : {A : Type 0} (P : A → Type 0) (xs : List A) → ((x : A) → Has xs x → P x) → AllByRecursion P xs
-all_has P [] each = tt
-all_has P (x ∷ xs) each = (each x (inl refl), all_has P xs (λ y has. each y (inr has)))
-
-pub distinct_append : {A : Type 0} (xs ys : List A) → Distinct xs → Distinct ys → ((x : A) → Has xs x → Has ys x → ⊥) → Distinct (xs ++ ys)
-distinct_append [] ys one other apart = other
-distinct_append (x ∷ xs) ys one other apart =
-    (λ has. elim (has_either xs ys x has) [ inl h ↦ one.0 h | inr h ↦ apart x (inl refl) h ], distinct_append xs ys one.1 other (λ y h. apart y (inr h)))
 
 -- ---- Units and their outputs
 
@@ -446,27 +408,27 @@ module _ (system : System) (plain : HasNoEvents system) (differ : NamesDiffer sy
 
     -- ---- The order of outputs
 
-    abbrev port_at : ℕ → PortName
+    abbrev pub port_at : ℕ → PortName
     port_at place = unwrap_or (slice_get (outputs_of system) place) (record { instance = []; port = [] })
 
-    abbrev ports_at : List ℕ → List PortName
+    abbrev pub ports_at : List ℕ → List PortName
     ports_at places = map port_at places
 
-    at_is : (place : ℕ) → place < length (outputs_of system) → slice_get (outputs_of system) place ≡ Some (port_at place)
+    pub at_is : (place : ℕ) → place < length (outputs_of system) → slice_get (outputs_of system) place ≡ Some (port_at place)
     at_is place within = let port = at_place (outputs_of system) place within in port.1 ∙ ap Some (sym (ap (λ given. unwrap_or given (record { instance = []; port = [] })) port.1))
 
-    place_back : (place : ℕ) → place < length (outputs_of system) → place_of system (port_at place) ≡ place
+    pub place_back : (place : ℕ) → place < length (outputs_of system) → place_of system (port_at place) ≡ place
     place_back place within = place_is (outputs_of system) place (port_at place) outputs_apart (at_is place within)
 
-    port_back : (port : PortName) → IsIn (outputs_of system) port → port_at (place_of system port) ≡ port
+    pub port_back : (port : PortName) → IsIn (outputs_of system) port → port_at (place_of system port) ≡ port
     port_back port stands = ap (λ given. unwrap_or given (record { instance = []; port = [] })) (found_at (outputs_of system) port stands)
 
-    among_ports : (places : List ℕ) (place : ℕ) → IsAmong places place → IsIn (ports_at places) (port_at place)
+    pub among_ports : (places : List ℕ) (place : ℕ) → IsAmong places place → IsIn (ports_at places) (port_at place)
     among_ports [] place has = absurd has
     among_ports (first ∷ places) place (inl is) = inl (ap port_at is)
     among_ports (first ∷ places) place (inr has) = inr (among_ports places place has)
 
-    abbrev IsPlace : ℕ → Type 0
+    abbrev pub IsPlace : ℕ → Type 0
     IsPlace place = place < length (outputs_of system)
 
     place_of_one : (places : List ℕ) (port : PortName) → AllByRecursion IsPlace places → IsIn (ports_at places) port → IsAmong places (place_of system port)
@@ -483,7 +445,7 @@ module _ (system : System) (plain : HasNoEvents system) (differ : NamesDiffer sy
     all_places P [] place all holds = (holds, tt)
     all_places P (first ∷ places) place all holds = (all.0, all_places P places place all.1 holds)
 
-    orderly : (before order : List ℕ) → AllByRecursion IsPlace before → IsOrderedAfter (composition_of system) before order → IsOrderlyAfter system (ports_at before) (ports_at order)
+    pub orderly : (before order : List ℕ) → AllByRecursion IsPlace before → IsOrderedAfter (composition_of system) before order → IsOrderlyAfter system (ports_at before) (ports_at order)
     orderly before [] are is_ordered = tt
     orderly before (place ∷ later) are is_ordered =
         let within : place < length (outputs_of system) = subst (λ count. place < count) count_is is_ordered.0 in

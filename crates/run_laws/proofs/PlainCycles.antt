@@ -18,12 +18,14 @@ use Rattle.unit_tree.specs.declared.unit.EventOut.{EventOut}
 use Rattle.unit_tree.specs.declared.unit.Input.{Input}
 use Rattle.unit_tree.specs.declared.unit.Output.{Output}
 use Rattle.unit_tree.specs.declared.unit.Unit.{Unit}
-use Rattle.language_laws.proofs.NameLaws.{Has, Distinct, Wired, ports_differ, same_port_of, has_either, has_map, has_front, has_behind, is_wired, ports_need_inputs}
+use Rattle.language_laws.proofs.NameLaws.{Wired, ports_differ, same_port_of, is_wired, ports_need_inputs}
 use Rattle.language_laws.proofs.OrderLaws.{each_in}
-use Rattle.run_laws.proofs.PlaceOrders.{has_in, same_port_is, all_has, distinct_append}
+use Rattle.run_laws.proofs.PlaceOrders.{has_in, same_port_is}
 use Rattle.language_laws.proofs.PlainNames.{each_has, has_flat, map_has, flat_has, IsPlain, plain_wire, of_output, of_event}
 use Rattle.run_laws.proofs.PlainOrders.{plain_of, Declared, declared, output_is, plain_one, ones, twos, becomes, wired, has_source, presence_wire, wire_by, plain_differ, plain_unit_is, split_by, same_origin, made_stands}
-use Rattle.run_laws.proofs.PortLaws.{or_true, or_right, among, each_among, all_among, output_has}
+use Rattle.run_laws.proofs.PortLaws.{or_true, among, each_among, all_among, output_has}
+use Rattle.list_laws.proofs.Members.{Has, Distinct, has_front, has_behind, has_either, has_map, all_has, distinct_append}
+use Rattle.list_laws.proofs.Truths.{or_right}
 
 -- ---- Needs
 

@@ -18,10 +18,11 @@ use Rattle.unit_tree.specs.declared.system.Wire.{Wire}
 use Rattle.unit_tree.specs.declared.unit.EventOut.{EventOut}
 use Rattle.unit_tree.specs.declared.unit.Output.{Output}
 use Rattle.unit_tree.specs.declared.unit.Unit.{Unit}
-use Rattle.language_laws.proofs.NameLaws.{Has, Distinct, NamesDiffer, PortsDiffer, ports_differ, same_port_of, has_either, has_map, has_front, has_behind, found}
+use Rattle.language_laws.proofs.NameLaws.{NamesDiffer, PortsDiffer, ports_differ, same_port_of, found}
 use Rattle.language_laws.proofs.OrderLaws.{each_in}
-use Rattle.run_laws.proofs.PlaceOrders.{in_has, has_in, same_port_is, all_has}
+use Rattle.run_laws.proofs.PlaceOrders.{in_has, has_in, same_port_is}
 use Rattle.language_laws.proofs.PlainNames.{each_has, has_flat, Mapped, map_has, Flat, flat_has, IsPlain, same_presence, PlainNames, plain_wire, plain_port_names, of_output, of_event}
+use Rattle.list_laws.proofs.Members.{Has, Distinct, has_front, has_behind, has_either, has_map, all_has}
 
 -- ---- Outputs of a system with their declarations
 

@@ -11,8 +11,10 @@ use Rattle.unit_tree.specs.declared.system.Instance.{Instance}
 use Rattle.unit_tree.specs.declared.system.PortName.{PortName}
 use Rattle.unit_tree.specs.declared.system.System.{System}
 use Rattle.unit_tree.specs.declared.unit.Unit.{Unit}
-use Rattle.language_laws.proofs.NameLaws.{Has, same_bytes, bytes_of}
+use Rattle.language_laws.proofs.NameLaws.{same_bytes, bytes_of}
 use Rattle.language_laws.proofs.PlainNames.{has_flat}
+use Rattle.list_laws.proofs.Members.{Has}
+use Rattle.list_laws.proofs.Truths.{or_right}
 
 -- ---- Names among others
 
@@ -24,10 +26,6 @@ pub among : (names : List (List ℕ)) (name : List ℕ) → is_among names name 
 among [] name is = absurd (cc)
 among (first ∷ names) name is =
     elim (or_true (bytes_eq name first) (list_any (bytes_eq name) names) is) [ inl same ↦ inl (sym (same_bytes name first same)) | inr later ↦ inr (among names name later) ]
-
-pub or_right : (one other : Bool) → other ≡ true → (one || other) ≡ true
-or_right true other is = refl
-or_right false other is = is
 
 pub has_among : (names : List (List ℕ)) (name : List ℕ) → Has names name → is_among names name ≡ true
 has_among [] name has = absurd has

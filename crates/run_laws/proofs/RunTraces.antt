@@ -15,12 +15,7 @@ use Rattle.unit_tree.specs.declared.system.System.{System}
 use Rattle.run_laws.proofs.AssignmentLaws.{none_at, one_assignment}
 use Rattle.run_laws.proofs.PositionLaws.{positions_keep, agreed_is_at_most}
 use Rattle.run_laws.proofs.StepLaws.{proposal_is_greatest}
-
-pub one_each : {A B : Type 0} (R : A → B → Type 0) (xs : List A) (ys : List B) → AllZip R xs ys → length ys ≡ length xs
-one_each R [] [] all = refl
-one_each R [] (y ∷ ys) all = absurd all
-one_each R (x ∷ xs) [] all = absurd all
-one_each R (x ∷ xs) (y ∷ ys) all = let rest = one_each R xs ys all.1 in omega arith
+use Rattle.list_laws.proofs.Pairs.{one_each}
 
 -- ---- What is left of a run, in steps
 

@@ -23,7 +23,9 @@ use Rattle.unit_tree.specs.WellFormed.{uses_other_input}
 use Rattle.unit_tree.specs.declared.unit.Input.{Input}
 use Rattle.unit_tree.specs.declared.unit.Unit.{Unit}
 use Rattle.run_laws.proofs.EffectKeeps.{bound}
-use Rattle.language_laws.proofs.NameLaws.{Has, has_front, has_behind, same_bytes, bytes_of}
+use Rattle.language_laws.proofs.NameLaws.{same_bytes, bytes_of}
+use Rattle.list_laws.proofs.Members.{Has, has_front, has_behind}
+use Rattle.list_laws.proofs.Truths.{or_false}
 
 -- Two environments show the same of some names, and their clocks are the same.
 pub record ShowSame (names : List (List ℕ)) (one other : Environment) : Type 0 where
@@ -120,10 +122,6 @@ pub and_false : (one other : Bool) → one ≡ true → (one && not other) ≡ f
 and_false true true is kept = refl
 and_false true false is kept = absurd (cc)
 and_false false other is kept = absurd (cc)
-
-pub or_false : (one other : Bool) → (one || other) ≡ false → (one ≡ false) × (other ≡ false)
-or_false false other is = (refl, is)
-or_false true other is = absurd (cc)
 
 -- A name of an expression that uses no other input.
 pub kept_at : (test : List ℕ → Bool) (names : List (List ℕ)) (name : List ℕ) → list_any test names ≡ false → Has names name → test name ≡ false

@@ -11,9 +11,9 @@ use Rattle.unit_tree.specs.Compositions.{Composition}
 use Rattle.unit_tree.specs.Successor.{proposed, agreed, trial_end, is_redone, successor, ends}
 use Rattle.unit_tree.specs.Trace.{Stand, AreWordsOf, cells_of_trial, cells_at}
 use Rattle.unit_tree.specs.declared.ending.Ending.{Ending}
-use Rattle.run_laws.proofs.RunTraces.{one_each}
 use Rattle.serial_run.specs.Advances.{IsFresh, Moved, EndsThere, Advanced, filled, with_filled}
 use Rattle.serial_run.proofs.CellLaws.{wanted_are_steps, cells_ended, cells_redone, cells_tried}
+use Rattle.list_laws.proofs.Pairs.{one_each}
 
 -- ---- The phase of a run that has made no step where it stands
 

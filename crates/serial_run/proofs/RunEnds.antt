@@ -25,7 +25,7 @@ use Rattle.unit_tree.specs.declared.system.Column.{Column}
 use Rattle.unit_tree.specs.declared.system.System.{System}
 use Rattle.run_laws.proofs.AssignmentLaws.{undefined_faults}
 use Rattle.run_laws.proofs.PositionLaws.{system_has_members}
-use Rattle.run_laws.proofs.RunTraces.{one_each, one_trace}
+use Rattle.run_laws.proofs.RunTraces.{one_trace}
 use Rattle.serial_run.specs.Advances.{Moved, EndsThere, Advanced}
 use Rattle.serial_run.specs.Lines.{PutsRow, ShowsWords, header_of, lines_of, rows_here}
 use Rattle.serial_run.specs.Reports.{ReportsTrace, PutsFront, TellsFault}
@@ -39,6 +39,7 @@ use Rattle.serial_run.proofs.CellLaws.{cells_ended}
 use Rattle.serial_run.proofs.RowLaws.{text_is}
 use Rattle.serial_run.proofs.RunKept.{Given, ArePut, IsAt, Come, Kept, moved_at, cells-push}
 use Rattle.serial_run.proofs.Walks.{Walked, walked_end, last_is, front_along}
+use Rattle.list_laws.proofs.Pairs.{one_each}
 
 -- ---- The run is over
 

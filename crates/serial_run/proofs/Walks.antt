@@ -13,7 +13,7 @@ use Rattle.unit_tree.specs.Successor.{Position, goes, ends, first_position, succ
 use Rattle.unit_tree.specs.Trace.{Stand, IsStand, Goes, Follows, IsTrace, Row, row_at, rows_of, last_point, HasWords, AreWordsOf}
 use Rattle.unit_tree.specs.declared.ending.Ending.{Ending}
 use Rattle.run_laws.proofs.AssignmentLaws.{one_assignment}
-use Rattle.run_laws.proofs.RunTraces.{one_each}
+use Rattle.list_laws.proofs.Pairs.{one_each}
 
 -- ---- Where a trace is passed
 

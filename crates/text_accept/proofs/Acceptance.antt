@@ -26,14 +26,12 @@ use Rattle.unit_text.proofs.KnownForms.{known}
 use Rattle.wire_graph.proofs.CycleLaws.{cycles_are_judged_once as judged_cycles}
 use Rattle.text_accept.specs.Laws.{IsAcceptedOrRefused, EveryTextIsJudgedOnce}
 use Rattle.text_accept.specs.Accepting.{IsAcceptedAs, source_line, BreaksRule, HasCycle, IsRefusedAt}
+use Rattle.list_laws.proofs.Options.{some_same}
 
 -- ---- One system, and one list of lines
 
 once : (text : List ℕ) → IsAnsweredOnce text
 once text = answered_once known text
-
-some_is : {A : Type 0} (one other : A) → Some one ≡ Some other → one ≡ other
-some_is one other same = cc
 
 one_source : (text : List ℕ) (one other : System) (ones others : List ℕ) → ReadsFrom text one ones → ReadsFrom text other others → (one ≡ other) × (ones ≡ others)
 one_source text one other ones others a b =
@@ -87,7 +85,7 @@ refusal_by_found : (rule : Rule) (system : System) (refusal : Refusal) (later : 
 unfolding Within AreLines
 refusal_by_found rule system refusal later [] within behind is = behind is
 refusal_by_found rule system refusal later (at ∷ others) within behind is =
-    let same : at ≡ refusal.at = ap (λ (one : Refusal). one.at) (some_is (record { by = rule.number; at = at }) refusal is) in
+    let same : at ≡ refusal.at = ap (λ (one : Refusal). one.at) (some_same (record { by = rule.number; at = at }) refusal is) in
     let low = within.0 in
     let high = within.1 in
     (omega (arith, same, low), omega (arith, same, high))
@@ -108,7 +106,7 @@ number_at at = at.0
 found_by : (test : ℕ × Site → Bool) (from : ℕ) (site : Site) (all : List Site) (item : ℕ) (told : Bool) → test (from, site) ≡ told → (option_map number_at (find test (enumerate_from (from + 1) all)) ≡ Some item → (from + 1 ≤ item) × (item < from + 1 + length all)) → option_map number_at (find test (enumerate_from from (site ∷ all))) ≡ Some item → (from ≤ item) × (item < from + suc (length all))
 found_by test from site all item true holds later is =
     let here : find test (enumerate_from from (site ∷ all)) ≡ Some (from, site) = rw holds refl in
-    let same : from ≡ item = some_is from item (sym (ap (option_map number_at) here) ∙ is) in
+    let same : from ≡ item = some_same from item (sym (ap (option_map number_at) here) ∙ is) in
     (omega (arith, same), omega (arith, same))
 found_by test from site all item false fails later is =
     let there : find test (enumerate_from from (site ∷ all)) ≡ find test (enumerate_from (from + 1) all) = rw fails refl in
@@ -193,8 +191,8 @@ none_refused system refusal well found = let none = (well_formed system).0 well 
 two_rules : (text : List ℕ) (line by other rule : ℕ) → BreaksRule text line by → BreaksRule text other rule → (line ≡ other) × (by ≡ rule)
 two_rules text line by other rule a b =
     let same = one_source text a.system b.system a.lines b.lines a.reads b.reads in
-    let one : a.refusal ≡ b.refusal = some_is a.refusal b.refusal (sym a.found ∙ ap refusal_of same.0 ∙ b.found) in (
-      some_is line other (sym a.at ∙ ap (λ lines. source_line lines a.refusal.at) same.1 ∙ ap (λ (r : Refusal). source_line b.lines r.at) one ∙ b.at),
+    let one : a.refusal ≡ b.refusal = some_same a.refusal b.refusal (sym a.found ∙ ap refusal_of same.0 ∙ b.found) in (
+      some_same line other (sym a.at ∙ ap (λ lines. source_line lines a.refusal.at) same.1 ∙ ap (λ (r : Refusal). source_line b.lines r.at) one ∙ b.at),
       a.by ∙ ap (λ (r : Refusal). r.by) one ∙ sym b.by,
     )
 
@@ -202,8 +200,8 @@ two_cycles : CyclesAreJudgedOnce → (text : List ℕ) (line by other rule : ℕ
 two_cycles cycles text line by other rule a b =
     let same = one_source text a.system b.system a.lines b.lines a.reads b.reads in
     let port : a.port ≡ b.port = cycles.one_port b.system a.port b.port (subst (λ (s : System). IsFirstWithoutOrder s a.port) same.0 a.first) b.first in
-    let item : a.item ≡ b.item = some_is a.item b.item (sym a.declared ∙ ap (λ (s : System). line_of_output s a.port) same.0 ∙ ap (line_of_output b.system) port ∙ b.declared) in (
-      some_is line other (sym a.at ∙ ap (λ lines. source_line lines a.item) same.1 ∙ ap (source_line b.lines) item ∙ b.at),
+    let item : a.item ≡ b.item = some_same a.item b.item (sym a.declared ∙ ap (λ (s : System). line_of_output s a.port) same.0 ∙ ap (line_of_output b.system) port ∙ b.declared) in (
+      some_same line other (sym a.at ∙ ap (λ lines. source_line lines a.item) same.1 ∙ ap (source_line b.lines) item ∙ b.at),
       a.by ∙ sym b.by,
     )
 

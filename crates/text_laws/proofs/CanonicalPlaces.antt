@@ -80,7 +80,7 @@ none_of_optional test forms part none (Some one) = ap (list_any test) (append-ni
 -- ---- In a unit
 
 -- The lines of a unit so far, where none of them begins another.
-all_in_unit : (lines : List LineForm) (before : Before) → list_any opens_unit lines ≡ false → (and_lines before lines).in_unit ≡ before.in_unit ++ lines
+pub all_in_unit : (lines : List LineForm) (before : Before) → list_any opens_unit lines ≡ false → (and_lines before lines).in_unit ≡ before.in_unit ++ lines
 all_in_unit [] before none = sym (append-nil before.in_unit)
 all_in_unit (some ∷ lines) before none =
     let both = or_parts (opens_unit some) (list_any opens_unit lines) none in
@@ -278,7 +278,7 @@ abbrev Lack : LineForm → List Part → Type 0
 Lack key front = NonePasses (are_alike key) part_forms front
 
 -- All lines of the text so far.
-all_in_text : (lines : List LineForm) (before : Before) → (and_lines before lines).in_text ≡ before.in_text ++ lines
+pub all_in_text : (lines : List LineForm) (before : Before) → (and_lines before lines).in_text ≡ before.in_text ++ lines
 all_in_text [] before = sym (append-nil before.in_text)
 all_in_text (some ∷ lines) before = all_in_text lines (and_line before some) ∙ append_assoc before.in_text (some ∷ []) lines
 

@@ -16,13 +16,9 @@ use Rattle.unit_tree.specs.declared.line.Line.TheViews.{roll-Line}
 use Rattle.unit_tree.specs.declared.line_form.LineForm.{LineForm}
 use Rattle.unit_tree.specs.declared.line_form.LineForm.TheVariants as form
 use Rattle.unit_tree.proofs.FoldLemmas.{fold-Assign, fold-If, fold-Repeat, fold-Accept}
+use Rattle.language_laws.proofs.OpenBlocks.{blocks_behind, lines_leave}
 
 -- ---- Lines in a row
-
--- The open blocks behind lines are told from those before them alone.
-pub blocks_behind : (before : Before) (lines : List LineForm) → (and_lines before lines).open_blocks ≡ fold behind before.open_blocks lines
-blocks_behind before [] = refl
-blocks_behind before (some ∷ lines) = blocks_behind (and_line before some) lines
 
 -- Three tests in a row.
 and_grouped : (one two three : Bool) → (one && (two && three)) ≡ ((one && two) && three)
@@ -286,12 +282,6 @@ is_deep : (some : Line) → IsDeep some
 is_deep = ind-Line IsDeep (λ x y is. subst (λ z. IsDeep (roll-Line z)) is (deep_node y))
 
 -- ---- Lines of a step
-
--- Lines of a step leave the blocks open that are open before them.
-pub lines_leave : (lines : List Line) (blocks : List Block) → fold behind blocks (flat_map line_forms lines) ≡ blocks
-lines_leave [] blocks = refl
-lines_leave (some ∷ lines) blocks =
-    fold-append behind blocks (line_forms some) (flat_map line_forms lines) ∙ ap (λ all. fold behind all (flat_map line_forms lines)) ((is_deep some).closed blocks) ∙ lines_leave lines blocks
 
 -- They may stand in a step exactly where the deepest has room.
 pub lines_placed : (lines : List Line) (before : Before) (blocks : List Block) → IsStep before blocks → are_placed before (flat_map line_forms lines) ≡ have_room blocks (deepest (map line_depth lines))

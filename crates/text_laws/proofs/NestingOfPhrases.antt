@@ -19,6 +19,7 @@ use Rattle.unit_tree.specs.declared.token.Token.{Token}
 use Rattle.unit_tree.proofs.FoldLemmas.{fold-Number, fold-Truth, fold-Var, fold-Time, fold-Step, fold-Unary, fold-Binary, fold-Clamp, fold-Choose, fold-Absent, fold-Present}
 use Rattle.language_laws.proofs.PhraseLaws.{right}
 use Rattle.text_laws.proofs.ShortestPhrases.{primary_stands, placed_whole, again}
+use Rattle.list_laws.proofs.Truths.{crossed}
 
 -- ---- Nesting
 
@@ -126,16 +127,9 @@ canonical_nests_less asked written so = nests_less written asked so
 abbrev NumbersAre : Phrase → Type 0
 NumbersAre written = numbers_fit written ≡ (is_unsigned (tree_of written) && is_ranged (tree_of written))
 
--- Four tests in another order.
-swapped : (a b c d : Bool) → ((a && b) && (c && d)) ≡ ((a && c) && (b && d))
-swapped true true c d = refl
-swapped true false true d = refl
-swapped true false false d = refl
-swapped false b c d = refl
-
 -- What two parts tell, and what three tell.
 two_are : (one other : Bool) (first second first_too second_too : Bool) → one ≡ (first && first_too) → other ≡ (second && second_too) → (one && other) ≡ ((first && second) && (first_too && second_too))
-two_are one other first second first_too second_too is is_too = rw (is, is_too) (swapped first first_too second second_too)
+two_are one other first second first_too second_too is is_too = rw (is, is_too) (crossed first first_too second second_too)
 
 -- With the tests of the parts in place of those of the whole.
 told_by : (fits unsigned ranged unsigned_parts ranged_parts : Bool) → unsigned ≡ unsigned_parts → ranged ≡ ranged_parts → fits ≡ (unsigned_parts && ranged_parts) → fits ≡ (unsigned && ranged)

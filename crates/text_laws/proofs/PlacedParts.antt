@@ -13,7 +13,8 @@ use Rattle.unit_tree.specs.declared.line_form.LineForm.TheVariants as form
 use Rattle.unit_tree.specs.declared.system.Instance.{Instance}
 use Rattle.unit_tree.specs.declared.system.Setting.{Setting}
 use Rattle.unit_tree.specs.declared.system.System.{System}
-use Rattle.text_laws.proofs.Depths.{and_true, blocks_behind, placed_of_two, IsStep, lines_leave, lines_placed}
+use Rattle.text_laws.proofs.Depths.{and_true, placed_of_two, IsStep, lines_placed}
+use Rattle.language_laws.proofs.OpenBlocks.{blocks_behind, lines_leave, settings_leave, part_leaves}
 
 -- ---- Which parts may stand
 
@@ -131,11 +132,6 @@ settings_placed [] before is = refl
 settings_placed (setting ∷ settings) before is =
     ap (λ all. (in_instance all && true) && are_placed (and_line before (form.Setting setting)) (map form.Setting settings)) is ∙ settings_placed settings (and_line before (form.Setting setting)) is
 
--- They leave the instance open.
-settings_leave : (settings : List Setting) → fold behind (InInstance ∷ []) (map form.Setting settings) ≡ InInstance ∷ []
-settings_leave [] = refl
-settings_leave (setting ∷ settings) = settings_leave settings
-
 -- The lines of a unit are placed exactly where its parts may stand.
 unit_placed : (name : List ℕ) (inside : List UnitPart) (before : Before) → before.open_blocks ≡ [] → are_placed before (part_forms (parts.HasUnit name inside)) ≡ inside_may_stand (and_line before (form.Unit name)) inside
 unit_placed name inside before is =
@@ -168,13 +164,6 @@ part_placed (parts.Longest seconds) before is = top_placed before (form.Longest 
 part_placed (parts.Zero count) before is = top_placed before (form.Zero count) (not (has_rival before (form.Zero count))) refl is
 part_placed (parts.Rows count) before is = top_placed before (form.Rows count) (not (has_rival before (form.Rows count))) refl is
 part_placed (parts.Samples port) before is = top_placed before (form.Sample port) true refl is
-
--- They leave no block open.
-part_leaves : (part : Part) → fold behind [] (part_forms part) ≡ []
-part_leaves (parts.HasUnit name inside) = fold-append behind unit_blocks (flat_map unit_part_forms inside) (form.End ∷ []) ∙ ap (λ all. fold behind all (form.End ∷ [])) (inside_leaves inside)
-part_leaves (parts.HasInstance instance) =
-    fold-append behind (InInstance ∷ []) (map form.Setting instance.settings) (form.End ∷ []) ∙ ap (λ all. fold behind all (form.End ∷ [])) (settings_leave instance.settings)
-part_leaves _ = refl
 
 -- The lines of parts are placed at the top exactly where the parts may stand.
 pub parts_placed : (all : List Part) (before : Before) → before.open_blocks ≡ [] → are_placed before (flat_map part_forms all) ≡ parts_may_stand before all

@@ -26,17 +26,13 @@ use Rattle.text_laws.proofs.FormsInOrder.{forms_in_order, each_in_order}
 use Rattle.text_laws.proofs.PlacedParts.{parts_keep_depth}
 use Rattle.text_laws.proofs.ShortestLines.{shortest}
 use Rattle.text_laws.proofs.WrittenForms.{IsPrintableForm, form_is_printable}
+use Rattle.list_laws.proofs.Lists.{each_so}
 
 -- The line is not blank.
 abbrev is_written : List ℕ → Bool
 is_written line = not (is_blank_line line)
 
 -- ---- Each of many
-
--- What follows from what holds of each holds of each.
-each_gives : {A : Type 0} (P Q : A → Type 0) → ((x : A) → P x → Q x) → (xs : List A) → AllByRecursion P xs → AllByRecursion Q xs
-each_gives P Q gives [] all = _
-each_gives P Q gives (x ∷ xs) all = (gives x all.0, each_gives P Q gives xs all.1)
 
 -- All pass a test where each does.
 all_tell : {A : Type 0} (test : A → Bool) (xs : List A) → AllByRecursion (λ x. test x ≡ true) xs → list_all test xs ≡ true
@@ -74,7 +70,7 @@ header_is_written line version has =
     ap not (not_blank has.tokens (code_of line) (is_blank_line line) refl (ap (starts_with (λ first. true)) has.written.spelled) has.spelled)
 
 -- Of blank lines none is left.
-none_written : (lines : List (List ℕ)) → list_all is_blank_line lines ≡ true → filter is_written lines ≡ []
+pub none_written : (lines : List (List ℕ)) → list_all is_blank_line lines ≡ true → filter is_written lines ≡ []
 none_written [] blank = refl
 none_written (line ∷ lines) blank =
     let both = and_parts (is_blank_line line) (list_all is_blank_line lines) blank in
@@ -211,14 +207,14 @@ read_is_printable text system reads =
     record {
       ranged = record {
         version = version_in_range lines (filter is_written lines) version (flat_map part_forms reads.parts) reads.lines;
-        events = λ is. none_tells is_event_port (canonical_forms system) (each_gives (IsGood version) (λ some. is_event_port some ≡ false) (λ some one. no_event_port some (one.of_version is)) (canonical_forms system) good);
-        names = each_gives (IsGood version) (λ some. AllByRecursion IsWord (names_on some)) (λ some one. each_gives IsName IsWord (λ name is. is.0) (names_on some) one.printable.names) (canonical_forms system) good;
-        numbers = each_gives (IsGood version) IsInRange (λ some one. one.printable.in_range) (canonical_forms system) good;
+        events = λ is. none_tells is_event_port (canonical_forms system) (each_so (IsGood version) (λ some. is_event_port some ≡ false) (λ some one. no_event_port some (one.of_version is)) (canonical_forms system) good);
+        names = each_so (IsGood version) (λ some. AllByRecursion IsWord (names_on some)) (λ some one. each_so IsName IsWord (λ name is. is.0) (names_on some) one.printable.names) (canonical_forms system) good;
+        numbers = each_so (IsGood version) IsInRange (λ some one. one.printable.in_range) (canonical_forms system) good;
       };
-      of_version = λ is. none_tells is_of_version_2 (canonical_forms system) (each_gives (IsGood version) (λ some. is_of_version_2 some ≡ false) (λ some one. one.of_version is) (canonical_forms system) good);
-      names = each_gives (IsGood version) (λ some. AllByRecursion IsName (names_on some)) (λ some one. one.printable.names) (canonical_forms system) good;
-      tails = all_tell (λ some. is_writable (tail_of some)) (canonical_forms system) (each_gives (IsGood version) (λ some. is_writable (tail_of some) ≡ true) (λ some one. one.printable.writable) (canonical_forms system) good);
+      of_version = λ is. none_tells is_of_version_2 (canonical_forms system) (each_so (IsGood version) (λ some. is_of_version_2 some ≡ false) (λ some one. one.of_version is) (canonical_forms system) good);
+      names = each_so (IsGood version) (λ some. AllByRecursion IsName (names_on some)) (λ some one. one.printable.names) (canonical_forms system) good;
+      tails = all_tell (λ some. is_writable (tail_of some)) (canonical_forms system) (each_so (IsGood version) (λ some. is_writable (tail_of some) ≡ true) (λ some one. one.printable.writable) (canonical_forms system) good);
       blocks = subst (λ said. list_all (λ unit. nat_le (step_depth unit.step) 16) said.units ≡ true) reads.says (parts_keep_depth version reads.parts reads.placed);
-      lines = all_tell (λ some. nat_le (length (line_text some)) line_limit) (canonical_forms system) (each_gives (IsGood version) (λ some. nat_le (length (line_text some)) line_limit ≡ true) (λ some one. one.short) (canonical_forms system) good);
+      lines = all_tell (λ some. nat_le (length (line_text some)) line_limit) (canonical_forms system) (each_so (IsGood version) (λ some. nat_le (length (line_text some)) line_limit ≡ true) (λ some one. one.short) (canonical_forms system) good);
       text = let short = reads.short in omega (arith, within, short);
     }

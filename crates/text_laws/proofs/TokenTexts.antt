@@ -22,6 +22,7 @@ use Rattle.text_tokens.proofs.TableLemmas.{keyword_is_word, is_symbol_text, symb
 use Rattle.text_laws.proofs.TokensApart.{can_grow, is_growth, is_point, starts_with, reads_on, are_apart, form_is_apart}
 use Rattle.text_laws.proofs.FitTokens.{IsFit, AreFit, form_fits}
 use Rattle.text_laws.proofs.SpelledBytes.{all_pass, word_bytes, keyword_bytes}
+use Rattle.text_tokens.proofs.TokenLemmas.{symbol_length}
 
 -- ---- One token
 
@@ -54,16 +55,9 @@ token_is_spelled (token.Symbol spelled) fits = refl
 
 -- ---- Symbols
 
--- A text that may be a symbol has one byte or two.
-text_size : (text : List ℕ) → is_symbol_text text ≡ true → (0 < length text) × (length text ≤ 2)
-text_size [] is = absurd (cc)
-text_size (first ∷ []) is = (omega arith, omega arith)
-text_size (first ∷ second ∷ []) is = (omega arith, omega arith)
-text_size (first ∷ second ∷ third ∷ others) is = absurd (cc)
-
 -- A symbol has one byte or two.
 symbol_size : (some : Symbol) → (0 < length (symbol_text some)) × (length (symbol_text some) ≤ 2)
-symbol_size some = text_size (symbol_text some) (symbol_is_text some)
+symbol_size some = symbol_length (symbol_text some) (symbol_is_text some)
 
 -- The second bytes of symbols: `=` and `>`.
 abbrev grows : ℕ → Bool

@@ -342,7 +342,7 @@ number_at_is x xs first rest digit e =
     let behind = fraction_of (drop n (x ∷ xs)) in
     number_at_case x xs (take n (x ∷ xs)) (drop n (x ∷ xs)) behind.0 behind.1 first rest (begins_with is_word_byte behind.1) (sym (take-append-drop n (x ∷ xs))) (front_passes is_digit (x ∷ xs)) (omega (arith, length-prefix_len is_digit (x ∷ xs), size)) (fraction_is (drop n (x ∷ xs))) refl e
 
-symbol_length : (text : List ℕ) → is_symbol_text text ≡ true → (0 < length text) × (length text ≤ 2)
+pub symbol_length : (text : List ℕ) → is_symbol_text text ≡ true → (0 < length text) × (length text ≤ 2)
 symbol_length [] is = absurd cc
 symbol_length (x ∷ []) is = (omega arith, omega arith)
 symbol_length (x ∷ y ∷ []) is = (omega arith, omega arith)

@@ -24,7 +24,8 @@ use Rattle.unit_tree.specs.Successor.{first_told, max_end_of}
 use Rattle.unit_tree.specs.declared.ending.Ending.{Ending}
 use Rattle.unit_tree.specs.declared.ending.Ending.TheVariants.{UnitFault}
 use Rattle.unit_tree.specs.declared.ending.Place.TheVariants as call
-use Rattle.run_laws.proofs.PlaceOrders.{zip_at, at_place}
+use Rattle.list_laws.proofs.Members.{at_place}
+use Rattle.list_laws.proofs.Pairs.{zip_at}
 
 -- ---- An end that is told of one item after the other
 

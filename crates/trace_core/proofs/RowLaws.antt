@@ -12,7 +12,7 @@ use Rattle.trace_core.specs.Seats.{AreSaved, saved}
 use Rattle.trace_core.specs.declared.seat.Seat.{Seat}
 use Rattle.unit_tree.specs.Compositions.{Composition}
 use Rattle.unit_tree.specs.Trace.{Stand, Row, row_at, row_unless}
-use Rattle.run_laws.proofs.PlaceOrders.{zip_at}
+use Rattle.list_laws.proofs.Pairs.{zip_at}
 
 -- ---- The words of all outputs
 

@@ -18,7 +18,7 @@ use Rattle.unit_tree.specs.Successor.{Position, agreed, ends, is_redone, propose
 use Rattle.unit_tree.specs.Trace.{Stand, Goes, IsGoing, IsStand, HasWords, AreWordsOf, steps_there, cells_of_trial, cells_of_redo, cells_at}
 use Rattle.unit_tree.specs.declared.ending.Ending.{Ending}
 use Rattle.run_laws.proofs.RunSteps.{step_is_right}
-use Rattle.run_laws.proofs.RunTraces.{one_each}
+use Rattle.list_laws.proofs.Pairs.{one_each}
 
 -- ---- How many cells there may be
 

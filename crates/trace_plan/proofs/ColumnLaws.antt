@@ -26,11 +26,12 @@ use Rattle.unit_tree.specs.declared.system.PortName.{PortName}
 use Rattle.unit_tree.specs.declared.system.System.{System}
 use Rattle.unit_tree.specs.declared.unit.Output.{Output}
 use Rattle.unit_tree.specs.declared.unit.Unit.{Unit}
-use Rattle.run_laws.proofs.PlaceOrders.{at_place, has_at}
 use Rattle.language_laws.proofs.PlainNames.{each_has}
 use Rattle.run_laws.proofs.PlainOrders.{named_has}
 use Rattle.run_laws.proofs.SeenLaws.{get_fits}
 use Rattle.trace_plan.proofs.ShownOutputs.{shown_of, unit_limited}
+use Rattle.list_laws.proofs.Members.{has_at, at_place}
+use Rattle.list_laws.proofs.Options.{some_same}
 
 -- ---- Each column by its port
 
@@ -74,9 +75,6 @@ module _ (outlet : Outlet) (word : ℤ) where
   fits_by : (inputs : Option (List ℤ)) → option_and_then result_ok (option_map (λ words. get_of outlet.standing.0.component outlet.standing.1 words outlet.output) inputs) ≡ Some word → is_word_of outlet.output.ty word ≡ true
   fits_by None is = absurd (cc)
   fits_by (Some words) is = get_fits outlet.standing.0.component outlet.standing.1 words outlet.output word (ok_by (get_of outlet.standing.0.component outlet.standing.1 words outlet.output) word is)
-
-some_same : {A : Type 0} (one other : A) → Some one ≡ Some other → one ≡ other
-some_same one other is = cc
 
 -- What the type of a place says of the word there.
 module _ (run : Composition) (states : List (List ℤ)) (ports : Ports) (each_state : length states ≡ length run.members) (assigned : IsAssignment run states ports) (all : list_all is_some ports ≡ true) where

@@ -19,8 +19,9 @@ use Rattle.unit_tree.specs.declared.system.PortName.{PortName}
 use Rattle.unit_tree.specs.declared.system.System.{System}
 use Rattle.unit_tree.specs.declared.unit.Output.{Output}
 use Rattle.unit_tree.specs.declared.unit.Unit.{Unit}
-use Rattle.language_laws.proofs.NameLaws.{Has, NamesDiffer, found}
+use Rattle.language_laws.proofs.NameLaws.{NamesDiffer, found}
 use Rattle.run_laws.proofs.PlaceOrders.{Known, all_known, named_holds, plain_port, ports_plain, outputs_apart, place_is}
+use Rattle.list_laws.proofs.Members.{Has}
 
 -- ---- Lists
 

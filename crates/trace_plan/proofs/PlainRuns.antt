@@ -23,8 +23,8 @@ use Rattle.unit_tree.specs.declared.system.Instance.{Instance}
 use Rattle.unit_tree.specs.declared.system.System.{System}
 use Rattle.unit_tree.specs.declared.unit.Unit.{Unit}
 use Rattle.run_laws.proofs.PlainOrders.{plain_of, plain_named, named_has}
-use Rattle.language_laws.proofs.NameLaws.{Has}
 use Rattle.trace_plan.proofs.SystemLines.{unit_decimals, zero_count, row_count, stop_in_range, longest_in_range, stop_length, longest_length, instance_there, units_declared, few_instances}
+use Rattle.list_laws.proofs.Members.{Has}
 
 -- ---- The plain form keeps the numbers and the instances
 

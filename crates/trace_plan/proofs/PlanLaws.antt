@@ -12,7 +12,8 @@ use Rattle.trace_plan.specs.Plans.{Planned}
 use Rattle.trace_plan.specs.declared.fitting.Fitted.{Fitted}
 use Rattle.trace_plan.specs.declared.plan.Plan.TheInside.{Inside}
 use Rattle.unit_tree.specs.Compositions.{Member}
-use Rattle.run_laws.proofs.PlaceOrders.{zip_at, at_place}
+use Rattle.list_laws.proofs.Members.{at_place}
+use Rattle.list_laws.proofs.Pairs.{zip_at}
 
 module _ (plan : Inside) (keeps : IsPlan plan) (seen : Planned) (is : planned plan ≡ seen) where
   each : AllZip IsFitted seen.run.members plan.fitted.items

@@ -23,7 +23,7 @@ use Rattle.unit_tree.specs.declared.unit.Output.{Output}
 use Rattle.unit_tree.specs.declared.unit.Param.{Param}
 use Rattle.unit_tree.specs.declared.unit.Unit.{Unit}
 use Rattle.run_laws.proofs.EventLaws.{version_1_without_events, plain_form_1, plain_of_without_events, one_or_two}
-use Rattle.language_laws.proofs.NameLaws.{Has, Distinct, NamesDiffer, PortsDiffer, ports_differ, names_differ, found, has_front, has_map}
+use Rattle.language_laws.proofs.NameLaws.{NamesDiffer, PortsDiffer, ports_differ, names_differ, found}
 use Rattle.run_laws.proofs.PlaceOrders.{has_in}
 use Rattle.language_laws.proofs.PlainNames.{each_has, map_has, of_output, of_event, plain_port_names}
 use Rattle.run_laws.proofs.PlainOrders.{Declared, declared, output_is, named_has, plain_of, plain_one, ones, twos, plain_ports, becomes, plain_unit_is, plain_names_differ}
@@ -31,9 +31,8 @@ use Rattle.run_laws.proofs.PortLaws.{output_has}
 use Rattle.trace_plan.proofs.PlacedOutputs.{Placed, placed}
 use Rattle.trace_plan.proofs.PlainRuns.{alike}
 use Rattle.trace_plan.proofs.SystemLines.{few_instances}
-
-some_same : {A : Type 0} (one other : A) → Some one ≡ Some other → one ≡ other
-some_same one other is = cc
+use Rattle.list_laws.proofs.Members.{Has, Distinct, has_front, has_map}
+use Rattle.list_laws.proofs.Options.{some_same}
 
 -- ---- What an output is in what is run
 

@@ -22,9 +22,11 @@ use Rattle.unit_tree.specs.declared.line_form.LineForm.TheVariants as form
 use Rattle.unit_tree.specs.declared.system.Instance.{Instance}
 use Rattle.unit_tree.specs.declared.system.System.{System}
 use Rattle.unit_tree.specs.declared.unit.Unit.{Unit}
-use Rattle.language_laws.proofs.NameLaws.{Has, has_front, has_behind, all_keep, or_false, Hold, instance_head, kept_parts, not_false}
+use Rattle.language_laws.proofs.NameLaws.{all_keep, Hold, instance_head, kept_parts, not_false}
 use Rattle.language_laws.proofs.PlainNames.{each_has, has_flat, unit_line}
 use Rattle.language_laws.proofs.SiteLaws.{line_at, sites_are}
+use Rattle.list_laws.proofs.Members.{Has, has_front, has_behind}
+use Rattle.list_laws.proofs.Truths.{or_false}
 
 -- ---- A rule that looks at the line alone
 

@@ -17,6 +17,7 @@ use Rattle.unit_tree.specs.Compositions.{Member, Composition}
 use Rattle.unit_tree.specs.Given.{given_by, IsInputWord}
 use Rattle.unit_tree.specs.declared.unit.Input.{Input}
 use Rattle.unit_tree.specs.declared.unit.Output.{Output}
+use Rattle.list_laws.proofs.Pairs.{zip_set}
 
 abbrev pub RunsMember : Member → Running → Type 0
 RunsMember member unit = IsRunOf member.component unit
@@ -81,13 +82,6 @@ unit_at (member ∷ members) (first ∷ units) (suc instance) unit runs within i
     record { member = later.member; member_is = later.member_is; state_is = later.state_is; inputs_are = later.inputs_are; runs = later.runs }
 
 -- ---- One unit changes
-
-zip_set : {A B : Type 0} (R : A → B → Type 0) (xs : List A) (ys : List B) (k : ℕ) (default y : B) → AllZip R xs ys → ((x : A) → R x (get_or ys k default) → R x y) → AllZip R xs (set ys k y)
-zip_set R [] [] k default y all one = tt
-zip_set R [] (first ∷ ys) k default y all one = absurd all
-zip_set R (x ∷ xs) [] k default y all one = absurd all
-zip_set R (x ∷ xs) (first ∷ ys) zero default y all one = (one x all.0, all.1)
-zip_set R (x ∷ xs) (first ∷ ys) (suc k) default y all one = (all.0, zip_set R xs ys k default y all.1 one)
 
 -- The unit has as many words as it had, of the same image.
 pub record KeepsSizes (old new : Running) : Type 0 where

@@ -29,6 +29,7 @@ use Rattle.unit_tree.specs.declared.system.System.{System}
 use Rattle.unit_tree.specs.declared.system.Wire.{Wire}
 use Rattle.unit_tree.specs.declared.unit.Unit.{Unit}
 use Rattle.language_laws.proofs.BlockLaws.{all_step_lines}
+use Rattle.std.proofs.lemmas.Bool.{and_parts}
 
 or_nothing : (met : Bool) → met ≡ (met || false)
 or_nothing true = refl
@@ -37,10 +38,6 @@ or_nothing false = refl
 or_twice : (met : Bool) → met ≡ (met || (met || false))
 or_twice true = refl
 or_twice false = refl
-
-and_parts : (one other : Bool) → (one && other) ≡ true → (one ≡ true) × (other ≡ true)
-and_parts true other is = (refl, is)
-and_parts false other is = absurd (cc)
 
 module _ (system : System) (scope : Scope) where
   -- How many lines of the plain form that some lines become are alike to this one.

@@ -7,6 +7,7 @@ use Rattle.std.specs.Cmp.Lexicographic.{bytes_decides, nat_list_eq_equiv}
 use Rattle.unit_check.specs.PortTables.{the_first}
 use Rattle.unit_tree.specs.Names.{same_port}
 use Rattle.unit_tree.specs.declared.system.PortName.{PortName}
+use Rattle.std.proofs.lemmas.Bool.{and_parts}
 
 abbrev pub Key : Type 0
 Key = Bor (List ℕ) × Bor (List ℕ)
@@ -18,13 +19,9 @@ names_port port key = bytes_eq port.instance key.0.now && bytes_eq port.port key
 abbrev pub same_key : Key → Key → Bool
 same_key one other = bytes_eq one.0.now other.0.now && bytes_eq one.1.now other.1.now
 
-both : (one other : Bool) → (one && other) ≡ true → (one ≡ true) × (other ≡ true)
-both true other is = (refl, is)
-both false other is = absurd (cc)
-
 both_is : (one other first second : List ℕ) → (bytes_eq one first && bytes_eq other second) ≡ true → (one ≡ first) × (other ≡ second)
 both_is one other first second is =
-    let parts = both (bytes_eq one first) (bytes_eq other second) is in
+    let parts = and_parts (bytes_eq one first) (bytes_eq other second) is in
     ((bytes_decides one first).0 parts.0, (bytes_decides other second).0 parts.1)
 
 pub turned : (one other : PortName) → same_port one other ≡ same_port other one

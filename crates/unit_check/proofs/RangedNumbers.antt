@@ -30,20 +30,13 @@ use Rattle.unit_tree.specs.declared.unit.Unit.{Unit}
 use Rattle.language_laws.proofs.BlockLaws.{canonical_are, parts_behind, unit_part}
 use Rattle.language_laws.proofs.PartLaws.{grouped_ten}
 use Rattle.language_laws.proofs.SiteLaws as site_laws
+use Rattle.list_laws.proofs.Lists.{of_mapped, of_flat}
 
 -- ---- Lists
 
 all_parts : {A : Type 0} (P : A → Type 0) (front behind : List A) → AllByRecursion P (front ++ behind) → AllByRecursion P front × AllByRecursion P behind
 all_parts P [] behind all = (_, all)
 all_parts P (x ∷ front) behind all = let rest = all_parts P front behind all.1 in ((all.0, rest.0), rest.1)
-
-all_from_map : {A B : Type 0} (P : B → Type 0) (f : A → B) (xs : List A) → AllByRecursion P (map f xs) → AllByRecursion (λ x. P (f x)) xs
-all_from_map P f [] all = _
-all_from_map P f (x ∷ xs) all = (all.0, all_from_map P f xs all.1)
-
-all_from_flat : {A B : Type 0} (P : B → Type 0) (f : A → List B) (xs : List A) → AllByRecursion P (flat_map f xs) → AllByRecursion (λ x. AllByRecursion P (f x)) xs
-all_from_flat P f [] all = _
-all_from_flat P f (x ∷ xs) all = let here = all_parts P (f x) (flat_map f xs) all in (here.0, all_from_flat P f xs here.1)
 
 abbrev OfSome : {A : Type 0} → (A → Type 0) → Option A → Type 0
 OfSome P None = ⊤
@@ -161,4 +154,4 @@ times_are system units _ ranged = refl
 -- ---- Lines
 
 pub lines_in_range : (system : System) → IsRanged system → AllByRecursion (λ site. IsInRange site.line) (sites_of system)
-lines_in_range system ranged = all_from_map IsInRange site_laws.line_at (sites_of system) (subst (AllByRecursion IsInRange) (sym (site_laws.sites_are system)) ranged.numbers)
+lines_in_range system ranged = of_mapped IsInRange site_laws.line_at (sites_of system) (subst (AllByRecursion IsInRange) (sym (site_laws.sites_are system)) ranged.numbers)

@@ -12,6 +12,7 @@ use Rattle.unit_tree.specs.declared.line_form.LineForm.TheVariants as form
 use Rattle.unit_tree.specs.declared.system.Instance.{Instance}
 use Rattle.unit_tree.specs.declared.system.System.{System}
 use Rattle.unit_tree.specs.declared.unit.Unit.{Unit}
+use Rattle.list_laws.proofs.Lists.{each_so}
 
 pub all_both : {A : Type 0} (P : A → Type 0) (front behind : List A) → AllByRecursion P front → AllByRecursion P behind → AllByRecursion P (front ++ behind)
 all_both P [] behind one other = other
@@ -24,10 +25,6 @@ all_each P holds (x ∷ xs) = (holds x, all_each P holds xs)
 pub all_map : {A B : Type 0} (P : B → Type 0) (f : A → B) → ((x : A) → P (f x)) → (xs : List A) → AllByRecursion P (map f xs)
 all_map P f holds [] = _
 all_map P f holds (x ∷ xs) = (holds x, all_map P f holds xs)
-
-pub all_leads : {A : Type 0} (P Q : A → Type 0) → ((x : A) → P x → Q x) → (xs : List A) → AllByRecursion P xs → AllByRecursion Q xs
-all_leads P Q leads [] all = _
-all_leads P Q leads (x ∷ xs) all = (leads x all.0, all_leads P Q leads xs all.1)
 
 pub all_two : {A : Type 0} (P Q R : A → Type 0) → ((x : A) → P x → Q x → R x) → (xs : List A) → AllByRecursion P xs → AllByRecursion Q xs → AllByRecursion R xs
 all_two P Q R leads [] one other = _

@@ -7,7 +7,7 @@ use Rattle.unit_check.proofs.WalksOfParts.{system_goes}
 use Rattle.unit_check.proofs.CountsByPlace.{InUnit, unit_agrees, exceeds_is}
 use Rattle.unit_check.proofs.PlainMeasures.{depth_is, cost_is}
 use Rattle.unit_check.proofs.RangedNumbers.{UnitInRange, units_in_range, literal_is, times_are, lines_in_range}
-use Rattle.unit_check.proofs.SitePlaces.{all_both, all_leads, all_two, Inside, inside_system, inside_instance, Stands, all_stand}
+use Rattle.unit_check.proofs.SitePlaces.{all_both, all_two, Inside, inside_system, inside_instance, Stands, all_stand}
 use Rattle.unit_check.proofs.SystemLines.{instance_block, whole, sites_are}
 use Rattle.unit_check.specs.Rules.{Says, breaks_of, defined, test_of}
 use Rattle.unit_check.specs.Walks.{test_at, system_walk}
@@ -22,6 +22,7 @@ use Rattle.unit_tree.specs.declared.line_form.LineForm.{LineForm}
 use Rattle.unit_tree.specs.declared.system.Instance.{Instance}
 use Rattle.unit_tree.specs.declared.system.System.{System}
 use Rattle.language_laws.proofs.BlockLaws.{stands_behind}
+use Rattle.list_laws.proofs.Lists.{each_so as all_leads}
 
 -- ---- What is known of every line
 

@@ -35,7 +35,7 @@ use Rattle.unit_tree.specs.declared.system.System.{System}
 use Rattle.unit_tree.specs.declared.unit.EventOut.{EventOut}
 use Rattle.unit_tree.specs.declared.unit.Output.{Output}
 use Rattle.unit_tree.specs.declared.unit.Unit.{Unit}
-use Rattle.language_laws.proofs.NameLaws.{Has, has_either, or_false, Hold}
+use Rattle.language_laws.proofs.NameLaws.{Hold}
 use Rattle.language_laws.proofs.PlainNames.{map_has, flat_has}
 use Rattle.unit_exec.proofs.Declarations.{Declared, OfParam, OfState, OfLocal, OfInput, OfEventIn, OfOutput, OfEventOut, line_of, variable_of, Declares, AtLine, unit_limited}
 use Rattle.unit_exec.proofs.EventChoices.{word_names, word_events, presence_names, presence_events, word_ranged, presence_ranged, plain_ranged, presence_kinded}
@@ -45,18 +45,13 @@ use Rattle.unit_exec.proofs.LinesOfRuns.{FormRight, lines_right}
 use Rattle.unit_exec.proofs.NamesOfUnits.{passes_at, Comes, Tells, from_run, Usable, usable_shared, usable_step, name_kind, presence_kind, output_has, event_out_has}
 use Rattle.unit_exec.proofs.TargetsOfUnits.{target_right}
 use Rattle.unit_exec.proofs.UnitSites.{Passes}
+use Rattle.list_laws.proofs.Members.{Has, has_either, all_has}
+use Rattle.list_laws.proofs.Truths.{or_false, lt_not_told, not_false}
 
 -- ---- Tests
 
-at_most : (limit count : ℕ) → nat_lt limit count ≡ false → count ≤ limit
-at_most limit count is = grind (arith, nat_tests)
-
 abbrev not_broken : (one other : Bool) → (one || other) ≡ false → (one ≡ false) × (other ≡ false)
 not_broken one other is = or_false one other is
-
-denied : (b : Bool) → not b ≡ false → b ≡ true
-denied true is = refl
-denied false is = absurd (cc)
 
 each_among : (names used : List (List ℕ)) → are_among names used ≡ true → (name : List ℕ) → Has used name → is_among names name ≡ true
 each_among names [] all name has = absurd has
@@ -70,10 +65,6 @@ pub record HasSome {A : Type 0} (given : Option A) : Type 0 where
 kind_there : (given asked : Option Kind) → is_of_kind given asked ≡ true → HasSome given
 kind_there None asked is = absurd (cc)
 kind_there (Some one) asked is = record { one = one; is = refl }
-
-all_of : {A : Type 0} (P : A → Type 0) (xs : List A) → ((x : A) → Has xs x → P x) → AllByRecursion P xs
-all_of P [] each = tt
-all_of P (x ∷ xs) each = (each x (inl refl), all_of P xs (λ y has. each y (inr has)))
 
 module _ (system : System) (unit : Unit) (declared : Declares (Passes system) unit) (params : List ℤ) (each_word : length params ≡ length unit.params) where
   abbrev run : Unit
@@ -105,11 +96,11 @@ module _ (system : System) (unit : Unit) (declared : Declares (Passes system) un
   right : (value : Expr) (kind : Kind) → kind_of_expression value (kinds_in unit) ≡ Some kind → Keeps value → is_ranged value ≡ true → nat_lt 32 (depth_of (plain_expression value)) ≡ false → is_right_in scope (plain_expression value) ≡ true
   right value kind is uses ranged low =
       let code = kinded scope (kinds_in unit) Use Event (name_kind system unit declared params each_word) (presence_kind system unit declared params each_word) value kind is uses in
-      both _ _ code.agrees (both _ _ (plain_ranged value ∙ ranged) (le_test (depth_of (plain_expression value)) 32 (at_most 32 (depth_of (plain_expression value)) low)))
+      both _ _ code.agrees (both _ _ (plain_ranged value ∙ ranged) (le_test (depth_of (plain_expression value)) 32 (lt_not_told 32 (depth_of (plain_expression value)) low)))
 
   callable : (value : Expr) (kind : Kind) → kind_of_expression value (kinds_in unit) ≡ Some kind → Keeps value → is_ranged value ≡ true → nat_lt 32 (depth_of (plain_expression value)) ≡ false → nat_lt 100000 (expression_call_cost (plain_expression value)) ≡ false → IsCallable scope (plain_expression value)
   callable value kind is uses ranged low cheap =
-      record { right = right value kind is uses ranged low; cheap = at_most 100000 (expression_call_cost (plain_expression value)) cheap }
+      record { right = right value kind is uses ranged low; cheap = lt_not_told 100000 (expression_call_cost (plain_expression value)) cheap }
 
   -- ---- Outputs
 
@@ -129,8 +120,8 @@ module _ (system : System) (unit : Unit) (declared : Declares (Passes system) un
       let at = passes.1 in
       let names = not_broken (not (keeps_to (output_uses unit) output.value)) _ at.named in
       let wrong = not_broken (not (has_kind (Some (kind_of output.ty)) output.value (kinds_in unit))) _ at.kinded in
-      let there = kind_there (kind_of_expression output.value (kinds_in unit)) (Some (kind_of output.ty)) (denied _ wrong.0) in record {
-        callable = callable output.value there.one there.is (shared_keeps output.value (denied _ names.0)) at.in_range.1 (not_broken _ _ at.low).0 (not_broken _ _ at.cheap).0;
+      let there = kind_there (kind_of_expression output.value (kinds_in unit)) (Some (kind_of output.ty)) (not_false _ wrong.0) in record {
+        callable = callable output.value there.one there.is (shared_keeps output.value (not_false _ names.0)) at.in_range.1 (not_broken _ _ at.low).0 (not_broken _ _ at.cheap).0;
         typed = at.in_range.0;
       }
 
@@ -138,10 +129,10 @@ module _ (system : System) (unit : Unit) (declared : Declares (Passes system) un
   event_runs event passes output has =
       let at = passes.1 in
       let names = not_broken (not (keeps_to (output_uses unit) event.value)) _ at.named in
-      let uses = shared_keeps event.value (denied _ names.0) in
+      let uses = shared_keeps event.value (not_false _ names.0) in
       let word : Expr = word_expression_of event.ty event.value in
       let wrong = not_broken (not (has_kind (Some (kind_of event.ty)) word (kinds_in unit))) _ at.kinded in
-      let there = kind_there (kind_of_expression word (kinds_in unit)) (Some (kind_of event.ty)) (denied _ wrong.0) in
+      let there = kind_there (kind_of_expression word (kinds_in unit)) (Some (kind_of event.ty)) (not_false _ wrong.0) in
       let low_one = not_broken _ _ at.low in
       let low_two = not_broken _ _ low_one.1 in
       let cheap_one = not_broken _ _ at.cheap in
@@ -202,16 +193,16 @@ module _ (system : System) (unit : Unit) (declared : Declares (Passes system) un
   form_right (form.Assign target value) at =
       let passes = at.1 in
       let names = not_broken (is_none (type_in unit target)) _ passes.named in
-      let kind = denied _ (not_broken _ _ passes.kinded).0 in (
-        step_right value (kinds_in unit target) (denied _ names.1) kind passes.in_range.1 (not_broken _ _ passes.low).0,
+      let kind = not_false _ (not_broken _ _ passes.kinded).0 in (
+        step_right value (kinds_in unit target) (not_false _ names.1) kind passes.in_range.1 (not_broken _ _ passes.low).0,
         target_right system unit declared params each_word target names.0 passes.writable,
       )
   form_right (form.If cond) at =
       let passes = at.1 in
-      step_right cond (Some kinds.Bool) (denied _ passes.named) (denied _ (not_broken _ _ passes.kinded).0) passes.in_range.1 (not_broken _ _ passes.low).0
+      step_right cond (Some kinds.Bool) (not_false _ passes.named) (not_false _ (not_broken _ _ passes.kinded).0) passes.in_range.1 (not_broken _ _ passes.low).0
   form_right (form.Accept value) at =
       let passes = at.1 in
-      step_right value (Some kinds.Int) (denied _ passes.named) (denied _ (not_broken _ _ passes.kinded).0) passes.in_range.1 (not_broken _ _ passes.low).0
+      step_right value (Some kinds.Int) (not_false _ passes.named) (not_false _ (not_broken _ _ passes.kinded).0) passes.in_range.1 (not_broken _ _ passes.low).0
   form_right (form.Repeat count) at = at.1.in_range.0
   form_right (form.Header version) at = tt
   form_right (form.Unit name) at = tt
@@ -257,8 +248,8 @@ module _ (system : System) (unit : Unit) (declared : Declares (Passes system) un
   max_runs earlier None rest hold = (tt, record { earlier = earlier; hold = hold })
   max_runs earlier (Some value) rest hold =
       let at = hold.0 in
-      let there = kind_there (kind_of_expression value (kinds_in unit)) (Some kinds.Int) (denied _ (not_broken _ _ at.kinded).0) in (
-        callable value there.one there.is (max_keeps value (denied _ at.named)) at.in_range.1 (not_broken _ _ at.low).0 (not_broken _ _ at.cheap).0,
+      let there = kind_there (kind_of_expression value (kinds_in unit)) (Some kinds.Int) (not_false _ (not_broken _ _ at.kinded).0) in (
+        callable value there.one there.is (max_keeps value (not_false _ at.named)) at.in_range.1 (not_broken _ _ at.low).0 (not_broken _ _ at.cheap).0,
         record { earlier = earlier ++ (form.Max value ∷ []); hold = hold.2 },
       )
 
@@ -268,7 +259,7 @@ module _ (system : System) (unit : Unit) (declared : Declares (Passes system) un
       let cheap = (not_broken _ _ hold.0.cheap).0 in
       record {
         right = lines_right scope lines (forms_right [] (flat_map line_forms lines) hold.1);
-        cheap = at_most 100000 (step_call_cost (map plain_line lines)) (ap (λ (s : Option (List Line)). nat_lt 100000 (step_cost s)) (sym is) ∙ cheap);
+        cheap = lt_not_told 100000 (step_call_cost (map plain_line lines)) (ap (λ (s : Option (List Line)). nat_lt 100000 (step_cost s)) (sym is) ∙ cheap);
       }
 
   pub compilable : IsCompilable run params
@@ -281,9 +272,9 @@ module _ (system : System) (unit : Unit) (declared : Declares (Passes system) un
         states = limits.states;
         inputs = limits.inputs;
         locals = limits.locals;
-        types = all_of (λ (v : Variable). AreDecimals v.ty) (variables_of run) typed;
-        output_types = all_of (λ (output : Output). AreDecimals output.ty) run.outputs (λ output has. (outputs_run output has).typed);
-        values = all_of (λ (output : Output). IsCallable scope output.value) run.outputs (λ output has. (outputs_run output has).callable);
+        types = all_has (λ (v : Variable). AreDecimals v.ty) (variables_of run) typed;
+        output_types = all_has (λ (output : Output). AreDecimals output.ty) run.outputs (λ output has. (outputs_run output has).typed);
+        values = all_has (λ (output : Output). IsCallable scope output.value) run.outputs (λ output has. (outputs_run output has).callable);
         max = tail.0;
         step = step_runs tail.1.earlier unit.step refl tail.1.hold;
       }

@@ -24,9 +24,9 @@ use Rattle.unit_tree.specs.declared.expr.Expr.TheViews.{roll-Expr}
 use Rattle.unit_tree.specs.declared.expr.Expr.TheOpen.{Expr-F}
 use Rattle.unit_tree.proofs.FoldLemmas.{fold-Number, fold-Truth, fold-Unary, fold-Choose}
 use Rattle.language_laws.proofs.KindLemmas.{kind-Truth, kind-Choose}
-use Rattle.language_laws.proofs.NameLaws.{Has, has_front, has_behind, has_either}
 use Rattle.language_laws.proofs.PlainLemmas.{same, choices-Number, choices-Truth, choices-Var, choices-Time, choices-Step, choices-Unary, choices-Binary, choices-Clamp, choices-Choose, choices-Absent, choices-Present}
 use Rattle.unit_exec.proofs.KindsOfRuns.{step_of}
+use Rattle.list_laws.proofs.Members.{Has, has_front, has_behind, has_either}
 
 -- An expression that is one choice by itself.
 abbrev IsOther : Expr → Type 0

@@ -30,11 +30,13 @@ use Rattle.unit_tree.specs.declared.system.System.{System}
 use Rattle.unit_tree.specs.declared.unit.Output.{Output}
 use Rattle.unit_tree.specs.declared.unit.Unit.{Unit}
 use Rattle.unit_tree.proofs.FoldLemmas.{fold-Unary, fold-Binary, fold-Clamp, fold-Choose, fold-Absent, fold-Present, fold-Assign, fold-If, fold-Repeat, fold-Accept}
-use Rattle.language_laws.proofs.NameLaws.{Has, or_false, Hold}
+use Rattle.language_laws.proofs.NameLaws.{Hold}
 use Rattle.language_laws.proofs.PlainLemmas.{plain-Number, plain-Truth, plain-Var, plain-Time, plain-Step, plain-Unary, plain-Binary, plain-Clamp, plain-Choose}
 use Rattle.unit_exec.proofs.Declarations.{Declares, AtLine}
 use Rattle.unit_exec.proofs.LinesOfRuns.{all_parts}
 use Rattle.unit_exec.proofs.UnitSites.{Passes}
+use Rattle.list_laws.proofs.Members.{Has}
+use Rattle.list_laws.proofs.Truths.{or_false}
 
 -- ---- Expressions
 

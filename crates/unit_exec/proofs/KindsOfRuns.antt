@@ -25,8 +25,8 @@ use Rattle.unit_tree.specs.declared.expr.Expr.TheViews.{roll-Expr}
 use Rattle.unit_tree.specs.declared.expr.Expr.TheOpen.{Expr-F}
 use Rattle.unit_tree.proofs.FoldLemmas.{fold-Number, fold-Truth, fold-Var, fold-Time, fold-Step, fold-Unary, fold-Binary, fold-Clamp, fold-Choose, fold-Present}
 use Rattle.language_laws.proofs.KindLemmas.{kind-Number, kind-Truth, kind-Var, kind-Time, kind-Step, kind-Unary, kind-Binary, kind-Clamp, kind-Choose, kind-Absent, kind-Present}
-use Rattle.language_laws.proofs.NameLaws.{Has, has_front, has_behind}
 use Rattle.language_laws.proofs.PlainLemmas.{plain-Number, plain-Truth, plain-Var, plain-Time, plain-Step, plain-Unary, plain-Binary, plain-Clamp, plain-Choose, plain-Present}
+use Rattle.list_laws.proofs.Members.{Has, has_front, has_behind}
 
 -- ---- Kinds that are there
 

@@ -29,10 +29,13 @@ use Rattle.unit_tree.specs.declared.unit.Output.{Output}
 use Rattle.unit_tree.specs.declared.unit.Param.{Param}
 use Rattle.unit_tree.specs.declared.unit.State.{State}
 use Rattle.unit_tree.specs.declared.unit.Unit.{Unit}
-use Rattle.language_laws.proofs.NameLaws.{Has, Distinct, has_front, has_behind, has_either, has_map, same_bytes, bytes_of, true_is_false, found}
+use Rattle.language_laws.proofs.NameLaws.{same_bytes, bytes_of, found}
 use Rattle.language_laws.proofs.PlainNames.{IsPlain, word_is_plain, map_has, flat_has, has_flat}
 use Rattle.unit_exec.proofs.Declarations.{Declared, OfParam, OfState, OfLocal, OfInput, OfEventIn, OfOutput, OfEventOut, line_of, variable_of, name_of, declarations, ports, front_lines, Declares, AtLine, each_line, names_apart}
 use Rattle.unit_exec.proofs.UnitSites.{Passes}
+use Rattle.list_laws.proofs.Members.{Has, Distinct, has_front, has_behind, has_either, has_map}
+use Rattle.list_laws.proofs.Truths.{true_is_false}
+use Rattle.run_laws.proofs.PortLaws.{has_among, among}
 
 -- ---- Lists of variables
 
@@ -83,23 +86,6 @@ distinct_same all a b apart has_a has_b same =
     let other = found name_of all b apart has_b in
     let joined : Some a ≡ Some b = sym one ∙ ap (λ name. find (λ y. bytes_eq (name_of y) name) all) same ∙ other in
     cc
-
-pub among_has : (names : List (List ℕ)) (name : List ℕ) → is_among names name ≡ true → Has names name
-among_has [] name is = absurd (cc)
-among_has (first ∷ names) name is = by_test (bytes_eq name first) refl is (λ later. among_has names name later)
-  where
-    by_test : (told : Bool) → bytes_eq name first ≡ told → (told || is_among names name) ≡ true → (is_among names name ≡ true → Has names name) → (first ≡ name) ⊎ Has names name
-    by_test true same some later = inl (sym (same_bytes name first same))
-    by_test false other some later = inr (later some)
-
-pub has_among : (names : List (List ℕ)) (name : List ℕ) → Has names name → is_among names name ≡ true
-has_among [] name has = absurd has
-has_among (first ∷ names) name (inl is) = ap (λ (b : Bool). b || is_among names name) (bytes_of name first (sym is))
-has_among (first ∷ names) name (inr has) = or_true (bytes_eq name first) (is_among names name) (has_among names name has)
-  where
-    or_true : (one other : Bool) → other ≡ true → (one || other) ≡ true
-    or_true true other is = refl
-    or_true false other is = is
 
 -- ---- The names of a unit
 
@@ -364,10 +350,10 @@ module _ (system : System) (unit : Unit) (declared : Declares (Passes system) un
   ]
 
   pub usable_shared : (name : List ℕ) → is_among (shared_names unit) name ≡ true → Usable name
-  usable_shared name is = use_shared name (among_has (shared_names unit) name is)
+  usable_shared name is = use_shared name (among (shared_names unit) name is)
 
   pub usable_step : (name : List ℕ) → is_among (step_uses unit).names name ≡ true → Usable name
-  usable_step name is = elim (has_either (map (λ (local : Local). local.name) unit.locals) (shared_names unit) name (among_has (step_uses unit).names name is)) [
+  usable_step name is = elim (has_either (map (λ (local : Local). local.name) unit.locals) (shared_names unit) name (among (step_uses unit).names name is)) [
     | inl here ↦ let one = map_has (λ (local : Local). local.name) unit.locals name here in subst Usable one.is (use_local one.one one.has)
     | inr here ↦ use_shared name here
   ]
@@ -404,7 +390,7 @@ module _ (system : System) (unit : Unit) (declared : Declares (Passes system) un
   -- The port that tells of an event is a Bool.
   pub presence_kind : (name : List ℕ) → is_among (event_input_names unit) name ≡ true → (name_code (named run_names (presence_name name))).kind ≡ kinds.Bool
   presence_kind name is =
-      let event = map_has (λ (e : EventIn). e.name) unit.events_in name (among_has (event_input_names unit) name is) in
+      let event = map_has (λ (e : EventIn). e.name) unit.events_in name (among (event_input_names unit) name is) in
       let inside = has_flat plain_inputs unit.events_in event.one _ event.has (inl refl) in
       let stands : Has run_variables (presence_variable event.one) = in_run_inputs (presence_variable event.one) (has_map input_variable run.inputs _ (has_behind unit.inputs (flat_map plain_inputs unit.events_in) _ inside)) in
       let here = find_typed run_variables (presence_name name) types.Bool (presence_variable event.one) stands (ap presence_name event.is) (λ w has same. bool_type w (from_run w has) same) in

@@ -25,13 +25,16 @@ use Rattle.unit_tree.specs.declared.unit.Output.{Output}
 use Rattle.unit_tree.specs.declared.unit.Param.{Param}
 use Rattle.unit_tree.specs.declared.unit.State.{State}
 use Rattle.unit_tree.specs.declared.unit.Unit.{Unit}
-use Rattle.language_laws.proofs.NameLaws.{Has, has_front, has_behind, has_either, has_map, same_bytes, bytes_of, true_is_false}
+use Rattle.language_laws.proofs.NameLaws.{same_bytes, bytes_of}
 use Rattle.language_laws.proofs.PlainNames.{map_has, flat_has}
 use Rattle.unit_vm.specs.Instructions.{is_stored}
 use Rattle.unit_vm.specs.declared.program.Sizes.{Sizes}
 use Rattle.unit_exec.proofs.Declarations.{Declared, OfParam, OfState, OfLocal, OfInput, OfEventIn, OfOutput, OfEventOut, name_of, declarations, ports, Declares}
-use Rattle.unit_exec.proofs.NamesOfUnits.{has_among, plain_name, from_declared}
+use Rattle.unit_exec.proofs.NamesOfUnits.{plain_name, from_declared}
 use Rattle.unit_exec.proofs.UnitSites.{Passes}
+use Rattle.list_laws.proofs.Members.{Has, has_front, has_behind, has_either, has_map}
+use Rattle.list_laws.proofs.Truths.{true_is_false, or_right}
+use Rattle.run_laws.proofs.PortLaws.{has_among}
 
 -- What is found in a list stands there.
 pub record Stands (xs : List Variable) (name : List ℕ) (one : Variable) : Type 0 where
@@ -86,10 +89,6 @@ slots_maybe slot (x ∷ xs) name = by_test (bytes_eq x.name name) refl (slots_ma
         | inr rest ↦ later.1 y rest is
       ],
     )
-
-or_right : (one other : Bool) → other ≡ true → (one || other) ≡ true
-or_right true other is = refl
-or_right false other is = is
 
 or_left : (one other : Bool) → one ≡ true → (one || other) ≡ true
 or_left true other is = refl

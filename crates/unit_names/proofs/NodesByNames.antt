@@ -10,6 +10,7 @@ use Rattle.unit_tree.specs.declared.expr.Expr.TheOpen.{Expr-F}
 use Rattle.unit_tree.specs.declared.expr.Expr.TheViews.{roll-Expr}
 use Rattle.unit_tree.specs.declared.unit.Unit.{Unit}
 use Rattle.unit_names.specs.Uses.{node_keeps, nodes_keep, node_has, nodes_have, is_other_input}
+use Rattle.list_laws.proofs.Truths.{crossed}
 
 -- ---- Some name passes a test
 
@@ -73,17 +74,11 @@ or_not true b c = refl
 or_not false true c = refl
 or_not false false c = refl
 
-cross : (a b c d : Bool) → ((a && b) && (c && d)) ≡ ((a && c) && (b && d))
-cross true true c d = refl
-cross true false true d = refl
-cross true false false d = refl
-cross false b c d = refl
-
 allowed_two : (allowed one other : Clocks) → are_allowed allowed (either one other) ≡ (are_allowed allowed one && are_allowed allowed other)
 allowed_two allowed one other =
     ap (λ b. b && (allowed.step || not (one.step || other.step))) (or_not allowed.time one.time other.time)
     ∙ ap (λ b. ((allowed.time || not one.time) && (allowed.time || not other.time)) && b) (or_not allowed.step one.step other.step)
-    ∙ cross (allowed.time || not one.time) (allowed.time || not other.time) (allowed.step || not one.step) (allowed.step || not other.step)
+    ∙ crossed (allowed.time || not one.time) (allowed.time || not other.time) (allowed.step || not one.step) (allowed.step || not other.step)
 
 and_assoc : (a b c : Bool) → (a && b && c) ≡ (a && (b && c))
 and_assoc true b c = refl

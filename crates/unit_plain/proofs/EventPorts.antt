@@ -11,6 +11,7 @@ use Rattle.unit_tree.specs.declared.system.PortName.{PortName}
 use Rattle.unit_tree.specs.declared.unit.EventOut.{EventOut}
 use Rattle.unit_tree.specs.declared.unit.Output.{Output}
 use Rattle.unit_tree.specs.declared.unit.Unit.{Unit}
+use Rattle.list_laws.proofs.Options.{on_ok}
 
 abbrev plain_port : Output → Port
 plain_port output = record { name = output.name; ty = output.ty; is_event = false; needs = output.needs }
@@ -71,7 +72,3 @@ ports_put before between after instance unit outputs events same_outputs same_ev
     ∙ ap (λ others. (before ++ map (λ output. port_of instance output.name) unit.outputs) ++ map (λ event. port_of instance event.name) others) same_events
     ∙ ports_of_unit before instance unit
 
--- What holds where there was memory gives what follows from it there.
-pub on_ok : {T E : Type 0} (result : Result T E) (P Q : Type 0) → (P → Q) → OnOk result P → OnOk result Q
-on_ok (Ok value) P Q from holds = from holds
-on_ok (Err fault) P Q from holds = tt

@@ -16,10 +16,6 @@ use Rattle.unit_print.specs.Growing.{with_token, with_tokens}
 use Rattle.unit_print.specs.Calls.{is_call}
 use Rattle.unit_print.proofs.Growth.{tokens_append, infix_tokens}
 
-pub on_ok : {T E : Type 0} (result : Result T E) (P Q : Type 0) → (P → Q) → OnOk result P → OnOk result Q
-on_ok (Ok value) P Q from holds = from holds
-on_ok (Err fault) P Q from holds = tt
-
 whole_allows : (level : Level) → allows Whole level ≡ true
 whole_allows Whole = refl
 whole_allows Or = refl

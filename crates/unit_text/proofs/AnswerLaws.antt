@@ -22,9 +22,11 @@ use Rattle.text_lines.specs.Seen.{IsClean}
 use Rattle.unit_text.specs.Nesting.{Nested, headed_by, and_form, nested_forms}
 use Rattle.unit_text.proofs.NestingLaws.{before_next, same_parts, whole_forms, parts_close}
 use Rattle.text_laws.proofs.RefusalSteps.{unbroken, IsUnbroken, AreUnbroken, IsLeast, first_broken, no_break}
-use Rattle.unit_text.proofs.Walks.{FormsAreKnown, Decided, first_line, version_known, FormIn, form_in, same_forms, AreBlank, NestTo, are_short, blank_more, nest_blank, header_begins, line_nests, BreaksLeast, bytes_break, length_breaks, formless_breaks, place_breaks, first_place_breaks, headless_breaks, blank_unbroken, is_written, none_written, blank_have_none, one_in}
+use Rattle.unit_text.proofs.Walks.{FormsAreKnown, Decided, first_line, version_known, FormIn, form_in, same_forms, AreBlank, NestTo, are_short, blank_more, nest_blank, header_begins, line_nests, BreaksLeast, bytes_break, length_breaks, formless_breaks, place_breaks, first_place_breaks, headless_breaks, blank_unbroken, is_written, blank_have_none, one_in}
 use Rattle.text_laws.proofs.SpelledBytes.{none_forbidden}
 use Rattle.unit_tree.specs.Texts.{BeginsVersion2}
+use Rattle.text_laws.proofs.ReadIsPrintable.{none_written}
+use Rattle.language_laws.proofs.SourceLaws.{version_is}
 
 -- ---- A line, whatever it is
 
@@ -227,20 +229,6 @@ blank_is_refused (line ∷ lines) blank = by_length (nat_lt line_limit (length l
         }
 
 -- ---- The end of a text
-
-pub version_is : (version : ℕ) (all : List Part) → (system_of version all).version ≡ version
-version_is version [] = refl
-version_is version (part ∷ all) = with_keeps part (system_of version all) ∙ version_is version all
-  where
-    with_keeps : (part : Part) (system : System) → (with_part part system).version ≡ system.version
-    with_keeps (parts.HasUnit name inside) system = refl
-    with_keeps (parts.HasInstance instance) system = refl
-    with_keeps (parts.Connects wire) system = refl
-    with_keeps (parts.Stop seconds) system = refl
-    with_keeps (parts.Longest seconds) system = refl
-    with_keeps (parts.Zero count) system = refl
-    with_keeps (parts.Rows count) system = refl
-    with_keeps (parts.Samples port) system = refl
 
 -- Lines that nest and leave no block open say the system of their parts.
 unfoldable pub ends_whole : (text : List ℕ) (nested : Nested) → size_of text ≤ text_limit → NestTo (source_lines text) (source_lines text) nested → nested_forms nested ≡ text_forms nested.version nested.parts → Reads text (system_of nested.version nested.parts)

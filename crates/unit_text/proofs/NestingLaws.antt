@@ -30,6 +30,7 @@ use Rattle.unit_text.specs.declared.draft.Around.{Around}
 use Rattle.unit_text.specs.declared.draft.Head.{Head}
 use Rattle.unit_text.specs.declared.draft.Head.TheVariants.{Then, Else, Times}
 use Rattle.unit_text.specs.Nesting.{Inner, Open, AtTop, InUnit, InStep, InInstance, Nested, and_part, opened, block_in, headed_by, nested_by, and_form, head_forms, around_forms, open_forms, nested_forms, block_of, blocks_of}
+use Rattle.text_laws.proofs.CanonicalPlaces.{all_in_text}
 
 -- ---- Lines of a step
 
@@ -470,10 +471,6 @@ adds nested some is = adds_in nested.version nested.parts nested.block some is
 -- What the lines of what is nested leave behind them.
 abbrev pub before_next : Nested → Before
 before_next nested = and_lines no_lines (nested_forms nested)
-
-all_in_text : (lines : List LineForm) (before : Before) → (and_lines before lines).in_text ≡ before.in_text ++ lines
-all_in_text [] before = sym (append-nil before.in_text)
-all_in_text (some ∷ lines) before = all_in_text lines (and_line before some) ∙ append_assoc before.in_text (some ∷ []) lines
 
 pub header_has_rival : (nested : Nested) (version : ℕ) → has_rival (before_next nested) (form.Header version) ≡ true
 header_has_rival nested version = ap (list_any (are_alike (form.Header version))) (all_in_text (nested_forms nested) no_lines)

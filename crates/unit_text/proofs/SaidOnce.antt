@@ -23,6 +23,7 @@ use Rattle.unit_tree.specs.declared.line_form.LineForm.TheVariants as form
 use Rattle.unit_tree.specs.declared.system.Instance.{Instance}
 use Rattle.unit_tree.specs.declared.system.Setting.{Setting}
 use Rattle.unit_tree.proofs.FoldLemmas.{fold-Assign, fold-If, fold-Repeat, fold-Accept}
+use Rattle.text_laws.proofs.CanonicalPlaces.{all_in_text, all_in_unit}
 
 -- ---- Tests that no step line passes
 
@@ -320,10 +321,6 @@ step_said name inside = any_alike (are_alike form.Step) is_step like_step (flat_
 
 -- ---- What stands before a line
 
-all_in_text : (lines : List LineForm) (before : Before) → (and_lines before lines).in_text ≡ before.in_text ++ lines
-all_in_text [] before = sym (append-nil before.in_text)
-all_in_text (some ∷ lines) before = all_in_text lines (and_line before some) ∙ append_assoc before.in_text (some ∷ []) lines
-
 pub text_before : (lines : List LineForm) → (and_lines no_lines lines).in_text ≡ lines
 text_before lines = all_in_text lines no_lines
 
@@ -334,14 +331,6 @@ apart_unit _ is = refl
 no_unit_inside : (part : UnitPart) → list_any opens_unit (unit_part_forms part) ≡ false
 no_unit_inside (parts.Step lines) = none_in_step opens_unit apart_unit lines refl
 no_unit_inside _ = refl
-
-all_in_unit : (lines : List LineForm) (before : Before) → list_any opens_unit lines ≡ false → (and_lines before lines).in_unit ≡ before.in_unit ++ lines
-all_in_unit [] before none = sym (append-nil before.in_unit)
-all_in_unit (some ∷ lines) before none =
-    let both = or_parts (opens_unit some) (list_any opens_unit lines) none in
-    all_in_unit lines (and_line before some) both.1
-    ∙ ap (λ told. cond told [] (before.in_unit ++ (some ∷ [])) ++ lines) both.0
-    ∙ append_assoc before.in_unit (some ∷ []) lines
 
 -- Behind the line of a unit, and lines that its parts have.
 pub unit_before : (front : List LineForm) (name : List ℕ) (inside : List UnitPart) → (and_lines no_lines (front ++ (form.Unit name ∷ flat_map unit_part_forms inside))).in_unit ≡ flat_map unit_part_forms inside

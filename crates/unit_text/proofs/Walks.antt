@@ -19,6 +19,7 @@ use Rattle.text_lines.specs.Seen.{IsClean}
 use Rattle.unit_text.specs.Nesting.{Nested, headed_by, and_form, nested_forms}
 use Rattle.unit_text.proofs.NestingLaws.{before_next, is_held, adds}
 use Rattle.text_laws.proofs.RefusalSteps.{IsUnbroken, AreUnbroken, IsLeast, unbroken, least}
+use Rattle.text_laws.proofs.ReadIsPrintable.{none_written}
 
 abbrev pub is_written : List ℕ → Bool
 is_written line = not (is_blank_line line)
@@ -221,12 +222,6 @@ pub forms_blank : (text before : List (List ℕ)) (line : List ℕ) (forms : Lis
 forms_blank text before line forms have blank =
     let none : filter is_written (line ∷ []) ≡ [] = rw blank refl in
     subst (AllZip (HasFormIn text) forms) (sym (filter-append is_written before (line ∷ []) ∙ ap (λ rest. filter is_written before ++ rest) none ∙ append-nil (filter is_written before))) have
-
-pub none_written : (lines : List (List ℕ)) → list_all is_blank_line lines ≡ true → filter is_written lines ≡ []
-none_written [] blank = refl
-none_written (line ∷ lines) blank =
-    let both = and_parts (is_blank_line line) (list_all is_blank_line lines) blank in
-    ap (λ here. cond (not here) (line ∷ filter is_written lines) (filter is_written lines)) both.0 ∙ none_written lines both.1
 
 pub blank_have_none : (text lines : List (List ℕ)) → list_all is_blank_line lines ≡ true → HaveForms text [] lines
 blank_have_none text lines blank = subst (AllZip (HasFormIn text) []) (sym (none_written lines blank)) tt

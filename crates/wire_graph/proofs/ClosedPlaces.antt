@@ -9,8 +9,8 @@ use Rattle.unit_tree.specs.Ports.{IsAmong, IsOrderedAfter, needs_of_places, need
 use Rattle.unit_tree.specs.declared.system.PortName.{PortName}
 use Rattle.unit_tree.specs.declared.system.System.{System}
 use Rattle.language_laws.proofs.NameLaws.{NamesDiffer, Wired}
-use Rattle.wire_graph.proofs.PlaceLists.{ordered, orderly, count_is, at_is, port_at, ports_at, places, place_back, among_places, among_ports}
 use Rattle.wire_graph.proofs.SortingLaws.{among_either, all_weaker}
+use Rattle.run_laws.proofs.PlaceOrders.{ordered, orderly, among_ports, port_at, at_is, among_places, ports_at, place_back, places, count_is}
 
 -- An output all of whose needs are among the places is among them itself.
 abbrev pub AreClosed : Composition → List ℕ → Type 0

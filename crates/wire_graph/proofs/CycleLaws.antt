@@ -7,11 +7,13 @@ use Rattle.unit_tree.specs.Names.{same_port}
 use Rattle.unit_tree.specs.Orders.{IsIn, IsOrderlyAfter, IsOrderly, HasNoCycle, HasNoOrder, IsFirstWithoutOrder, outputs_of, needed_by}
 use Rattle.unit_tree.specs.declared.system.PortName.{PortName}
 use Rattle.unit_tree.specs.declared.system.System.{System}
-use Rattle.language_laws.proofs.NameLaws.{same_port_of, has_behind}
+use Rattle.language_laws.proofs.NameLaws.{same_port_of}
 use Rattle.language_laws.proofs.OrderLaws.{each_in}
 use Rattle.run_laws.proofs.PlaceOrders.{has_in, same_port_is}
 use Rattle.run_laws.proofs.PlainOrders.{in_longer}
-use Rattle.run_laws.proofs.PortLaws.{or_true, or_right}
+use Rattle.run_laws.proofs.PortLaws.{or_true}
+use Rattle.list_laws.proofs.Members.{has_behind}
+use Rattle.list_laws.proofs.Truths.{or_right}
 
 -- ---- Whether a port is among some
 

@@ -14,8 +14,8 @@ use Rattle.wire_graph.specs.Origins.{member_of}
 use Rattle.wire_graph.specs.Routing.{needs_in, numbered_in}
 use Rattle.wire_graph.specs.Wiring.{Named, components_in, port_named, output_ports_of, outputs_named}
 use Rattle.wire_graph.proofs.ComponentLaws.{outputs_are, wired_members}
-use Rattle.wire_graph.proofs.PlaceLists.{zip_append, zip_at}
 use Rattle.wire_graph.proofs.RoutingLaws.{numbered_same}
+use Rattle.list_laws.proofs.Pairs.{zip_append, zip_at}
 
 -- An output by its numbers, and its port.
 record Names (components : List Named) (numbered : Numbered) (port : PortName) : Type 0 where

@@ -6,7 +6,6 @@ pub mod FaultLaws
 pub mod NumberLaws
 pub mod OrderingLaws
 pub mod OriginLaws
-pub mod PlaceLists
 pub mod RoutePlaces
 pub mod RoutingLaws
 pub mod SortingLaws

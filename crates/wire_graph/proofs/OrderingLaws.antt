@@ -21,13 +21,12 @@ use Rattle.wire_graph.specs.declared.fault.OrderFault.{OrderFault}
 use Rattle.wire_graph.specs.declared.fault.OrderFault.TheVariants.{Loop, NoMemory}
 use Rattle.wire_graph.proofs.ClosedPlaces.{AreClosed, first_left}
 use Rattle.wire_graph.proofs.FaultLaws.{port_numbered}
-use Rattle.wire_graph.proofs.PlaceLists.{at_is, count_is, port_at}
-use Rattle.wire_graph.proofs.RoutePlaces.{route_count, route_needs, ordered_along}
+use Rattle.wire_graph.proofs.RoutePlaces.{ordered_along}
+use Rattle.list_laws.proofs.Options.{some_same}
+use Rattle.run_laws.proofs.PlaceOrders.{port_at, at_is, count_is}
+use Rattle.unit_tree.proofs.RouteLaws.{count_is as route_count, needs_is as route_needs}
 
 -- ---- What is left
-
-some_is : (one other : ℕ) → Some one ≡ Some other → one ≡ other
-some_is one other is = cc
 
 pub none_left : (from : ℕ) (placed : List Bool) → position_from not from placed ≡ None → (k : ℕ) → k < length placed → get_or placed k false ≡ true
 none_left from [] is k within = absurd (omega (arith, within))
@@ -44,12 +43,12 @@ pub record IsFirstLeft (placed : List Bool) (k : ℕ) : Type 0 where
 left_at : (placed : List Bool) (from found k : ℕ) → position_from not from placed ≡ Some found → found ≡ from + k → IsFirstLeft placed k
 left_at [] from found k is at = absurd (cc)
 left_at (false ∷ placed) from found zero is at = record { within = omega arith; left = refl; others = λ j none. absurd (omega (arith, none)) }
-left_at (false ∷ placed) from found (suc k) is at = absurd (omega (arith, at, some_is from found is))
+left_at (false ∷ placed) from found (suc k) is at = absurd (omega (arith, at, some_same from found is))
 left_at (true ∷ placed) from found zero is at = absurd (before (from + 1) placed found is (omega (arith, at)))
   where
     before : (later : ℕ) (rest : List Bool) (some : ℕ) → position_from not later rest ≡ Some some → some < later → ⊥
     before later [] some is below = cc
-    before later (false ∷ rest) some is below = omega (arith, below, some_is later some is)
+    before later (false ∷ rest) some is below = omega (arith, below, some_same later some is)
     before later (true ∷ rest) some is below = before (later + 1) rest some is (omega (arith, below))
 left_at (true ∷ placed) from found (suc k) is at =
     let later = left_at placed (from + 1) found k is (omega (arith, at)) in

@@ -9,34 +9,9 @@ use Rattle.unit_tree.specs.Ports.{IsAmong, IsOrderedAfter, places_needed, needs_
 use Rattle.unit_tree.specs.Routes.{Numbered, IsRoutedAfter, outputs_in, route_at, routes_of, needs_on}
 use Rattle.unit_tree.specs.declared.order.Route.{Route}
 use Rattle.unit_tree.specs.declared.unit.Output.{Output}
-
-routed_needs : (run : Composition) (from : ℕ) (all : List Numbered) → map (λ (route : Route). route.needs) (map (route_at run) (enumerate_from from all)) ≡ map (λ (numbered : Numbered). numbered.needs) all
-routed_needs run from [] = refl
-routed_needs run from (first ∷ all) = ap (λ rest. first.needs ∷ rest) (routed_needs run (from + 1) all)
-
-counted_needs : (instance from : ℕ) (member : Member) (outputs : List Output) → map (λ (numbered : Numbered). numbered.needs) (map (λ (counted : ℕ × Output). record { instance = instance; output = counted.0; needs = places_needed member counted.1 }) (enumerate_from from outputs)) ≡ map (places_needed member) outputs
-counted_needs instance from member [] = refl
-counted_needs instance from member (output ∷ outputs) = ap (λ rest. places_needed member output ∷ rest) (counted_needs instance (from + 1) member outputs)
-
-numbered_needs : (from : ℕ) (members : List Member) → map (λ (numbered : Numbered). numbered.needs) (flat_map outputs_in (enumerate_from from members)) ≡ flat_map (λ member. map (places_needed member) member.component.unit.outputs) members
-numbered_needs from [] = refl
-numbered_needs from (member ∷ members) =
-    map-append (λ (numbered : Numbered). numbered.needs) (outputs_in (from, member)) (flat_map outputs_in (enumerate_from (from + 1) members))
-    ∙ ap (λ front. front ++ map (λ (numbered : Numbered). numbered.needs) (flat_map outputs_in (enumerate_from (from + 1) members))) (counted_needs from 0 member member.component.unit.outputs)
-    ∙ ap (λ rest. map (places_needed member) member.component.unit.outputs ++ rest) (numbered_needs (from + 1) members)
-
-needs_are : (run : Composition) → map (λ (route : Route). route.needs) (routes_of run).outputs ≡ needs_of_places run
-needs_are run = routed_needs run 0 (flat_map outputs_in (enumerate_from 0 run.members)) ∙ numbered_needs 0 run.members
-
-pub route_count : (run : Composition) → length (routes_of run).outputs ≡ length (needs_of_places run)
-route_count run = sym (length-map (routes_of run).outputs (λ (route : Route). route.needs)) ∙ ap length (needs_are run)
-
-pub route_needs : (run : Composition) (place : ℕ) → needs_on (routes_of run) place ≡ needs_at run place
-route_needs run place =
-    ap (λ found. unwrap_or found []) (sym (slice_get-map (λ (route : Route). route.needs) (routes_of run).outputs place))
-    ∙ ap (λ all. unwrap_or (slice_get all place) []) (needs_are run)
+use Rattle.unit_tree.proofs.RouteLaws.{needs_are, count_is, needs_is}
 
 pub ordered_along : (run : Composition) (before order : List ℕ) → IsRoutedAfter (routes_of run) before order → IsOrderedAfter run before order
 ordered_along run before [] routed = tt
 ordered_along run before (place ∷ later) routed =
-    (omega (arith, routed.0, route_count run), routed.1, subst (AllByRecursion (IsAmong before)) (route_needs run place) routed.2, ordered_along run (before ++ (place ∷ [])) later routed.3)
+    (omega (arith, routed.0, count_is run), routed.1, subst (AllByRecursion (IsAmong before)) (needs_is run place) routed.2, ordered_along run (before ++ (place ∷ [])) later routed.3)

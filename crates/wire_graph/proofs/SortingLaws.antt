@@ -12,6 +12,7 @@ use Rattle.unit_tree.specs.Routes.{IsRoutedAfter, needs_on}
 use Rattle.unit_tree.specs.declared.order.Route.{Route}
 use Rattle.unit_tree.specs.declared.order.Routes.{Routes}
 use Rattle.wire_graph.specs.Sorting.{IsSorting, Grows, IsTried, IsClosed, not_yet, left_of}
+use Rattle.list_laws.proofs.Truths.{true_is_false}
 
 -- ---- Places among others
 
@@ -77,10 +78,6 @@ all_told placed P (need ∷ needs) holds told =
 pub told_all : (placed : List Bool) (P : ℕ → Type 0) (needs : List ℕ) → ((place : ℕ) → P place → get_or placed place false ≡ true) → AllByRecursion P needs → list_all (λ need. get_or placed need false) needs ≡ true
 told_all placed P [] holds all = refl
 told_all placed P (need ∷ needs) holds all = rw (holds need all.0) (told_all placed P needs holds all.1)
-
-true_is_false : {A : Type 0} (b : Bool) → b ≡ true → b ≡ false → A
-true_is_false true is isnt = absurd (cc)
-true_is_false false is isnt = absurd (cc)
 
 -- The needs of an output that was found.
 pub needs_of_found : (routes : Routes) (place : ℕ) (route : Route) → Some route ≡ slice_get routes.outputs place → needs_on routes place ≡ route.needs

@@ -28,6 +28,7 @@ use Rattle.text_tokens.specs.Scanning.{keyword_of}
 use Rattle.text_tokens.proofs.TableLemmas.{keyword_of_none}
 use Rattle.worked_facts.specs.WorkedTexts.{commented_counter, thermal, thermal_text, mode, mode_line, mode_text, relay, relay_text, long_line_text, text_of}
 use Rattle.worked_facts.proofs.WorkedForms.{header, unit_line, state_line, output_line, step_line, assign_line, step_end, end_line, instance_line, stop_line, longest_line, plain_header, sample_line, half_stop, zero_line, unit_a, max_line, bool_output, input_line, fixed_state, resolution_line, rows_line, connect_line, instance_a, setting_line, unit_mode, param_k, param_l, state_m, state_p, state_q, state_r, local_x, local_w, step_alone, if_line, repeat_line, assign_x, else_line, accept_line, greatest_longest, long_header, counter_unit_line, counter_state, counter_output, counter_sum, counter_instance, header_2, unit_relay, event_input, event_output}
+use Rattle.list_laws.proofs.Lists.{of_mapped}
 
 -- The lines of a text that are not blank.
 abbrev filled : List ℕ → List (List ℕ)
@@ -309,10 +310,6 @@ all_names =
 names_are : map names_on counter_forms ≡ all_names
 names_are = simp expr_lemmas refl
 
-on_each : {A B : Type 0} (P : B → Type 0) (f : A → B) (xs : List A) → AllByRecursion P (map f xs) → AllByRecursion (λ x. P (f x)) xs
-on_each P f [] all = all
-on_each P f (x ∷ xs) all = (all.0, on_each P f xs all.1)
-
 names_are_names : AllByRecursion (AllByRecursion IsName) all_names
 names_are_names = (_, ((long_name, _), ((name_n, _), ((name_y, (name_n, _)), (_, ((name_n, (name_n, _)), (_, (_, ((name_a, (long_name, _)), (_, (_, (_, _))))))))))))
 
@@ -341,11 +338,11 @@ counter_is_printable = record {
   ranged = record {
     version = (omega arith, omega arith);
     events = λ first. on_forms (λ forms. list_any is_event_port forms ≡ false) refl;
-    names = on_forms (λ forms. AllByRecursion (λ line. AllByRecursion IsWord (names_on line)) forms) (on_each (AllByRecursion IsWord) names_on counter_forms (subst (AllByRecursion (AllByRecursion IsWord)) (sym names_are) names_are_words));
+    names = on_forms (λ forms. AllByRecursion (λ line. AllByRecursion IsWord (names_on line)) forms) (of_mapped (AllByRecursion IsWord) names_on counter_forms (subst (AllByRecursion (AllByRecursion IsWord)) (sym names_are) names_are_words));
     numbers = on_forms (λ forms. AllByRecursion IsInRange forms) numbers_are;
   };
   of_version = λ first. on_forms (λ forms. list_any is_of_version_2 forms ≡ false) counter_is_old;
-  names = on_forms (λ forms. AllByRecursion (λ line. AllByRecursion IsName (names_on line)) forms) (on_each (AllByRecursion IsName) names_on counter_forms (subst (AllByRecursion (AllByRecursion IsName)) (sym names_are) names_are_names));
+  names = on_forms (λ forms. AllByRecursion (λ line. AllByRecursion IsName (names_on line)) forms) (of_mapped (AllByRecursion IsName) names_on counter_forms (subst (AllByRecursion (AllByRecursion IsName)) (sym names_are) names_are_names));
   tails = on_forms (λ forms. IsTrue (list_all (λ line. is_writable (tail_of line)) forms)) tails_are;
   blocks = blocks_are;
   lines = on_forms (λ forms. IsTrue (list_all (λ line. nat_le (length (line_text line)) line_limit) forms)) lines_are_short;

@@ -5,8 +5,8 @@ use Rattle.trace_core.specs.Seats.{HasClock, IsWithin, slot_end}
 use Rattle.trace_core.specs.declared.seat.Seat.{Seat}
 use Rattle.trace_core.proofs.LoopLaws.{zip_read, all_read, told_all, next_read, read_fault, all_replies}
 use Rattle.unit_tree.specs.Compositions.{Member}
-use Rattle.run_laws.proofs.PlaceOrders.{at_place}
 use Rattle.trace_core.proofs.steps.read_trial.Goals as goal
+use Rattle.list_laws.proofs.Members.{at_place}
 
 pub bounds-seats-instance : goal.bounds-seats-instance
 bounds-seats-instance c =

@@ -1,5 +1,6 @@
-use Rattle.unit_plain.proofs.EventPorts.{on_ok, ports_put}
+use Rattle.unit_plain.proofs.EventPorts.{ports_put}
 use Rattle.unit_plain.proofs.systems.put_ports_of_unit.Goals as goal
+use Rattle.list_laws.proofs.Options.{on_ok}
 
 pub returns : goal.returns
 returns c =

@@ -1,7 +1,8 @@
 use Rattle.std.proofs.Common.{◌≡◌, false, sym, ◌∙◌}
 use Rattle.unit_print.specs.Calls.{is_call}
-use Rattle.unit_print.proofs.Nodes.{on_ok, call_done, infix_done, clamp_done, choose_done}
+use Rattle.unit_print.proofs.Nodes.{call_done, infix_done, clamp_done, choose_done}
 use Rattle.unit_print.proofs.expressions.+expression.Goals as goal
+use Rattle.list_laws.proofs.Options.{on_ok}
 
 pub expression-returns-in_ok-behind_symbol-in-Binary-2 : goal.expression-returns-in_ok-behind_symbol-in-Binary-2
 expression-returns-in_ok-behind_symbol-in-Binary-2 t c =

@@ -1,6 +1,6 @@
 use Rattle.unit_print.proofs.Blocks.{needs_done}
-use Rattle.unit_print.proofs.Nodes.{on_ok}
 use Rattle.unit_print.proofs.lines.needed.Goals as goal
+use Rattle.list_laws.proofs.Options.{on_ok}
 
 pub returns-in_ok-name-in-len1-up : goal.returns-in_ok-name-in-len1-up
 returns-in_ok-name-in-len1-up c =

@@ -5,8 +5,8 @@ use Rattle.unit_tree.specs.declared.line.Line.{Line}
 use Rattle.unit_tree.specs.declared.line_form.LineForm.TheVariants as form
 use Rattle.unit_print.specs.Growing.{with_lines}
 use Rattle.unit_print.proofs.Blocks.{if_done, repeat_done}
-use Rattle.unit_print.proofs.Nodes.{on_ok}
 use Rattle.unit_print.proofs.steps.+step.Goals as goal
+use Rattle.list_laws.proofs.Options.{on_ok}
 
 pub step_line-returns-in-None : goal.step_line-returns-in-None
 step_line-returns-in-None t c =

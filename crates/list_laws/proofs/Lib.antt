@@ -1,0 +1,5 @@
+pub mod Lists
+pub mod Members
+pub mod Options
+pub mod Pairs
+pub mod Truths

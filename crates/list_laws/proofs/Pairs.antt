@@ -1,0 +1,34 @@
+-- Two lists side by side.
+use Rattle.std.proofs.Common.{◌≡◌, ℕ, zero, suc, ◌+◌, ◌<◌, ◌≤◌, Bool, true, false, List, [], ◌∷◌, ◌++◌, map, length, Option, Some, None, Result, Ok, Err, inl, inr, refl, ap, sym, subst, ◌∙◌, ◌⊎◌, arith}
+use Rattle.std.specs.Prelude.{⊤, slice_get, get_or, set}
+use Rattle.std.specs.List.{AllZip}
+
+pub zip_append : {A B : Type 0} (R : A → B → Type 0) (xs xs' : List A) (ys ys' : List B) → AllZip R xs ys → AllZip R xs' ys' → AllZip R (xs ++ xs') (ys ++ ys')
+zip_append R [] xs' [] ys' one other = other
+zip_append R [] xs' (y ∷ ys) ys' one other = absurd one
+zip_append R (x ∷ xs) xs' [] ys' one other = absurd one
+zip_append R (x ∷ xs) xs' (y ∷ ys) ys' one other = (one.0, zip_append R xs xs' ys ys' one.1 other)
+
+pub record Beside {A B : Type 0} (R : A → B → Type 0) (x : A) (ys : List B) (k : ℕ) : Type 0 where
+  pub other : B
+  pub is : slice_get ys k ≡ Some other
+  pub related : R x other
+
+pub zip_at : {A B : Type 0} (R : A → B → Type 0) (xs : List A) (ys : List B) (k : ℕ) (x : A) → AllZip R xs ys → slice_get xs k ≡ Some x → Beside R x ys k
+zip_at R [] ys k x all is = absurd (cc)
+zip_at R (first ∷ xs) [] k x all is = absurd all
+zip_at R (first ∷ xs) (y ∷ ys) zero x all is = let same : first ≡ x = cc in record { other = y; is = refl; related = subst (λ z. R z y) same all.0 }
+zip_at R (first ∷ xs) (y ∷ ys) (suc k) x all is = let later = zip_at R xs ys k x all.1 is in record { other = later.other; is = later.is; related = later.related }
+
+pub zip_set : {A B : Type 0} (R : A → B → Type 0) (xs : List A) (ys : List B) (k : ℕ) (default y : B) → AllZip R xs ys → ((x : A) → R x (get_or ys k default) → R x y) → AllZip R xs (set ys k y)
+zip_set R [] [] k default y all one = tt
+zip_set R [] (first ∷ ys) k default y all one = absurd all
+zip_set R (x ∷ xs) [] k default y all one = absurd all
+zip_set R (x ∷ xs) (first ∷ ys) zero default y all one = (one x all.0, all.1)
+zip_set R (x ∷ xs) (first ∷ ys) (suc k) default y all one = (all.0, zip_set R xs ys k default y all.1 one)
+
+pub one_each : {A B : Type 0} (R : A → B → Type 0) (xs : List A) (ys : List B) → AllZip R xs ys → length ys ≡ length xs
+one_each R [] [] all = refl
+one_each R [] (y ∷ ys) all = absurd all
+one_each R (x ∷ xs) [] all = absurd all
+one_each R (x ∷ xs) (y ∷ ys) all = let rest = one_each R xs ys all.1 in omega arith
