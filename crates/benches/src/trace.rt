@@ -1,19 +1,16 @@
-//! Compares rows of the trace with the same bytes put by a plain loop, over 64 columns of which half are fixed point of 3
-//! decimals and half integers of 64 bits, and says whether both gave the same. `trace_bench 200000` also times so many rows
-//! of both, and tells the nanoseconds that a field took.
-#![tactic(auto)]
-
+//! Makes a row of the trace again and again, by the writer of rows and by a plain loop that puts the same bytes: 64 columns,
+//! of which half are fixed point of 3 decimals and half integers of 64 bits.
 ghost use Rattle.std.specs.Prelude.{◌≡◌, ◌≤◌, true};
 ghost use Rattle.std.specs.List.{AllByRecursion};
 ghost use Rattle.fixed_words.specs.Types.{AreDecimals};
 ghost use Rattle.trace_csv.specs.TraceText.{HasWord};
 
+use crate::report::{Comparison, FIRST_NUMBER, ROUNDS, Shortest, Telling, number_after};
 use fixed_words::{NoMemory, Ty, fits, word_text};
 use itoa::Buffer;
 use std::alloc::{AllocError, Global};
-use std::rt::Clock;
+use std::io;
 use std::time::Instant;
-use std::{env, io};
 use super_time::{Point, seconds_text};
 use trace_csv::RowWriter;
 use unit_tree::Column;
@@ -23,17 +20,6 @@ const COLUMNS: u32 = 64;
 
 /// The decimals of a tick.
 const RESOLUTION: u8 = 3;
-
-/// How often all rows are made: the shortest time counts.
-const ROUNDS: u32 = 5;
-
-/// The number after this one in a row that looks like one of chance (xorshift).
-fn number_after(number: u64) -> u64 {
-    let mut next = number;
-    next ^= next << 13;
-    next ^= next >> 7;
-    next ^ (next << 17)
-}
 
 fn column_at(place: u32) -> Column {
     let ty = if place % 2 == 0 {
@@ -61,7 +47,7 @@ fn made_columns(alloc: Global) -> Result<Vec<Column>, AllocError> {
 /// Words of at most 40 bits beside the sign, of mixed signs and lengths.
 fn made_words(alloc: Global) -> Result<Vec<i64>, AllocError> {
     let mut words = Vec::new(alloc);
-    let mut number = 88_172_645_463_325_252;
+    let mut number = FIRST_NUMBER;
     for place in 0..COLUMNS {
         number = number_after(number);
         words.push(number.cast_signed() >> (23 + place % 32))?;
@@ -128,7 +114,7 @@ fn plain_row(
 /// How a row is made.
 #[derive(Clone, Copy)]
 enum Way {
-    Csv,
+    Writer,
     Plain,
 }
 
@@ -136,7 +122,7 @@ enum Way {
 fn made_rows(
     alloc: Global,
     way: Way,
-    rows: u64,
+    rows: u32,
     columns: &[Column],
     ports: &[i64],
     out: &mut Vec<u8>,
@@ -145,10 +131,13 @@ fn made_rows(
 {
     let mut total = 0usize;
     let mut writer = RowWriter::new(alloc);
-    for t in 0..rows {
-        let point = Point { t, n: 0 };
+    for tick in 0..rows {
+        let point = Point {
+            t: u64::from(tick),
+            n: 0,
+        };
         match way {
-            Way::Csv => writer.row_text(RESOLUTION, point, columns, ports, out)?,
+            Way::Writer => writer.row_text(RESOLUTION, point, columns, ports, out)?,
             Way::Plain => plain_row(point, columns, ports, out)?,
         }
         total = total.saturating_add(out.len());
@@ -156,77 +145,57 @@ fn made_rows(
     Ok(total)
 }
 
-/// The nanoseconds of the shortest round by a way.
-fn timed<R: Clock>(
-    rt: &R,
-    alloc: Global,
+/// The lengths of all rows by a way, and the time of the shortest round. The last row is left in `out`.
+fn timed(
+    rt: &HostRuntime,
     way: Way,
-    rows: u64,
+    rows: u32,
     columns: &[Column],
     ports: &[i64],
     out: &mut Vec<u8>,
-) -> io::Result<(usize, u128)>
+) -> io::Result<(usize, Shortest)>
     requires { AllByRecursion (HasWord ports.now) columns.now }
 {
     let mut total = 0;
-    let mut shortest = u128::MAX;
+    let mut shortest = Shortest::new();
     for _ in 0..ROUNDS {
         let start = Instant::now(rt)?;
-        total = made_rows(alloc, way, rows, columns, ports, out)?;
-        shortest = shortest.min(start.elapsed(rt)?.as_nanos());
+        total = made_rows(rt.alloc(), way, rows, columns, ports, out)?;
+        shortest.end_round(rt, start)?;
     }
     Ok((total, shortest))
 }
 
-/// Whole nanoseconds and tenths that each field took, where all took so many nanoseconds.
-fn nanoseconds_a_field(all: u128, rows: u64) -> (u128, u128) {
-    let fields = u128::from(rows) * u128::from(COLUMNS);
-    if fields == 0 {
-        return (0, 0);
-    }
-    (all / fields, all % fields * 10 / fields)
-}
-
-fn told(is_same: bool) -> &'static str {
-    if is_same { "the same" } else { "not the same" }
-}
-
-/// Tells whether a row is the same by both ways, and how long each takes where rows are to be timed.
-fn tell<R: Clock + Print>(
-    rt: &R,
-    alloc: Global,
-    rows: u64,
+/// Whether both ways make the same rows, and what a field took by each.
+fn compared(
+    rt: &HostRuntime,
+    rows: u32,
     columns: &[Column],
     ports: &[i64],
-) -> io::Result<()>
+) -> io::Result<Comparison<'static>>
     requires { AllByRecursion (HasWord ports.now) columns.now }
 {
-    let mut by_csv = Vec::new(alloc);
-    let mut by_loop = Vec::new(alloc);
-    let (csv_total, csv_time) = timed(rt, alloc, Way::Csv, rows, columns, ports, &mut by_csv)?;
-    let (loop_total, loop_time) = timed(rt, alloc, Way::Plain, rows, columns, ports, &mut by_loop)?;
-    let answer = told(by_csv.as_slice() == by_loop.as_slice() && csv_total == loop_total);
-    if rows == 1 {
-        return println!(rt; "{answer}");
-    }
-    let (csv_whole, csv_tenths) = nanoseconds_a_field(csv_time, rows);
-    let (loop_whole, loop_tenths) = nanoseconds_a_field(loop_time, rows);
-    println!(rt;
-        "{csv_whole}.{csv_tenths} ns a field, by a plain loop {loop_whole}.{loop_tenths} ns, {answer}"
-    )
+    let mut row = Vec::new(rt.alloc());
+    let mut other_row = Vec::new(rt.alloc());
+    let (total, time) = timed(rt, Way::Writer, rows, columns, ports, &mut row)?;
+    let (other_total, other_time) = timed(rt, Way::Plain, rows, columns, ports, &mut other_row)?;
+    let fields = u64::from(rows) * u64::from(COLUMNS);
+    Ok(Comparison {
+        name: "trace",
+        each: "a field",
+        time: time.each(fields),
+        other_way: "by a plain loop",
+        other_time: other_time.each(fields),
+        is_same: row.as_slice() == other_row.as_slice() && total == other_total,
+    })
 }
 
-fn main(rt: HostRuntime) -> io::Result<()> {
-    let mut rows = 1;
-    for (position, word) in env::args(&rt)?.enumerate() {
-        if position == 1 {
-            rows = word.parse().unwrap_or(rows);
-        }
-    }
+/// Tells of so many rows.
+pub(crate) fn run(rt: &HostRuntime, telling: Telling, rows: u32) -> io::Result<()> {
     let columns = made_columns(rt.alloc())?;
-    let words = made_words(rt.alloc())?;
-    if !have_words(&columns, &words) {
-        return println!(rt; "some column has no word");
+    let ports = made_words(rt.alloc())?;
+    if !have_words(&columns, &ports) {
+        return println!(rt; "trace: some column has no word");
     }
-    tell(&rt, rt.alloc(), rows, &columns, &words)
+    compared(rt, rows, &columns, &ports)?.tell(rt, telling)
 }
