@@ -211,9 +211,3 @@ pub record HasOneTraceOf (system : System) : Type 0 where
 -- A system in range that is well-formed and has no cycle has them.
 abbrev pub SystemsHaveOneOutcome : Type 0
 SystemsHaveOneOutcome = (system : System) → IsRanged system → IsWellFormed system → HasNoCycle system → HasOneTraceOf system
-
--- ---- Owed, and not proved yet
-
--- The plain form of a system in range that is well-formed is well-formed.
-abbrev pub PlainFormsAreWellFormed : Type 0
-PlainFormsAreWellFormed = (system : System) → IsRanged system → IsWellFormed system → IsWellFormed (plain_form system)
