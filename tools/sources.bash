@@ -8,6 +8,9 @@ built=$here/crates/cosim_app/out/cosim_app
 kept=$here/bin/cosim-x86_64-linux
 kept_from=$here/bin/sources.sha256
 
+no_kit="the Rattle kit, which proves and builds the program, isn't on this machine: there is no command rt. \
+\"What it stands on\" in $here/README.md tells of it"
+
 # The crates of the repository that each crate stands on, by crates.txt; and those of the program in the order in which
 # they are proved, lowest first.
 declare -A below=()
@@ -62,8 +65,11 @@ sum_sources() (
 
 # Puts what is kept beside the program: the checksum of the sources, and the kit that is on this machine.
 tell_sources() {
-  sum_sources
-  rt version
+  is_kit_there && sum_sources && rt version
+}
+
+is_kit_there() {
+  command -v rt >/dev/null
 }
 
 # Whether this machine is of the kind that the kept program is built for.
