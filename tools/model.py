@@ -75,23 +75,23 @@ def ask(word, text):
 
 def read(canonical):
     """The model that a canonical text says."""
-    ports_of, units, ends, connections, samples = {}, {}, {}, [], []
+    declared, units, ports, connections, samples = {}, {}, {}, [], []
     for line in canonical.decode().splitlines():
         if line.startswith("unit "):
-            ports = ports_of.setdefault(line.removeprefix("unit "), [])
+            of_unit = declared.setdefault(line.removeprefix("unit "), [])
         elif port := LINE_OF_PORT.fullmatch(line):
             event, kind, name, value = port.groups()
-            ports.append((name, kind == "input", event is not None, value if kind == "input" else None))
+            of_unit.append((name, kind == "input", event is not None, value if kind == "input" else None))
         elif instance := LINE_OF_INSTANCE.fullmatch(line):
             name, unit = instance.groups()
             units[name] = unit
-            ends |= {(name, port[0]): Port(name, *port) for port in ports_of[unit]}
+            ports.update({(name, port[0]): Port(name, *port) for port in declared[unit]})
         elif connection := LINE_OF_CONNECTION.fullmatch(line):
-            a, y, b, u = connection.groups()
-            connections.append((ends[a, y], ends[b, u]))
+            ends = connection.groups()
+            connections.append((ports[ends[:2]], ports[ends[2:]]))
         elif sample := LINE_OF_SAMPLE.fullmatch(line):
-            samples.append(ends[sample.groups()])
-    return Model(units, list(ends.values()), connections, samples)
+            samples.append(ports[sample.groups()])
+    return Model(units, list(ports.values()), connections, samples)
 
 
 def main(document, words, tell):
