@@ -14,8 +14,6 @@
 mod header;
 mod line;
 mod row;
-#[cfg(test)]
-mod tests;
 mod worked;
 
 pub use header::header_text;
