@@ -1,5 +1,6 @@
 //! Systems without a plan, and whole runs of version 2.
 use crate::opening::{perhaps_plan, plan_of};
+use crate::wants::HELD_ANEW;
 use cosim_io::MemSink;
 use serial_run::{CrewFault, Report, run_alone};
 use std::alloc::Global;
@@ -11,6 +12,10 @@ use unit_tree::{Ending, Point};
 
 /// No trace here has more bytes.
 const ROOM: usize = 4096;
+
+/// Inputs of two types.
+const TWO_INPUTS: &str =
+    "cosim 1\nunit A\ninput u : Int8 = 1\ninput v : Bool = false\nend\ninstance a : A\nend\nstop 1\n";
 
 /// The outputs of `b` and `c` need each other, and that of `d` needs one of them.
 const LOOP: &str =
@@ -34,6 +39,27 @@ fn fault_of(alloc: Global, text: &str) -> Result<Option<PlanFault>, Fail> {
         Ok(_) => Ok(None),
         Err(fault) => Ok(Some(fault)),
     }
+}
+
+/// Whether the inputs of the first instance have these least and greatest words.
+fn are_first_ends(plan: &Plan, low: &[i64], high: &[i64]) -> bool {
+    if plan.instances() == 0 {
+        return false;
+    }
+    let ends = plan.input_ends(0);
+    ends.0 == low && ends.1 == high
+}
+
+/// The same of the plan of a text.
+fn have_ends(alloc: Global, text: &str, low: &[i64], high: &[i64]) -> Result<bool, Fail> {
+    let plan = plan_of(alloc, text)?;
+    Ok(are_first_ends(&plan, low, high))
+}
+
+#[test]
+fn inputs_have_the_ends_of_their_types(rt: HostRuntime) -> Result<(), Fail> {
+    assert!(rt; have_ends(rt.alloc(), TWO_INPUTS, &[-128, 0], &[127, 1])?);
+    Ok(())
 }
 
 #[test]
@@ -83,24 +109,47 @@ fn events_are_put_where_they_occur(rt: HostRuntime) -> Result<(), Fail> {
     Ok(())
 }
 
-/// Three rows, whose words have the sum -3, by two steps.
-#[test]
-fn a_run_reports_its_trace(rt: HostRuntime) -> Result<(), Fail> {
-    let report = Report {
+/// The report of a run that came to its stop, with so many rows, the sum of their words, and so many steps.
+fn report(stop: u64, rows: u64, sum: i128, own: u64) -> Report {
+    Report {
         outcome: Ending::Completed,
-        last: Point { t: 2, n: 0 },
-        rows: 3,
-        sum: -3,
+        last: Point { t: stop, n: 0 },
+        rows,
+        sum,
         found: 0,
-        own: 2,
+        own,
         tickets: 0,
         posted: 0,
         back: 0,
         lapsed: 0,
-    };
-    let plan = plan_of(rt.alloc(), TRUTHS)?;
-    assert_eq!(rt; (plan.zero_budget(), plan.row_limit()), (1_000, 10_000));
-    let run = run_whole(rt.alloc(), &plan)?;
-    assert_eq!(rt; run.answer, Ok(report));
+    }
+}
+
+/// A step counts for each instance that is not held, in the trial and again where it is made anew.
+#[test]
+fn runs_report_their_traces(rt: HostRuntime) -> Result<(), Fail> {
+    for (text, expected) in [
+        (TRUTHS, report(2, 3, -3, 2)),
+        (HELD_ANEW, report(20, 6, 64, 15)),
+    ] {
+        let run = run_whole(rt.alloc(), &plan_of(rt.alloc(), text)?)?;
+        assert_eq!(rt; run.answer, Ok(expected), "{text}");
+    }
+    Ok(())
+}
+
+/// How many steps of length zero and how many rows there may be.
+fn budgets(plan: &Plan) -> (u64, u64) {
+    (plan.zero_budget(), plan.row_limit())
+}
+
+fn budgets_of(alloc: Global, text: &str) -> Result<(u64, u64), Fail> {
+    let plan = plan_of(alloc, text)?;
+    Ok(budgets(&plan))
+}
+
+#[test]
+fn plans_of_version_2_have_its_defaults(rt: HostRuntime) -> Result<(), Fail> {
+    assert_eq!(rt; budgets_of(rt.alloc(), TRUTHS)?, (1_000, 10_000));
     Ok(())
 }

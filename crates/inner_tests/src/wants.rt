@@ -11,7 +11,7 @@ const RING: &str =
 
 /// The first instance counts milliseconds and accepts 4, the second one counts hundredths of a second: it is stepped in the
 /// trial, and held where the step is made anew without a tick of its own.
-const HELD_ANEW: &str =
+pub(crate) const HELD_ANEW: &str =
     "cosim 1\nunit A\nresolution 3\nstate n : Int64 = 0\noutput y : Int64 = n\nstep\nn := n + h\naccept min(h, 4)\nend\nend\nunit B\nresolution 2\nstate n : Int64 = 0\noutput y : Int64 = n\nstep\nn := n + h\nend\nend\ninstance a : A\nend\ninstance b : B\nend\nstop 0.020\n";
 
 /// No instance here has more than one word of state, or one input.
