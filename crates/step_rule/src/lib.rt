@@ -9,7 +9,5 @@
 #![tactic(auto)]
 
 mod rules;
-#[cfg(test)]
-mod tests;
 
 pub use rules::{NextPoint, after, agree, propose, reply};

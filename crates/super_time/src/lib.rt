@@ -14,8 +14,6 @@ mod clock;
 mod laws;
 mod point;
 mod seconds;
-#[cfg(test)]
-mod tests;
 
 pub use clock::{limit, local_step, local_time};
 pub use laws::{limits_pass_local_ticks, seconds_are_worked, times_are_worked};

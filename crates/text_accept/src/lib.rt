@@ -7,17 +7,7 @@
 #![tactic(auto)]
 
 mod accepting;
-#[cfg(test)]
-mod counted_texts;
-#[cfg(test)]
-mod frames;
 mod laws;
-#[cfg(test)]
-mod name_texts;
-#[cfg(test)]
-mod system_texts;
-#[cfg(test)]
-mod tests;
 
 pub use accepting::{AcceptedText, accept_text};
 pub use laws::texts_are_judged_once;

@@ -13,8 +13,6 @@
 mod header;
 mod line;
 mod row;
-#[cfg(test)]
-mod tests;
 
 pub use header::header_text;
 pub use row::{RowWriter, row_text};

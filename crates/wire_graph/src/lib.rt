@@ -21,8 +21,6 @@ mod ordering;
 mod origins;
 mod routing;
 mod sorting;
-#[cfg(test)]
-mod tests;
 
 pub use fault::OrderFault;
 pub use laws::cycles_are_judged_once;

@@ -1,0 +1,23 @@
+//! Tests of what no command reaches: words that are no valid code, literals by themselves, texts that are put behind others,
+//! systems without a plan, the ends of inputs, runs of version 2, reports of runs, and what a run lends and wants.
+//!
+//! What is expected is worked out by hand. `StepLaws` of `proofs/` shows that a phase that wants no step can be settled. All else
+//! is asked of the built program, by the texts of `tests/`.
+//!
+//! Nothing stands on this crate.
+#![tactic(auto)]
+
+#[cfg(test)]
+mod codes;
+#[cfg(test)]
+mod lines;
+#[cfg(test)]
+mod literals;
+#[cfg(test)]
+mod opening;
+#[cfg(test)]
+mod runs;
+#[cfg(test)]
+mod stepping;
+#[cfg(test)]
+mod wants;

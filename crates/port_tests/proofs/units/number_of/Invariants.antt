@@ -1,6 +1,0 @@
-use Rattle.std.proofs.Common.{◌≡◌, drop}
-use Rattle.unit_tree.specs.Names.{unit_named}
-use Rattle.port_tests.proofs.units.number_of.Given as goal
-
-abbrev pub invariant-loop-number : goal.invariant-loop-number
-invariant-loop-number l = unit_named (drop l.number l.units) l.name ≡ unit_named l.units l.name
