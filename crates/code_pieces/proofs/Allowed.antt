@@ -40,7 +40,8 @@ module _ (sizes : Sizes) (use_of : Role) where
   none : AreAllowed sizes use_of []
   none = record { arguments = All-nil (λ i. IsTrue (is_argued sizes i)); endings = All-nil (λ i. IsTrue (fits_role use_of i)) }
 
-  pub allowed_more : (i : Instruction) (is : List Instruction) → IsTrue (is_argued sizes i) → IsTrue (fits_role use_of i) → AreAllowed sizes use_of is → AreAllowed sizes use_of (i ∷ is)
+  pub allowed_more : (i : Instruction) (is : List Instruction) → IsTrue (is_argued sizes i) → IsTrue (fits_role use_of i) → AreAllowed sizes use_of is
+      → AreAllowed sizes use_of (i ∷ is)
   allowed_more i is a f rest = record {
     arguments = All-cons (λ i. IsTrue (is_argued sizes i)) i is a rest.arguments;
     endings = All-cons (λ i. IsTrue (fits_role use_of i)) i is f rest.endings;
@@ -81,8 +82,10 @@ module _ (sizes : Sizes) (use_of : Role) where
       apart : (d : ℕ) → flow.Branch d ≡ flow.End → ⊥
       apart d e = cc
   allowed (Turns count body) m =
-      allowed_more (Loop count) _ (both_true (nat_le 1 count) (nat_le count 1000) (le_true 1 count m.0) (le_true count 1000 m.1)) (fits use_of (Loop count) (λ e. apart e))
-      (allowed_both (flat body) (Next (length (flat body)) ∷ []) (allowed body m.2) (allowed_end (Next (length (flat body))) refl (fits use_of (Next (length (flat body))) (λ e. apart_too (length (flat body)) e))))
+      allowed_more (Loop count) _ (both_true (nat_le 1 count) (nat_le count 1000) (le_true 1 count m.0) (le_true count 1000 m.1))
+      (fits use_of (Loop count) (λ e. apart e))
+      (allowed_both (flat body) (Next (length (flat body)) ∷ []) (allowed body m.2)
+      (allowed_end (Next (length (flat body))) refl (fits use_of (Next (length (flat body))) (λ e. apart_too (length (flat body)) e))))
     where
       apart : flow.Open count ≡ flow.End → ⊥
       apart e = cc

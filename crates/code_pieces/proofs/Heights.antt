@@ -1,5 +1,6 @@
 -- The heights at the places of a piece.
-use Rattle.std.proofs.Common.{◌≡◌, ℕ, zero, suc, ◌+◌, ◌-◌, ◌≤◌, max, Bool, true, false, List, [], ◌∷◌, ◌++◌, length, Option, Some, None, refl, sym, ap, ◌∙◌, arith, length-append}
+use Rattle.std.proofs.Common.{◌≡◌, ℕ, zero, suc, ◌+◌, ◌-◌, ◌≤◌, max, Bool, true, false, List, [], ◌∷◌, ◌++◌, length, Option, Some, None, refl, sym, ap, ◌∙◌}
+use Rattle.std.proofs.Common.{arith, length-append}
 use Rattle.std.proofs.lemmas.Bool.Decides.{nat_tests}
 use Rattle.std.specs.Prelude.{nat_eq, nat_le, slice_get, unwrap_or, IsTrue, if◌then◌else◌}
 use Rattle.unit_vm.specs.declared.instruction.Instruction.{Instruction}
@@ -26,7 +27,13 @@ pub marks_length : (piece : Piece) (height : ℕ) → length (marks piece height
 marks_length Nothing height = refl
 marks_length (One instruction) height = refl
 marks_length (Then first second) height =
-    omega (arith, length-append (marks first height) (marks second (left first height)), length-append (flat first) (flat second), marks_length first height, marks_length second (left first height))
+    omega (
+      arith,
+      length-append (marks first height) (marks second (left first height)),
+      length-append (flat first) (flat second),
+      marks_length first height,
+      marks_length second (left first height),
+    )
 marks_length (Choice first second) height =
     let one = marks_length first (height - 1) in
     let other = marks_length second (height - 1) in
@@ -60,7 +67,8 @@ some_same n told e = cc
 pub single_told : (i : Instruction) (height told : ℕ) → height_behind (One i) height ≡ Some told → (takes i ≤ height) × (height - takes i + leaves i ≡ told)
 single_told i height told e = let t = if_told (nat_le (takes i) height) (height - takes i + leaves i) told e in (le_told (takes i) height t.0, t.1)
 
-pub and_told : (o : Option ℕ) (behind : ℕ → Option ℕ) (told : ℕ) → and_height o behind ≡ Some told → (o ≡ Some (unwrap_or o 0)) × (behind (unwrap_or o 0) ≡ Some told)
+pub and_told : (o : Option ℕ) (behind : ℕ → Option ℕ) (told : ℕ) → and_height o behind ≡ Some told
+    → (o ≡ Some (unwrap_or o 0)) × (behind (unwrap_or o 0) ≡ Some told)
 and_told None behind told e = absurd (cc)
 and_told (Some height) behind told e = (refl, e)
 
@@ -107,7 +115,8 @@ under_top (Turns count body) height told e =
     (omega arith, omega (arith, one.1))
 
 -- The height before a piece is the one at its first place, or the one behind it where it has no place.
-pub first_mark : (heights : List ℕ) (place : ℕ) (piece : Piece) (height told : ℕ) → HasAt heights place (marks piece height) → height_behind piece height ≡ Some told
+pub first_mark : (heights : List ℕ) (place : ℕ) (piece : Piece) (height told : ℕ) → HasAt heights place (marks piece height)
+    → height_behind piece height ≡ Some told
     → slice_get heights (place + length (flat piece)) ≡ Some told → slice_get heights place ≡ Some height
 first_mark heights place Nothing height told has e end = let here : place ≡ place + 0 = omega arith in ap (λ n. slice_get heights n) here ∙ (end ∙ sym e)
 first_mark heights place (One instruction) height told has e end = has.0

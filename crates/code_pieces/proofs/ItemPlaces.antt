@@ -24,8 +24,11 @@ has_back list place (x ∷ xs) ys h =
 has_all : {A : Type 0} (list : List A) (place : ℕ) (xs : List A) → ((k : ℕ) → slice_get list (place + k) ≡ slice_get xs k) → HasAt list place xs
 has_all list place [] h = tt
 has_all list place (x ∷ xs) h =
-    let here : place + 0 ≡ place = omega arith in
-    (ap (λ n. slice_get list n) (sym here) ∙ h 0, has_all list (suc place) xs (λ k. let e : suc place + k ≡ place + suc k = omega arith in ap (λ n. slice_get list n) e ∙ h (suc k)))
+    let here : place + 0 ≡ place = omega arith in (
+      ap (λ n. slice_get list n) (sym here)
+          ∙ h 0,
+      has_all list (suc place) xs (λ k. let e : suc place + k ≡ place + suc k = omega arith in ap (λ n. slice_get list n) e ∙ h (suc k)),
+    )
 
 pub has_itself : {A : Type 0} (list : List A) → HasAt list 0 list
 has_itself list = has_all list 0 list (λ k. let e : 0 + k ≡ k = omega arith in ap (λ n. slice_get list n) e)

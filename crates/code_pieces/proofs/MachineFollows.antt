@@ -1,5 +1,6 @@
 -- The machine follows a piece wherever it stands.
-use Rattle.std.proofs.Common.{◌≡◌, ℕ, zero, suc, ◌+◌, ◌-◌, Bool, true, false, ℤ, List, [], ◌∷◌, ◌++◌, length, Some, refl, sym, ap, ◌∙◌, subst, arith, length-append}
+use Rattle.std.proofs.Common.{◌≡◌, ℕ, zero, suc, ◌+◌, ◌-◌, Bool, true, false, ℤ, List, [], ◌∷◌, ◌++◌, length, Some, refl, sym, ap, ◌∙◌, subst, arith}
+use Rattle.std.proofs.Common.{length-append}
 use Rattle.std.specs.Prelude.{slice_get, ⊤, if◌then◌else◌}
 use Rattle.fixed_words.specs.Operations.{is_zero}
 use Rattle.fixed_words.specs.declared.types.Fault.{Fault}
@@ -11,7 +12,8 @@ use Rattle.unit_vm.specs.declared.program.CodeFacts.{CodeFacts}
 use Rattle.unit_vm.specs.declared.program.Sizes.{Sizes}
 use Rattle.unit_vm.specs.Instructions.{flow_of}
 use Rattle.unit_vm.specs.Loops.{cost_of}
-use Rattle.unit_vm.specs.Machine.{Work, Did, Does, Fails, Lacks, act, State, Course, Goes, Ends, Faults, Stuck, goes_on, branches, ends_with, ends, follows, turn, then_goes, after, opening, run_part}
+use Rattle.unit_vm.specs.Machine.{Work, Did, Does, Fails, Lacks, act, State, Course, Goes, Ends, Faults, Stuck, goes_on, branches, ends_with, ends, follows}
+use Rattle.unit_vm.specs.Machine.{turn, then_goes, after, opening, run_part}
 use Rattle.unit_vm.specs.Laws.{IsWithin, IsOver}
 use Rattle.unit_vm.proofs.RunEndings.{valid_runs_end_lem}
 use Rattle.code_pieces.specs.Pieces.{Piece, Nothing, One, Then, Choice, When, Turns, flat, and_then, chosen, repeated, does, part_code, finished}
@@ -33,7 +35,8 @@ module _ (code : List Instruction) where
   Leads s place counters (Fails failed) = (m : ℕ) × (after code m s ≡ Faults failed)
   Leads s place counters Lacks = (m : ℕ) × (after code m s ≡ Stuck)
 
-  step : (s : State) (i : Instruction) (f : Flow) → slice_get code s.place ≡ Some i → flow_of i ≡ f → (n : ℕ) → after code (suc n) s ≡ then_goes (follows f i s) (after code n)
+  step : (s : State) (i : Instruction) (f : Flow) → slice_get code s.place ≡ Some i → flow_of i ≡ f → (n : ℕ)
+      → after code (suc n) s ≡ then_goes (follows f i s) (after code n)
   step s i f here e n = ap (λ o. then_goes (turn o s) (after code n)) here ∙ ap (λ f. then_goes (follows f i s) (after code n)) e
 
   comes_first : (s t : State) (place : ℕ) (counters : List ℕ) (d : Did) → Comes s t → Leads t place counters d → Leads s place counters d
@@ -56,28 +59,44 @@ module _ (code : List Instruction) where
   leads_to : (s : State) (place other : ℕ) (counters : List ℕ) (d : Did) → place ≡ other → Leads s place counters d → Leads s other counters d
   leads_to s place other counters d e l = subst (λ p. Leads s p counters d) e l
 
-  one_leads : (s : State) (i : Instruction) (d : Did) → slice_get code s.place ≡ Some i → flow_of i ≡ flow.On → act i s.work ≡ d → Leads s (suc s.place) s.counters d
+  one_leads : (s : State) (i : Instruction) (d : Did) → slice_get code s.place ≡ Some i → flow_of i ≡ flow.On → act i s.work ≡ d
+      → Leads s (suc s.place) s.counters d
   one_leads s i (Does work) here e is = λ n. (suc n, step s i flow.On here e n ∙ ap (λ d. then_goes (goes_on s d) (after code n)) is)
   one_leads s i (Fails failed) here e is = (1, step s i flow.On here e 0 ∙ ap (λ d. then_goes (goes_on s d) (after code 0)) is)
   one_leads s i Lacks here e is = (1, step s i flow.On here e 0 ∙ ap (λ d. then_goes (goes_on s d) (after code 0)) is)
 
-  jump_comes : (place distance other : ℕ) (counters : List ℕ) (work : Work) → slice_get code place ≡ Some (Jump distance) → place + distance ≡ other → Comes (at place counters work) (at other counters work)
+  jump_comes : (place distance other : ℕ) (counters : List ℕ) (work : Work) → slice_get code place ≡ Some (Jump distance) → place + distance ≡ other
+      → Comes (at place counters work) (at other counters work)
   jump_comes place distance other counters work here e n =
       (suc n, step (at place counters work) (Jump distance) (flow.Ahead distance) here refl n ∙ ap (λ p. after code n (at p counters work)) e)
 
   -- A word is popped, and one of two ways is taken.
-  choice_leads : (place distance end : ℕ) (counters : List ℕ) (work : Work) (stack : List ℤ) (first second : Work → Did) → slice_get code place ≡ Some (JumpFalse distance) → work.stack ≡ stack
-      → ((rest : Work) → Leads (at (suc place) counters rest) end counters (first rest)) → ((rest : Work) → Leads (at (place + distance) counters rest) end counters (second rest))
+  choice_leads : (place distance end : ℕ) (counters : List ℕ) (work : Work) (stack : List ℤ) (first second : Work → Did)
+      → slice_get code place ≡ Some (JumpFalse distance) → work.stack ≡ stack
+      → ((rest : Work) → Leads (at (suc place) counters rest) end counters (first rest))
+      → ((rest : Work) → Leads (at (place + distance) counters rest) end counters (second rest))
       → Leads (at place counters work) end counters (chosen first second work stack)
-  choice_leads place distance end counters work [] first second here e yes_way no_way =
-      (1, step (at place counters work) (JumpFalse distance) (flow.Branch distance) here refl 0 ∙ ap (λ ws. then_goes (branches distance (at place counters work) ws) (after code 0)) e)
+  choice_leads place distance end counters work [] first second here e yes_way no_way = (
+    1,
+    step (at place counters work) (JumpFalse distance) (flow.Branch distance) here refl 0
+        ∙ ap (λ ws. then_goes (branches distance (at place counters work) ws) (after code 0)) e,
+  )
   choice_leads place distance end counters work (word ∷ rest) first second here e yes_way no_way =
-      by_test (is_zero word) (λ n. (suc n, step (at place counters work) (JumpFalse distance) (flow.Branch distance) here refl n ∙ ap (λ ws. then_goes (branches distance (at place counters work) ws) (after code n)) e))
+      by_test (is_zero word)
+      (λ n. (
+        suc n,
+        step (at place counters work) (JumpFalse distance) (flow.Branch distance) here refl n
+            ∙ ap (λ ws. then_goes (branches distance (at place counters work) ws) (after code n)) e,
+      ))
     where
       by_test : (is_none : Bool) → Comes (at place counters work) (at (if is_none then place + distance else suc place) counters (record work { stack = rest }))
           → Leads (at place counters work) end counters ((if is_none then second else first) (record work { stack = rest }))
-      by_test true c = comes_first (at place counters work) (at (place + distance) counters (record work { stack = rest })) end counters (second (record work { stack = rest })) c (no_way (record work { stack = rest }))
-      by_test false c = comes_first (at place counters work) (at (suc place) counters (record work { stack = rest })) end counters (first (record work { stack = rest })) c (yes_way (record work { stack = rest }))
+      by_test true c =
+          comes_first (at place counters work) (at (place + distance) counters (record work { stack = rest })) end counters
+          (second (record work { stack = rest })) c (no_way (record work { stack = rest }))
+      by_test false c =
+          comes_first (at place counters work) (at (suc place) counters (record work { stack = rest })) end counters (first (record work { stack = rest })) c
+          (yes_way (record work { stack = rest }))
 
   -- From the first instruction of a loop's body, with so many turns left behind this one.
   turns_lead : (begin size : ℕ) (counters : List ℕ) (body : Work → Did) → slice_get code (begin + size) ≡ Some (Next size)
@@ -88,9 +107,16 @@ module _ (code : List Instruction) where
       (λ behind n. (suc n, step (at (begin + size) (1 ∷ counters) behind) (Next size) (flow.Back size) here refl n))
   turns_lead begin size counters body here runs (suc left) work =
       let back : begin + size - size ≡ begin = omega arith in
-      then_leads (at begin (suc (suc left) ∷ counters) work) (begin + size) (suc (suc left) ∷ counters) (suc (begin + size)) counters (body work) (repeated (suc left) body) (runs (suc (suc left)) work)
-      (λ behind. comes_first (at (begin + size) (suc (suc left) ∷ counters) behind) (at begin (suc left ∷ counters) behind) (suc (begin + size)) counters (repeated (suc left) body behind)
-      (λ n. (suc n, step (at (begin + size) (suc (suc left) ∷ counters) behind) (Next size) (flow.Back size) here refl n ∙ ap (λ p. after code n (at p (suc left ∷ counters) behind)) back))
+      then_leads (at begin (suc (suc left) ∷ counters) work) (begin + size) (suc (suc left) ∷ counters) (suc (begin + size)) counters (body work)
+      (repeated (suc left) body) (runs (suc (suc left)) work)
+      (λ behind.
+      comes_first (at (begin + size) (suc (suc left) ∷ counters) behind) (at begin (suc left ∷ counters) behind) (suc (begin + size)) counters
+      (repeated (suc left) body behind)
+      (λ n. (
+        suc n,
+        step (at (begin + size) (suc (suc left) ∷ counters) behind) (Next size) (flow.Back size) here refl n
+            ∙ ap (λ p. after code n (at p (suc left ∷ counters) behind)) back,
+      ))
       (turns_lead begin size counters body here runs left behind))
 
   pub piece_leads : (sizes : Sizes) (piece : Piece) → Made sizes piece → (place : ℕ) → HasAt code place (flat piece) → (counters : List ℕ) (work : Work)
@@ -100,7 +126,8 @@ module _ (code : List Instruction) where
       let e : suc place ≡ place + 1 = omega arith in
       leads_to _ _ _ counters _ e (one_leads (at place counters work) instruction (act instruction work) has.0 m.0 refl)
   piece_leads sizes (Then first second) m place has counters work =
-      let e : place + length (flat first) + length (flat second) ≡ place + length (flat first ++ flat second) = omega (arith, length-append (flat first) (flat second)) in
+      let e : place + length (flat first) + length (flat second) ≡ place + length (flat first ++ flat second) =
+      omega (arith, length-append (flat first) (flat second)) in
       leads_to _ _ _ counters _ e
       (then_leads (at place counters work) (place + length (flat first)) counters _ counters (does first work) (does second)
       (piece_leads sizes first m.0 place (has_front code place (flat first) (flat second) has) counters work)
@@ -117,7 +144,9 @@ module _ (code : List Instruction) where
       (λ behind. comes_last (at (suc place) counters behind) (suc place + length (flat first)) counters end counters (does first behind)
       (piece_leads sizes first m.0 (suc place) (has_front code (suc place) (flat first) tail has.1) counters behind)
       (λ done. jump_comes (suc place + length (flat first)) (length (flat second) + 1) end counters done rest.0 over))
-      (λ behind. leads_to _ _ _ counters _ last (piece_leads sizes second m.1 (place + (length (flat first) + 2)) (has_to code _ _ (flat second) other rest.1) counters behind))
+      (λ behind.
+      leads_to _ _ _ counters _ last
+      (piece_leads sizes second m.1 (place + (length (flat first) + 2)) (has_to code _ _ (flat second) other rest.1) counters behind))
   piece_leads sizes (When body) m place has counters work =
       let end = place + length (flat (When body)) in
       let there : suc place + length (flat body) ≡ end = omega arith in
@@ -171,7 +200,8 @@ last_over facts (Ends work answer) l w = tt
 last_over facts (Faults failed) l w = tt
 last_over facts Stuck l w = w
 
-finish_leads : (code : List Instruction) (s : State) (place : ℕ) (finish : Instruction) (d : Did) → slice_get code place ≡ Some finish → flow_of finish ≡ flow.End
+finish_leads : (code : List Instruction) (s : State) (place : ℕ) (finish : Instruction) (d : Did) → slice_get code place ≡ Some finish
+    → flow_of finish ≡ flow.End
     → Leads code s place [] d → (m : ℕ) × (after code m s ≡ finished finish d)
 finish_leads code s place finish (Does work) here e l =
     let a = l 1 in (a.0, a.1 ∙ (step code (at place [] work) finish flow.End here e 0 ∙ last_stays (ends finish work) (after code 0) (ends_last finish work)))
@@ -185,13 +215,15 @@ stays_over code (suc m) n s course over e =
     let sum : suc m + n ≡ suc (m + n) = omega arith in
     ap (λ k. after code k s) sum ∙ on (λ t. stays_over code m n t course over) (turn (slice_get code s.place) s) e
   where
-    on : ((t : State) → after code m t ≡ course → after code (m + n) t ≡ course) → (now : Course) → then_goes now (after code m) ≡ course → then_goes now (after code (m + n)) ≡ course
+    on : ((t : State) → after code m t ≡ course → after code (m + n) t ≡ course) → (now : Course) → then_goes now (after code m) ≡ course
+        → then_goes now (after code (m + n)) ≡ course
     on later (Goes t) e = later t e
     on later (Ends work answer) e = e
     on later (Faults failed) e = e
     on later Stuck e = e
 
-one_answer : (code : List Instruction) (m n : ℕ) (s : State) (one other : Course) → IsOver one → IsOver other → after code m s ≡ one → after code n s ≡ other → one ≡ other
+one_answer : (code : List Instruction) (m n : ℕ) (s : State) (one other : Course) → IsOver one → IsOver other → after code m s ≡ one → after code n s ≡ other
+    → one ≡ other
 one_answer code m n s one other x y e f =
     let sum : m + n ≡ n + m = omega arith in
     sym (stays_over code m n s one x e) ∙ (ap (λ k. after code k s) sum ∙ stays_over code n m s other y f)
@@ -209,4 +241,5 @@ pieces_are_followed_lem program facts h entry piece finish part e right slots l 
     let told = finish_leads code s (0 + length (flat piece)) finish (does piece s.work) end.0 e leads in
     let within = subst (IsWithin facts) told.1 (run.stacks told.0) in
     let over = last_over facts (finished finish (does piece s.work)) (finished_last finish (does piece s.work)) within in
-    is_run ∙ one_answer code (cost_of code) told.0 s (after code (cost_of code) s) (finished finish (does piece s.work)) (subst IsOver is_run run.over) over refl told.1
+    is_run ∙ one_answer code (cost_of code) told.0 s (after code (cost_of code) s) (finished finish (does piece s.work))
+    (subst IsOver is_run run.over) over refl told.1

@@ -1,5 +1,6 @@
 -- The places of a piece are in order wherever it stands: their jumps, loops and heights, the way to them, and their cost.
-use Rattle.std.proofs.Common.{◌≡◌, ℕ, suc, ◌+◌, ◌-◌, ◌*◌, ◌<◌, ◌≤◌, List, [], ◌∷◌, ◌++◌, length, Some, refl, sym, ap, ◌∙◌, subst, inl, inr, ⊎_elim, arith, length-append, mul-add, mul-one, mul-zero, mul_assoc, mul_comm}
+use Rattle.std.proofs.Common.{◌≡◌, ℕ, suc, ◌+◌, ◌-◌, ◌*◌, ◌<◌, ◌≤◌, List, [], ◌∷◌, ◌++◌, length, Some, refl, sym, ap, ◌∙◌, subst, inl, inr, ⊎_elim, arith}
+use Rattle.std.proofs.Common.{length-append, mul-add, mul-one, mul-zero, mul_assoc, mul_comm}
 use Rattle.std.proofs.lemmas.Bool.{cases_lt}
 use Rattle.std.specs.Prelude.{slice_get, unwrap_or}
 use Rattle.unit_vm.specs.declared.instruction.Instruction.{Instruction}
@@ -57,7 +58,8 @@ module _ (code : List Instruction) (heights : List ℕ) where
   none p = record {
     placed = λ k low high. absurd (omega (arith, low, high));
     same = refl;
-    costs = (let turns = turns_of (loops_around code p) in let free = mul-zero turns in let g : cost_before code p ≡ cost_before code p + turns * 0 = omega (arith, free) in g);
+    costs = (let turns = turns_of (loops_around code p) in let free = mul-zero turns in
+        let g : cost_before code p ≡ cost_before code p + turns * 0 = omega (arith, free) in g);
   }
 
   placed_as : (p k : ℕ) → p ≤ k → k < suc p → Placed p → Placed k
@@ -67,11 +69,13 @@ module _ (code : List Instruction) (heights : List ℕ) where
   only p h e = record {
     placed = λ k low high. placed_as p k low high h;
     same = e;
-    costs = (let turns = turns_of (loops_around code p) in let one = mul-one turns in let g : cost_before code p + turns ≡ cost_before code p + turns * 1 = omega (arith, one) in g);
+    costs = (let turns = turns_of (loops_around code p) in let one = mul-one turns in
+        let g : cost_before code p + turns ≡ cost_before code p + turns * 1 = omega (arith, one) in g);
   }
 
   -- An instruction that goes on.
-  placed_on : (p : ℕ) (i : Instruction) (height told : ℕ) → slice_get code p ≡ Some i → flow_of i ≡ flow.On → slice_get heights p ≡ Some height → takes i ≤ height → height ≤ 64
+  placed_on : (p : ℕ) (i : Instruction) (height told : ℕ) → slice_get code p ≡ Some i → flow_of i ≡ flow.On → slice_get heights p ≡ Some height
+      → takes i ≤ height → height ≤ 64
       → height - takes i + leaves i ≡ told → slice_get heights (suc p) ≡ Some told → Placed p
   placed_on p i height told stands on high operand low sum behind = record {
     instruction = i;
@@ -93,7 +97,8 @@ module _ (code : List Instruction) (heights : List ℕ) where
 
   -- A conditional jump, to where the same loops are around.
   placed_branch : (p d height : ℕ) → slice_get code p ≡ Some (JumpFalse d) → slice_get heights p ≡ Some height → 1 ≤ height → height ≤ 64
-      → slice_get heights (suc p) ≡ Some (height - 1) → slice_get heights (p + d) ≡ Some (height - 1) → loops_around code (p + d) ≡ loops_around code p → Placed p
+      → slice_get heights (suc p) ≡ Some (height - 1) → slice_get heights (p + d) ≡ Some (height - 1) → loops_around code (p + d) ≡ loops_around code p
+      → Placed p
   placed_branch p d height stands high operand low next far same =
       let sum : height - 1 ≡ height - 1 + 0 = omega arith in
       record {
@@ -105,7 +110,9 @@ module _ (code : List Instruction) (heights : List ℕ) where
         high = high;
         operand = operand;
         low = low;
-        ways = λ to l. ⊎_elim (λ (e : to ≡ suc p). ap (λ n. slice_get heights n) e ∙ (next ∙ ap (λ n. Some n) sum)) (λ (e : to ≡ p + d). ap (λ n. slice_get heights n) e ∙ (far ∙ ap (λ n. Some n) sum)) l;
+        ways = λ to l.
+            ⊎_elim (λ (e : to ≡ suc p). ap (λ n. slice_get heights n) e ∙ (next ∙ ap (λ n. Some n) sum))
+            (λ (e : to ≡ p + d). ap (λ n. slice_get heights n) e ∙ (far ∙ ap (λ n. Some n) sum)) l;
         before = p;
         earlier = omega arith;
         leads = record { instruction = JumpFalse d; stands = stands; leads = inl refl };
@@ -137,7 +144,8 @@ module _ (code : List Instruction) (heights : List ℕ) where
       apart : (other : ℕ) → flow.Ahead d ≡ flow.Back other → ⊥
       apart other e = cc
 
-  placed_loop : (p count height : ℕ) → slice_get code p ≡ Some (Loop count) → slice_get heights p ≡ Some height → height ≤ 64 → slice_get heights (suc p) ≡ Some height → Placed p
+  placed_loop : (p count height : ℕ) → slice_get code p ≡ Some (Loop count) → slice_get heights p ≡ Some height → height ≤ 64
+      → slice_get heights (suc p) ≡ Some height → Placed p
   placed_loop p count height stands high low next =
       let sum : height ≡ height - 0 + 0 = omega arith in
       record {
@@ -159,7 +167,8 @@ module _ (code : List Instruction) (heights : List ℕ) where
       apart other e = cc
 
   -- The end of a turn, in the loop that it closes.
-  placed_next : (p d height : ℕ) → slice_get code p ≡ Some (Next d) → slice_get heights p ≡ Some height → height ≤ 64 → slice_get heights (suc p) ≡ Some height → slice_get heights (p - d) ≡ Some height
+  placed_next : (p d height : ℕ) → slice_get code p ≡ Some (Next d) → slice_get heights p ≡ Some height → height ≤ 64
+      → slice_get heights (suc p) ≡ Some height → slice_get heights (p - d) ≡ Some height
       → ClosesLoop (loops_around code p) p d → Placed p
   placed_next p d height stands high low next back closes =
       let sum : height ≡ height - 0 + 0 = omega arith in
@@ -172,7 +181,9 @@ module _ (code : List Instruction) (heights : List ℕ) where
         high = high;
         operand = omega arith;
         low = low;
-        ways = λ to l. ⊎_elim (λ (e : to ≡ p - d). ap (λ n. slice_get heights n) e ∙ (back ∙ ap (λ n. Some n) sum)) (λ (e : to ≡ suc p). ap (λ n. slice_get heights n) e ∙ (next ∙ ap (λ n. Some n) sum)) l;
+        ways = λ to l.
+            ⊎_elim (λ (e : to ≡ p - d). ap (λ n. slice_get heights n) e ∙ (back ∙ ap (λ n. Some n) sum))
+            (λ (e : to ≡ suc p). ap (λ n. slice_get heights n) e ∙ (next ∙ ap (λ n. Some n) sum)) l;
         before = p;
         earlier = omega arith;
         leads = record { instruction = Next d; stands = stands; leads = inr refl };
@@ -182,7 +193,8 @@ module _ (code : List Instruction) (heights : List ℕ) where
       distance_is other e = cc
 
   -- A body in its loop.
-  looped : (p m count price : ℕ) (rings : List Ring) → loops_around code p ≡ rings → loops_around code (suc p) ≡ record { begin = p; count = count } ∷ rings → suc p ≤ m
+  looped : (p m count price : ℕ) (rings : List Ring) → loops_around code p ≡ rings → loops_around code (suc p) ≡ record { begin = p; count = count } ∷ rings
+      → suc p ≤ m
       → Placed p → Block (suc p) m price → Placed m → loops_around code (suc m) ≡ rings → Block p (suc m) (1 + count * (price + 1))
   looped p m count price rings here within far first body last behind =
       let turns = turns_of rings in
@@ -191,7 +203,8 @@ module _ (code : List Instruction) (heights : List ℕ) where
       let at_end = ap (λ rs. turns_of rs) (body.same ∙ within) in
       let at_begin = ap (λ rs. turns_of rs) here in
       let whole = ap (λ rs. turns_of rs * (1 + count * (price + 1))) here in
-      let product : turns * (count * (price + 1)) ≡ (count * turns) * (price + 1) = sym (mul_assoc turns count (price + 1)) ∙ ap (λ n. n * (price + 1)) (mul_comm turns count) in
+      let product : turns * (count * (price + 1)) ≡ (count * turns) * (price + 1) = sym (mul_assoc turns count (price + 1))
+      ∙ ap (λ n. n * (price + 1)) (mul_comm turns count) in
       record {
         placed = λ k low high. ⊎_elim
             (λ l. placed_as p k low l first)
@@ -199,11 +212,26 @@ module _ (code : List Instruction) (heights : List ℕ) where
             (cases_lt k (suc p));
         same = behind ∙ sym here;
         costs = (let g : cost_before code m + turns_of (loops_around code m) ≡ cost_before code p + turns_of (loops_around code p) * (1 + count * (price + 1)) =
-            omega (arith, inner, all, at_end, at_begin, whole, product, mul-add turns 1 (count * (price + 1)), mul-one turns, mul-add (count * turns) price 1, mul-one (count * turns)) in g);
+            omega (
+              arith,
+              inner,
+              all,
+              at_end,
+              at_begin,
+              whole,
+              product,
+              mul-add turns 1 (count * (price + 1)),
+              mul-one turns,
+              mul-add (count * turns) price 1,
+              mul-one (count * turns),
+            ) in
+            g);
       }
 
-  pub block : (sizes : Sizes) (piece : Piece) → Made sizes piece → (place height told : ℕ) → HasAt code place (flat piece) → HasAt heights place (marks piece height)
-      → height_behind piece height ≡ Some told → slice_get heights (place + length (flat piece)) ≡ Some told → top_of piece height ≤ 64 → Block place (place + length (flat piece)) (cost piece)
+  pub block : (sizes : Sizes) (piece : Piece) → Made sizes piece → (place height told : ℕ) → HasAt code place (flat piece)
+      → HasAt heights place (marks piece height)
+      → height_behind piece height ≡ Some told → slice_get heights (place + length (flat piece)) ≡ Some told → top_of piece height ≤ 64
+      → Block place (place + length (flat piece)) (cost piece)
   block sizes Nothing m place height told has marked e end low = to_end place place _ 0 (let z : place ≡ place + 0 = omega arith in z) (none place)
   block sizes (One instruction) m place height told has marked e end low =
       let t = single_told instruction height told e in
@@ -219,11 +247,17 @@ module _ (code : List Instruction) (heights : List ℕ) where
       let far : middle + length (flat second) ≡ place + length (flat first ++ flat second) = omega (arith, long) in
       let there : place + length (marks first height) ≡ middle = omega (arith, marks_length first height) in
       let marked_front = has_front heights place (marks first height) (marks second (left first height)) marked in
-      let marked_back = has_to heights _ middle (marks second (left first height)) there (has_back heights place (marks first height) (marks second (left first height)) marked) in
+      let marked_back =
+      has_to heights _ middle (marks second (left first height)) there
+      (has_back heights place (marks first height) (marks second (left first height)) marked) in
       let end_back = ap (λ n. slice_get heights n) far ∙ end in
       let end_front = first_mark heights middle second (left first height) told marked_back t.1 end_back in
-      let one = block sizes first m.0 place height (left first height) (has_front code place (flat first) (flat second) has) marked_front t.0 end_front (omega (arith, low)) in
-      let other = block sizes second m.1 middle (left first height) told (has_back code place (flat first) (flat second) has) marked_back t.1 end_back (omega (arith, low)) in
+      let one =
+      block sizes first m.0 place height (left first height) (has_front code place (flat first) (flat second) has) marked_front t.0 end_front
+      (omega (arith, low)) in
+      let other =
+      block sizes second m.1 middle (left first height) told (has_back code place (flat first) (flat second) has) marked_back t.1 end_back
+      (omega (arith, low)) in
       to_end place _ _ _ far (two place middle _ (cost first) (cost second) one other)
   block sizes (Choice first second) m place height told has marked e end low =
       let t = popped_told (λ below. one_height (height_behind first below) (height_behind second below)) height told e in
@@ -242,20 +276,28 @@ module _ (code : List Instruction) (heights : List ℕ) where
       let end_second = ap (λ n. slice_get heights n) far ∙ end in
       let at_first = first_mark heights (suc place) first (height - 1) (left first (height - 1)) marked_front behind_first marked_back.0 in
       let at_second = first_mark heights (suc middle) second (height - 1) told marked_back.1 b.1 end_second in
-      let one = block sizes first m.0 (suc place) (height - 1) (left first (height - 1)) (has_front code (suc place) (flat first) tail has.1) marked_front behind_first marked_back.0 (omega (arith, low)) in
+      let one =
+      block sizes first m.0 (suc place) (height - 1) (left first (height - 1))
+      (has_front code (suc place) (flat first) tail has.1) marked_front behind_first marked_back.0 (omega (arith, low)) in
       let other = block sizes second m.1 (suc middle) (height - 1) told rest.1 marked_back.1 b.1 end_second (omega (arith, low)) in
       let under = under_top (Choice first second) height told e in
       let skips : place + (length (flat first) + 2) ≡ suc middle = omega arith in
       let over : middle + (length (flat second) + 1) ≡ suc middle + length (flat second) = omega arith in
       let around_jump = around_as code middle (Jump (length (flat second) + 1)) (flow.Ahead (length (flat second) + 1)) rest.0 refl in
       let around_branch = around_as code place (JumpFalse (length (flat first) + 2)) (flow.Branch (length (flat first) + 2)) has.0 refl in
-      let here = placed_branch place (length (flat first) + 2) height has.0 marked.0 t.0 (omega (arith, under.0, low)) at_first (ap (λ n. slice_get heights n) skips ∙ at_second)
+      let here =
+      placed_branch place (length (flat first) + 2) height has.0 marked.0 t.0 (omega (arith, under.0, low)) at_first
+      (ap (λ n. slice_get heights n) skips ∙ at_second)
       (ap (λ n. loops_around code n) skips ∙ (around_jump ∙ (one.same ∙ around_branch))) in
-      let jump = placed_jump middle (length (flat second) + 1) (left first (height - 1)) place rest.0 marked_back.0 (omega (arith, under.1, is_told, low)) (ap (λ n. slice_get heights n) over ∙ (end_second ∙ ap (λ n. Some n) (sym is_told)))
-      (ap (λ n. loops_around code n) over ∙ (other.same ∙ around_jump)) (omega arith) (record { instruction = JumpFalse (length (flat first) + 2); stands = has.0; leads = inr (sym skips) }) in
+      let jump =
+      placed_jump middle (length (flat second) + 1) (left first (height - 1)) place rest.0 marked_back.0 (omega (arith, under.1, is_told, low))
+      (ap (λ n. slice_get heights n) over ∙ (end_second ∙ ap (λ n. Some n) (sym is_told)))
+      (ap (λ n. loops_around code n) over ∙ (other.same ∙ around_jump)) (omega arith)
+      (record { instruction = JumpFalse (length (flat first) + 2); stands = has.0; leads = inr (sym skips) }) in
       to_end place _ _ _ far
       (two place (suc middle) _ (1 + cost first + 1) (cost second)
-      (two place middle (suc middle) (1 + cost first) 1 (two place (suc place) middle 1 (cost first) (only place here around_branch) one) (only middle jump around_jump)) other)
+      (two place middle (suc middle) (1 + cost first) 1 (two place (suc place) middle 1 (cost first) (only place here around_branch) one)
+      (only middle jump around_jump)) other)
   block sizes (When body) m place height told has marked e end low =
       let t = popped_told (λ below. one_height (height_behind body below) (Some below)) height told e in
       let b = both_told (height_behind body (height - 1)) (Some (height - 1)) told t.1 in
@@ -266,7 +308,9 @@ module _ (code : List Instruction) (heights : List ℕ) where
       let one = block sizes body m (suc place) (height - 1) told has.1 marked.1 b.0 end_body (omega (arith, low)) in
       let under = under_top (When body) height told e in
       let around_branch = around_as code place (JumpFalse (length (flat body) + 1)) (flow.Branch (length (flat body) + 1)) has.0 refl in
-      let here = placed_branch place (length (flat body) + 1) height has.0 marked.0 t.0 (omega (arith, under.0, low)) at_body (ap (λ n. slice_get heights n) over ∙ (end_body ∙ sym b.1))
+      let here =
+      placed_branch place (length (flat body) + 1) height has.0 marked.0 t.0 (omega (arith, under.0, low)) at_body
+      (ap (λ n. slice_get heights n) over ∙ (end_body ∙ sym b.1))
       (ap (λ n. loops_around code n) over ∙ (one.same ∙ around_branch)) in
       to_end place _ _ _ far (two place (suc place) _ 1 (cost body) (only place here around_branch) one)
   block sizes (Turns count body) m place height told has marked e end low =
@@ -282,15 +326,19 @@ module _ (code : List Instruction) (heights : List ℕ) where
       let far : suc middle ≡ place + length (flat (Turns count body)) = omega (arith, long) in
       let behind = ap (λ n. slice_get heights n) far ∙ (end ∙ sym b.1) in
       let at_body = first_mark heights (suc place) body height height marked_front keeps marked_back.0 in
-      let one = block sizes body m.2 (suc place) height height (has_front code (suc place) (flat body) tail has.1) marked_front keeps marked_back.0 (omega (arith, low)) in
+      let one =
+      block sizes body m.2 (suc place) height height (has_front code (suc place) (flat body) tail has.1) marked_front keeps marked_back.0
+      (omega (arith, low)) in
       let under = under_top (Turns count body) height told e in
       let fine : height ≤ 64 = omega (arith, under.0, low) in
       let rings = loops_around code place in
-      let within : loops_around code (suc place) ≡ record { begin = place; count = count } ∷ rings = around_as code place (Loop count) (flow.Open count) has.0 refl in
+      let within : loops_around code (suc place) ≡ record { begin = place; count = count } ∷ rings =
+      around_as code place (Loop count) (flow.Open count) has.0 refl in
       let at_end = one.same ∙ within in
       let around_next = around_as code middle (Next (length (flat body))) (flow.Back (length (flat body))) rest.0 refl in
       let back : middle - length (flat body) ≡ suc place = omega arith in
-      let closes : ClosesLoop (loops_around code middle) middle (length (flat body)) = subst (λ rs. ClosesLoop rs middle (length (flat body))) (sym at_end) refl in
+      let closes : ClosesLoop (loops_around code middle) middle (length (flat body)) =
+      subst (λ rs. ClosesLoop rs middle (length (flat body))) (sym at_end) refl in
       let first = placed_loop place count height has.0 marked.0 fine at_body in
       let last = placed_next middle (length (flat body)) height rest.0 marked_back.0 fine behind (ap (λ n. slice_get heights n) back ∙ at_body) closes in
       to_end place _ _ _ far

@@ -1,5 +1,6 @@
 -- A piece with its end is a valid part.
-use Rattle.std.proofs.Common.{◌≡◌, ℕ, zero, suc, ◌+◌, ◌-◌, ◌<◌, ◌≤◌, List, [], ◌∷◌, ◌++◌, length, Some, refl, sym, ap, ◌∙◌, subst, ⊎_elim, arith, length-append, one-mul}
+use Rattle.std.proofs.Common.{◌≡◌, ℕ, zero, suc, ◌+◌, ◌-◌, ◌<◌, ◌≤◌, List, [], ◌∷◌, ◌++◌, length, Some, refl, sym, ap, ◌∙◌, subst, ⊎_elim, arith, length-append}
+use Rattle.std.proofs.Common.{one-mul}
 use Rattle.std.proofs.lemmas.Bool.{cases_lt}
 use Rattle.std.proofs.lemmas.Option.{slice_get_within}
 use Rattle.std.specs.Prelude.{slice_get}
@@ -21,7 +22,8 @@ same_instruction : (i j : Instruction) → Some i ≡ Some j → i ≡ j
 same_instruction i j e = cc
 
 -- Places that are each led to from an earlier one are reached.
-reach : (code : List Instruction) (heights : List ℕ) (behind : ℕ) → ((k : ℕ) → k < behind → Placed code heights k) → (bound place : ℕ) → place < bound → place ≤ behind → (steps : ℕ) × Reaches code steps place
+reach : (code : List Instruction) (heights : List ℕ) (behind : ℕ) → ((k : ℕ) → k < behind → Placed code heights k) → (bound place : ℕ) → place < bound
+    → place ≤ behind → (steps : ℕ) × Reaches code steps place
 reach code heights behind placed zero place below within = absurd (omega (arith, below))
 reach code heights behind placed (suc bound) zero below within = (0, refl)
 reach code heights behind placed (suc bound) (suc k) below within =
@@ -32,9 +34,11 @@ reach code heights behind placed (suc bound) (suc k) below within =
 
 -- A block from the entry on, with an end behind it.
 module _ (code : List Instruction) (heights : List ℕ) (end last price : ℕ) (finish : Instruction) (all : Block code heights 0 end price)
-    (is_end : slice_get code end ≡ Some finish) (ends : flow_of finish ≡ flow.End) (high : slice_get heights end ≡ Some last) (long : length code ≡ suc end) where
+    (is_end : slice_get code end ≡ Some finish) (ends : flow_of finish ≡ flow.End) (high : slice_get heights end ≡ Some last)
+    (long : length code ≡ suc end) where
   -- What holds of each placed instruction and of the end holds of every instruction of the code.
-  at_each : (P : ℕ → Instruction → Type 0) → ((place : ℕ) (h : Placed code heights place) → P place h.instruction) → P end finish → (place : ℕ) (i : Instruction) → slice_get code place ≡ Some i → P place i
+  at_each : (P : ℕ → Instruction → Type 0) → ((place : ℕ) (h : Placed code heights place) → P place h.instruction) → P end finish
+      → (place : ℕ) (i : Instruction) → slice_get code place ≡ Some i → P place i
   at_each P inner outer place i at = ⊎_elim
       (λ l. let h = all.placed place (omega arith) l in subst (P place) (same_instruction h.instruction i (sym h.stands ∙ at)) (inner place h))
       (λ g.
@@ -43,7 +47,8 @@ module _ (code : List Instruction) (heights : List ℕ) (end last price : ℕ) (
       subst (λ k. P k i) here (subst (P end) (same_instruction finish i (sym is_end ∙ (ap (λ n. slice_get code n) here ∙ at))) outer))
       (cases_lt place end)
 
-  pub operands : takes finish ≤ last → last ≤ 64 → (place : ℕ) (i : Instruction) (height : ℕ) → slice_get code place ≡ Some i → slice_get heights place ≡ Some height → (takes i ≤ height) × (height ≤ 64)
+  pub operands : takes finish ≤ last → last ≤ 64 → (place : ℕ) (i : Instruction) (height : ℕ) → slice_get code place ≡ Some i
+      → slice_get heights place ≡ Some height → (takes i ≤ height) × (height ≤ 64)
   operands enough low place i height at is =
       at_each (λ place i. (height : ℕ) → slice_get heights place ≡ Some height → (takes i ≤ height) × (height ≤ 64))
       (λ place h height is.
@@ -54,10 +59,13 @@ module _ (code : List Instruction) (heights : List ℕ) (end last price : ℕ) (
       (λ height is. let same = some_same last height (sym high ∙ is) in (omega (arith, same, enough), omega (arith, same, low)))
       place i at height is
 
-  pub ways : (from to : ℕ) (i : Instruction) (height : ℕ) → slice_get code from ≡ Some i → slice_get heights from ≡ Some height → LeadsTo from (flow_of i) to → slice_get heights to ≡ Some (height - takes i + leaves i)
+  pub ways : (from to : ℕ) (i : Instruction) (height : ℕ) → slice_get code from ≡ Some i → slice_get heights from ≡ Some height → LeadsTo from (flow_of i) to
+      → slice_get heights to ≡ Some (height - takes i + leaves i)
   ways from to i height at is l =
-      at_each (λ place i. (to height : ℕ) → slice_get heights place ≡ Some height → LeadsTo place (flow_of i) to → slice_get heights to ≡ Some (height - takes i + leaves i))
-      (λ place h to height is l. let same = some_same h.height height (sym h.high ∙ is) in h.ways to l ∙ ap (λ n. Some (n - takes h.instruction + leaves h.instruction)) same)
+      at_each (λ place i. (to height : ℕ) → slice_get heights place ≡ Some height → LeadsTo place (flow_of i) to
+      → slice_get heights to ≡ Some (height - takes i + leaves i))
+      (λ place h to height is l. let same = some_same h.height height (sym h.high ∙ is) in
+      h.ways to l ∙ ap (λ n. Some (n - takes h.instruction + leaves h.instruction)) same)
       (λ to height is l. absurd (let never : LeadsTo end flow.End to = subst (λ f. LeadsTo end f to) ends l in never))
       from i at to height is l
 
@@ -68,7 +76,8 @@ module _ (code : List Instruction) (heights : List ℕ) (end last price : ℕ) (
       (λ to j. absurd (let never : JumpsTo end flow.End to = subst (λ f. JumpsTo end f to) ends j in never))
       from i at to j
 
-  pub nexts : (place distance : ℕ) (i : Instruction) → slice_get code place ≡ Some i → flow_of i ≡ flow.Back distance → ClosesLoop (loops_around code place) place distance
+  pub nexts : (place distance : ℕ) (i : Instruction) → slice_get code place ≡ Some i → flow_of i ≡ flow.Back distance
+      → ClosesLoop (loops_around code place) place distance
   nexts place distance i at e =
       at_each (λ place i. (distance : ℕ) → flow_of i ≡ flow.Back distance → ClosesLoop (loops_around code place) place distance)
       (λ place h. h.nexts)
@@ -102,15 +111,18 @@ piece_parts_are_valid_lem sizes role piece finish f =
     let front = has_front code 0 (flat piece) (finish ∷ []) (has_itself code) in
     let back = has_to code (0 + end) end (finish ∷ []) from_0 (has_back code 0 (flat piece) (finish ∷ []) (has_itself code)) in
     let marked = has_front heights 0 (marks piece 0) (f.height ∷ []) (has_itself heights) in
-    let at_end = has_to heights (0 + length (marks piece 0)) end (f.height ∷ []) marks_to (has_back heights 0 (marks piece 0) (f.height ∷ []) (has_itself heights)) in
+    let at_end =
+    has_to heights (0 + length (marks piece 0)) end (f.height ∷ []) marks_to (has_back heights 0 (marks piece 0) (f.height ∷ []) (has_itself heights)) in
     let high = ap (λ n. slice_get heights n) from_0 ∙ at_end.0 in
     let all : Block code heights 0 end (cost piece) =
-    subst (λ n. Block code heights 0 n (cost piece)) from_0 (block code heights sizes piece (made sizes piece f.made) 0 0 f.height front marked f.leaves high f.low) in
+    subst (λ n. Block code heights 0 n (cost piece)) from_0
+    (block code heights sizes piece (made sizes piece f.made) 0 0 f.height front marked f.leaves high f.low) in
     let long : length code ≡ suc end = omega (arith, length-append (flat piece) (finish ∷ [])) in
     let under = under_top piece 0 f.height f.leaves in
     let low = f.low in
     let cheap = f.cheap in
-    let allows = allowed_both sizes role (flat piece) (finish ∷ []) (allowed sizes role piece (made sizes piece f.made)) (allowed_end sizes role finish f.argued f.fits) in
+    let allows =
+    allowed_both sizes role (flat piece) (finish ∷ []) (allowed sizes role piece (made sizes piece f.made)) (allowed_end sizes role finish f.argued f.fits) in
     let is_cost = costs code heights end f.height (cost piece) finish all back.0 f.ends at_end.0 long in
     record {
       heights = heights;

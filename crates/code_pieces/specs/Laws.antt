@@ -46,7 +46,8 @@ pub record IsValidPart (sizes : Sizes) (role : Role) (piece : Piece) (finish : I
   pub costs : cost_of (part_code piece finish) ≡ cost piece + 1
 
 abbrev pub PiecePartsAreValid : Type 0
-PiecePartsAreValid = (sizes : Sizes) (role : Role) (piece : Piece) (finish : Instruction) → FitsPart sizes role piece finish → IsValidPart sizes role piece finish
+PiecePartsAreValid = (sizes : Sizes) (role : Role) (piece : Piece) (finish : Instruction) → FitsPart sizes role piece finish
+    → IsValidPart sizes role piece finish
 
 -- What the part of an entry is run for.
 abbrev pub role_of : Entry → Role

@@ -65,6 +65,7 @@ pub record PiecesAreWorked : Type 0 where
   pub too_many_turns : is_made one_state (Turns 1001 Nothing) ≡ false
   pub jump_by_itself : is_made one_state (One (Jump 2)) ≡ false
   pub ends : finished (Give UInt8) (Does (work_of (pos 256 ∷ []) [])) ≡ Faults fault.Range
-  pub output : run_of small_program (Output 0) (pos 0 ∷ pos 0 ∷ pos 10 ∷ []) ≡ Ends (record { stack = negsuc 1 ∷ []; slots = pos 0 ∷ pos 0 ∷ pos 10 ∷ []; accepted = 10 }) (Some (negsuc 1))
+  pub output : run_of small_program (Output 0) (pos 0 ∷ pos 0 ∷ pos 10 ∷ [])
+      ≡ Ends (record { stack = negsuc 1 ∷ []; slots = pos 0 ∷ pos 0 ∷ pos 10 ∷ []; accepted = 10 }) (Some (negsuc 1))
   pub step : run_of small_program Step (pos 5 ∷ pos 0 ∷ pos 10 ∷ []) ≡ Ends (record { stack = []; slots = pos 40 ∷ pos 0 ∷ pos 10 ∷ []; accepted = 10 }) None
   pub step_faults : run_of small_program Step (pos 64 ∷ pos 0 ∷ pos 10 ∷ []) ≡ Faults fault.Range

@@ -23,9 +23,12 @@ use Rattle.unit_vm.specs.declared.instruction.Instruction.TheVariants.{Give, Lim
 use Rattle.unit_vm.specs.declared.program.Role.TheVariants as role
 
 module _ (scope : Scope) (known : Known scope) where
-  output_cheap : (output : Output) → IsCallable scope output.value → AreDecimals output.ty → cost_of (output_code scope output) ≤ expression_call_cost output.value
+  output_cheap : (output : Output) → IsCallable scope output.value → AreDecimals output.ty
+      → cost_of (output_code scope output) ≤ expression_call_cost output.value
   output_cheap output callable typed =
-      let costs = (piece_parts_are_valid_lem scope.sizes role.Output (code_of output.value scope).piece (Give output.ty) (output_fits scope known output callable typed)).costs in
+      let costs =
+      (piece_parts_are_valid_lem scope.sizes role.Output (code_of output.value scope).piece (Give output.ty)
+      (output_fits scope known output callable typed)).costs in
       let less = (fine scope known output.value).cheap in
       omega arith
 
@@ -41,20 +44,26 @@ module _ (scope : Scope) (known : Known scope) where
       let less = (fine_lines scope known lines).cheap in
       omega arith
 
-  outputs_cheap : (outputs : List Output) → AllByRecursion (λ (output : Output). IsCallable scope output.value) outputs → AllByRecursion (λ (output : Output). AreDecimals output.ty) outputs → (number : ℕ) (output : Output) → slice_get outputs number ≡ Some output → cost_of (output_code scope output) ≤ expression_call_cost output.value
+  outputs_cheap : (outputs : List Output) → AllByRecursion (λ (output : Output). IsCallable scope output.value) outputs
+      → AllByRecursion (λ (output : Output). AreDecimals output.ty) outputs → (number : ℕ) (output : Output) → slice_get outputs number ≡ Some output
+      → cost_of (output_code scope output) ≤ expression_call_cost output.value
   outputs_cheap [] callable typed number output is = absurd (cc)
   outputs_cheap (first ∷ others) callable typed zero output is =
       let same : first ≡ output = cc in
       subst (λ (one : Output). cost_of (output_code scope one) ≤ expression_call_cost one.value) same (output_cheap first callable.0 typed.0)
   outputs_cheap (first ∷ others) callable typed (suc number) output is = outputs_cheap others callable.1 typed.1 number output is
 
-  limits_cheap : (given : Option Expr) → IfSome given (λ value. IsCallable scope value) → (value : Expr) → given ≡ Some value → cost_of (limit_code scope value) ≤ expression_call_cost value
+  limits_cheap : (given : Option Expr) → IfSome given (λ value. IsCallable scope value) → (value : Expr) → given ≡ Some value
+      → cost_of (limit_code scope value) ≤ expression_call_cost value
   limits_cheap None callable value is = absurd (cc)
-  limits_cheap (Some one) callable value is = let same : one ≡ value = cc in subst (λ (e : Expr). cost_of (limit_code scope e) ≤ expression_call_cost e) same (limit_cheap one callable)
+  limits_cheap (Some one) callable value is = let same : one ≡ value = cc in
+      subst (λ (e : Expr). cost_of (limit_code scope e) ≤ expression_call_cost e) same (limit_cheap one callable)
 
-  steps_cheap : (given : Option (List Line)) → IfSome given (λ lines. IsRunnable scope lines) → (lines : List Line) → given ≡ Some lines → cost_of (part_code (step_piece scope given) Done) ≤ step_call_cost lines
+  steps_cheap : (given : Option (List Line)) → IfSome given (λ lines. IsRunnable scope lines) → (lines : List Line) → given ≡ Some lines
+      → cost_of (part_code (step_piece scope given) Done) ≤ step_call_cost lines
   steps_cheap None runnable lines is = absurd (cc)
-  steps_cheap (Some one) runnable lines is = let same : one ≡ lines = cc in subst (λ (ls : List Line). cost_of (part_code (lines_code one scope).piece Done) ≤ step_call_cost ls) same (step_cheap one runnable)
+  steps_cheap (Some one) runnable lines is = let same : one ≡ lines = cc in
+      subst (λ (ls : List Line). cost_of (part_code (lines_code one scope).piece Done) ≤ step_call_cost ls) same (step_cheap one runnable)
 
 pub codes_cheap : CodesCostWhatTreesDo
 codes_cheap = λ component fits.

@@ -1,12 +1,14 @@
 -- The piece of an expression does what the expression means: it pushes the value, or meets its fault.
-use Rattle.std.proofs.Common.{◌≡◌, ℕ, ◌-◌, Bool, true, false, nat_le, ◌&&◌, ℤ, pos, List, ◌∷◌, Option, Some, None, slice_get, Result, Ok, Err, refl, sym, ap, ◌∙◌, subst, true≢false, rules}
+use Rattle.std.proofs.Common.{◌≡◌, ℕ, ◌-◌, Bool, true, false, nat_le, ◌&&◌, ℤ, pos, List, ◌∷◌, Option, Some, None, slice_get, Result, Ok, Err, refl, sym, ap}
+use Rattle.std.proofs.Common.{◌∙◌, subst, true≢false, rules}
 use Rattle.std.specs.Prelude.{not, if◌then◌else◌}
 use Rattle.std.proofs.lemmas.Bool.{and_parts}
 use Rattle.fixed_words.specs.Operations.{Outcome, is_zero, scaled_up, scaled_down}
 use Rattle.fixed_words.specs.declared.types.Fault.{Fault}
 use Rattle.fixed_words.specs.declared.types.Kind.{Kind}
 use Rattle.fixed_words.specs.declared.types.Kind.TheVariants as kinds
-use Rattle.code_units.specs.Expressions.{Coded, Coding, leaf, name_code, truth_code, unary_code, unary_kind_of, binary_code, binary_kind_of, and_perhaps, unary_joined, binary_joined, clamp_joined, choice_joined, node_code, code_of}
+use Rattle.code_units.specs.Expressions.{Coded, Coding, leaf, name_code, truth_code, unary_code, unary_kind_of, binary_code, binary_kind_of, and_perhaps}
+use Rattle.code_units.specs.Expressions.{unary_joined, binary_joined, clamp_joined, choice_joined, node_code, code_of}
 use Rattle.code_units.specs.Scopes.{named}
 use Rattle.code_units.specs.declared.scope.Scope.{Scope}
 use Rattle.code_pieces.specs.Pieces.{Piece, One, Then, Choice, and_then, does}
@@ -20,11 +22,13 @@ use Rattle.unit_tree.specs.declared.expr.UnOp.{UnOp}
 use Rattle.unit_tree.specs.declared.expr.UnOp.TheVariants as of
 use Rattle.unit_tree.specs.declared.expr.Expr as expr
 use Rattle.unit_tree.specs.declared.expr.Expr.{Expr}
-use Rattle.unit_tree.specs.declared.expr.Expr.TheVariants.{rolls-Number, rolls-Truth, rolls-Var, rolls-Time, rolls-Step, rolls-Unary, rolls-Binary, rolls-Clamp, rolls-Choose, rolls-Absent, rolls-Present}
+use Rattle.unit_tree.specs.declared.expr.Expr.TheVariants.{rolls-Number, rolls-Truth, rolls-Var, rolls-Time, rolls-Step, rolls-Unary, rolls-Binary, rolls-Clamp}
+use Rattle.unit_tree.specs.declared.expr.Expr.TheVariants.{rolls-Choose, rolls-Absent, rolls-Present}
 use Rattle.unit_tree.specs.declared.expr.Expr.TheFolds.{ind-Expr, map-Expr}
 use Rattle.unit_tree.specs.declared.expr.Expr.TheViews.{roll-Expr}
 use Rattle.unit_tree.specs.declared.expr.Expr.TheOpen.{Expr-F}
-use Rattle.unit_tree.proofs.FoldLemmas.{fold-Number, fold-Truth, fold-Var, fold-Time, fold-Step, fold-Unary, fold-Binary, fold-Clamp, fold-Choose, fold-Absent, fold-Present}
+use Rattle.unit_tree.proofs.FoldLemmas.{fold-Number, fold-Truth, fold-Var, fold-Time, fold-Step, fold-Unary, fold-Binary, fold-Clamp, fold-Choose, fold-Absent}
+use Rattle.unit_tree.proofs.FoldLemmas.{fold-Present}
 use Rattle.unit_vm.specs.Machine.{Work, Did, Does, Fails, truth as truth_of, pushes, loads, least, most, act}
 use Rattle.unit_vm.specs.declared.instruction.Instruction.{Instruction}
 use Rattle.unit_vm.specs.declared.instruction.Instruction.TheVariants.{Load, Negate, Magnitude, Not, Clamp, ScaleUp, ScaleDown}
@@ -54,14 +58,18 @@ module _ (slots : List ℤ) (accepted : ℕ) where
   given_truth false stack did is = (is, refl)
 
   -- An operation behind a piece.
-  behind_it : (piece : Piece) (stack : List ℤ) (did : Did) (instruction : Instruction) → does piece (at stack) ≡ did → does (Then piece (One instruction)) (at stack) ≡ and_then did (act instruction)
+  behind_it : (piece : Piece) (stack : List ℤ) (did : Did) (instruction : Instruction) → does piece (at stack) ≡ did
+      → does (Then piece (One instruction)) (at stack) ≡ and_then did (act instruction)
   behind_it piece stack did instruction is = ap (λ d. and_then d (act instruction)) is
 
-  scaled : (longer : Bool) (up down : ℕ) (word : ℤ) (stack : List ℤ) → act (if longer then ScaleUp up else ScaleDown down) (at (word ∷ stack)) ≡ pushes (at stack) stack (if longer then scaled_up up word else scaled_down down word)
+  scaled : (longer : Bool) (up down : ℕ) (word : ℤ) (stack : List ℤ)
+      → act (if longer then ScaleUp up else ScaleDown down) (at (word ∷ stack))
+      ≡ pushes (at stack) stack (if longer then scaled_up up word else scaled_down down word)
   scaled true up down word stack = refl
   scaled false up down word stack = refl
 
-  unary_gives : (op : UnOp) (piece : Piece) (kind : Kind) (word : ℤ) (stack : List ℤ) → does piece (at stack) ≡ Does (at (word ∷ stack)) → Gives (unary_kind_of op kind) stack (does (and_perhaps piece (unary_code op kind)) (at stack)) (unary_value op (record { kind = kind; word = word }))
+  unary_gives : (op : UnOp) (piece : Piece) (kind : Kind) (word : ℤ) (stack : List ℤ) → does piece (at stack) ≡ Does (at (word ∷ stack))
+      → Gives (unary_kind_of op kind) stack (does (and_perhaps piece (unary_code op kind)) (at stack)) (unary_value op (record { kind = kind; word = word }))
   unary_gives of.Neg piece kind word stack is = given kind stack _ _ (behind_it piece stack (Does (at (word ∷ stack))) Negate is)
   unary_gives of.Not piece kind word stack is = given_truth _ stack _ (behind_it piece stack (Does (at (word ∷ stack))) Not is)
   unary_gives of.Abs piece kind word stack is = given kind stack _ _ (behind_it piece stack (Does (at (word ∷ stack))) Magnitude is)
@@ -71,10 +79,13 @@ module _ (slots : List ℤ) (accepted : ℕ) where
   unary_gives (of.ToFix n) piece kinds.Int word stack is = given (kinds.Fixed n) stack _ _ (behind_it piece stack (Does (at (word ∷ stack))) (ScaleUp n) is)
   unary_gives (of.ToFix n) piece kinds.Bool word stack is = given (kinds.Fixed n) stack _ _ (behind_it piece stack (Does (at (word ∷ stack))) (ScaleUp n) is)
   unary_gives (of.ToFix n) piece (kinds.Fixed had) word stack is =
-      given (kinds.Fixed n) stack _ _ (behind_it piece stack (Does (at (word ∷ stack))) (if nat_le had n then ScaleUp (n - had) else ScaleDown (had - n)) is ∙ scaled (nat_le had n) (n - had) (had - n) word stack)
+      given (kinds.Fixed n) stack _ _
+      (behind_it piece stack (Does (at (word ∷ stack))) (if nat_le had n then ScaleUp (n - had) else ScaleDown (had - n)) is
+      ∙ scaled (nat_le had n) (n - had) (had - n) word stack)
 
   -- An operation on two words is that on two values, the first of this kind.
-  binary_gives : (op : BinOp) (kind other : Kind) (x y : ℤ) (stack : List ℤ) (did : Did) → did ≡ act (binary_code op kind) (at (y ∷ (x ∷ stack))) → Gives (binary_kind_of op kind) stack did (binary_value op (record { kind = kind; word = x }) (record { kind = other; word = y }))
+  binary_gives : (op : BinOp) (kind other : Kind) (x y : ℤ) (stack : List ℤ) (did : Did) → did ≡ act (binary_code op kind) (at (y ∷ (x ∷ stack)))
+      → Gives (binary_kind_of op kind) stack did (binary_value op (record { kind = kind; word = x }) (record { kind = other; word = y }))
   binary_gives by.Add kind other x y stack did is = given kind stack _ did is
   binary_gives by.Sub kind other x y stack did is = given kind stack _ did is
   binary_gives by.Mul kinds.Int other x y stack did is = given kinds.Int stack _ did is
@@ -99,21 +110,24 @@ module _ (slots : List ℤ) (accepted : ℕ) where
   -- ---- Nodes, of any code and results of their parts
 
   -- A fault before the operation is the fault.
-  failed : (piece : Piece) (stack : List ℤ) (fault : Fault) (behind : Option Instruction) → does piece (at stack) ≡ Fails fault → does (and_perhaps piece behind) (at stack) ≡ Fails fault
+  failed : (piece : Piece) (stack : List ℤ) (fault : Fault) (behind : Option Instruction) → does piece (at stack) ≡ Fails fault
+      → does (and_perhaps piece behind) (at stack) ≡ Fails fault
   failed piece stack fault None is = is
   failed piece stack fault (Some instruction) is = behind_it piece stack (Fails fault) instruction is
 
   unary_means : (op : UnOp) (a : Coded) (r : Result Value Fault) → Means a r → Means (unary_joined op a) (r >>= λ x. unary_value op x)
   unary_means op a (Ok v) m agrees stack =
       let x = m agrees stack in
-      subst (λ k. Gives (unary_kind_of op k) stack (does (and_perhaps a.piece (unary_code op k)) (at stack)) (unary_value op v)) x.1 (unary_gives op a.piece v.kind v.word stack x.0)
+      subst (λ k. Gives (unary_kind_of op k) stack (does (and_perhaps a.piece (unary_code op k)) (at stack)) (unary_value op v)) x.1
+      (unary_gives op a.piece v.kind v.word stack x.0)
   unary_means op a (Err fault) m agrees stack = failed a.piece stack fault (unary_code op a.kind) (m agrees stack)
 
   -- A piece, and what comes behind it.
   then_does : (piece next : Piece) (stack : List ℤ) (did : Did) → does piece (at stack) ≡ did → does (Then piece next) (at stack) ≡ and_then did (does next)
   then_does piece next stack did is = ap (λ d. and_then d (does next)) is
 
-  binary_means : (op : BinOp) (a b : Coded) (r q : Result Value Fault) → Means a r → Means b q → Means (binary_joined op a b) (r >>= λ x. (q >>= λ y. binary_value op x y))
+  binary_means : (op : BinOp) (a b : Coded) (r q : Result Value Fault) → Means a r → Means b q
+      → Means (binary_joined op a b) (r >>= λ x. (q >>= λ y. binary_value op x y))
   binary_means op a b (Err fault) q m n agrees stack =
       then_does a.piece (Then b.piece (One (binary_code op a.kind))) stack (Fails fault) (m (and_parts a.agrees b.agrees agrees).0 stack)
   binary_means op a b (Ok x) (Err fault) m n agrees stack =
@@ -128,7 +142,8 @@ module _ (slots : List ℤ) (accepted : ℕ) where
       then_does a.piece (Then b.piece (One (binary_code op a.kind))) stack (Does (at (x.word ∷ stack))) first.0
       ∙ then_does b.piece (One (binary_code op a.kind)) (x.word ∷ stack) (Does (at (y.word ∷ (x.word ∷ stack)))) second.0
       ∙ ap (λ k. act (binary_code op k) (at (y.word ∷ (x.word ∷ stack)))) (sym first.1) in
-      subst (λ k. Gives (binary_kind_of op k) stack (does (Then a.piece (Then b.piece (One (binary_code op a.kind)))) (at stack)) (binary_value op x y)) first.1 (binary_gives op x.kind y.kind x.word y.word stack _ back)
+      subst (λ k. Gives (binary_kind_of op k) stack (does (Then a.piece (Then b.piece (One (binary_code op a.kind)))) (at stack)) (binary_value op x y)) first.1
+      (binary_gives op x.kind y.kind x.word y.word stack _ back)
 
   pub same_kind_is : (a b : Kind) → same_kind a b ≡ true → a ≡ b
   same_kind_is kinds.Int kinds.Int e = refl
@@ -142,18 +157,22 @@ module _ (slots : List ℤ) (accepted : ℕ) where
   same_kind_is (kinds.Fixed m) kinds.Bool e = absurd (true≢false (sym e))
 
   -- One way or the other, both of this kind.
-  either_gives : (zero : Bool) (a b : Coded) (stack : List ℤ) (r q : Result Value Fault) (did : Did) → did ≡ (if zero then does b.piece else does a.piece) (at stack) → b.kind ≡ a.kind → Gives a.kind stack (does a.piece (at stack)) r → Gives b.kind stack (does b.piece (at stack)) q → Gives a.kind stack did (if not zero then r else q)
+  either_gives : (zero : Bool) (a b : Coded) (stack : List ℤ) (r q : Result Value Fault) (did : Did)
+      → did ≡ (if zero then does b.piece else does a.piece) (at stack) → b.kind ≡ a.kind → Gives a.kind stack (does a.piece (at stack)) r
+      → Gives b.kind stack (does b.piece (at stack)) q → Gives a.kind stack did (if not zero then r else q)
   either_gives false a b stack r q did is same g h = subst (λ d. Gives a.kind stack d r) (sym is) g
   either_gives true a b stack r q did is same g h = subst (λ d. Gives a.kind stack d q) (sym is) (subst (λ k. Gives k stack (does b.piece (at stack)) q) same h)
 
-  choice_means : (c a b : Coded) (s r q : Result Value Fault) → Means c s → Means a r → Means b q → Means (choice_joined c a b) (s >>= λ v. (if holds v then r else q))
+  choice_means : (c a b : Coded) (s r q : Result Value Fault) → Means c s → Means a r → Means b q
+      → Means (choice_joined c a b) (s >>= λ v. (if holds v then r else q))
   choice_means c a b (Err fault) r q l m n agrees stack =
       then_does c.piece (Choice a.piece b.piece) stack (Fails fault) (l (and_parts c.agrees _ agrees).0 stack)
   choice_means c a b (Ok v) r q l m n agrees stack =
       let first = and_parts c.agrees (a.agrees && (b.agrees && same_kind b.kind a.kind)) agrees in
       let second = and_parts a.agrees (b.agrees && same_kind b.kind a.kind) first.1 in
       let third = and_parts b.agrees (same_kind b.kind a.kind) second.1 in
-      either_gives (is_zero v.word) a b stack r q _ (then_does c.piece (Choice a.piece b.piece) stack (Does (at (v.word ∷ stack))) (l first.0 stack).0) (same_kind_is b.kind a.kind third.1) (m second.0 stack) (n third.0 stack)
+      either_gives (is_zero v.word) a b stack r q _ (then_does c.piece (Choice a.piece b.piece) stack (Does (at (v.word ∷ stack))) (l first.0 stack).0)
+      (same_kind_is b.kind a.kind third.1) (m second.0 stack) (n third.0 stack)
 
   clamp_means : (a b c : Coded) (r q s : Result Value Fault) → Means a r → Means b q → Means c s → Means (clamp_joined a b c) (clamped_value r q s)
   clamp_means a b c (Err fault) q s l m n agrees stack =
@@ -173,7 +192,8 @@ module _ (slots : List ℤ) (accepted : ℕ) where
       let second = and_parts b.agrees c.agrees first.1 in (
         then_does a.piece (Then b.piece (Then c.piece (One Clamp))) stack (Does (at (x.word ∷ stack))) (l first.0 stack).0
             ∙ then_does b.piece (Then c.piece (One Clamp)) (x.word ∷ stack) (Does (at (y.word ∷ (x.word ∷ stack)))) (m second.0 (x.word ∷ stack)).0
-            ∙ then_does c.piece (One Clamp) (y.word ∷ (x.word ∷ stack)) (Does (at (z.word ∷ (y.word ∷ (x.word ∷ stack))))) (n second.1 (y.word ∷ (x.word ∷ stack))).0,
+            ∙ then_does c.piece (One Clamp) (y.word ∷ (x.word ∷ stack)) (Does (at (z.word ∷ (y.word ∷ (x.word ∷ stack)))))
+            (n second.1 (y.word ∷ (x.word ∷ stack))).0,
         (l first.0 stack).1,
       )
 
@@ -182,7 +202,8 @@ module _ (slots : List ℤ) (accepted : ℕ) where
   truth_means false agrees stack = (refl, refl)
 
   -- A slot's word is loaded.
-  pub load_means : (slot : ℕ) (word : ℤ) (kind : Kind) → slice_get slots slot ≡ Some word → Means (leaf (Load slot) kind) (Ok (record { kind = kind; word = word }))
+  pub load_means : (slot : ℕ) (word : ℤ) (kind : Kind) → slice_get slots slot ≡ Some word
+      → Means (leaf (Load slot) kind) (Ok (record { kind = kind; word = word }))
   load_means slot word kind is agrees stack = (ap (loads (at stack)) is, refl)
 
   -- ---- Expressions
@@ -198,7 +219,8 @@ module _ (slots : List ℤ) (accepted : ℕ) where
     Here e = Means (code_of e scope) (value_of e env)
 
     by_folds : (e : Expr) (c : Coding) (m : Meaning) → code_of e ≡ c → value_of e ≡ m → Means (c scope) (m env) → Here e
-    by_folds e c m is means mean = subst (λ (x : Coding). Means (x scope) (value_of e env)) (sym is) (subst (λ (x : Meaning). Means (c scope) (x env)) (sym means) mean)
+    by_folds e c m is means mean =
+        subst (λ (x : Coding). Means (x scope) (value_of e env)) (sym is) (subst (λ (x : Meaning). Means (c scope) (x env)) (sym means) mean)
 
     abbrev Proved : Type 0
     Proved = (e : Expr) × Here e
@@ -208,27 +230,47 @@ module _ (slots : List ℤ) (accepted : ℕ) where
 
     node : (y : Expr-F Proved) → Here (roll-Expr (map-Expr Proved Expr bare y))
     node (Expr-F.Number word decimals) =
-        subst Here (sym (rolls-Number word decimals)) (by_folds (expr.Number word decimals) _ _ (fold-Number Coding node_code word decimals) (fold-Number Meaning node_meaning word decimals) (λ agrees stack. (refl, refl)))
+        subst Here (sym (rolls-Number word decimals))
+        (by_folds (expr.Number word decimals) _ _ (fold-Number Coding node_code word decimals) (fold-Number Meaning node_meaning word decimals)
+        (λ agrees stack. (refl, refl)))
     node (Expr-F.Truth told) =
-        subst Here (sym (rolls-Truth told)) (by_folds (expr.Truth told) _ _ (fold-Truth Coding node_code told) (fold-Truth Meaning node_meaning told) (truth_means told))
+        subst Here (sym (rolls-Truth told))
+        (by_folds (expr.Truth told) _ _ (fold-Truth Coding node_code told) (fold-Truth Meaning node_meaning told) (truth_means told))
     node (Expr-F.Var name) =
         subst Here (sym (rolls-Var name)) (by_folds (expr.Var name) _ _ (fold-Var Coding node_code name) (fold-Var Meaning node_meaning name) (sees.names name))
     node Expr-F.Time =
-        subst Here (sym rolls-Time) (by_folds expr.Time _ _ (fold-Time Coding node_code) (fold-Time Meaning node_meaning) (load_means scope.time (pos env.time) kinds.Int sees.time))
+        subst Here (sym rolls-Time)
+        (by_folds expr.Time _ _ (fold-Time Coding node_code) (fold-Time Meaning node_meaning) (load_means scope.time (pos env.time) kinds.Int sees.time))
     node Expr-F.Step =
-        subst Here (sym rolls-Step) (by_folds expr.Step _ _ (fold-Step Coding node_code) (fold-Step Meaning node_meaning) (load_means scope.step (pos env.step) kinds.Int sees.step))
+        subst Here (sym rolls-Step)
+        (by_folds expr.Step _ _ (fold-Step Coding node_code) (fold-Step Meaning node_meaning) (load_means scope.step (pos env.step) kinds.Int sees.step))
     node (Expr-F.Unary op a) =
-        subst Here (sym (rolls-Unary op (bare a))) (by_folds (expr.Unary op (bare a)) _ _ (fold-Unary Coding node_code op (bare a)) (fold-Unary Meaning node_meaning op (bare a)) (unary_means op (code_of (bare a) scope) (value_of (bare a) env) a.1))
+        subst Here (sym (rolls-Unary op (bare a)))
+        (by_folds (expr.Unary op (bare a)) _ _ (fold-Unary Coding node_code op (bare a)) (fold-Unary Meaning node_meaning op (bare a))
+        (unary_means op (code_of (bare a) scope) (value_of (bare a) env) a.1))
     node (Expr-F.Binary op a b) =
-        subst Here (sym (rolls-Binary op (bare a) (bare b))) (by_folds (expr.Binary op (bare a) (bare b)) _ _ (fold-Binary Coding node_code op (bare a) (bare b)) (fold-Binary Meaning node_meaning op (bare a) (bare b)) (binary_means op (code_of (bare a) scope) (code_of (bare b) scope) (value_of (bare a) env) (value_of (bare b) env) a.1 b.1))
+        subst Here (sym (rolls-Binary op (bare a) (bare b)))
+        (by_folds (expr.Binary op (bare a) (bare b)) _ _ (fold-Binary Coding node_code op (bare a) (bare b))
+        (fold-Binary Meaning node_meaning op (bare a) (bare b))
+        (binary_means op (code_of (bare a) scope) (code_of (bare b) scope) (value_of (bare a) env) (value_of (bare b) env) a.1 b.1))
     node (Expr-F.Clamp a b c) =
-        subst Here (sym (rolls-Clamp (bare a) (bare b) (bare c))) (by_folds (expr.Clamp (bare a) (bare b) (bare c)) _ _ (fold-Clamp Coding node_code (bare a) (bare b) (bare c)) (fold-Clamp Meaning node_meaning (bare a) (bare b) (bare c)) (clamp_means (code_of (bare a) scope) (code_of (bare b) scope) (code_of (bare c) scope) (value_of (bare a) env) (value_of (bare b) env) (value_of (bare c) env) a.1 b.1 c.1))
+        subst Here (sym (rolls-Clamp (bare a) (bare b) (bare c)))
+        (by_folds (expr.Clamp (bare a) (bare b) (bare c)) _ _ (fold-Clamp Coding node_code (bare a) (bare b) (bare c))
+        (fold-Clamp Meaning node_meaning (bare a) (bare b) (bare c))
+        (clamp_means (code_of (bare a) scope) (code_of (bare b) scope) (code_of (bare c) scope) (value_of (bare a) env) (value_of (bare b) env)
+        (value_of (bare c) env) a.1 b.1 c.1))
     node (Expr-F.Choose c a b) =
-        subst Here (sym (rolls-Choose (bare c) (bare a) (bare b))) (by_folds (expr.Choose (bare c) (bare a) (bare b)) _ _ (fold-Choose Coding node_code (bare c) (bare a) (bare b)) (fold-Choose Meaning node_meaning (bare c) (bare a) (bare b)) (choice_means (code_of (bare c) scope) (code_of (bare a) scope) (code_of (bare b) scope) (value_of (bare c) env) (value_of (bare a) env) (value_of (bare b) env) c.1 a.1 b.1))
+        subst Here (sym (rolls-Choose (bare c) (bare a) (bare b)))
+        (by_folds (expr.Choose (bare c) (bare a) (bare b)) _ _ (fold-Choose Coding node_code (bare c) (bare a) (bare b))
+        (fold-Choose Meaning node_meaning (bare c) (bare a) (bare b))
+        (choice_means (code_of (bare c) scope) (code_of (bare a) scope) (code_of (bare b) scope) (value_of (bare c) env) (value_of (bare a) env)
+        (value_of (bare b) env) c.1 a.1 b.1))
     node Expr-F.Absent =
-        subst Here (sym rolls-Absent) (by_folds expr.Absent _ _ (fold-Absent Coding node_code) (fold-Absent Meaning node_meaning) (λ agrees stack. (refl, refl)))
+        subst Here (sym rolls-Absent)
+        (by_folds expr.Absent _ _ (fold-Absent Coding node_code) (fold-Absent Meaning node_meaning) (λ agrees stack. (refl, refl)))
     node (Expr-F.Present name) =
-        subst Here (sym (rolls-Present name)) (by_folds (expr.Present name) _ _ (fold-Present Coding node_code name) (fold-Present Meaning node_meaning name) (truth_means false))
+        subst Here (sym (rolls-Present name))
+        (by_folds (expr.Present name) _ _ (fold-Present Coding node_code name) (fold-Present Meaning node_meaning name) (truth_means false))
 
     -- The code of an expression does what the expression means.
     pub means : (e : Expr) → Here e

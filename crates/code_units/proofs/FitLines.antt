@@ -6,7 +6,8 @@ use Rattle.std.proofs.lemmas.Bool.{and_parts}
 use Rattle.std.proofs.lemmas.List.Sums.{sum_by-cons}
 use Rattle.code_units.specs.Expressions.{code_of}
 use Rattle.code_units.specs.Scopes.{named}
-use Rattle.code_units.specs.StepLines.{LineCoded, LineCoding, is_right_in, nothing, behind, store_code, may_store, target_coded, value_coded, if_coded, repeat_coded, all_coded, node_line_code, line_code, lines_code}
+use Rattle.code_units.specs.StepLines.{LineCoded, LineCoding, is_right_in, nothing, behind, store_code, may_store, target_coded, value_coded, if_coded}
+use Rattle.code_units.specs.StepLines.{repeat_coded, all_coded, node_line_code, line_code, lines_code}
 use Rattle.code_units.specs.declared.scope.Named.{Named}
 use Rattle.code_units.specs.declared.scope.NamePlace.{NamePlace}
 use Rattle.code_units.specs.declared.scope.NamePlace.TheVariants.{Constant, Slot}
@@ -48,11 +49,17 @@ module _ (sizes : Sizes) where
         let parts = and_parts a.is_right b.is_right is in
         let one = f.moves parts.0 in
         let other = g.moves parts.1 in
-        record { made = both _ _ one.made other.made; height = then_is a.piece b.piece 0 0 0 one.height other.height; top = then_top a.piece b.piece 0 0 64 one.height one.top other.top };
+        record {
+          made = both _ _ one.made other.made;
+          height = then_is a.piece b.piece 0 0 0 one.height other.height;
+          top =
+              then_top a.piece b.piece 0 0 64 one.height one.top other.top;
+        };
     cheap = let x = f.cheap in let y = g.cheap in omega arith;
   }
 
-  place_good : (place : NamePlace) (found : Named) → found.place ≡ place → NamedFits sizes (Some found) → GoodLines sizes (record { piece = store_code place found.ty; is_right = may_store sizes place }) 1 1
+  place_good : (place : NamePlace) (found : Named) → found.place ≡ place → NamedFits sizes (Some found)
+      → GoodLines sizes (record { piece = store_code place found.ty; is_right = may_store sizes place }) 1 1
   place_good (Constant word) found at fits = record { moves = λ is. absurd (cc); cheap = omega arith }
   place_good (Slot slot) found at fits = record {
     moves = λ is. record {
@@ -90,7 +97,12 @@ module _ (sizes : Sizes) where
         let parts = and_parts a.is_right b.is_right is in
         let one = f.moves parts.0 in
         let other = g.moves parts.1 in
-        record { made = both _ _ one.made other.made; height = choice_is a.piece b.piece 0 0 one.height other.height; top = choice_top a.piece b.piece 0 64 (omega arith) one.top other.top };
+        record {
+          made = both _ _ one.made other.made;
+          height = choice_is a.piece b.piece 0 0 one.height other.height;
+          top =
+              choice_top a.piece b.piece 0 64 (omega arith) one.top other.top;
+        };
     cheap = let x = f.cheap in let y = g.cheap in omega arith;
   }
 
@@ -112,7 +124,8 @@ module _ (sizes : Sizes) where
   }
 
 module _ (scope : Scope) (known : Known scope) where
-  value_good : (value : Expr) (next : LineCoded) (q : ℕ) → GoodLines scope.sizes next 1 q → GoodLines scope.sizes (behind (value_coded value scope) next) 0 (cost_of value + q)
+  value_good : (value : Expr) (next : LineCoded) (q : ℕ) → GoodLines scope.sizes next 1 q
+      → GoodLines scope.sizes (behind (value_coded value scope) next) 0 (cost_of value + q)
   value_good value next q g =
       let good = fine scope known value in record {
         moves = λ is.
@@ -143,8 +156,10 @@ module _ (scope : Scope) (known : Known scope) where
   all_fine : (lines : List Proved) → GoodLines scope.sizes (all_coded scope (map line_code (map bare lines))) 0 (sum (map line_cost (map bare lines)))
   all_fine [] = nothing_good scope.sizes
   all_fine (first ∷ others) =
-      subst (GoodLines scope.sizes (all_coded scope (map line_code (map bare (first ∷ others)))) 0) (sym (costs_more (line_cost (bare first)) (map line_cost (map bare others))))
-      (behind_good scope.sizes (line_code (bare first) scope) (all_coded scope (map line_code (map bare others))) (line_cost (bare first)) (sum (map line_cost (map bare others))) first.1 (all_fine others))
+      subst (GoodLines scope.sizes (all_coded scope (map line_code (map bare (first ∷ others)))) 0)
+      (sym (costs_more (line_cost (bare first)) (map line_cost (map bare others))))
+      (behind_good scope.sizes (line_code (bare first) scope) (all_coded scope (map line_code (map bare others))) (line_cost (bare first))
+      (sum (map line_cost (map bare others))) first.1 (all_fine others))
 
   by_folds : (some : Line) (c : LineCoding) (p q : ℕ) → line_code some ≡ c → line_cost some ≡ p → q ≡ p → GoodLines scope.sizes (c scope) 0 q → FineLine some
   by_folds some c p q is costs same good =
@@ -153,23 +168,36 @@ module _ (scope : Scope) (known : Known scope) where
 
   node : (y : Line-F Proved) → FineLine (roll-Line (map-Line Proved Line bare y))
   node (Line-F.Assign target value) =
-      subst FineLine (sym (rolls-Assign target value)) (by_folds (line.Assign target value) _ _ _ (fold-Assign LineCoding node_line_code target value) (fold-Assign ℕ part_cost target value) refl
+      subst FineLine (sym (rolls-Assign target value))
+      (by_folds (line.Assign target value) _ _ _ (fold-Assign LineCoding node_line_code target value) (fold-Assign ℕ part_cost target value) refl
       (value_good value (target_coded scope.sizes (named scope.names target)) 1 (target_good scope.sizes (named scope.names target) (known.names target))))
   node (Line-F.If cond then_lines None) =
       let inner : ℕ = sum (map line_cost (map bare then_lines)) in
-      subst FineLine (sym (rolls-If cond (map bare then_lines) None)) (by_folds (line.If cond (map bare then_lines) None) _ _ (cost_of cond + (1 + inner)) (fold-If LineCoding node_line_code cond (map bare then_lines) None) (fold-If ℕ part_cost cond (map bare then_lines) None) (let same : cost_of cond + (1 + inner) ≡ cost_of cond + 1 + inner + 0 = omega arith in same)
-      (value_good cond (if_coded (all_coded scope (map line_code (map bare then_lines))) None) (1 + inner) (if_good scope.sizes (all_coded scope (map line_code (map bare then_lines))) inner (all_fine then_lines))))
+      subst FineLine (sym (rolls-If cond (map bare then_lines) None))
+      (by_folds (line.If cond (map bare then_lines) None) _ _ (cost_of cond + (1 + inner)) (fold-If LineCoding node_line_code cond (map bare then_lines) None)
+      (fold-If ℕ part_cost cond (map bare then_lines) None) (let same : cost_of cond + (1 + inner) ≡ cost_of cond + 1 + inner + 0 = omega arith in same)
+      (value_good cond (if_coded (all_coded scope (map line_code (map bare then_lines))) None) (1 + inner)
+      (if_good scope.sizes (all_coded scope (map line_code (map bare then_lines))) inner (all_fine then_lines))))
   node (Line-F.If cond then_lines (Some else_lines)) =
       let inner : ℕ = sum (map line_cost (map bare then_lines)) in
       let other : ℕ = sum (map line_cost (map bare else_lines)) in
-      subst FineLine (sym (rolls-If cond (map bare then_lines) (Some (map bare else_lines)))) (by_folds (line.If cond (map bare then_lines) (Some (map bare else_lines))) _ _ (cost_of cond + (1 + inner + (1 + other))) (fold-If LineCoding node_line_code cond (map bare then_lines) (Some (map bare else_lines))) (fold-If ℕ part_cost cond (map bare then_lines) (Some (map bare else_lines))) (let same : cost_of cond + (1 + inner + (1 + other)) ≡ cost_of cond + 1 + inner + (1 + other) = omega arith in same)
-      (value_good cond (if_coded (all_coded scope (map line_code (map bare then_lines))) (Some (all_coded scope (map line_code (map bare else_lines))))) (1 + inner + (1 + other))
-      (if_else_good scope.sizes (all_coded scope (map line_code (map bare then_lines))) (all_coded scope (map line_code (map bare else_lines))) inner other (all_fine then_lines) (all_fine else_lines))))
+      subst FineLine (sym (rolls-If cond (map bare then_lines) (Some (map bare else_lines))))
+      (by_folds (line.If cond (map bare then_lines) (Some (map bare else_lines))) _ _ (cost_of cond + (1 + inner + (1 + other)))
+      (fold-If LineCoding node_line_code cond (map bare then_lines) (Some (map bare else_lines)))
+      (fold-If ℕ part_cost cond (map bare then_lines) (Some (map bare else_lines)))
+      (let same : cost_of cond + (1 + inner + (1 + other)) ≡ cost_of cond + 1 + inner + (1 + other) = omega arith in same)
+      (value_good cond (if_coded (all_coded scope (map line_code (map bare then_lines))) (Some (all_coded scope (map line_code (map bare else_lines)))))
+      (1 + inner + (1 + other))
+      (if_else_good scope.sizes (all_coded scope (map line_code (map bare then_lines))) (all_coded scope (map line_code (map bare else_lines))) inner other
+      (all_fine then_lines) (all_fine else_lines))))
   node (Line-F.Repeat count body) =
-      subst FineLine (sym (rolls-Repeat count (map bare body))) (by_folds (line.Repeat count (map bare body)) _ _ _ (fold-Repeat LineCoding node_line_code count (map bare body)) (fold-Repeat ℕ part_cost count (map bare body)) refl
+      subst FineLine (sym (rolls-Repeat count (map bare body)))
+      (by_folds (line.Repeat count (map bare body)) _ _ _ (fold-Repeat LineCoding node_line_code count (map bare body))
+      (fold-Repeat ℕ part_cost count (map bare body)) refl
       (repeat_good scope.sizes count (all_coded scope (map line_code (map bare body))) (sum (map line_cost (map bare body))) (all_fine body)))
   node (Line-F.Accept value) =
-      subst FineLine (sym (rolls-Accept value)) (by_folds (line.Accept value) _ _ _ (fold-Accept LineCoding node_line_code value) (fold-Accept ℕ part_cost value) refl
+      subst FineLine (sym (rolls-Accept value))
+      (by_folds (line.Accept value) _ _ _ (fold-Accept LineCoding node_line_code value) (fold-Accept ℕ part_cost value) refl
       (value_good value (record { piece = One Accept; is_right = true }) 1 (accept_good scope.sizes)))
 
   pub fine_line : (some : Line) → FineLine some
@@ -179,4 +207,5 @@ module _ (scope : Scope) (known : Known scope) where
   fine_lines [] = nothing_good scope.sizes
   fine_lines (first ∷ others) =
       subst (GoodLines scope.sizes (lines_code (first ∷ others) scope) 0) (sym (costs_more (line_cost first) (map line_cost others)))
-      (behind_good scope.sizes (line_code first scope) (lines_code others scope) (line_cost first) (sum (map line_cost others)) (fine_line first) (fine_lines others))
+      (behind_good scope.sizes (line_code first scope) (lines_code others scope) (line_cost first) (sum (map line_cost others)) (fine_line first)
+      (fine_lines others))

@@ -1,5 +1,6 @@
 -- Pieces of expressions and step lines are made right, as high as the expressions are deep, and cost what the trees cost.
-use Rattle.std.proofs.Common.{◌≡◌, ℕ, zero, suc, ◌+◌, ◌-◌, ◌*◌, ◌<◌, ◌≤◌, max, Bool, true, false, ◌&&◌, nat_le, nat_lt, List, Option, Some, None, refl, sym, ap, ◌∙◌, subst, eq-eqb, arith}
+use Rattle.std.proofs.Common.{◌≡◌, ℕ, zero, suc, ◌+◌, ◌-◌, ◌*◌, ◌<◌, ◌≤◌, max, Bool, true, false, ◌&&◌, nat_le, nat_lt, List, Option, Some, None, refl, sym, ap}
+use Rattle.std.proofs.Common.{◌∙◌, subst, eq-eqb, arith}
 use Rattle.std.specs.Prelude.{⊤, if◌then◌else◌}
 use Rattle.std.specs.Option.{unwrap_or}
 use Rattle.std.proofs.Math.Nat.{le-max_left, le-max_right, max-le}
@@ -10,7 +11,8 @@ use Rattle.fixed_words.specs.declared.types.Kind.{Kind}
 use Rattle.fixed_words.specs.declared.types.Kind.TheVariants as kinds
 use Rattle.fixed_words.specs.declared.types.Ty.{Ty}
 use Rattle.fixed_words.specs.declared.types.Ty.TheVariants as types
-use Rattle.code_units.specs.Expressions.{Coded, Coding, leaf, place_code, name_code, truth_code, unary_code, unary_kind_of, binary_code, binary_kind_of, and_perhaps, unary_joined, binary_joined, clamp_joined, choice_joined, node_code, code_of}
+use Rattle.code_units.specs.Expressions.{Coded, Coding, leaf, place_code, name_code, truth_code, unary_code, unary_kind_of, binary_code, binary_kind_of}
+use Rattle.code_units.specs.Expressions.{and_perhaps, unary_joined, binary_joined, clamp_joined, choice_joined, node_code, code_of}
 use Rattle.code_units.specs.Scopes.{named}
 use Rattle.code_units.specs.declared.scope.Named.{Named}
 use Rattle.code_units.specs.declared.scope.NamePlace.{NamePlace}
@@ -26,11 +28,13 @@ use Rattle.unit_tree.specs.declared.expr.UnOp.{UnOp}
 use Rattle.unit_tree.specs.declared.expr.UnOp.TheVariants as of
 use Rattle.unit_tree.specs.declared.expr.Expr as expr
 use Rattle.unit_tree.specs.declared.expr.Expr.{Expr}
-use Rattle.unit_tree.specs.declared.expr.Expr.TheVariants.{rolls-Number, rolls-Truth, rolls-Var, rolls-Time, rolls-Step, rolls-Unary, rolls-Binary, rolls-Clamp, rolls-Choose, rolls-Absent, rolls-Present}
+use Rattle.unit_tree.specs.declared.expr.Expr.TheVariants.{rolls-Number, rolls-Truth, rolls-Var, rolls-Time, rolls-Step, rolls-Unary, rolls-Binary, rolls-Clamp}
+use Rattle.unit_tree.specs.declared.expr.Expr.TheVariants.{rolls-Choose, rolls-Absent, rolls-Present}
 use Rattle.unit_tree.specs.declared.expr.Expr.TheFolds.{ind-Expr, map-Expr}
 use Rattle.unit_tree.specs.declared.expr.Expr.TheViews.{roll-Expr}
 use Rattle.unit_tree.specs.declared.expr.Expr.TheOpen.{Expr-F}
-use Rattle.unit_tree.proofs.FoldLemmas.{fold-Number, fold-Truth, fold-Var, fold-Time, fold-Step, fold-Unary, fold-Binary, fold-Clamp, fold-Choose, fold-Absent, fold-Present}
+use Rattle.unit_tree.proofs.FoldLemmas.{fold-Number, fold-Truth, fold-Var, fold-Time, fold-Step, fold-Unary, fold-Binary, fold-Clamp, fold-Choose, fold-Absent}
+use Rattle.unit_tree.proofs.FoldLemmas.{fold-Present}
 use Rattle.unit_vm.specs.Instructions.{takes, leaves, flow_of, slots_of, is_type, is_argued}
 use Rattle.unit_vm.specs.declared.instruction.Instruction.{Instruction}
 use Rattle.unit_vm.specs.declared.instruction.Instruction.TheVariants.{Push, Load, Clamp, ScaleUp, ScaleDown}
@@ -53,25 +57,31 @@ both false other is also = is
 
 -- ---- Heights of pieces
 
-pub one_is : (instruction : Instruction) (height after : ℕ) → takes instruction ≤ height → height - takes instruction + leaves instruction ≡ after → height_behind (One instruction) height ≡ Some after
+pub one_is : (instruction : Instruction) (height after : ℕ) → takes instruction ≤ height → height - takes instruction + leaves instruction ≡ after
+    → height_behind (One instruction) height ≡ Some after
 one_is instruction height after enough is =
-    ap (λ (b : Bool). if b then Some (height - takes instruction + leaves instruction) else None) (le_test (takes instruction) height enough) ∙ ap (λ n. Some n) is
+    ap (λ (b : Bool). if b then Some (height - takes instruction + leaves instruction) else None) (le_test (takes instruction) height enough)
+    ∙ ap (λ n. Some n) is
 
-pub then_is : (first second : Piece) (height between after : ℕ) → height_behind first height ≡ Some between → height_behind second between ≡ Some after → height_behind (Then first second) height ≡ Some after
+pub then_is : (first second : Piece) (height between after : ℕ) → height_behind first height ≡ Some between → height_behind second between ≡ Some after
+    → height_behind (Then first second) height ≡ Some after
 then_is first second height between after one other = ap (λ o. and_height o (height_behind second)) one ∙ other
 
-pub then_top : (first second : Piece) (height between top : ℕ) → height_behind first height ≡ Some between → top_of first height ≤ top → top_of second between ≤ top → top_of (Then first second) height ≤ top
+pub then_top : (first second : Piece) (height between top : ℕ) → height_behind first height ≡ Some between → top_of first height ≤ top
+    → top_of second between ≤ top → top_of (Then first second) height ≤ top
 then_top first second height between top is one other =
     max-le one (subst (λ (o : Option ℕ). top_of second (unwrap_or o 0) ≤ top) (sym is) other)
 
 pub same_height : (n : ℕ) → one_height (Some n) (Some n) ≡ Some n
 same_height n = ap (λ (b : Bool). if b then Some n else None) (eq-eqb n n refl)
 
-pub choice_is : (first second : Piece) (below after : ℕ) → height_behind first below ≡ Some after → height_behind second below ≡ Some after → height_behind (Choice first second) (suc below) ≡ Some after
+pub choice_is : (first second : Piece) (below after : ℕ) → height_behind first below ≡ Some after → height_behind second below ≡ Some after
+    → height_behind (Choice first second) (suc below) ≡ Some after
 choice_is first second below after one other =
     ap (λ o. one_height o (height_behind second below)) one ∙ ap (one_height (Some after)) other ∙ same_height after
 
-pub choice_top : (first second : Piece) (below top : ℕ) → suc below ≤ top → top_of first below ≤ top → top_of second below ≤ top → top_of (Choice first second) (suc below) ≤ top
+pub choice_top : (first second : Piece) (below top : ℕ) → suc below ≤ top → top_of first below ≤ top → top_of second below ≤ top
+    → top_of (Choice first second) (suc below) ≤ top
 choice_top first second below top low one other =
     let less : suc below - 1 ≡ below = omega arith in
     max-le low (max-le (subst (λ n. top_of first n ≤ top) (sym less) one) (subst (λ n. top_of second n ≤ top) (sym less) other))
@@ -136,7 +146,8 @@ module _ (sizes : Sizes) where
     deep = omega arith;
   }
 
-  leaf_good : (instruction : Instruction) (kind : Kind) (ranged : Bool) → takes instruction ≡ 0 → leaves instruction ≡ 1 → (ranged ≡ true → is_made sizes (One instruction) ≡ true) → (ranged ≡ true → IsKind kind) → Good sizes (leaf instruction kind) ranged 1 1
+  leaf_good : (instruction : Instruction) (kind : Kind) (ranged : Bool) → takes instruction ≡ 0 → leaves instruction ≡ 1
+      → (ranged ≡ true → is_made sizes (One instruction) ≡ true) → (ranged ≡ true → IsKind kind) → Good sizes (leaf instruction kind) ranged 1 1
   leaf_good instruction kind ranged none one made known = record { made = made; kind = known; pushes = leaf_pushes instruction none one; cheap = omega arith }
 
   -- What replaces the top word.
@@ -159,7 +170,8 @@ module _ (sizes : Sizes) where
   unary_replaces (of.ToFix n) kinds.Bool = (refl, refl)
   unary_replaces (of.ToFix n) (kinds.Fixed had) = scale_replaces (nat_le had n) (n - had) (had - n)
 
-  perhaps_pushes : (piece : Piece) (instruction : Option Instruction) (depth : ℕ) → Replaces instruction → Pushes piece depth → Pushes (and_perhaps piece instruction) (suc depth)
+  perhaps_pushes : (piece : Piece) (instruction : Option Instruction) (depth : ℕ) → Replaces instruction → Pushes piece depth
+      → Pushes (and_perhaps piece instruction) (suc depth)
   perhaps_pushes piece None depth one pushes = record {
     height = pushes.height;
     top = λ n k low. pushes.top n k (omega arith);
@@ -188,7 +200,8 @@ module _ (sizes : Sizes) where
   scale_fine true n had one other = le_test (n - had) 9 (omega arith)
   scale_fine false n had one other = le_test (had - n) 9 (omega arith)
 
-  unary_made : (op : UnOp) (kind : Kind) (piece : Piece) → unary_is_ranged op ≡ true → IsKind kind → is_made sizes piece ≡ true → is_made sizes (and_perhaps piece (unary_code op kind)) ≡ true
+  unary_made : (op : UnOp) (kind : Kind) (piece : Piece) → unary_is_ranged op ≡ true → IsKind kind → is_made sizes piece ≡ true
+      → is_made sizes (and_perhaps piece (unary_code op kind)) ≡ true
   unary_made of.Neg kind piece ranged known made = both _ _ made refl
   unary_made of.Not kind piece ranged known made = both _ _ made refl
   unary_made of.Abs kind piece ranged known made = both _ _ made refl
@@ -206,7 +219,8 @@ module _ (sizes : Sizes) where
   unary_kind_known of.ToInt kind ranged known = _
   unary_kind_known (of.ToFix n) kind ranged known = test_le n 9 ranged
 
-  unary_good : (op : UnOp) (a : Coded) (ranged : Bool) (depth price : ℕ) → Good sizes a ranged depth price → Good sizes (unary_joined op a) (unary_is_ranged op && ranged) (suc depth) (price + 1)
+  unary_good : (op : UnOp) (a : Coded) (ranged : Bool) (depth price : ℕ) → Good sizes a ranged depth price
+      → Good sizes (unary_joined op a) (unary_is_ranged op && ranged) (suc depth) (price + 1)
   unary_good op a ranged depth price good = record {
     made = λ is. let parts = and_parts (unary_is_ranged op) ranged is in unary_made op a.kind a.piece parts.0 (good.kind parts.1) (good.made parts.1);
     kind = λ is. let parts = and_parts (unary_is_ranged op) ranged is in unary_kind_known op a.kind parts.0 (good.kind parts.1);
@@ -281,7 +295,8 @@ module _ (sizes : Sizes) where
   binary_kind_known by.Min kind known = known
   binary_kind_known by.Max kind known = known
 
-  join_pushes : (a b : Piece) (instruction : Instruction) (d e : ℕ) → Joins instruction → Pushes a d → Pushes b e → Pushes (Then a (Then b (One instruction))) (suc (max d e))
+  join_pushes : (a b : Piece) (instruction : Instruction) (d e : ℕ) → Joins instruction → Pushes a d → Pushes b e
+      → Pushes (Then a (Then b (One instruction))) (suc (max d e))
   join_pushes a b instruction d e joins one other =
       let low : d ≤ max d e = le-max_left d e in
       let high : e ≤ max d e = le-max_right d e in
@@ -299,7 +314,8 @@ module _ (sizes : Sizes) where
         deep = omega arith;
       }
 
-  binary_good : (op : BinOp) (a b : Coded) (one other : Bool) (d e p q : ℕ) → Good sizes a one d p → Good sizes b other e q → Good sizes (binary_joined op a b) (one && other) (suc (max d e)) (p + q + 1)
+  binary_good : (op : BinOp) (a b : Coded) (one other : Bool) (d e p q : ℕ) → Good sizes a one d p → Good sizes b other e q
+      → Good sizes (binary_joined op a b) (one && other) (suc (max d e)) (p + q + 1)
   binary_good op a b one other d e p q f g = record {
     made = λ is. let parts = and_parts one other is in both _ _ (f.made parts.0) (both _ _ (g.made parts.1) (binary_fine op a.kind (f.kind parts.0)));
     kind = λ is. binary_kind_known op a.kind (f.kind (and_parts one other is).0);
@@ -324,11 +340,13 @@ module _ (sizes : Sizes) where
             let after : suc (suc (suc n)) - 3 + 1 ≤ k = omega arith in
             then_top a (Then b (Then c (One Clamp))) n (suc n) k (one.height n) (one.top n k (omega arith))
             (then_top b (Then c (One Clamp)) (suc n) (suc (suc n)) k (other.height (suc n)) (other.top (suc n) k (omega arith))
-            (then_top c (One Clamp) (suc (suc n)) (suc (suc (suc n))) k (third.height (suc (suc n))) (third.top (suc (suc n)) k (omega arith)) (max-le before after)));
+            (then_top c (One Clamp) (suc (suc n)) (suc (suc (suc n))) k (third.height (suc (suc n))) (third.top (suc (suc n)) k (omega arith))
+            (max-le before after)));
         deep = omega arith;
       }
 
-  clamp_good : (a b c : Coded) (one other third : Bool) (d e f p q r : ℕ) → Good sizes a one d p → Good sizes b other e q → Good sizes c third f r → Good sizes (clamp_joined a b c) (one && (other && third)) (suc (max d (max e f))) (p + q + r + 1)
+  clamp_good : (a b c : Coded) (one other third : Bool) (d e f p q r : ℕ) → Good sizes a one d p → Good sizes b other e q → Good sizes c third f r
+      → Good sizes (clamp_joined a b c) (one && (other && third)) (suc (max d (max e f))) (p + q + r + 1)
   clamp_good a b c one other third d e f p q r g h i = record {
     made = λ is.
         let parts = and_parts one (other && third) is in
@@ -353,7 +371,8 @@ module _ (sizes : Sizes) where
         deep = omega arith;
       }
 
-  choice_good : (c a b : Coded) (third one other : Bool) (f d e r p q : ℕ) → Good sizes c third f r → Good sizes a one d p → Good sizes b other e q → Good sizes (choice_joined c a b) (third && (one && other)) (suc (max f (max d e))) (r + 1 + p + 1 + q)
+  choice_good : (c a b : Coded) (third one other : Bool) (f d e r p q : ℕ) → Good sizes c third f r → Good sizes a one d p → Good sizes b other e q
+      → Good sizes (choice_joined c a b) (third && (one && other)) (suc (max f (max d e))) (r + 1 + p + 1 + q)
   choice_good c a b third one other f d e r p q g h i = record {
     made = λ is.
         let parts = and_parts third (one && other) is in
@@ -376,7 +395,8 @@ module _ (sizes : Sizes) where
     where
       placed : (place : NamePlace) → PlaceFits sizes place → Good sizes (leaf (place_code place) (kind_of found.ty)) true 1 1
       placed (Constant word) fit = leaf_good (Push word) (kind_of found.ty) true refl refl (λ is. refl) (λ is. type_kind found.ty fits.1)
-      placed (Slot slot) fit = leaf_good (Load slot) (kind_of found.ty) true refl refl (λ is. lt_test slot (slots_of sizes) fit) (λ is. type_kind found.ty fits.1)
+      placed (Slot slot) fit =
+          leaf_good (Load slot) (kind_of found.ty) true refl refl (λ is. lt_test slot (slots_of sizes) fit) (λ is. type_kind found.ty fits.1)
 
   truth_good : (told : Bool) → Good sizes (leaf (truth_code told) kinds.Bool) true 1 1
   truth_good true = leaf_good (truth_code true) kinds.Bool true refl refl (λ is. refl) (λ is. tt)
@@ -388,7 +408,8 @@ module _ (scope : Scope) (known : Known scope) where
   abbrev pub Fine : Expr → Type 0
   Fine e = Good scope.sizes (code_of e scope) (is_ranged e) (depth_of e) (cost_of e)
 
-  by_folds : (e : Expr) (c : Coding) (b : Bool) (d p : ℕ) → code_of e ≡ c → is_ranged e ≡ b → depth_of e ≡ d → cost_of e ≡ p → Good scope.sizes (c scope) b d p → Fine e
+  by_folds : (e : Expr) (c : Coding) (b : Bool) (d p : ℕ) → code_of e ≡ c → is_ranged e ≡ b → depth_of e ≡ d → cost_of e ≡ p
+      → Good scope.sizes (c scope) b d p → Fine e
   by_folds e c b d p is ranged deep costs good =
       subst (λ (x : Coding). Good scope.sizes (x scope) (is_ranged e) (depth_of e) (cost_of e)) (sym is)
       (subst (λ x. Good scope.sizes (c scope) x (depth_of e) (cost_of e)) (sym ranged)
@@ -403,32 +424,62 @@ module _ (scope : Scope) (known : Known scope) where
 
   node : (y : Expr-F Proved) → Fine (roll-Expr (map-Expr Proved Expr bare y))
   node (Expr-F.Number word decimals) =
-      subst Fine (sym (rolls-Number word decimals)) (by_folds (expr.Number word decimals) _ _ _ _ (fold-Number Coding node_code word decimals) (fold-Number Bool node_is_ranged word decimals) (fold-Number ℕ node_depth word decimals) (fold-Number ℕ node_cost word decimals)
+      subst Fine (sym (rolls-Number word decimals))
+      (by_folds (expr.Number word decimals) _ _ _ _ (fold-Number Coding node_code word decimals) (fold-Number Bool node_is_ranged word decimals)
+      (fold-Number ℕ node_depth word decimals) (fold-Number ℕ node_cost word decimals)
       (leaf_good scope.sizes (Push word) (kind_of_number decimals) (nat_le decimals 9) refl refl (λ is. refl) (number_kind scope.sizes decimals)))
   node (Expr-F.Truth told) =
-      subst Fine (sym (rolls-Truth told)) (by_folds (expr.Truth told) _ _ _ _ (fold-Truth Coding node_code told) (fold-Truth Bool node_is_ranged told) (fold-Truth ℕ node_depth told) (fold-Truth ℕ node_cost told) (truth_good scope.sizes told))
+      subst Fine (sym (rolls-Truth told))
+      (by_folds (expr.Truth told) _ _ _ _ (fold-Truth Coding node_code told) (fold-Truth Bool node_is_ranged told) (fold-Truth ℕ node_depth told)
+      (fold-Truth ℕ node_cost told) (truth_good scope.sizes told))
   node (Expr-F.Var name) =
-      subst Fine (sym (rolls-Var name)) (by_folds (expr.Var name) _ _ _ _ (fold-Var Coding node_code name) (fold-Var Bool node_is_ranged name) (fold-Var ℕ node_depth name) (fold-Var ℕ node_cost name) (name_good scope.sizes (named scope.names name) (known.names name)))
+      subst Fine (sym (rolls-Var name))
+      (by_folds (expr.Var name) _ _ _ _ (fold-Var Coding node_code name) (fold-Var Bool node_is_ranged name) (fold-Var ℕ node_depth name)
+      (fold-Var ℕ node_cost name) (name_good scope.sizes (named scope.names name) (known.names name)))
   node Expr-F.Time =
-      subst Fine (sym rolls-Time) (by_folds expr.Time _ _ _ _ (fold-Time Coding node_code) (fold-Time Bool node_is_ranged) (fold-Time ℕ node_depth) (fold-Time ℕ node_cost) (leaf_good scope.sizes (Load scope.time) kinds.Int true refl refl (λ is. lt_test scope.time (slots_of scope.sizes) known.time) (λ is. tt)))
+      subst Fine (sym rolls-Time)
+      (by_folds expr.Time _ _ _ _ (fold-Time Coding node_code) (fold-Time Bool node_is_ranged) (fold-Time ℕ node_depth) (fold-Time ℕ node_cost)
+      (leaf_good scope.sizes (Load scope.time) kinds.Int true refl refl (λ is. lt_test scope.time (slots_of scope.sizes) known.time) (λ is. tt)))
   node Expr-F.Step =
-      subst Fine (sym rolls-Step) (by_folds expr.Step _ _ _ _ (fold-Step Coding node_code) (fold-Step Bool node_is_ranged) (fold-Step ℕ node_depth) (fold-Step ℕ node_cost) (leaf_good scope.sizes (Load scope.step) kinds.Int true refl refl (λ is. lt_test scope.step (slots_of scope.sizes) known.step) (λ is. tt)))
+      subst Fine (sym rolls-Step)
+      (by_folds expr.Step _ _ _ _ (fold-Step Coding node_code) (fold-Step Bool node_is_ranged) (fold-Step ℕ node_depth) (fold-Step ℕ node_cost)
+      (leaf_good scope.sizes (Load scope.step) kinds.Int true refl refl (λ is. lt_test scope.step (slots_of scope.sizes) known.step) (λ is. tt)))
   node (Expr-F.Unary op a) =
-      subst Fine (sym (rolls-Unary op (bare a))) (by_folds (expr.Unary op (bare a)) _ _ _ _ (fold-Unary Coding node_code op (bare a)) (fold-Unary Bool node_is_ranged op (bare a)) (fold-Unary ℕ node_depth op (bare a)) (fold-Unary ℕ node_cost op (bare a))
+      subst Fine (sym (rolls-Unary op (bare a)))
+      (by_folds (expr.Unary op (bare a)) _ _ _ _ (fold-Unary Coding node_code op (bare a)) (fold-Unary Bool node_is_ranged op (bare a))
+      (fold-Unary ℕ node_depth op (bare a)) (fold-Unary ℕ node_cost op (bare a))
       (unary_good scope.sizes op (code_of (bare a) scope) (is_ranged (bare a)) (depth_of (bare a)) (cost_of (bare a)) a.1))
   node (Expr-F.Binary op a b) =
-      subst Fine (sym (rolls-Binary op (bare a) (bare b))) (by_folds (expr.Binary op (bare a) (bare b)) _ _ _ _ (fold-Binary Coding node_code op (bare a) (bare b)) (fold-Binary Bool node_is_ranged op (bare a) (bare b)) (fold-Binary ℕ node_depth op (bare a) (bare b)) (fold-Binary ℕ node_cost op (bare a) (bare b))
-      (binary_good scope.sizes op (code_of (bare a) scope) (code_of (bare b) scope) (is_ranged (bare a)) (is_ranged (bare b)) (depth_of (bare a)) (depth_of (bare b)) (cost_of (bare a)) (cost_of (bare b)) a.1 b.1))
+      subst Fine (sym (rolls-Binary op (bare a) (bare b)))
+      (by_folds (expr.Binary op (bare a) (bare b)) _ _ _ _ (fold-Binary Coding node_code op (bare a) (bare b))
+      (fold-Binary Bool node_is_ranged op (bare a) (bare b)) (fold-Binary ℕ node_depth op (bare a) (bare b))
+      (fold-Binary ℕ node_cost op (bare a) (bare b))
+      (binary_good scope.sizes op (code_of (bare a) scope) (code_of (bare b) scope) (is_ranged (bare a)) (is_ranged (bare b)) (depth_of (bare a))
+      (depth_of (bare b)) (cost_of (bare a)) (cost_of (bare b)) a.1 b.1))
   node (Expr-F.Clamp a b c) =
-      subst Fine (sym (rolls-Clamp (bare a) (bare b) (bare c))) (by_folds (expr.Clamp (bare a) (bare b) (bare c)) _ _ _ _ (fold-Clamp Coding node_code (bare a) (bare b) (bare c)) (fold-Clamp Bool node_is_ranged (bare a) (bare b) (bare c)) (fold-Clamp ℕ node_depth (bare a) (bare b) (bare c)) (fold-Clamp ℕ node_cost (bare a) (bare b) (bare c))
-      (clamp_good scope.sizes (code_of (bare a) scope) (code_of (bare b) scope) (code_of (bare c) scope) (is_ranged (bare a)) (is_ranged (bare b)) (is_ranged (bare c)) (depth_of (bare a)) (depth_of (bare b)) (depth_of (bare c)) (cost_of (bare a)) (cost_of (bare b)) (cost_of (bare c)) a.1 b.1 c.1))
+      subst Fine (sym (rolls-Clamp (bare a) (bare b) (bare c)))
+      (by_folds (expr.Clamp (bare a) (bare b) (bare c)) _ _ _ _ (fold-Clamp Coding node_code (bare a) (bare b) (bare c))
+      (fold-Clamp Bool node_is_ranged (bare a) (bare b) (bare c)) (fold-Clamp ℕ node_depth (bare a) (bare b) (bare c))
+      (fold-Clamp ℕ node_cost (bare a) (bare b) (bare c))
+      (clamp_good scope.sizes (code_of (bare a) scope) (code_of (bare b) scope) (code_of (bare c) scope) (is_ranged (bare a)) (is_ranged (bare b))
+      (is_ranged (bare c)) (depth_of (bare a)) (depth_of (bare b)) (depth_of (bare c)) (cost_of (bare a)) (cost_of (bare b))
+      (cost_of (bare c)) a.1 b.1 c.1))
   node (Expr-F.Choose c a b) =
-      subst Fine (sym (rolls-Choose (bare c) (bare a) (bare b))) (by_folds (expr.Choose (bare c) (bare a) (bare b)) _ _ _ _ (fold-Choose Coding node_code (bare c) (bare a) (bare b)) (fold-Choose Bool node_is_ranged (bare c) (bare a) (bare b)) (fold-Choose ℕ node_depth (bare c) (bare a) (bare b)) (fold-Choose ℕ node_cost (bare c) (bare a) (bare b))
-      (choice_good scope.sizes (code_of (bare c) scope) (code_of (bare a) scope) (code_of (bare b) scope) (is_ranged (bare c)) (is_ranged (bare a)) (is_ranged (bare b)) (depth_of (bare c)) (depth_of (bare a)) (depth_of (bare b)) (cost_of (bare c)) (cost_of (bare a)) (cost_of (bare b)) c.1 a.1 b.1))
+      subst Fine (sym (rolls-Choose (bare c) (bare a) (bare b)))
+      (by_folds (expr.Choose (bare c) (bare a) (bare b)) _ _ _ _ (fold-Choose Coding node_code (bare c) (bare a) (bare b))
+      (fold-Choose Bool node_is_ranged (bare c) (bare a) (bare b)) (fold-Choose ℕ node_depth (bare c) (bare a) (bare b))
+      (fold-Choose ℕ node_cost (bare c) (bare a) (bare b))
+      (choice_good scope.sizes (code_of (bare c) scope) (code_of (bare a) scope) (code_of (bare b) scope) (is_ranged (bare c)) (is_ranged (bare a))
+      (is_ranged (bare b)) (depth_of (bare c)) (depth_of (bare a)) (depth_of (bare b)) (cost_of (bare c)) (cost_of (bare a))
+      (cost_of (bare b)) c.1 a.1 b.1))
   node Expr-F.Absent =
-      subst Fine (sym rolls-Absent) (by_folds expr.Absent _ _ _ _ (fold-Absent Coding node_code) (fold-Absent Bool node_is_ranged) (fold-Absent ℕ node_depth) (fold-Absent ℕ node_cost) (leaf_good scope.sizes (Push _) kinds.Int true refl refl (λ is. refl) (λ is. tt)))
+      subst Fine (sym rolls-Absent)
+      (by_folds expr.Absent _ _ _ _ (fold-Absent Coding node_code) (fold-Absent Bool node_is_ranged) (fold-Absent ℕ node_depth) (fold-Absent ℕ node_cost)
+      (leaf_good scope.sizes (Push _) kinds.Int true refl refl (λ is. refl) (λ is. tt)))
   node (Expr-F.Present name) =
-      subst Fine (sym (rolls-Present name)) (by_folds (expr.Present name) _ _ _ _ (fold-Present Coding node_code name) (fold-Present Bool node_is_ranged name) (fold-Present ℕ node_depth name) (fold-Present ℕ node_cost name) (truth_good scope.sizes false))
+      subst Fine (sym (rolls-Present name))
+      (by_folds (expr.Present name) _ _ _ _ (fold-Present Coding node_code name) (fold-Present Bool node_is_ranged name) (fold-Present ℕ node_depth name)
+      (fold-Present ℕ node_cost name) (truth_good scope.sizes false))
 
   pub fine : (e : Expr) → Fine e
   fine = ind-Expr Fine (λ x y is. subst (λ z. Fine (roll-Expr z)) is (node y))

@@ -14,11 +14,23 @@ pub slots_behind : (slot : ℕ) (xs ys : List Variable) → slots_from slot (xs 
 slots_behind slot [] ys = let same : slot ≡ slot + 0 = omega arith in ap (λ n. slots_from n ys) same
 slots_behind slot (x ∷ xs) ys =
     let further : suc slot + length xs ≡ slot + suc (length xs) = omega arith in
-    ap (λ rest. record { name = x.name; ty = x.ty; place = Slot slot } ∷ rest) (slots_behind (suc slot) xs ys ∙ ap (λ n. slots_from (suc slot) xs ++ slots_from n ys) further)
+    ap (λ rest. record { name = x.name; ty = x.ty; place = Slot slot } ∷ rest)
+    (slots_behind (suc slot) xs ys ∙ ap (λ n. slots_from (suc slot) xs ++ slots_from n ys) further)
 
 -- The scope of a unit is made list by list.
-pub scope_made : (unit : Unit) (params : List ℤ) (a b c d : List Named) (states inputs locals : ℕ) → states ≡ length unit.states → inputs ≡ length unit.inputs → locals ≡ length unit.locals → a ≡ constants unit.params params → b ≡ a ++ slots_from 0 (map (λ state. variable state.name state.ty) unit.states) → c ≡ b ++ slots_from states (map (λ input. variable input.name input.ty) unit.inputs) → d ≡ c ++ slots_from (states + inputs) (map (λ local. variable local.name local.ty) unit.locals)
-    → let made : Scope = record { names = d; sizes = record { states = states; inputs = inputs; locals = locals }; time = states + inputs + locals; step = states + inputs + locals + 1 } in made ≡ scope_of unit params
+pub scope_made : (unit : Unit) (params : List ℤ) (a b c d : List Named) (states inputs locals : ℕ) → states ≡ length unit.states → inputs ≡ length unit.inputs
+    → locals ≡ length unit.locals → a ≡ constants unit.params params → b ≡ a ++ slots_from 0 (map (λ state. variable state.name state.ty) unit.states)
+    → c ≡ b ++ slots_from states (map (λ input. variable input.name input.ty) unit.inputs)
+    → d ≡ c ++ slots_from (states + inputs) (map (λ local. variable local.name local.ty) unit.locals)
+    → let made : Scope =
+    record {
+      names = d;
+      sizes = record { states = states; inputs = inputs; locals = locals };
+      time = states + inputs + locals;
+      step =
+          states + inputs + locals + 1;
+    } in
+    made ≡ scope_of unit params
 scope_made unit params a b c d states inputs locals is_states is_inputs is_locals is_a is_b is_c is_d =
     let xs : List Variable = map (λ state. variable state.name state.ty) unit.states in
     let ys : List Variable = map (λ input. variable input.name input.ty) unit.inputs in

@@ -18,7 +18,9 @@ use Rattle.unit_tree.specs.declared.expr.Expr.TheOpen.{Expr-F}
 use Rattle.unit_tree.specs.declared.expr.UnOp.{UnOp}
 use Rattle.unit_tree.specs.declared.expr.UnOp.TheVariants as of
 use Rattle.unit_vm.specs.declared.instruction.Instruction.{Instruction}
-use Rattle.unit_vm.specs.declared.instruction.Instruction.TheVariants.{Push, Load, Add, Subtract, Multiply, Divide, Remainder, Negate, Magnitude, Min, Max, Clamp, Equal, NotEqual, Less, LessOrEqual, Greater, GreaterOrEqual, And, Or, Not, FixedMultiply, FixedDivide, ScaleUp, ScaleDown}
+use Rattle.unit_vm.specs.declared.instruction.Instruction.TheVariants.{Push, Load, Add, Subtract, Multiply, Divide, Remainder, Negate, Magnitude, Min, Max}
+use Rattle.unit_vm.specs.declared.instruction.Instruction.TheVariants.{Clamp, Equal, NotEqual, Less, LessOrEqual, Greater, GreaterOrEqual, And, Or, Not}
+use Rattle.unit_vm.specs.declared.instruction.Instruction.TheVariants.{FixedMultiply, FixedDivide, ScaleUp, ScaleDown}
 
 -- The code of an expression: what pushes its value, the value's kind, and whether both choices of each `if` have one
 -- kind, without which no kind could be told.

@@ -19,8 +19,10 @@ UnitProgramsAreValid = (component : Component) → IsCompilable component.unit c
 
 -- The code of each call costs at most what the call costs by its tree.
 pub record CodesAreCheap (component : Component) : Type 0 where
-  pub outputs : (number : ℕ) (output : Output) → slice_get component.unit.outputs number ≡ Some output → cost_of (output_code (scope_of component.unit component.params) output) ≤ expression_call_cost output.value
-  pub limit : (value : Expr) → component.unit.max ≡ Some value → cost_of (limit_code (scope_of component.unit component.params) value) ≤ expression_call_cost value
+  pub outputs : (number : ℕ) (output : Output) → slice_get component.unit.outputs number ≡ Some output
+      → cost_of (output_code (scope_of component.unit component.params) output) ≤ expression_call_cost output.value
+  pub limit : (value : Expr) → component.unit.max ≡ Some value
+      → cost_of (limit_code (scope_of component.unit component.params) value) ≤ expression_call_cost value
   pub step : (lines : List Line) → component.unit.step ≡ Some lines → cost_of (program_of component.unit component.params).step ≤ step_call_cost lines
 
 abbrev pub CodesCostWhatTreesDo : Type 0

@@ -1,5 +1,6 @@
 -- What a source over memory takes of its bytes.
-use Rattle.std.proofs.Common.{◌≡◌, ℕ, ◌+◌, ◌-◌, ◌<◌, List, [], ◌++◌, length, min, take, drop, sym, ◌∙◌, ap, arith, take-append-drop, length-append, length-take, length-drop}
+use Rattle.std.proofs.Common.{◌≡◌, ℕ, ◌+◌, ◌-◌, ◌<◌, List, [], ◌++◌, length, min, take, drop, sym, ◌∙◌, ap, arith, take-append-drop, length-append, length-take}
+use Rattle.std.proofs.Common.{length-drop}
 use Rattle.std.proofs.lemmas.List.{take_all, take_at, drop_all, drop-drop}
 
 -- what is left as a slice of the code gives it
@@ -8,7 +9,8 @@ left_slice bytes all taken same =
     take_all (length all - taken) (drop taken all) (omega (arith, length-drop taken all)) ∙ ap (drop taken) same
 
 -- the front of what is left stands in the first places, and the rest is left
-pub taken_front : (bytes left old into : List ℕ) (taken n : ℕ) → left ≡ drop taken bytes → n ≡ min (length left) (length old) → into ≡ take n left ++ drop n old → (drop taken bytes ≡ take n into ++ drop (taken + n) bytes) × (n ≡ 0 → 0 < length into → drop (taken + n) bytes ≡ [])
+pub taken_front : (bytes left old into : List ℕ) (taken n : ℕ) → left ≡ drop taken bytes → n ≡ min (length left) (length old)
+    → into ≡ take n left ++ drop n old → (drop taken bytes ≡ take n into ++ drop (taken + n) bytes) × (n ≡ 0 → 0 < length into → drop (taken + n) bytes ≡ [])
 taken_front bytes left old into taken n is count copied = (
   sym is ∙ sym (take-append-drop n left) ∙ ap (λ (l : List ℕ). l ++ drop n left) (sym first) ∙ ap (λ (l : List ℕ). take n into ++ l) rest,
   λ none some. drop_all (taken + n) bytes (omega (arith, count, long, ap length is, length-drop taken bytes)),

@@ -16,7 +16,8 @@ module _ (old mid new : Option (List ℕ)) (before now : ℕ) (bytes : List ℕ)
   size_more into n fits = omega (arith, length-append bytes (take n into), length-take n into)
 
   -- with the next read the byte after the limit is taken
-  pub Taken-past : (into : List ℕ) (n : ℕ) → Taken old mid before now bytes limit → Consumes mid new (take n into) → n ≤ length into → limit < length bytes + n → length bytes + n ≤ limit + 1 → ConsumesExactly old new (limit + 1)
+  pub Taken-past : (into : List ℕ) (n : ℕ) → Taken old mid before now bytes limit → Consumes mid new (take n into) → n ≤ length into
+      → limit < length bytes + n → length bytes + n ≤ limit + 1 → ConsumesExactly old new (limit + 1)
   Taken-past into n so_far more fits past room = record {
     front = bytes ++ take n into;
     size = omega (arith, size_more into n fits);
@@ -24,7 +25,8 @@ module _ (old mid new : Option (List ℕ)) (before now : ℕ) (bytes : List ℕ)
   }
 
   -- with the next read no more than that byte is taken
-  pub Taken-most : (into : List ℕ) (n : ℕ) → Taken old mid before now bytes limit → Consumes mid new (take n into) → n ≤ length into → length bytes + n ≤ limit + 1 → ConsumesAtMost old new (limit + 1)
+  pub Taken-most : (into : List ℕ) (n : ℕ) → Taken old mid before now bytes limit → Consumes mid new (take n into) → n ≤ length into
+      → length bytes + n ≤ limit + 1 → ConsumesAtMost old new (limit + 1)
   Taken-most into n so_far more fits room = record {
     front = bytes ++ take n into;
     within = omega (arith, size_more into n fits);

@@ -1,5 +1,6 @@
 -- How far a loop over `write` has come with its piece.
-use Rattle.std.proofs.Common.{◌≡◌, ℕ, ◌-◌, List, ◌++◌, length, take, drop, sym, ◌∙◌, ap, subst, arith, append_assoc, take-append-drop, length-drop, Result, Ok, Err, OnErr}
+use Rattle.std.proofs.Common.{◌≡◌, ℕ, ◌-◌, List, ◌++◌, length, take, drop, sym, ◌∙◌, ap, subst, arith, append_assoc, take-append-drop, length-drop, Result, Ok}
+use Rattle.std.proofs.Common.{Err, OnErr}
 use Rattle.std.proofs.lemmas.List.{take_all}
 use Rattle.std.proofs.KnownBytes.{Appends-trans, Appends-kept}
 use Rattle.std.specs.Io.KnownBytes.{Appends, Keeps}
@@ -13,7 +14,8 @@ pub record Written (old new : Option (List ℕ)) (piece rest : List ℕ) : Type 
   pub parts : done ++ rest ≡ piece
   pub appended : Appends old new done
 
-pub Written-more : (a b c : Option (List ℕ)) (piece rest : List ℕ) (n : ℕ) → Written a b piece rest → Appends b c (take n rest) → Written a c piece (drop n rest)
+pub Written-more : (a b c : Option (List ℕ)) (piece rest : List ℕ) (n : ℕ) → Written a b piece rest → Appends b c (take n rest)
+    → Written a c piece (drop n rest)
 Written-more a b c piece rest n so_far more = record {
   done = so_far.done ++ take n rest;
   parts = append_assoc so_far.done (take n rest) (drop n rest) ∙ ap (λ (l : List ℕ). so_far.done ++ l) (take-append-drop n rest) ∙ so_far.parts;
@@ -21,7 +23,8 @@ Written-more a b c piece rest n so_far more = record {
 }
 
 -- the rest as a slice of the code gives it
-pub Written-slice : (a b c : Option (List ℕ)) (piece rest : List ℕ) (n : ℕ) → Written a b piece rest → Appends b c (take n rest) → Written a c piece (take (length rest - n) (drop n rest))
+pub Written-slice : (a b c : Option (List ℕ)) (piece rest : List ℕ) (n : ℕ) → Written a b piece rest → Appends b c (take n rest)
+    → Written a c piece (take (length rest - n) (drop n rest))
 Written-slice a b c piece rest n so_far more =
     subst (Written a c piece) (sym (take_all (length rest - n) (drop n rest) (omega (arith, length-drop n rest)))) (Written-more a b c piece rest n so_far more)
 

@@ -1,5 +1,6 @@
 -- Numbers as text: where their digits and their point stand, and what reading them digit by digit gives.
-use Rattle.std.proofs.Common.{zero, true, replicate, ◌%◌, ◌≡◌, ℕ, suc, ◌+◌, ◌-◌, ◌*◌, ◌^◌, ◌<◌, ◌≤◌, ◌==◌, not, inl, inr, nat_lt, unwrap_or, List, [], ◌∷◌, ◌++◌, length, get_or, take, drop, IsTrue, Option, Some, None, if◌then◌else◌, refl, sym, ap, ◌∙◌, subst, arith}
+use Rattle.std.proofs.Common.{zero, true, replicate, ◌%◌, ◌≡◌, ℕ, suc, ◌+◌, ◌-◌, ◌*◌, ◌^◌, ◌<◌, ◌≤◌, ◌==◌, not, inl, inr, nat_lt, unwrap_or, List, [], ◌∷◌}
+use Rattle.std.proofs.Common.{◌++◌, length, get_or, take, drop, IsTrue, Option, Some, None, if◌then◌else◌, refl, sym, ap, ◌∙◌, subst, arith}
 use Rattle.std.specs.List.{list_all, position_or_len}
 use Rattle.std.specs.Option.{option_and_then}
 use Rattle.std.proofs.lemmas.Bool.{and_from, and_parts, le-leb, cases_lt, eqb-true, not-false}
@@ -20,7 +21,8 @@ number_from-append before [] later = refl
 number_from-append before (byte ∷ bytes) later = number_from-append (10 * before + (byte - 48)) bytes later
 
 -- one digit, and then the others
-pub number_of_digits-cons : (before byte : ℕ) (bytes : List ℕ) → number_of_digits before (byte ∷ bytes) ≡ option_and_then (λ n. number_of_digits n bytes) (number_of_digits before (byte ∷ []))
+pub number_of_digits-cons : (before byte : ℕ) (bytes : List ℕ)
+    → number_of_digits before (byte ∷ bytes) ≡ option_and_then (λ n. number_of_digits n bytes) (number_of_digits before (byte ∷ []))
 number_of_digits-cons before byte bytes =
     let grows = number_from-ge (10 * before + (byte - 48)) bytes in
     grind (arith, nat_tests)
@@ -44,21 +46,25 @@ first_bounded before first later within =
     omega (arith, number_from-append before first later, number_from-ge (number_from before first) later)
 
 -- one digit more of those that are left
-pub read_one_more : (before : ℕ) (bytes : List ℕ) (place : ℕ) (made wanted : Option ℕ) → place < length bytes → made ≡ number_of_digits before (get_or bytes place 0 ∷ []) → number_of_digits before (drop place bytes) ≡ wanted → option_and_then (λ n. number_of_digits n (drop (place + 1) bytes)) made ≡ wanted
+pub read_one_more : (before : ℕ) (bytes : List ℕ) (place : ℕ) (made wanted : Option ℕ) → place < length bytes
+    → made ≡ number_of_digits before (get_or bytes place 0 ∷ []) → number_of_digits before (drop place bytes) ≡ wanted
+    → option_and_then (λ n. number_of_digits n (drop (place + 1) bytes)) made ≡ wanted
 read_one_more before bytes place made wanted within is same =
     ap (option_and_then (λ n. number_of_digits n (drop (place + 1) bytes))) is
     ∙ sym (number_of_digits-cons before (get_or bytes place 0) (drop (place + 1) bytes))
     ∙ sym (ap (number_of_digits before) (drop_more bytes place 0 within))
     ∙ same
 
-pub read_all : (before : ℕ) (bytes : List ℕ) (place : ℕ) (wanted : Option ℕ) → length bytes ≤ place → before ≤ 2 ^ 63 → number_of_digits before (drop place bytes) ≡ wanted → Some before ≡ wanted
+pub read_all : (before : ℕ) (bytes : List ℕ) (place : ℕ) (wanted : Option ℕ) → length bytes ≤ place → before ≤ 2 ^ 63
+    → number_of_digits before (drop place bytes) ≡ wanted → Some before ≡ wanted
 read_all before bytes place wanted past bounded same =
     sym (digits_from_read before [] before (record { all_digits = refl; makes = refl; bounded = bounded }))
     ∙ sym (ap (number_of_digits before) (drop_all place bytes past))
     ∙ same
 
 -- the place of the point
-pub place_from_position : (found : Option ℕ) (place whole : ℕ) → place ≤ whole → found ≡ (if nat_lt place whole then Some place else None) → unwrap_or found whole ≡ place
+pub place_from_position : (found : Option ℕ) (place whole : ℕ) → place ≤ whole → found ≡ (if nat_lt place whole then Some place else None)
+    → unwrap_or found whole ≡ place
 place_from_position found place whole within is = grind (arith, nat_tests)
 
 pub pointed-more : (fraction : List ℕ) → 0 < length fraction → pointed fraction ≡ 46 ∷ fraction
@@ -72,7 +78,8 @@ point_at text within =
     eqb-true _ 46 (not-false _ stops)
 
 -- what stands before the first point, and what stands behind it
-pub split_at_point : (text : List ℕ) (place : ℕ) → place ≡ position_or_len (λ byte. byte == 46) text → (place < length text → 0 < length (drop (place + 1) text)) → text ≡ take place text ++ pointed (drop (place + 1) text)
+pub split_at_point : (text : List ℕ) (place : ℕ) → place ≡ position_or_len (λ byte. byte == 46) text
+    → (place < length text → 0 < length (drop (place + 1) text)) → text ≡ take place text ++ pointed (drop (place + 1) text)
 split_at_point text place is more =
     elim (cases_lt place (length text)) [
       | inl within ↦
@@ -91,7 +98,8 @@ pub place_within : (text : List ℕ) (place : ℕ) → place ≡ position_or_len
 place_within text place is = subst (λ n. n ≤ length text) (sym is) (prefix_len-le-length _ text)
 
 -- no digit is a point
-pub place_of_point : (whole fraction : List ℕ) → IsTrue (list_all is_digit whole) → position_or_len (λ byte. byte == 46) (whole ++ pointed fraction) ≡ length whole
+pub place_of_point : (whole fraction : List ℕ) → IsTrue (list_all is_digit whole)
+    → position_or_len (λ byte. byte == 46) (whole ++ pointed fraction) ≡ length whole
 place_of_point [] [] digits = refl
 place_of_point [] (byte ∷ bytes) digits = refl
 place_of_point (byte ∷ bytes) fraction digits =
@@ -101,7 +109,9 @@ place_of_point (byte ∷ bytes) fraction digits =
     grind (arith, nat_tests)
 
 -- a text whose parts were read spells their number
-pub number_from_parts : (text fraction : List ℕ) (place whole digits : ℕ) → place ≡ position_or_len (λ byte. byte == 46) text → fraction ≡ drop (place + 1) text → (place < length text → 0 < length fraction) → 0 < place → place ≤ length text → length fraction ≤ 9 → number_of_digits 0 (take place text) ≡ Some whole → number_of_digits whole fraction ≡ Some digits → IsNumber digits (length fraction) text
+pub number_from_parts : (text fraction : List ℕ) (place whole digits : ℕ) → place ≡ position_or_len (λ byte. byte == 46) text
+    → fraction ≡ drop (place + 1) text → (place < length text → 0 < length fraction) → 0 < place → place ≤ length text → length fraction ≤ 9
+    → number_of_digits 0 (take place text) ≡ Some whole → number_of_digits whole fraction ≡ Some digits → IsNumber digits (length fraction) text
 number_from_parts text fraction place whole digits is behind more some within short first_read then_read =
     let first_digits = read_from_digits 0 (take place text) whole first_read in
     let later_digits = read_from_digits whole fraction digits then_read in
@@ -140,7 +150,8 @@ pub record HasParts (digits decimals place whole : ℕ) (text : List ℕ) : Type
   pub first_read : number_of_digits 0 (take place text) ≡ Some whole
   pub then_read : number_of_digits whole (drop (place + 1) text) ≡ Some digits
 
-pub parts_of_number : (digits decimals : ℕ) (text : List ℕ) (number : IsNumber digits decimals text) → HasParts digits decimals (position_or_len (λ byte. byte == 46) text) (number_from 0 number.whole) text
+pub parts_of_number : (digits decimals : ℕ) (text : List ℕ) (number : IsNumber digits decimals text)
+    → HasParts digits decimals (position_or_len (λ byte. byte == 46) text) (number_from 0 number.whole) text
 parts_of_number digits decimals text number =
     let whole = number.whole in
     let fraction = number.fraction in
@@ -168,7 +179,9 @@ parts_of_number digits decimals text number =
     (subst (HasParts digits decimals (length whole) (number_from 0 whole)) (sym number.spelled) at_length)
 
 -- the same at the place and the fraction that the code has
-pub parts_at : (digits decimals : ℕ) (text fraction : List ℕ) (place : ℕ) → place ≡ position_or_len (λ byte. byte == 46) text → fraction ≡ drop (place + 1) text → IsNumber digits decimals text → (whole : ℕ) × (HasParts digits decimals place whole text) × (length fraction ≡ decimals) × (number_of_digits whole fraction ≡ Some digits)
+pub parts_at : (digits decimals : ℕ) (text fraction : List ℕ) (place : ℕ) → place ≡ position_or_len (λ byte. byte == 46) text
+    → fraction ≡ drop (place + 1) text → IsNumber digits decimals text
+    → (whole : ℕ) × (HasParts digits decimals place whole text) × (length fraction ≡ decimals) × (number_of_digits whole fraction ≡ Some digits)
 parts_at digits decimals text fraction place is behind number =
     let parts = subst (λ n. HasParts digits decimals n (number_from 0 number.whole) text) (sym is) (parts_of_number digits decimals text number) in
     (number_from 0 number.whole, parts, ap length behind ∙ parts.decimals_are, ap (number_of_digits (number_from 0 number.whole)) behind ∙ parts.then_read)
@@ -180,7 +193,8 @@ one_number one other few many text is also =
     let second = parts_of_number other many text also in
     let wholes = sym first.first_read ∙ second.first_read in
     let same_whole : number_from 0 is.whole ≡ number_from 0 also.whole = ap (λ o. unwrap_or o (number_from 0 is.whole)) wholes in
-    let numbers = sym first.then_read ∙ ap (λ n. number_of_digits n (drop (position_or_len (λ byte. byte == 46) text + 1) text)) same_whole ∙ second.then_read in
+    let numbers = sym first.then_read ∙ ap (λ n. number_of_digits n (drop (position_or_len (λ byte. byte == 46) text + 1) text)) same_whole
+    ∙ second.then_read in
     (ap (λ o. unwrap_or o one) numbers, sym first.decimals_are ∙ second.decimals_are)
 
 digits_end : (before : ℕ) (first : List ℕ) (digit : ℕ) → number_from before (first ++ digit ∷ []) ≡ 10 * number_from before first + (digit - 48)
@@ -216,7 +230,8 @@ zeros_before (suc count) number digits is =
     let rest = zeros_before count number digits is in
     (rest.0, rest.1)
 
-pub all_digits_parts : (first later : List ℕ) → IsTrue (list_all is_digit (first ++ later)) → IsTrue (list_all is_digit first) × IsTrue (list_all is_digit later)
+pub all_digits_parts : (first later : List ℕ) → IsTrue (list_all is_digit (first ++ later))
+    → IsTrue (list_all is_digit first) × IsTrue (list_all is_digit later)
 all_digits_parts [] later all = (refl, all)
 all_digits_parts (byte ∷ bytes) later all =
     let here = and_parts (is_digit byte) (list_all is_digit (bytes ++ later)) all in

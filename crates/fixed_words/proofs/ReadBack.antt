@@ -1,5 +1,6 @@
 -- The text of a word is read back as this word.
-use Rattle.std.proofs.Common.{◌≡◌, ℕ, zero, suc, ◌+◌, ◌-◌, ◌^◌, ◌<◌, ◌≤◌, true, false, ℤ, pos, negsuc, ◌*ℤ◌, nat_le, Ok, [], length, take, drop, replicate, IsTrue, refl, sym, ap, ◌∙◌, subst, arith}
+use Rattle.std.proofs.Common.{◌≡◌, ℕ, zero, suc, ◌+◌, ◌-◌, ◌^◌, ◌<◌, ◌≤◌, true, false, ℤ, pos, negsuc, ◌*ℤ◌, nat_le, Ok, [], length, take, drop, replicate}
+use Rattle.std.proofs.Common.{IsTrue, refl, sym, ap, ◌∙◌, subst, arith}
 use Rattle.std.specs.Int.{is_negative}
 use Rattle.std.specs.Fmt.{decimal, signed_decimal}
 use Rattle.std.specs.List.{list_all}
@@ -58,7 +59,16 @@ integer_text (pos n) fits =
     record { negative = false; digits = n; number = decimal n; spelled = refl; is_number = whole_number n (omega arith); value = refl; fits = fits }
 integer_text (negsuc n) fits =
     let bound = negative_bound n fits in
-    record { negative = true; digits = suc n; number = decimal (suc n); spelled = refl; is_number = whole_number (suc n) (omega arith); value = refl; fits = fits }
+    record {
+      negative = true;
+      digits = suc n;
+      number = decimal (suc n);
+      spelled = refl;
+      is_number = whole_number (suc n) (omega arith);
+      value = refl;
+      fits =
+          fits;
+    }
 
 -- padded digits with a point are a number with these decimals
 padded_number : (decimals n : ℕ) → decimals ≤ 9 → n ≤ 2 ^ 63 → IsNumber n decimals (fixed_text decimals n)
@@ -67,7 +77,11 @@ padded_number decimals n few bounded =
     let place = length digits - decimals in
     let is : IsDecimal n digits = zeros_before (decimals + 1 - length (decimal n)) n (decimal n) (decimal_is n (omega arith)) in
     let long : decimals + 1 ≤ length digits =
-    omega (arith, length-append (replicate {A = ℕ} (decimals + 1 - length (decimal n)) 48) (decimal n), length-replicate {A = ℕ} (decimals + 1 - length (decimal n)) 48) in
+    omega (
+      arith,
+      length-append (replicate {A = ℕ} (decimals + 1 - length (decimal n)) 48) (decimal n),
+      length-replicate {A = ℕ} (decimals + 1 - length (decimal n)) 48,
+    ) in
     let whole = take-append-drop place digits in
     let parts = all_digits_parts (take place digits) (drop place digits) (subst (λ bytes. IsTrue (list_all is_digit bytes)) (sym whole) is.0) in
     record {
@@ -83,10 +97,28 @@ padded_number decimals n few bounded =
 fixed_word_text : (decimals : ℕ) (word : ℤ) → decimals ≤ 9 → IsTrue (is_word_of Int64 word) → IsSignedNumber word decimals (text_of (Fixed decimals) word)
 fixed_word_text decimals (pos n) few fits =
     let bound = positive_bound n fits in
-    record { negative = is_negative (pos n); digits = n; number = fixed_text decimals n; spelled = refl; is_number = padded_number decimals n few (omega arith); value = grind (arith, nat_tests); fits = fits }
+    record {
+      negative = is_negative (pos n);
+      digits = n;
+      number = fixed_text decimals n;
+      spelled = refl;
+      is_number =
+          padded_number decimals n few (omega arith);
+      value = grind (arith, nat_tests);
+      fits = fits;
+    }
 fixed_word_text decimals (negsuc n) few fits =
     let bound = negative_bound n fits in
-    record { negative = true; digits = suc n; number = fixed_text decimals (suc n); spelled = refl; is_number = padded_number decimals (suc n) few (omega arith); value = refl; fits = fits }
+    record {
+      negative = true;
+      digits = suc n;
+      number = fixed_text decimals (suc n);
+      spelled = refl;
+      is_number =
+          padded_number decimals (suc n) few (omega arith);
+      value = refl;
+      fits = fits;
+    }
 
 times_one : (word : ℤ) → word *ℤ pos 1 ≡ word
 times_one word = omega (arith, ints)
@@ -117,5 +149,9 @@ read_back types.Bool (pos zero) few fits = (Truth false, refl, refl)
 read_back types.Bool (pos (suc zero)) few fits = (Truth true, refl, refl)
 read_back types.Bool (pos (suc (suc n))) few fits = absurd (no_third_truth n fits)
 read_back types.Bool (negsuc n) few fits = absurd cc
-read_back (Fixed decimals) word few fits =
-    (Number word decimals, fixed_word_text decimals word few fits, ap (within_type (Fixed decimals)) (not_scaled decimals word) ∙ kept (Fixed decimals) word fits)
+read_back (Fixed decimals) word few fits = (
+  Number word decimals,
+  fixed_word_text decimals word few fits,
+  ap (within_type (Fixed decimals)) (not_scaled decimals word)
+      ∙ kept (Fixed decimals) word fits,
+)

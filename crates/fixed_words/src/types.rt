@@ -44,18 +44,18 @@ impl Ty {
     }
 }
 
-/// What an operation, a store or a call of a component gives in place of a word.
+/// What an operation, a store or a call of a component gives in place of a word. Notes tell it by its number.
 #[derive(Clone, Copy, Debug, PartialEq, Eq)]
 pub enum Fault {
-    /// A result does not fit 64 bits.
+    /// Fault 1: a result does not fit 64 bits.
     Overflow,
-    /// A word is stored in a state or local, or given as an output, outside its declared type.
+    /// Fault 2: a word is stored in a state or local, or given as an output, outside its declared type.
     Range,
-    /// The divisor of `div`, `mod` or `/` is zero.
+    /// Fault 3: the divisor of `div`, `mod` or `/` is zero.
     ZeroDivisor,
-    /// A component accepts a length outside the step that it was asked for.
+    /// Fault 4: a component accepts a length outside the step that it was asked for.
     Accept,
-    /// A component gives a negative greatest step.
+    /// Fault 5: a component gives a negative greatest step.
     Max,
 }
 

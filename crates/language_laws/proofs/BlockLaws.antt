@@ -1,12 +1,14 @@
 -- Each site of a system stands in its block, behind the line that opens it.
-use Rattle.std.proofs.Common.{◌≡◌, ℕ, suc, Bool, true, false, cond, List, [], ◌∷◌, ◌++◌, append_assoc, map, length, Option, Some, None, ◌⊎◌, inl, inr, refl, ap, sym, subst, ◌∙◌}
+use Rattle.std.proofs.Common.{◌≡◌, ℕ, suc, Bool, true, false, cond, List, [], ◌∷◌, ◌++◌, append_assoc, map, length, Option, Some, None, ◌⊎◌, inl, inr, refl, ap}
+use Rattle.std.proofs.Common.{sym, subst, ◌∙◌}
 use Rattle.std.specs.List.{AllByRecursion, slice_get, flat_map, filter, list_all}
 use Rattle.std.proofs.lemmas.Bool.{and_parts}
 use Rattle.std.proofs.lemmas.List.{append-nil}
 use Rattle.unit_tree.specs.Canonical.{optional, unit_parts, canonical_parts}
 use Rattle.unit_tree.specs.Parts as parts
 use Rattle.unit_tree.specs.Parts.{Part, UnitPart, block_forms, joined, else_forms, line_forms, unit_part_forms, part_forms, unit_of}
-use Rattle.unit_tree.specs.Sites.{Scope, TopScope, UnitScope, StepScope, InstanceScope, Site, Headed, alone, sites, headed_unit_part, headed_part, sites_of, is_step_line, holds, is_unit_line, is_instance_line, IsOpenedBy, Opens, IsWithin, are_level, StandsBehind}
+use Rattle.unit_tree.specs.Sites.{Scope, TopScope, UnitScope, StepScope, InstanceScope, Site, Headed, alone, sites, headed_unit_part, headed_part, sites_of}
+use Rattle.unit_tree.specs.Sites.{is_step_line, holds, is_unit_line, is_instance_line, IsOpenedBy, Opens, IsWithin, are_level, StandsBehind}
 use Rattle.unit_tree.specs.declared.expr.Expr.{Expr}
 use Rattle.unit_tree.specs.declared.line.Line as line
 use Rattle.unit_tree.specs.declared.line.Line.{Line}
@@ -97,15 +99,26 @@ record InBlock (scope : Scope) (earlier : List LineForm) (headed : List Headed) 
   block : this.block ≡ inner ++ (site ∷ rest)
   before_is : before ≡ sites scope earlier front ++ (site_at scope earlier front this ∷ inner)
 
-pub one_more : (scope : Scope) (earlier : List LineForm) (first : Headed) (front : List Headed) (this : Headed) → site_at scope (earlier ++ (first.head ∷ [])) front this ≡ site_at scope earlier (first ∷ front) this
-one_more scope earlier first front this = ap (λ all. record { scope = scope; earlier = all; line = this.head }) (append_assoc earlier (first.head ∷ []) (heads front))
+pub one_more : (scope : Scope) (earlier : List LineForm) (first : Headed) (front : List Headed) (this : Headed)
+    → site_at scope (earlier ++ (first.head ∷ [])) front this ≡ site_at scope earlier (first ∷ front) this
+one_more scope earlier first front this =
+    ap (λ all. record { scope = scope; earlier = all; line = this.head }) (append_assoc earlier (first.head ∷ []) (heads front))
 
-found_at : (scope : Scope) (earlier : List LineForm) (headed : List Headed) (before later : List Site) (site : Site) → sites scope earlier headed ≡ before ++ (site ∷ later) → AtHead scope earlier headed before site ⊎ InBlock scope earlier headed before site
+found_at : (scope : Scope) (earlier : List LineForm) (headed : List Headed) (before later : List Site) (site : Site)
+    → sites scope earlier headed ≡ before ++ (site ∷ later) → AtHead scope earlier headed before site ⊎ InBlock scope earlier headed before site
 found_at scope earlier [] [] later site is = absurd (cc)
 found_at scope earlier [] (b ∷ before) later site is = absurd (cc)
 found_at scope earlier (first ∷ others) [] later site is =
     let here : site ≡ record { scope = scope; earlier = earlier; line = first.head } = cc in
-    inl (record { front = []; this = first; others = others; cut = refl; before_is = refl; site_is = here ∙ ap (λ all. record { scope = scope; earlier = all; line = first.head }) (sym (append-nil earlier)) })
+    inl (record {
+      front = [];
+      this = first;
+      others = others;
+      cut = refl;
+      before_is = refl;
+      site_is = here
+          ∙ ap (λ all. record { scope = scope; earlier = all; line = first.head }) (sym (append-nil earlier));
+    })
 found_at scope earlier (first ∷ others) (b ∷ before) later site is =
     let here : b ≡ record { scope = scope; earlier = earlier; line = first.head } = cc in
     let tail : first.block ++ sites scope (earlier ++ (first.head ∷ [])) others ≡ before ++ (site ∷ later) = cc in
@@ -126,7 +139,9 @@ found_at scope earlier (first ∷ others) (b ∷ before) later site is =
           this = at.this;
           others = at.others;
           cut = ap (λ all. first ∷ all) at.cut;
-          before_is = ap (λ f. f ∷ before) here ∙ ap (λ all. record { scope = scope; earlier = earlier; line = first.head } ∷ all) (found.before_is ∙ ap (λ all. first.block ++ all) at.before_is);
+          before_is = ap (λ f. f ∷ before) here
+              ∙ ap (λ all. record { scope = scope; earlier = earlier; line = first.head } ∷ all)
+              (found.before_is ∙ ap (λ all. first.block ++ all) at.before_is);
           site_is = at.site_is ∙ one_more scope earlier first at.front at.this;
         })
         | inr at ↦ inr (record {
@@ -139,8 +154,12 @@ found_at scope earlier (first ∷ others) (b ∷ before) later site is =
           block = at.block;
           before_is =
               ap (λ f. f ∷ before) here
-              ∙ ap (λ all. record { scope = scope; earlier = earlier; line = first.head } ∷ all) (found.before_is ∙ ap (λ all. first.block ++ all) at.before_is ∙ sym (append_assoc first.block (sites scope (earlier ++ (first.head ∷ [])) at.front) (site_at scope (earlier ++ (first.head ∷ [])) at.front at.this ∷ at.inner))
-              ∙ ap (λ s. (first.block ++ sites scope (earlier ++ (first.head ∷ [])) at.front) ++ (s ∷ at.inner)) (one_more scope earlier first at.front at.this));
+              ∙ ap (λ all. record { scope = scope; earlier = earlier; line = first.head } ∷ all)
+              (found.before_is ∙ ap (λ all. first.block ++ all) at.before_is
+              ∙ sym (append_assoc first.block (sites scope (earlier ++ (first.head ∷ [])) at.front)
+              (site_at scope (earlier ++ (first.head ∷ [])) at.front at.this ∷ at.inner))
+              ∙ ap (λ s. (first.block ++ sites scope (earlier ++ (first.head ∷ [])) at.front) ++ (s ∷ at.inner))
+              (one_more scope earlier first at.front at.this));
         })
       ]
     ]
@@ -154,7 +173,8 @@ IsBelow scope headed = AllByRecursion (λ site. are_level scope site.scope ≡ f
 abbrev on_level : Scope → List Site → List LineForm
 on_level scope all = map (λ other. other.line) (filter (λ other. are_level scope other.scope) all)
 
-one_on_level : (test : Bool) (scope : Scope) (x : Site) (xs ys : List Site) → are_level scope x.scope ≡ test → on_level scope (xs ++ ys) ≡ on_level scope xs ++ on_level scope ys → on_level scope (x ∷ xs ++ ys) ≡ on_level scope (x ∷ xs) ++ on_level scope ys
+one_on_level : (test : Bool) (scope : Scope) (x : Site) (xs ys : List Site) → are_level scope x.scope ≡ test
+    → on_level scope (xs ++ ys) ≡ on_level scope xs ++ on_level scope ys → on_level scope (x ∷ xs ++ ys) ≡ on_level scope (x ∷ xs) ++ on_level scope ys
 one_on_level true scope x xs ys is rest = rw is (ap (λ all. x.line ∷ all) rest)
 one_on_level false scope x xs ys is rest = rw is rest
 
@@ -172,11 +192,14 @@ level_itself (UnitScope unit) = refl
 level_itself (StepScope unit) = refl
 level_itself (InstanceScope instance) = refl
 
-heads_on_level : (scope : Scope) (earlier : List LineForm) (headed : List Headed) → AllByRecursion (IsBelow scope) headed → on_level scope (sites scope earlier headed) ≡ heads headed
+heads_on_level : (scope : Scope) (earlier : List LineForm) (headed : List Headed) → AllByRecursion (IsBelow scope) headed
+    → on_level scope (sites scope earlier headed) ≡ heads headed
 heads_on_level scope earlier [] below = refl
 heads_on_level scope earlier (first ∷ others) below =
     rw (level_itself scope)
-    (ap (λ all. first.head ∷ all) (on_level-append scope first.block (sites scope (earlier ++ (first.head ∷ [])) others) ∙ rw (none_on_level scope first.block below.0) (heads_on_level scope (earlier ++ (first.head ∷ [])) others below.1)))
+    (ap (λ all. first.head ∷ all)
+    (on_level-append scope first.block (sites scope (earlier ++ (first.head ∷ [])) others)
+    ∙ rw (none_on_level scope first.block below.0) (heads_on_level scope (earlier ++ (first.head ∷ [])) others below.1)))
 
 -- ---- Facts of each of many
 
@@ -188,10 +211,15 @@ pub each_front : {A : Type 0} (P : A → Type 0) (xs : List A) (y : A) (ys : Lis
 each_front P [] y ys all = (_, all.0)
 each_front P (x ∷ xs) y ys all = let rest = each_front P xs y ys all.1 in ((all.0, rest.0), rest.1)
 
-each_site : (P : Site → Type 0) (scope : Scope) (earlier : List LineForm) (headed : List Headed) → ((before : List LineForm) (one : LineForm) → P (record { scope = scope; earlier = before; line = one })) → AllByRecursion (λ one. AllByRecursion P one.block) headed → AllByRecursion P (sites scope earlier headed)
+each_site : (P : Site → Type 0) (scope : Scope) (earlier : List LineForm) (headed : List Headed)
+    → ((before : List LineForm) (one : LineForm) → P (record { scope = scope; earlier = before; line = one }))
+    → AllByRecursion (λ one. AllByRecursion P one.block) headed → AllByRecursion P (sites scope earlier headed)
 each_site P scope earlier [] at_heads in_blocks = _
-each_site P scope earlier (first ∷ others) at_heads in_blocks =
-    (at_heads earlier first.head, each_append P first.block (sites scope (earlier ++ (first.head ∷ [])) others) in_blocks.0 (each_site P scope (earlier ++ (first.head ∷ [])) others at_heads in_blocks.1))
+each_site P scope earlier (first ∷ others) at_heads in_blocks = (
+  at_heads earlier first.head,
+  each_append P first.block (sites scope (earlier ++ (first.head ∷ [])) others) in_blocks.0
+      (each_site P scope (earlier ++ (first.head ∷ [])) others at_heads in_blocks.1),
+)
 
 -- Lines without blocks.
 each_alone : (P : Headed → Type 0) (lines : List LineForm) → ((one : LineForm) → P (alone one)) → AllByRecursion P (map alone lines)
@@ -224,15 +252,20 @@ steps-IfNone condition then_lines =
     ∙ all_of_two is_step_line (joined (map line_forms (map line_in then_lines)) ++ []) (form.End ∷ [])
     (all_of_two is_step_line (joined (map line_forms (map line_in then_lines))) [] (joined_are then_lines) refl) refl
 
-steps-IfElse : (condition : Expr) (then_lines else_lines : List Stepped) → AreStepLines (line.If condition (map line_in then_lines) (Some (map line_in else_lines)))
+steps-IfElse : (condition : Expr) (then_lines else_lines : List Stepped)
+    → AreStepLines (line.If condition (map line_in then_lines) (Some (map line_in else_lines)))
 steps-IfElse condition then_lines else_lines =
     ap (list_all is_step_line) (fold-If (List LineForm) block_forms condition (map line_in then_lines) (Some (map line_in else_lines)))
-    ∙ all_of_two is_step_line (joined (map line_forms (map line_in then_lines)) ++ (form.Else ∷ joined (map line_forms (map line_in else_lines)))) (form.End ∷ [])
-    (all_of_two is_step_line (joined (map line_forms (map line_in then_lines))) (form.Else ∷ joined (map line_forms (map line_in else_lines))) (joined_are then_lines) (joined_are else_lines)) refl
+    ∙ all_of_two is_step_line (joined (map line_forms (map line_in then_lines)) ++ (form.Else ∷ joined (map line_forms (map line_in else_lines))))
+    (form.End ∷ [])
+    (all_of_two is_step_line (joined (map line_forms (map line_in then_lines))) (form.Else ∷ joined (map line_forms (map line_in else_lines)))
+    (joined_are then_lines) (joined_are else_lines)) refl
 
 step_node : (y : Line-F Stepped) → AreStepLines (roll-Line (map-Line Stepped Line line_in y))
-step_node (Line-F.Assign target value) = subst AreStepLines (sym (rolls-Assign target value)) (ap (list_all is_step_line) (fold-Assign (List LineForm) block_forms target value))
-step_node (Line-F.If condition then_lines None) = subst AreStepLines (sym (rolls-If condition (map line_in then_lines) None)) (steps-IfNone condition then_lines)
+step_node (Line-F.Assign target value) =
+    subst AreStepLines (sym (rolls-Assign target value)) (ap (list_all is_step_line) (fold-Assign (List LineForm) block_forms target value))
+step_node (Line-F.If condition then_lines None) =
+    subst AreStepLines (sym (rolls-If condition (map line_in then_lines) None)) (steps-IfNone condition then_lines)
 step_node (Line-F.If condition then_lines (Some else_lines)) =
     subst AreStepLines (sym (rolls-If condition (map line_in then_lines) (Some (map line_in else_lines)))) (steps-IfElse condition then_lines else_lines)
 step_node (Line-F.Repeat count body) = subst AreStepLines (sym (rolls-Repeat count (map line_in body))) (steps-Repeat count body)
@@ -248,12 +281,15 @@ all_step_lines (one ∷ lines) = all_of_two is_step_line (line_forms one) (flat_
 -- ---- A step
 
 -- A site of lines that have no blocks.
-alone_at : (scope : Scope) (lines : List LineForm) (before later : List Site) (site : Site) → sites scope [] (map alone lines) ≡ before ++ (site ∷ later) → AtHead scope [] (map alone lines) before site
+alone_at : (scope : Scope) (lines : List LineForm) (before later : List Site) (site : Site) → sites scope [] (map alone lines) ≡ before ++ (site ∷ later)
+    → AtHead scope [] (map alone lines) before site
 alone_at scope lines before later site is =
     elim (found_at scope [] (map alone lines) before later site is) [
       | inl at ↦ at
       | inr at ↦
-          let no_block : at.this.block ≡ [] = (each_front (λ one. one.block ≡ []) at.front at.this at.others (subst (AllByRecursion (λ one. one.block ≡ [])) at.cut (each_alone (λ one. one.block ≡ []) lines (λ one. refl)))).1 in
+          let no_block : at.this.block ≡ [] =
+          (each_front (λ one. one.block ≡ []) at.front at.this at.others
+          (subst (AllByRecursion (λ one. one.block ≡ [])) at.cut (each_alone (λ one. one.block ≡ []) lines (λ one. refl)))).1 in
           absurd (none_of at.inner at.rest site (sym no_block ∙ at.block))
     ]
   where
@@ -262,13 +298,17 @@ alone_at scope lines before later site is =
     none_of (x ∷ inner) rest site is = absurd (cc)
 
 -- What is known of a site in a block that the site `head` opens, behind `front`.
-in_alone_block : (system : System) (front : List Site) (head : Site) (scope : Scope) (lines : List LineForm) (inner rest : List Site) (site : Site) → sites scope [] (map alone lines) ≡ inner ++ (site ∷ rest) → ((at : Site) → at.scope ≡ scope → Opens system at.scope (front ++ (head ∷ []))) → ((one : LineForm) (before : List LineForm) → IsWithin scope scope) → list_all (holds scope) lines ≡ true → StandsBehind system (front ++ (head ∷ inner)) site
+in_alone_block : (system : System) (front : List Site) (head : Site) (scope : Scope) (lines : List LineForm) (inner rest : List Site) (site : Site)
+    → sites scope [] (map alone lines) ≡ inner ++ (site ∷ rest) → ((at : Site) → at.scope ≡ scope → Opens system at.scope (front ++ (head ∷ [])))
+    → ((one : LineForm) (before : List LineForm) → IsWithin scope scope) → list_all (holds scope) lines ≡ true
+    → StandsBehind system (front ++ (head ∷ inner)) site
 in_alone_block system front head scope lines inner rest site is opens within held =
     let at = alone_at scope lines inner rest site is in
     let found = cut_of_map alone lines at.front at.others at.this at.cut in
     let scope_is : site.scope ≡ scope = ap (λ s. s.scope) at.site_is in
     let line_is : site.line ≡ found.x = ap (λ s. s.line) at.site_is ∙ ap (λ h. h.head) (sym found.is) in
-    let no_blocks = each_front (IsBelow scope) at.front at.this at.others (subst (AllByRecursion (IsBelow scope)) at.cut (each_alone (IsBelow scope) lines (λ one. _))) in
+    let no_blocks =
+    each_front (IsBelow scope) at.front at.this at.others (subst (AllByRecursion (IsBelow scope)) at.cut (each_alone (IsBelow scope) lines (λ one. _))) in
     record {
       outside = front ++ (head ∷ []);
       inside = inner;
@@ -277,7 +317,10 @@ in_alone_block system front head scope lines inner rest site is opens within hel
       within =
           rw (scope_is)
           (subst (AllByRecursion (λ other. IsWithin scope other.scope)) (sym at.before_is)
-          (each_site (λ other. IsWithin scope other.scope) scope [] at.front (λ before one. within one before) (each_front (λ one. AllByRecursion (λ other. IsWithin scope other.scope) one.block) at.front at.this at.others (subst (AllByRecursion (λ one. AllByRecursion (λ other. IsWithin scope other.scope) one.block)) at.cut (each_alone (λ one. AllByRecursion (λ other. IsWithin scope other.scope) one.block) lines (λ one. _)))).0));
+          (each_site (λ other. IsWithin scope other.scope) scope [] at.front (λ before one. within one before)
+          (each_front (λ one. AllByRecursion (λ other. IsWithin scope other.scope) one.block) at.front at.this at.others
+          (subst (AllByRecursion (λ one. AllByRecursion (λ other. IsWithin scope other.scope) one.block)) at.cut
+          (each_alone (λ one. AllByRecursion (λ other. IsWithin scope other.scope) one.block) lines (λ one. _)))).0));
       earlier =
           rw (scope_is) (ap (λ s. s.earlier) at.site_is ∙ sym (ap (on_level scope) at.before_is ∙ heads_on_level scope [] at.front no_blocks.0));
       held = rw (scope_is, line_is) (held_at lines found.front found.behind found.x found.cut held);
@@ -286,14 +329,16 @@ in_alone_block system front head scope lines inner rest site is opens within hel
     held_at : (all front behind : List LineForm) (one : LineForm) → all ≡ front ++ (one ∷ behind) → list_all (holds scope) all ≡ true → holds scope one ≡ true
     held_at all [] behind one is told = (and_parts (holds scope one) (list_all (holds scope) behind) (ap (list_all (holds scope)) (sym is) ∙ told)).0
     held_at all (x ∷ front) behind one is told =
-        held_at (front ++ (one ∷ behind)) front behind one refl (and_parts (holds scope x) (list_all (holds scope) (front ++ (one ∷ behind))) (ap (list_all (holds scope)) (sym is) ∙ told)).1
+        held_at (front ++ (one ∷ behind)) front behind one refl
+        (and_parts (holds scope x) (list_all (holds scope) (front ++ (one ∷ behind))) (ap (list_all (holds scope)) (sym is) ∙ told)).1
 
 -- ---- A unit
 
 -- A line of a unit: it has no block, or opens the step.
 record IsUnitHead (unit : Unit) (headed : Headed) : Type 0 where
   held : holds (UnitScope unit) headed.head ≡ true
-  block : (headed.block ≡ []) ⊎ ((headed.head ≡ form.Step) × ((lines : List Line) × (headed.block ≡ sites (StepScope unit) [] (map alone (flat_map line_forms lines)))))
+  block : (headed.block ≡ [])
+      ⊎ ((headed.head ≡ form.Step) × ((lines : List Line) × (headed.block ≡ sites (StepScope unit) [] (map alone (flat_map line_forms lines)))))
 
 unit_part_heads : (unit : Unit) (part : UnitPart) → AllByRecursion (IsUnitHead unit) (headed_unit_part unit part)
 unit_part_heads unit (parts.Resolution decimals) = (record { held = refl; block = inl refl }, _)
@@ -309,23 +354,33 @@ unit_part_heads unit (parts.Step lines) = (record { held = refl; block = inr (re
 
 unit_heads : (unit : Unit) (inside : List UnitPart) → AllByRecursion (IsUnitHead unit) (flat_map (headed_unit_part unit) inside)
 unit_heads unit [] = _
-unit_heads unit (part ∷ inside) = each_append (IsUnitHead unit) (headed_unit_part unit part) (flat_map (headed_unit_part unit) inside) (unit_part_heads unit part) (unit_heads unit inside)
+unit_heads unit (part ∷ inside) =
+    each_append (IsUnitHead unit) (headed_unit_part unit part) (flat_map (headed_unit_part unit) inside) (unit_part_heads unit part) (unit_heads unit inside)
 
 abbrev pub in_unit : Unit → List UnitPart → List Headed
 in_unit unit inside = flat_map (headed_unit_part unit) inside ++ (alone form.End ∷ [])
 
 all_unit_heads : (unit : Unit) (inside : List UnitPart) → AllByRecursion (IsUnitHead unit) (in_unit unit inside)
-all_unit_heads unit inside = each_append (IsUnitHead unit) (flat_map (headed_unit_part unit) inside) (alone form.End ∷ []) (unit_heads unit inside) (record { held = refl; block = inl refl }, _)
+all_unit_heads unit inside =
+    each_append (IsUnitHead unit) (flat_map (headed_unit_part unit) inside) (alone form.End ∷ []) (unit_heads unit inside)
+    (record { held = refl; block = inl refl }, _)
 
 -- A fact of the sites of a step holds in the block of each line of a unit.
-in_step_block : (P : Site → Type 0) (unit : Unit) → ((before : List LineForm) (one : LineForm) → P (record { scope = StepScope unit; earlier = before; line = one })) → (headed : Headed) → IsUnitHead unit headed → AllByRecursion P headed.block
+in_step_block : (P : Site → Type 0) (unit : Unit)
+    → ((before : List LineForm) (one : LineForm) → P (record { scope = StepScope unit; earlier = before; line = one })) → (headed : Headed)
+    → IsUnitHead unit headed → AllByRecursion P headed.block
 in_step_block P unit on_step headed is =
     elim (is.block) [
       | inl none ↦ subst (AllByRecursion P) (sym none) _
-      | inr step ↦ subst (AllByRecursion P) (sym step.1.1) (each_site P (StepScope unit) [] (map alone (flat_map line_forms step.1.0)) on_step (each_alone (λ one. AllByRecursion P one.block) (flat_map line_forms step.1.0) (λ one. _)))
+      | inr step ↦
+          subst (AllByRecursion P) (sym step.1.1)
+          (each_site P (StepScope unit) [] (map alone (flat_map line_forms step.1.0)) on_step
+          (each_alone (λ one. AllByRecursion P one.block) (flat_map line_forms step.1.0) (λ one. _)))
     ]
 
-each_in_step : (P : Site → Type 0) (unit : Unit) → ((before : List LineForm) (one : LineForm) → P (record { scope = StepScope unit; earlier = before; line = one })) → (all : List Headed) → AllByRecursion (IsUnitHead unit) all → AllByRecursion (λ one. AllByRecursion P one.block) all
+each_in_step : (P : Site → Type 0) (unit : Unit)
+    → ((before : List LineForm) (one : LineForm) → P (record { scope = StepScope unit; earlier = before; line = one })) → (all : List Headed)
+    → AllByRecursion (IsUnitHead unit) all → AllByRecursion (λ one. AllByRecursion P one.block) all
 each_in_step P unit on_step [] are = _
 each_in_step P unit on_step (one ∷ all) are = (in_step_block P unit on_step one are.0, each_in_step P unit on_step all are.1)
 
@@ -334,7 +389,9 @@ none_cut [] x rest is = absurd (cc)
 none_cut (y ∷ front) x rest is = absurd (cc)
 
 -- What is known of a site in the block of a unit that the site `head` opens, behind `front`.
-in_unit_block : (system : System) (front : List Site) (head : Site) (unit : Unit) (inside : List UnitPart) (inner rest : List Site) (site : Site) → IsOpenedBy system (UnitScope unit) head → sites (UnitScope unit) [] (in_unit unit inside) ≡ inner ++ (site ∷ rest) → StandsBehind system (front ++ (head ∷ inner)) site
+in_unit_block : (system : System) (front : List Site) (head : Site) (unit : Unit) (inside : List UnitPart) (inner rest : List Site) (site : Site)
+    → IsOpenedBy system (UnitScope unit) head → sites (UnitScope unit) [] (in_unit unit inside) ≡ inner ++ (site ∷ rest)
+    → StandsBehind system (front ++ (head ∷ inner)) site
 in_unit_block system front head unit inside inner rest site opened is =
     elim (found_at (UnitScope unit) [] (in_unit unit inside) inner rest site is) [
       | inl at ↦
@@ -346,8 +403,16 @@ in_unit_block system front head unit inside inner rest site opened is =
             inside = inner;
             cut = sym (append_assoc front (head ∷ []) inner);
             opened = rw (scope_is) (front, head, refl, opened);
-            within = rw (scope_is) (subst (AllByRecursion (λ other. IsWithin (UnitScope unit) other.scope)) (sym at.before_is) (each_site (λ other. IsWithin (UnitScope unit) other.scope) (UnitScope unit) [] at.front (λ before one. inl refl) (each_in_step (λ other. IsWithin (UnitScope unit) other.scope) unit (λ before one. inr refl) at.front are.0)));
-            earlier = rw (scope_is) (ap (λ s. s.earlier) at.site_is ∙ sym (ap (on_level (UnitScope unit)) at.before_is ∙ heads_on_level (UnitScope unit) [] at.front (each_in_step (λ other. are_level (UnitScope unit) other.scope ≡ false) unit (λ before one. refl) at.front are.0)));
+            within = rw (scope_is)
+                (subst (AllByRecursion (λ other. IsWithin (UnitScope unit) other.scope)) (sym at.before_is)
+                (each_site (λ other. IsWithin (UnitScope unit) other.scope) (UnitScope unit) [] at.front (λ before one. inl refl)
+                (each_in_step (λ other. IsWithin (UnitScope unit) other.scope) unit (λ before one. inr refl) at.front are.0)));
+            earlier =
+                rw (scope_is)
+                (ap (λ s. s.earlier) at.site_is
+                ∙ sym (ap (on_level (UnitScope unit)) at.before_is
+                ∙ heads_on_level (UnitScope unit) [] at.front
+                (each_in_step (λ other. are_level (UnitScope unit) other.scope ≡ false) unit (λ before one. refl) at.front are.0)));
             held = rw (scope_is, line_is) (are.1.held);
           }
       | inr at ↦
@@ -358,9 +423,12 @@ in_unit_block system front head unit inside inner rest site opened is =
                 let opener = site_at (UnitScope unit) [] at.front at.this in
                 let outside = front ++ (head ∷ sites (UnitScope unit) [] at.front) in
                 let behind : StandsBehind system (outside ++ (opener ∷ at.inner)) site =
-                in_alone_block system outside opener (StepScope unit) (flat_map line_forms step.1.0) at.inner at.rest site (sym step.1.1 ∙ at.block) (λ one same. subst (λ s. Opens system s (outside ++ (opener ∷ []))) (sym same) (outside, opener, refl, (refl, step.0))) (λ one before. refl)
+                in_alone_block system outside opener (StepScope unit) (flat_map line_forms step.1.0) at.inner at.rest site (sym step.1.1 ∙ at.block)
+                (λ one same. subst (λ s. Opens system s (outside ++ (opener ∷ []))) (sym same) (outside, opener, refl, (refl, step.0)))
+                (λ one before. refl)
                 (all_step_lines step.1.0) in
-                subst (λ b. StandsBehind system b site) (append_assoc front (head ∷ sites (UnitScope unit) [] at.front) (opener ∷ at.inner) ∙ ap (λ b. front ++ (head ∷ b)) (sym at.before_is)) behind
+                subst (λ b. StandsBehind system b site)
+                (append_assoc front (head ∷ sites (UnitScope unit) [] at.front) (opener ∷ at.inner) ∙ ap (λ b. front ++ (head ∷ b)) (sym at.before_is)) behind
           ]
     ]
 
@@ -368,7 +436,8 @@ in_unit_block system front head unit inside inner rest site opened is =
 
 -- Each part of a text is one line with its block.
 abbrev pub headed_of : Part → Headed
-headed_of (parts.HasUnit name inside) = record { head = form.Unit name; block = sites (UnitScope (unit_of name inside)) [] (in_unit (unit_of name inside) inside) }
+headed_of (parts.HasUnit name inside) =
+    record { head = form.Unit name; block = sites (UnitScope (unit_of name inside)) [] (in_unit (unit_of name inside) inside) }
 headed_of (parts.HasInstance instance) = record {
   head = form.Instance instance.name instance.unit;
   block = sites (InstanceScope instance) [] (map alone (map form.Setting instance.settings ++ (form.End ∷ [])));
@@ -408,11 +477,17 @@ settings_are instance = all_settings instance.settings
 top_head : (part : Part) → IsTopHead (headed_of part)
 top_head (parts.HasUnit name inside) = record {
   held = refl;
-  below = each_site (λ other. are_level TopScope other.scope ≡ false) (UnitScope (unit_of name inside)) [] (in_unit (unit_of name inside) inside) (λ before one. refl) (each_in_step (λ other. are_level TopScope other.scope ≡ false) (unit_of name inside) (λ before one. refl) (in_unit (unit_of name inside) inside) (all_unit_heads (unit_of name inside) inside));
+  below = each_site (λ other. are_level TopScope other.scope ≡ false) (UnitScope (unit_of name inside)) [] (in_unit (unit_of name inside) inside)
+      (λ before one. refl)
+      (each_in_step (λ other. are_level TopScope other.scope ≡ false) (unit_of name inside) (λ before one. refl) (in_unit (unit_of name inside) inside)
+      (all_unit_heads (unit_of name inside) inside));
 }
 top_head (parts.HasInstance instance) = record {
   held = refl;
-  below = each_site (λ other. are_level TopScope other.scope ≡ false) (InstanceScope instance) [] (map alone (map form.Setting instance.settings ++ (form.End ∷ []))) (λ before one. refl) (each_alone (λ one. AllByRecursion (λ other. are_level TopScope other.scope ≡ false) one.block) (map form.Setting instance.settings ++ (form.End ∷ [])) (λ one. _));
+  below = each_site (λ other. are_level TopScope other.scope ≡ false) (InstanceScope instance) []
+      (map alone (map form.Setting instance.settings ++ (form.End ∷ []))) (λ before one. refl)
+      (each_alone (λ one. AllByRecursion (λ other. are_level TopScope other.scope ≡ false) one.block) (map form.Setting instance.settings ++ (form.End ∷ []))
+      (λ one. _));
 }
 top_head (parts.Connects wire) = record { held = refl; below = _ }
 top_head (parts.Stop seconds) = record { held = refl; below = _ }
@@ -466,16 +541,19 @@ same_instances (parts.Zero count) = refl
 same_instances (parts.Rows count) = refl
 same_instances (parts.Samples port) = refl
 
-count_one : (first second : Bool) (xs : List LineForm) (ys : List Part) (x : LineForm) (y : Part) → first ≡ second → length xs ≡ length ys → length (cond first (x ∷ xs) xs) ≡ length (cond second (y ∷ ys) ys)
+count_one : (first second : Bool) (xs : List LineForm) (ys : List Part) (x : LineForm) (y : Part) → first ≡ second → length xs ≡ length ys
+    → length (cond first (x ∷ xs) xs) ≡ length (cond second (y ∷ ys) ys)
 count_one true true xs ys x y same rest = ap suc rest
 count_one false false xs ys x y same rest = rest
 count_one true false xs ys x y same rest = absurd (cc same)
 count_one false true xs ys x y same rest = absurd (cc same)
 
-same_count : (test : LineForm → Bool) (of_part : Part → Bool) → ((part : Part) → test (headed_of part).head ≡ of_part part) → (all : List Part) → length (filter test (heads (map headed_of all))) ≡ length (filter of_part all)
+same_count : (test : LineForm → Bool) (of_part : Part → Bool) → ((part : Part) → test (headed_of part).head ≡ of_part part) → (all : List Part)
+    → length (filter test (heads (map headed_of all))) ≡ length (filter of_part all)
 same_count test of_part same [] = refl
 same_count test of_part same (part ∷ all) =
-    count_one (test (headed_of part).head) (of_part part) (filter test (heads (map headed_of all))) (filter of_part all) (headed_of part).head part (same part) (same_count test of_part same all)
+    count_one (test (headed_of part).head) (of_part part) (filter test (heads (map headed_of all))) (filter of_part all) (headed_of part).head part
+    (same part) (same_count test of_part same all)
 
 -- The unit of a part that stands among the canonical parts.
 record UnitAt (units : List Unit) (before : List Part) (name : List ℕ) (inside : List UnitPart) : Type 0 where
@@ -484,8 +562,13 @@ record UnitAt (units : List Unit) (before : List Part) (name : List ℕ) (inside
   name_is : name ≡ unit.name
   inside_is : inside ≡ unit_parts unit
 
-unit_at : (units : List Unit) (others before later : List Part) (name : List ℕ) (inside : List UnitPart) → AllByRecursion (λ part. is_unit_part part ≡ false) others → map unit_part units ++ others ≡ before ++ (parts.HasUnit name inside ∷ later) → UnitAt units before name inside
-unit_at [] others before later name inside none is = let found = each_front (λ part. is_unit_part part ≡ false) before (parts.HasUnit name inside) later (subst (AllByRecursion (λ part. is_unit_part part ≡ false)) is none) in absurd (cc found.1)
+unit_at : (units : List Unit) (others before later : List Part) (name : List ℕ) (inside : List UnitPart)
+    → AllByRecursion (λ part. is_unit_part part ≡ false) others → map unit_part units ++ others ≡ before ++ (parts.HasUnit name inside ∷ later)
+    → UnitAt units before name inside
+unit_at [] others before later name inside none is = let found =
+    each_front (λ part. is_unit_part part ≡ false) before (parts.HasUnit name inside) later
+    (subst (AllByRecursion (λ part. is_unit_part part ≡ false)) is none) in
+    absurd (cc found.1)
 unit_at (unit ∷ units) others [] later name inside none is =
     let names : name ≡ unit.name = cc in
     let insides : inside ≡ unit_parts unit = cc in
@@ -494,23 +577,41 @@ unit_at (unit ∷ units) others (x ∷ before) later name inside none is =
     let here : x ≡ unit_part unit = cc in
     let tail : map unit_part units ++ others ≡ before ++ (parts.HasUnit name inside ∷ later) = cc in
     let found = unit_at units others before later name inside none tail in
-    record { unit = found.unit; at = subst (λ p. slice_get (unit ∷ units) (length (filter is_unit_part (p ∷ before))) ≡ Some found.unit) (sym here) found.at; name_is = found.name_is; inside_is = found.inside_is }
+    record {
+      unit = found.unit;
+      at =
+          subst (λ p. slice_get (unit ∷ units) (length (filter is_unit_part (p ∷ before))) ≡ Some found.unit) (sym here) found.at;
+      name_is =
+          found.name_is;
+      inside_is = found.inside_is;
+    }
 
-instance_at : (instances : List Instance) (others before later : List Part) (instance : Instance) → AllByRecursion (λ part. is_instance_part part ≡ false) others → map parts.HasInstance instances ++ others ≡ before ++ (parts.HasInstance instance ∷ later) → slice_get instances (length (filter is_instance_part before)) ≡ Some instance
-instance_at [] others before later instance none is = let found = each_front (λ part. is_instance_part part ≡ false) before (parts.HasInstance instance) later (subst (AllByRecursion (λ part. is_instance_part part ≡ false)) is none) in absurd (cc found.1)
+instance_at : (instances : List Instance) (others before later : List Part) (instance : Instance)
+    → AllByRecursion (λ part. is_instance_part part ≡ false) others
+    → map parts.HasInstance instances ++ others ≡ before ++ (parts.HasInstance instance ∷ later)
+    → slice_get instances (length (filter is_instance_part before)) ≡ Some instance
+instance_at [] others before later instance none is = let found =
+    each_front (λ part. is_instance_part part ≡ false) before (parts.HasInstance instance) later
+    (subst (AllByRecursion (λ part. is_instance_part part ≡ false)) is none) in
+    absurd (cc found.1)
 instance_at (first ∷ instances) others [] later instance none is = let here : first ≡ instance = cc in ap Some here
 instance_at (first ∷ instances) others (x ∷ before) later instance none is =
     let here : x ≡ parts.HasInstance first = cc in
     let tail : map parts.HasInstance instances ++ others ≡ before ++ (parts.HasInstance instance ∷ later) = cc in
-    subst (λ p. slice_get (first ∷ instances) (length (filter is_instance_part (p ∷ before))) ≡ Some instance) (sym here) (instance_at instances others before later instance none tail)
+    subst (λ p. slice_get (first ∷ instances) (length (filter is_instance_part (p ∷ before))) ≡ Some instance) (sym here)
+    (instance_at instances others before later instance none tail)
 
-instance_behind : (units : List Unit) (instances : List Instance) (others before later : List Part) (instance : Instance) → AllByRecursion (λ part. is_instance_part part ≡ false) others → map unit_part units ++ (map parts.HasInstance instances ++ others) ≡ before ++ (parts.HasInstance instance ∷ later) → slice_get instances (length (filter is_instance_part before)) ≡ Some instance
+instance_behind : (units : List Unit) (instances : List Instance) (others before later : List Part) (instance : Instance)
+    → AllByRecursion (λ part. is_instance_part part ≡ false) others
+    → map unit_part units ++ (map parts.HasInstance instances ++ others) ≡ before ++ (parts.HasInstance instance ∷ later)
+    → slice_get instances (length (filter is_instance_part before)) ≡ Some instance
 instance_behind [] instances others before later instance none is = instance_at instances others before later instance none is
 instance_behind (unit ∷ units) instances others [] later instance none is = absurd (cc)
 instance_behind (unit ∷ units) instances others (x ∷ before) later instance none is =
     let here : x ≡ unit_part unit = cc in
     let tail : map unit_part units ++ (map parts.HasInstance instances ++ others) ≡ before ++ (parts.HasInstance instance ∷ later) = cc in
-    subst (λ p. slice_get instances (length (filter is_instance_part (p ∷ before))) ≡ Some instance) (sym here) (instance_behind units instances others before later instance none tail)
+    subst (λ p. slice_get instances (length (filter is_instance_part (p ∷ before))) ≡ Some instance) (sym here)
+    (instance_behind units instances others before later instance none tail)
 
 each_map : {A : Type 0} (P : Part → Type 0) (f : A → Part) (xs : List A) → ((x : A) → P (f x)) → AllByRecursion P (map f xs)
 each_map P f [] on = _
@@ -523,13 +624,17 @@ each_optional P f (Some x) on = (on x, _)
 abbrev pub parts_behind : System → List Part
 parts_behind system =
     map parts.Connects system.wires
-    ++ (optional parts.Stop system.stop ++ (optional parts.Longest system.longest ++ (optional parts.Zero system.zero ++ (optional parts.Rows system.rows ++ map parts.Samples system.samples))))
+    ++ (optional parts.Stop system.stop
+    ++ (optional parts.Longest system.longest ++ (optional parts.Zero system.zero ++ (optional parts.Rows system.rows ++ map parts.Samples system.samples))))
 
 pub canonical_are : (system : System) → canonical_parts system ≡ map unit_part system.units ++ (map parts.HasInstance system.instances ++ parts_behind system)
 canonical_are system =
-    grouped (map unit_part system.units) (map parts.HasInstance system.instances) (map parts.Connects system.wires) (optional parts.Stop system.stop) (optional parts.Longest system.longest) (optional parts.Zero system.zero) (optional parts.Rows system.rows) (map parts.Samples system.samples)
+    grouped (map unit_part system.units) (map parts.HasInstance system.instances) (map parts.Connects system.wires) (optional parts.Stop system.stop)
+    (optional parts.Longest system.longest) (optional parts.Zero system.zero) (optional parts.Rows system.rows) (map parts.Samples system.samples)
 
-behind_are : (test : Part → Bool) (system : System) → ((x : _) → test (parts.Connects x) ≡ false) → ((x : _) → test (parts.Stop x) ≡ false) → ((x : _) → test (parts.Longest x) ≡ false) → ((x : ℕ) → test (parts.Zero x) ≡ false) → ((x : ℕ) → test (parts.Rows x) ≡ false) → ((x : _) → test (parts.Samples x) ≡ false) → AllByRecursion (λ part. test part ≡ false) (parts_behind system)
+behind_are : (test : Part → Bool) (system : System) → ((x : _) → test (parts.Connects x) ≡ false) → ((x : _) → test (parts.Stop x) ≡ false)
+    → ((x : _) → test (parts.Longest x) ≡ false) → ((x : ℕ) → test (parts.Zero x) ≡ false) → ((x : ℕ) → test (parts.Rows x) ≡ false)
+    → ((x : _) → test (parts.Samples x) ≡ false) → AllByRecursion (λ part. test part ≡ false) (parts_behind system)
 behind_are test system connects stop longest zero rows samples =
     each_append (λ part. test part ≡ false) _ _ (each_map (λ part. test part ≡ false) parts.Connects system.wires connects)
     (each_append (λ part. test part ≡ false) _ _ (each_optional (λ part. test part ≡ false) parts.Stop system.stop stop)
@@ -539,14 +644,28 @@ behind_are test system connects stop longest zero rows samples =
     (each_map (λ part. test part ≡ false) parts.Samples system.samples samples)))))
 
 -- A site in the block of a part, behind the header and other parts.
-in_part : (system : System) (front : List Part) (part : Part) (later : List Part) (inner rest : List Site) (site : Site) → map unit_part system.units ++ (map parts.HasInstance system.instances ++ parts_behind system) ≡ front ++ (part ∷ later) → (headed_of part).block ≡ inner ++ (site ∷ rest) → StandsBehind system (sites TopScope [] (alone (form.Header system.version) ∷ map headed_of front) ++ (site_at TopScope [] (alone (form.Header system.version) ∷ map headed_of front) (headed_of part) ∷ inner)) site
+in_part : (system : System) (front : List Part) (part : Part) (later : List Part) (inner rest : List Site) (site : Site)
+    → map unit_part system.units ++ (map parts.HasInstance system.instances ++ parts_behind system) ≡ front ++ (part ∷ later)
+    → (headed_of part).block ≡ inner ++ (site ∷ rest)
+    → StandsBehind system
+    (sites TopScope [] (alone (form.Header system.version) ∷ map headed_of front)
+    ++ (site_at TopScope [] (alone (form.Header system.version) ∷ map headed_of front) (headed_of part) ∷ inner)) site
 in_part system front (parts.HasUnit name inside) later inner rest site is block =
     let none = behind_are is_unit_part system (λ x. refl) (λ x. refl) (λ x. refl) (λ x. refl) (λ x. refl) (λ x. refl) in
     let found =
-    unit_at system.units (map parts.HasInstance system.instances ++ parts_behind system) front later name inside (each_append (λ part. is_unit_part part ≡ false) (map parts.HasInstance system.instances) (parts_behind system) (each_map (λ part. is_unit_part part ≡ false) parts.HasInstance system.instances (λ x. refl)) none) is in
-    let said : unit_of name inside ≡ found.unit = ap (λ n. unit_of n inside) found.name_is ∙ ap (unit_of found.unit.name) found.inside_is ∙ unit_is found.unit in
-    in_unit_block system (sites TopScope [] (alone (form.Header system.version) ∷ map headed_of front)) (site_at TopScope [] (alone (form.Header system.version) ∷ map headed_of front) (headed_of (parts.HasUnit name inside))) (unit_of name inside) inside inner rest site
-    (refl, ap form.Unit (found.name_is ∙ ap (λ u. u.name) (sym said)), ap (slice_get system.units) (same_count is_unit_line is_unit_part same_units front) ∙ found.at ∙ ap Some (sym said))
+    unit_at system.units (map parts.HasInstance system.instances ++ parts_behind system) front later name inside
+    (each_append (λ part. is_unit_part part ≡ false) (map parts.HasInstance system.instances) (parts_behind system)
+    (each_map (λ part. is_unit_part part ≡ false) parts.HasInstance system.instances (λ x. refl)) none) is in
+    let said : unit_of name inside ≡ found.unit = ap (λ n. unit_of n inside) found.name_is ∙ ap (unit_of found.unit.name) found.inside_is
+    ∙ unit_is found.unit in
+    in_unit_block system (sites TopScope [] (alone (form.Header system.version) ∷ map headed_of front))
+    (site_at TopScope [] (alone (form.Header system.version) ∷ map headed_of front) (headed_of (parts.HasUnit name inside)))
+    (unit_of name inside) inside inner rest site (
+      refl,
+      ap form.Unit (found.name_is ∙ ap (λ u. u.name) (sym said)),
+      ap (slice_get system.units) (same_count is_unit_line is_unit_part same_units front)
+          ∙ found.at ∙ ap Some (sym said),
+    )
     block
 in_part system front (parts.HasInstance instance) later inner rest site is block =
     let none = behind_are is_instance_part system (λ x. refl) (λ x. refl) (λ x. refl) (λ x. refl) (λ x. refl) (λ x. refl) in
@@ -554,7 +673,9 @@ in_part system front (parts.HasInstance instance) later inner rest site is block
     let outside = sites TopScope [] (alone (form.Header system.version) ∷ map headed_of front) in
     let opener = site_at TopScope [] (alone (form.Header system.version) ∷ map headed_of front) (headed_of (parts.HasInstance instance)) in
     in_alone_block system outside opener (InstanceScope instance) (map form.Setting instance.settings ++ (form.End ∷ [])) inner rest site block
-    (λ one same. subst (λ s. Opens system s (outside ++ (opener ∷ []))) (sym same) (outside, opener, refl, (refl, refl, ap (slice_get system.instances) (same_count is_instance_line is_instance_part same_instances front) ∙ at)))
+    (λ one same.
+    subst (λ s. Opens system s (outside ++ (opener ∷ []))) (sym same)
+    (outside, opener, refl, (refl, refl, ap (slice_get system.instances) (same_count is_instance_line is_instance_part same_instances front) ∙ at)))
     (λ one before. refl)
     (settings_are instance)
 in_part system front (parts.Connects wire) later inner rest site is block = absurd (none_cut inner site rest block)
@@ -565,7 +686,9 @@ in_part system front (parts.Rows count) later inner rest site is block = absurd 
 in_part system front (parts.Samples port) later inner rest site is block = absurd (none_cut inner site rest block)
 
 -- The same, where only the list of heads is known.
-in_head : (system : System) (front : List Headed) (this : Headed) (others : List Headed) (inner rest : List Site) (site : Site) → alone (form.Header system.version) ∷ map headed_of (canonical_parts system) ≡ front ++ (this ∷ others) → this.block ≡ inner ++ (site ∷ rest) → StandsBehind system (sites TopScope [] front ++ (site_at TopScope [] front this ∷ inner)) site
+in_head : (system : System) (front : List Headed) (this : Headed) (others : List Headed) (inner rest : List Site) (site : Site)
+    → alone (form.Header system.version) ∷ map headed_of (canonical_parts system) ≡ front ++ (this ∷ others) → this.block ≡ inner ++ (site ∷ rest)
+    → StandsBehind system (sites TopScope [] front ++ (site_at TopScope [] front this ∷ inner)) site
 in_head system [] this others inner rest site is block =
     let here : this ≡ alone (form.Header system.version) = cc in
     absurd (none_cut inner site rest (ap (λ h. h.block) (sym here) ∙ block))
@@ -575,12 +698,20 @@ in_head system (first ∷ front) this others inner rest site is block =
     let found = cut_of_map headed_of (canonical_parts system) front others this tail in
     let known = in_part system found.front found.x found.behind inner rest site (sym (canonical_are system) ∙ found.cut) (ap (λ h. h.block) found.is ∙ block) in
     subst (λ one. StandsBehind system (sites TopScope [] (one ∷ front) ++ (site_at TopScope [] (one ∷ front) this ∷ inner)) site) here
-    (subst (λ all. StandsBehind system (sites TopScope [] (alone (form.Header system.version) ∷ all) ++ (site_at TopScope [] (alone (form.Header system.version) ∷ all) this ∷ inner)) site) (sym found.front_is)
-    (subst (λ one. StandsBehind system (sites TopScope [] (alone (form.Header system.version) ∷ map headed_of found.front) ++ (site_at TopScope [] (alone (form.Header system.version) ∷ map headed_of found.front) one ∷ inner)) site) found.is known))
+    (subst
+    (λ all. StandsBehind system
+    (sites TopScope [] (alone (form.Header system.version) ∷ all) ++ (site_at TopScope [] (alone (form.Header system.version) ∷ all) this ∷ inner)) site)
+    (sym found.front_is)
+    (subst
+    (λ one. StandsBehind system
+    (sites TopScope [] (alone (form.Header system.version) ∷ map headed_of found.front)
+    ++ (site_at TopScope [] (alone (form.Header system.version) ∷ map headed_of found.front) one ∷ inner)) site) found.is known))
 
-at_top : (system : System) (before : List Site) (site : Site) → AtHead TopScope [] (alone (form.Header system.version) ∷ map headed_of (canonical_parts system)) before site → StandsBehind system before site
+at_top : (system : System) (before : List Site) (site : Site)
+    → AtHead TopScope [] (alone (form.Header system.version) ∷ map headed_of (canonical_parts system)) before site → StandsBehind system before site
 at_top system before site at =
-    let all : AllByRecursion IsTopHead (alone (form.Header system.version) ∷ map headed_of (canonical_parts system)) = (record { held = refl; below = _ }, top_heads (canonical_parts system)) in
+    let all : AllByRecursion IsTopHead (alone (form.Header system.version) ∷ map headed_of (canonical_parts system)) =
+    (record { held = refl; below = _ }, top_heads (canonical_parts system)) in
     let are = each_front IsTopHead at.front at.this at.others (subst (AllByRecursion IsTopHead) at.cut all) in
     let scope_is : site.scope ≡ TopScope = ap (λ s. s.scope) at.site_is in
     let line_is : site.line ≡ at.this.head = ap (λ s. s.line) at.site_is in
@@ -590,7 +721,9 @@ at_top system before site at =
       cut = refl;
       opened = rw (scope_is) refl;
       within = rw (scope_is) (all_within before);
-      earlier = rw (scope_is) (ap (λ s. s.earlier) at.site_is ∙ sym (ap (on_level TopScope) at.before_is ∙ heads_on_level TopScope [] at.front (each_below at.front are.0)));
+      earlier =
+          rw (scope_is)
+          (ap (λ s. s.earlier) at.site_is ∙ sym (ap (on_level TopScope) at.before_is ∙ heads_on_level TopScope [] at.front (each_below at.front are.0)));
       held = rw (scope_is, line_is) (are.1.held);
     }
 

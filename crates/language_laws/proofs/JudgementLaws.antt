@@ -23,7 +23,9 @@ none_refused (first ∷ later) system none =
 pub well_formed : (system : System) → BreaksNone rules system ↔ (refusal_by rules system ≡ None)
 well_formed system = (none_broken rules system, none_refused rules system)
 
-pub refused_here : (first : Rule) (later : List Rule) (system : System) (refusal : Refusal) (lines : List ℕ) → ((refusal_by later system ≡ Some refusal) → IsRefusal later system refusal) → lines_breaking first system ≡ lines → or_later first (refusal_by later system) lines ≡ Some refusal → IsRefusal (first ∷ later) system refusal
+pub refused_here : (first : Rule) (later : List Rule) (system : System) (refusal : Refusal) (lines : List ℕ)
+    → ((refusal_by later system ≡ Some refusal) → IsRefusal later system refusal) → lines_breaking first system ≡ lines
+    → or_later first (refusal_by later system) lines ≡ Some refusal → IsRefusal (first ∷ later) system refusal
 refused_here first later system refusal [] by_later kept is =
     let rest = by_later is in
     record {
@@ -57,7 +59,8 @@ refused_by (first ∷ later) system refusal is =
 pub refused : (system : System) (refusal : Refusal) → refusal_by rules system ≡ Some refusal → IsRefusal rules system refusal
 refused system refusal is = refused_by rules system refusal is
 
-pub only_by : (kept : List Rule) (broken : Rule) (later : List Rule) (system : System) (line : ℕ) (others : List ℕ) → BreaksNone kept system → lines_breaking broken system ≡ line ∷ others → refusal_by (kept ++ (broken ∷ later)) system ≡ Some (record { by = broken.number; at = line })
+pub only_by : (kept : List Rule) (broken : Rule) (later : List Rule) (system : System) (line : ℕ) (others : List ℕ) → BreaksNone kept system
+    → lines_breaking broken system ≡ line ∷ others → refusal_by (kept ++ (broken ∷ later)) system ≡ Some (record { by = broken.number; at = line })
 only_by [] broken later system line others none lines = rw lines refl
 only_by (first ∷ kept) broken later system line others none lines = rw (none.0) (only_by kept broken later system line others none.1 lines)
 

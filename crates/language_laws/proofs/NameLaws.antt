@@ -1,5 +1,6 @@
 -- Names that are declared once: what the first rule of a well-formed system says of instances and of outputs.
-use Rattle.std.proofs.Common.{◌≡◌, ℕ, ◌+◌, Bool, true, false, List, [], ◌∷◌, ◌++◌, append_assoc, map, Option, Some, None, inl, inr, refl, ap, sym, subst, ◌∙◌, ◌⊎◌}
+use Rattle.std.proofs.Common.{◌≡◌, ℕ, ◌+◌, Bool, true, false, List, [], ◌∷◌, ◌++◌, append_assoc, map, Option, Some, None, inl, inr, refl, ap, sym, subst, ◌∙◌}
+use Rattle.std.proofs.Common.{◌⊎◌}
 use Rattle.std.specs.Prelude.{not, is_none, ◌&&◌, ◌||◌, cond, ⊤}
 use Rattle.std.specs.List.{AllByRecursion, list_any, flat_map, filter_map, find, enumerate_from, cons_option}
 use Rattle.std.specs.Str.{bytes_eq}
@@ -11,7 +12,8 @@ use Rattle.unit_tree.specs.Names.{Port, output_ports, output_names, input_names,
 use Rattle.unit_tree.specs.Parts as parts
 use Rattle.unit_tree.specs.Parts.{Part, UnitPart, unit_of}
 use Rattle.unit_tree.specs.Sites.{Scope, TopScope, UnitScope, InstanceScope, Site, Headed, alone, sites, headed_unit_part, headed_part, sites_of}
-use Rattle.unit_tree.specs.WellFormed.{IsWellFormed, redeclares, misnames, connects_again, input_connected, is_said, says_again, instance_declared, name_declared, unit_declared, number_where}
+use Rattle.unit_tree.specs.WellFormed.{IsWellFormed, redeclares, misnames, connects_again, input_connected, is_said, says_again, instance_declared}
+use Rattle.unit_tree.specs.WellFormed.{name_declared, unit_declared, number_where}
 use Rattle.unit_tree.specs.declared.line_form.LineForm.{LineForm}
 use Rattle.unit_tree.specs.declared.line_form.LineForm.TheVariants as form
 use Rattle.unit_tree.specs.declared.system.Instance.{Instance}
@@ -34,13 +36,17 @@ pub bytes_of : (one other : List ℕ) → one ≡ other → bytes_eq one other �
 bytes_of one other is = (bytes_eq-Decides one other).1 is
 
 -- What equals none of some is not among them.
-pub not_among : {B : Type 0} (same : B → B → Bool) (tells : (one other : B) → one ≡ other → same one other ≡ true) (name : B) (names : List B) → list_any (same name) names ≡ false → Has names name → ⊥
+pub not_among : {B : Type 0} (same : B → B → Bool) (tells : (one other : B) → one ≡ other → same one other ≡ true) (name : B) (names : List B)
+    → list_any (same name) names ≡ false → Has names name → ⊥
 not_among same tells name [] none has = has
-not_among same tells name (first ∷ names) none (inl is) = true_is_false (same name first) (tells name first (sym is)) (or_false (same name first) (list_any (same name) names) none).0
+not_among same tells name (first ∷ names) none (inl is) =
+    true_is_false (same name first) (tells name first (sym is)) (or_false (same name first) (list_any (same name) names) none).0
 not_among same tells name (first ∷ names) none (inr has) = not_among same tells name names (or_false (same name first) (list_any (same name) names) none).1 has
 
 -- The first of a name is the only one.
-pub found_by : {A : Type 0} (name : A → List ℕ) (x first : A) (others : List A) (named : Bool) → bytes_eq (name first) (name x) ≡ named → (Has (map name others) (name first) → ⊥) → (first ≡ x) ⊎ Has others x → (Has others x → find (λ y. bytes_eq (name y) (name x)) others ≡ Some x) → cond named (Some first) (find (λ y. bytes_eq (name y) (name x)) others) ≡ Some x
+pub found_by : {A : Type 0} (name : A → List ℕ) (x first : A) (others : List A) (named : Bool) → bytes_eq (name first) (name x) ≡ named
+    → (Has (map name others) (name first) → ⊥) → (first ≡ x) ⊎ Has others x → (Has others x → find (λ y. bytes_eq (name y) (name x)) others ≡ Some x)
+    → cond named (Some first) (find (λ y. bytes_eq (name y) (name x)) others) ≡ Some x
 found_by name x first others true is apart (inl same) later = ap Some same
 found_by name x first others true is apart (inr has) later =
     absurd (apart (subst (Has (map name others)) (sym (same_bytes (name first) (name x) is)) (has_map name others x has)))
@@ -54,11 +60,14 @@ found name (first ∷ others) x apart has =
 
 -- ---- Lines that keep a rule
 
-pub kept_by : (breaks : Site → Bool) (number : ℕ) (site : Site) (all : List Site) (told : Bool) → breaks site ≡ told → cons_option (cond told (Some number) None) (filter_map (number_where breaks) (enumerate_from (number + 1) all)) ≡ [] → (breaks site ≡ false) × (filter_map (number_where breaks) (enumerate_from (number + 1) all) ≡ [])
+pub kept_by : (breaks : Site → Bool) (number : ℕ) (site : Site) (all : List Site) (told : Bool) → breaks site ≡ told
+    → cons_option (cond told (Some number) None) (filter_map (number_where breaks) (enumerate_from (number + 1) all)) ≡ []
+    → (breaks site ≡ false) × (filter_map (number_where breaks) (enumerate_from (number + 1) all) ≡ [])
 kept_by breaks number site all true is none = absurd (cc)
 kept_by breaks number site all false is none = (is, none)
 
-pub all_keep : (breaks : Site → Bool) (number : ℕ) (all : List Site) → filter_map (number_where breaks) (enumerate_from number all) ≡ [] → AllByRecursion (λ site. breaks site ≡ false) all
+pub all_keep : (breaks : Site → Bool) (number : ℕ) (all : List Site) → filter_map (number_where breaks) (enumerate_from number all) ≡ []
+    → AllByRecursion (λ site. breaks site ≡ false) all
 all_keep breaks number [] none = tt
 all_keep breaks number (site ∷ all) none =
     let both = kept_by breaks number site all (breaks site) refl none in
@@ -72,7 +81,8 @@ module _ (P : Site → Type 0) where
   -- The same of lines with their blocks.
   abbrev pub Hold : Scope → List LineForm → List Headed → Type 0
   Hold scope earlier [] = ⊤
-  Hold scope earlier (headed ∷ others) = P (record { scope = scope; earlier = earlier; line = headed.head }) × AllByRecursion P headed.block × Hold scope (earlier ++ (headed.head ∷ [])) others
+  Hold scope earlier (headed ∷ others) =
+      P (record { scope = scope; earlier = earlier; line = headed.head }) × AllByRecursion P headed.block × Hold scope (earlier ++ (headed.head ∷ [])) others
 
   pub hold_all : (scope : Scope) (earlier : List LineForm) (headed : List Headed) → AllByRecursion P (sites scope earlier headed) → Hold scope earlier headed
   hold_all scope earlier [] all = tt
@@ -85,13 +95,17 @@ module _ (P : Site → Type 0) where
   hold_front scope earlier (first ∷ front) behind hold = (hold.0, hold.1, hold_front scope (earlier ++ (first.head ∷ [])) front behind hold.2)
 
   -- With what comes before.
-  pub hold_behind : (scope : Scope) (earlier : List LineForm) (front behind : List Headed) → Hold scope earlier (front ++ behind) → (before : List LineForm) × Hold scope before behind
+  pub hold_behind : (scope : Scope) (earlier : List LineForm) (front behind : List Headed) → Hold scope earlier (front ++ behind)
+      → (before : List LineForm) × Hold scope before behind
   hold_behind scope earlier [] behind hold = (earlier, hold)
   hold_behind scope earlier (first ∷ front) behind hold = hold_behind scope (earlier ++ (first.head ∷ [])) front behind hold.2
 
-  module _ {A B : Type 0} (same : B → B → Bool) (tells : (one other : B) → one ≡ other → same one other ≡ true) (head : A → Headed) (name : A → B) (asked : LineForm → Option B) (asks : (x : A) → asked (head x).head ≡ Some (name x)) (unsaid : (site : Site) → P site → is_said same (filter_map asked site.earlier) (asked site.line) ≡ false) where
+  module _ {A B : Type 0} (same : B → B → Bool) (tells : (one other : B) → one ≡ other → same one other ≡ true) (head : A → Headed) (name : A → B)
+      (asked : LineForm → Option B) (asks : (x : A) → asked (head x).head ≡ Some (name x))
+      (unsaid : (site : Site) → P site → is_said same (filter_map asked site.earlier) (asked site.line) ≡ false) where
     -- Things that are declared one after the other have different names, and none of an earlier line's.
-    pub apart : (scope : Scope) (earlier : List LineForm) (xs : List A) → Hold scope earlier (map head xs) → Distinct (map name xs) × ((one : B) → Has (map name xs) one → Has (filter_map asked earlier) one → ⊥)
+    pub apart : (scope : Scope) (earlier : List LineForm) (xs : List A) → Hold scope earlier (map head xs)
+        → Distinct (map name xs) × ((one : B) → Has (map name xs) one → Has (filter_map asked earlier) one → ⊥)
     apart scope earlier [] hold = (tt, λ one has before. has)
     apart scope earlier (x ∷ xs) hold =
         let rest = apart scope (earlier ++ ((head x).head ∷ [])) xs hold.2 in
@@ -123,13 +137,17 @@ pub record PortsDiffer (system : System) : Type 0 where
 abbrev pub Keeps : System → Site → Type 0
 Keeps system site = redeclares system site ≡ false
 
-pub instance_unsaid : (system : System) (site : Site) → Keeps system site → is_said bytes_eq (filter_map instance_declared site.earlier) (instance_declared site.line) ≡ false
+pub instance_unsaid : (system : System) (site : Site) → Keeps system site
+    → is_said bytes_eq (filter_map instance_declared site.earlier) (instance_declared site.line) ≡ false
 instance_unsaid system site kept =
-    (or_false (says_again bytes_eq instance_declared site) (says_again bytes_eq name_declared site) (or_false (says_again bytes_eq unit_declared site) (says_again bytes_eq instance_declared site || says_again bytes_eq name_declared site) kept).1).0
+    (or_false (says_again bytes_eq instance_declared site) (says_again bytes_eq name_declared site)
+    (or_false (says_again bytes_eq unit_declared site) (says_again bytes_eq instance_declared site || says_again bytes_eq name_declared site) kept).1).0
 
-pub name_unsaid : (system : System) (site : Site) → Keeps system site → is_said bytes_eq (filter_map name_declared site.earlier) (name_declared site.line) ≡ false
+pub name_unsaid : (system : System) (site : Site) → Keeps system site
+    → is_said bytes_eq (filter_map name_declared site.earlier) (name_declared site.line) ≡ false
 name_unsaid system site kept =
-    (or_false (says_again bytes_eq instance_declared site) (says_again bytes_eq name_declared site) (or_false (says_again bytes_eq unit_declared site) (says_again bytes_eq instance_declared site || says_again bytes_eq name_declared site) kept).1).1
+    (or_false (says_again bytes_eq instance_declared site) (says_again bytes_eq name_declared site)
+    (or_false (says_again bytes_eq unit_declared site) (says_again bytes_eq instance_declared site || says_again bytes_eq name_declared site) kept).1).1
 
 abbrev pub instance_head : Instance → Headed
 instance_head instance = record {
@@ -161,14 +179,16 @@ declaring_asks (OfEvent event) = refl
 abbrev pub all_declaring : List Output → List EventOut → List Declaring
 all_declaring outputs events = map OfOutput outputs ++ map OfEvent events
 
-pub output_heads : (unit : Unit) (outputs : List Output) (events : List EventOut) → flat_map (headed_unit_part unit) (map parts.HasOutput outputs ++ map parts.HasEventOut events) ≡ map declaring_head (all_declaring outputs events)
+pub output_heads : (unit : Unit) (outputs : List Output) (events : List EventOut)
+    → flat_map (headed_unit_part unit) (map parts.HasOutput outputs ++ map parts.HasEventOut events) ≡ map declaring_head (all_declaring outputs events)
 output_heads unit [] [] = refl
 output_heads unit [] (event ∷ events) = ap (λ rest. alone (form.EventOutput event) ∷ rest) (output_heads unit [] events)
 output_heads unit (output ∷ outputs) events = ap (λ rest. alone (form.Output output) ∷ rest) (output_heads unit outputs events)
 
 abbrev pub ports_declared : List Output → List EventOut → List Port
 ports_declared outputs events =
-    map (λ output. record { name = output.name; ty = output.ty; is_event = false; needs = output.needs }) outputs ++ map (λ event. record { name = event.name; ty = event.ty; is_event = true; needs = event.needs }) events
+    map (λ output. record { name = output.name; ty = output.ty; is_event = false; needs = output.needs }) outputs
+    ++ map (λ event. record { name = event.name; ty = event.ty; is_event = true; needs = event.needs }) events
 
 abbrev pub names_declared : List Output → List EventOut → List (List ℕ)
 names_declared outputs events = map (λ (port : Port). port.name) (ports_declared outputs events)
@@ -187,7 +207,8 @@ plain_apart (output ∷ outputs) events apart = (λ has. apart.0 (among_plain ou
     among_plain (other ∷ others) (inl is) = inl is
     among_plain (other ∷ others) (inr has) = inr (among_plain others has)
 
-pub all_plain_apart : (units : List Unit) → AllByRecursion (λ unit. Distinct (output_names unit)) units → AllByRecursion (λ unit. Distinct (map (λ output. output.name) unit.outputs)) units
+pub all_plain_apart : (units : List Unit) → AllByRecursion (λ unit. Distinct (output_names unit)) units
+    → AllByRecursion (λ unit. Distinct (map (λ output. output.name) unit.outputs)) units
 all_plain_apart [] apart = tt
 all_plain_apart (unit ∷ units) apart = (plain_apart unit.outputs unit.events_out apart.0, all_plain_apart units apart.1)
 
@@ -207,26 +228,34 @@ abbrev pub said_units : List Unit → List Part
 said_units units = map (λ unit. parts.HasUnit unit.name (unit_parts unit)) units
 
 module _ (P : Site → Type 0) where
-  pub drop_last : {A : Type 0} (f : A → List Headed) (scope : Scope) (earlier : List LineForm) (front behind : List A) → Hold P scope earlier (flat_map f (front ++ behind)) → Hold P scope earlier (flat_map f front)
+  pub drop_last : {A : Type 0} (f : A → List Headed) (scope : Scope) (earlier : List LineForm) (front behind : List A)
+      → Hold P scope earlier (flat_map f (front ++ behind)) → Hold P scope earlier (flat_map f front)
   drop_last f scope earlier front behind hold =
       hold_front P scope earlier (flat_map f front) (flat_map f behind) (subst (Hold P scope earlier) (flat_map-append f front behind) hold)
 
   -- The outputs of a unit, event outputs among them.
-  pub outputs_hold : (unit : Unit) → AllByRecursion P (sites (UnitScope (said unit)) [] (flat_map (headed_unit_part (said unit)) (unit_parts unit) ++ (alone form.End ∷ []))) → (before : List LineForm) × Hold P (UnitScope (said unit)) before (map declaring_head (all_declaring unit.outputs unit.events_out))
+  pub outputs_hold : (unit : Unit)
+      → AllByRecursion P (sites (UnitScope (said unit)) [] (flat_map (headed_unit_part (said unit)) (unit_parts unit) ++ (alone form.End ∷ [])))
+      → (before : List LineForm) × Hold P (UnitScope (said unit)) before (map declaring_head (all_declaring unit.outputs unit.events_out))
   outputs_hold unit all =
       let scope : Scope = UnitScope (said unit) in
       let headed : UnitPart → List Headed = headed_unit_part (said unit) in
       let before : List UnitPart =
-      optional parts.Resolution unit.resolution ++ map parts.HasParam unit.params ++ map parts.HasState unit.states ++ map parts.HasLocal unit.locals ++ map parts.HasInput unit.inputs ++ map parts.HasEventIn unit.events_in in
+      optional parts.Resolution unit.resolution ++ map parts.HasParam unit.params ++ map parts.HasState unit.states ++ map parts.HasLocal unit.locals
+      ++ map parts.HasInput unit.inputs ++ map parts.HasEventIn unit.events_in in
       let outputs : List UnitPart = map parts.HasOutput unit.outputs in
       let events : List UnitPart = map parts.HasEventOut unit.events_out in
       let greatest : List UnitPart = optional parts.Max unit.max in
       let step : List UnitPart = optional parts.Step unit.step in
-      let whole = hold_front P scope [] (flat_map headed (unit_parts unit)) (alone form.End ∷ []) (hold_all P scope [] (flat_map headed (unit_parts unit) ++ (alone form.End ∷ [])) all) in
+      let whole =
+      hold_front P scope [] (flat_map headed (unit_parts unit)) (alone form.End ∷ [])
+      (hold_all P scope [] (flat_map headed (unit_parts unit) ++ (alone form.End ∷ [])) all) in
       let without_step = drop_last headed scope [] (((before ++ outputs) ++ events) ++ greatest) step whole in
       let without_max = drop_last headed scope [] ((before ++ outputs) ++ events) greatest without_step in
       let parted = subst (λ all_parts. Hold P scope [] (flat_map headed all_parts)) (append_assoc before outputs events) without_max in
-      let here = hold_behind P scope [] (flat_map headed before) (flat_map headed (outputs ++ events)) (subst (Hold P scope []) (flat_map-append headed before (outputs ++ events)) parted) in
+      let here =
+      hold_behind P scope [] (flat_map headed before) (flat_map headed (outputs ++ events))
+      (subst (Hold P scope []) (flat_map-append headed before (outputs ++ events)) parted) in
       (here.0, subst (Hold P scope here.0) (output_heads (said unit) unit.outputs unit.events_out) here.1)
 
   -- What the lines of a system keep, those of units, instances and connections keep.
@@ -255,7 +284,9 @@ module _ (P : Site → Type 0) where
       let d = drop_last headed_part TopScope header (((units ++ instances) ++ wires) ++ stop) longest c in
       let e = drop_last headed_part TopScope header ((units ++ instances) ++ wires) stop d in
       let f = drop_last headed_part TopScope header (units ++ instances) wires e in
-      let wired = hold_behind P TopScope header (flat_map headed_part (units ++ instances)) (flat_map headed_part wires) (subst (Hold P TopScope header) (flat_map-append headed_part (units ++ instances) wires) e) in
+      let wired =
+      hold_behind P TopScope header (flat_map headed_part (units ++ instances)) (flat_map headed_part wires)
+      (subst (Hold P TopScope header) (flat_map-append headed_part (units ++ instances) wires) e) in
       let parted = subst (Hold P TopScope header) (flat_map-append headed_part units instances) f in
       let behind = hold_behind P TopScope header (flat_map headed_part units) (flat_map headed_part instances) parted in
       record {
@@ -269,12 +300,14 @@ module _ (P : Site → Type 0) where
 -- ---- Names
 
 module _ (system : System) where
-  pub units_outputs : (units : List Unit) (earlier : List LineForm) → Hold (Keeps system) TopScope earlier (flat_map headed_part (said_units units)) → AllByRecursion (λ unit. Distinct (output_names unit)) units
+  pub units_outputs : (units : List Unit) (earlier : List LineForm) → Hold (Keeps system) TopScope earlier (flat_map headed_part (said_units units))
+      → AllByRecursion (λ unit. Distinct (output_names unit)) units
   units_outputs [] earlier hold = tt
   units_outputs (unit ∷ units) earlier hold =
       let here = outputs_hold (Keeps system) unit hold.1 in (
         subst Distinct (declaring_names unit.outputs unit.events_out)
-            (apart (Keeps system) bytes_eq bytes_of declaring_head declaring_name name_declared declaring_asks (name_unsaid system) (UnitScope (said unit)) here.0 (all_declaring unit.outputs unit.events_out) here.1).0,
+            (apart (Keeps system) bytes_eq bytes_of declaring_head declaring_name name_declared declaring_asks (name_unsaid system)
+            (UnitScope (said unit)) here.0 (all_declaring unit.outputs unit.events_out) here.1).0,
         units_outputs units (earlier ++ (form.Unit unit.name ∷ [])) hold.2,
       )
 
@@ -282,7 +315,9 @@ module _ (system : System) where
   ports_differ kept =
       let held = kept_parts (Keeps system) system (all_keep (redeclares system) 1 (sites_of system) kept.0) in
       record {
-        instances = (apart (Keeps system) bytes_eq bytes_of instance_head (λ instance. instance.name) instance_declared (λ instance. refl) (instance_unsaid system) TopScope held.before_instances system.instances held.instances).0;
+        instances =
+            (apart (Keeps system) bytes_eq bytes_of instance_head (λ instance. instance.name) instance_declared (λ instance. refl)
+            (instance_unsaid system) TopScope held.before_instances system.instances held.instances).0;
         outputs = units_outputs system.units (form.Header system.version ∷ []) held.units;
       }
 
@@ -310,23 +345,29 @@ module _ (system : System) where
   not_false true is = refl
   not_false false is = absurd (cc)
 
-  pub outputs_need : (unit : Unit) (before : List LineForm) (outputs : List Output) (events : List EventOut) → Hold Names (UnitScope unit) before (map declaring_head (all_declaring outputs events)) → AllByRecursion (λ output. are_among (input_names unit) output.needs ≡ true) outputs
+  pub outputs_need : (unit : Unit) (before : List LineForm) (outputs : List Output) (events : List EventOut)
+      → Hold Names (UnitScope unit) before (map declaring_head (all_declaring outputs events))
+      → AllByRecursion (λ output. are_among (input_names unit) output.needs ≡ true) outputs
   outputs_need unit before [] events hold = tt
   outputs_need unit before (output ∷ outputs) events hold = (
     not_false _ (or_false (not (keeps_to (output_uses unit) output.value)) (not (are_among (input_names unit) output.needs)) hold.0).1,
     outputs_need unit (before ++ (form.Output output ∷ [])) outputs events hold.2,
   )
 
-  pub units_need : (units : List Unit) (earlier : List LineForm) → Hold Names TopScope earlier (flat_map headed_part (said_units units)) → AllByRecursion (λ unit. AllByRecursion (λ output. are_among (input_names unit) output.needs ≡ true) unit.outputs) units
+  pub units_need : (units : List Unit) (earlier : List LineForm) → Hold Names TopScope earlier (flat_map headed_part (said_units units))
+      → AllByRecursion (λ unit. AllByRecursion (λ output. are_among (input_names unit) output.needs ≡ true) unit.outputs) units
   units_need [] earlier hold = tt
   units_need (unit ∷ units) earlier hold =
       let here = outputs_hold Names unit hold.1 in (
-        subst (λ (u : Unit). AllByRecursion (λ output. are_among (input_names u) output.needs ≡ true) unit.outputs) (unit_is unit) (outputs_need (said unit) here.0 unit.outputs unit.events_out here.1),
+        subst (λ (u : Unit). AllByRecursion (λ output. are_among (input_names u) output.needs ≡ true) unit.outputs) (unit_is unit)
+            (outputs_need (said unit) here.0 unit.outputs unit.events_out here.1),
         units_need units (earlier ++ (form.Unit unit.name ∷ [])) hold.2,
       )
 
   -- The same of all ports, those of events among them.
-  pub ports_need : (unit : Unit) (before : List LineForm) (outputs : List Output) (events : List EventOut) → Hold Names (UnitScope unit) before (map declaring_head (all_declaring outputs events)) → AllByRecursion (λ (port : Port). are_among (input_names unit) port.needs ≡ true) (ports_declared outputs events)
+  pub ports_need : (unit : Unit) (before : List LineForm) (outputs : List Output) (events : List EventOut)
+      → Hold Names (UnitScope unit) before (map declaring_head (all_declaring outputs events))
+      → AllByRecursion (λ (port : Port). are_among (input_names unit) port.needs ≡ true) (ports_declared outputs events)
   ports_need unit before [] [] hold = tt
   ports_need unit before [] (event ∷ events) hold = (
     not_false _ (or_false (not (keeps_to (output_uses unit) event.value)) (not (are_among (input_names unit) event.needs)) hold.0).1,
@@ -337,18 +378,24 @@ module _ (system : System) where
     ports_need unit (before ++ (form.Output output ∷ [])) outputs events hold.2,
   )
 
-  pub units_ports_need : (units : List Unit) (earlier : List LineForm) → Hold Names TopScope earlier (flat_map headed_part (said_units units)) → AllByRecursion (λ unit. AllByRecursion (λ (port : Port). are_among (input_names unit) port.needs ≡ true) (output_ports unit)) units
+  pub units_ports_need : (units : List Unit) (earlier : List LineForm) → Hold Names TopScope earlier (flat_map headed_part (said_units units))
+      → AllByRecursion (λ unit. AllByRecursion (λ (port : Port). are_among (input_names unit) port.needs ≡ true) (output_ports unit)) units
   units_ports_need [] earlier hold = tt
   units_ports_need (unit ∷ units) earlier hold =
       let here = outputs_hold Names unit hold.1 in (
-        subst (λ (u : Unit). AllByRecursion (λ (port : Port). are_among (input_names u) port.needs ≡ true) (output_ports unit)) (unit_is unit) (ports_need (said unit) here.0 unit.outputs unit.events_out here.1),
+        subst (λ (u : Unit). AllByRecursion (λ (port : Port). are_among (input_names u) port.needs ≡ true) (output_ports unit)) (unit_is unit)
+            (ports_need (said unit) here.0 unit.outputs unit.events_out here.1),
         units_ports_need units (earlier ++ (form.Unit unit.name ∷ [])) hold.2,
       )
 
-  pub ports_need_inputs : IsWellFormed system → AllByRecursion (λ unit. AllByRecursion (λ (port : Port). are_among (input_names unit) port.needs ≡ true) (output_ports unit)) system.units
-  ports_need_inputs kept = units_ports_need system.units (form.Header system.version ∷ []) (kept_parts Names system (all_keep (λ site. misnames system site.scope site.line) 1 (sites_of system) kept.1.0)).units
+  pub ports_need_inputs : IsWellFormed system
+      → AllByRecursion (λ unit. AllByRecursion (λ (port : Port). are_among (input_names unit) port.needs ≡ true) (output_ports unit)) system.units
+  ports_need_inputs kept =
+      units_ports_need system.units (form.Header system.version ∷ [])
+      (kept_parts Names system (all_keep (λ site. misnames system site.scope site.line) 1 (sites_of system) kept.1.0)).units
 
-  pub wires_from : (wires : List Wire) (earlier : List LineForm) → Hold Names TopScope earlier (map wire_head wires) → AllByRecursion (λ wire. is_none (output_at system wire.from) ≡ false) wires
+  pub wires_from : (wires : List Wire) (earlier : List LineForm) → Hold Names TopScope earlier (map wire_head wires)
+      → AllByRecursion (λ wire. is_none (output_at system wire.from) ≡ false) wires
   wires_from [] earlier hold = tt
   wires_from (wire ∷ wires) earlier hold = (
     (or_false (is_none (output_at system wire.from)) (is_none (input_at system wire.to)) hold.0).0,
@@ -365,5 +412,6 @@ module _ (system : System) where
       record {
         needs = units_need system.units (form.Header system.version ∷ []) named.units;
         from = wires_from system.wires named.before_wires named.wires;
-        once = (apart Once same_port same_port_of wire_head (λ wire. wire.to) input_connected (λ wire. refl) (λ site is. is) TopScope once.before_wires system.wires once.wires).0;
+        once = (apart Once same_port same_port_of wire_head (λ wire. wire.to) input_connected (λ wire. refl)
+            (λ site is. is) TopScope once.before_wires system.wires once.wires).0;
       }

@@ -37,11 +37,13 @@ pub record Stay (scope : Scope) (blocks : List Block) (lines : List LineForm) (a
   pub leave : fold behind blocks lines ≡ after
   pub are_in : AreIn scope blocks lines
 
-pub are_in_both : (scope : Scope) (blocks : List Block) (xs ys : List LineForm) → AreIn scope blocks xs → AreIn scope (fold behind blocks xs) ys → AreIn scope blocks (xs ++ ys)
+pub are_in_both : (scope : Scope) (blocks : List Block) (xs ys : List LineForm) → AreIn scope blocks xs → AreIn scope (fold behind blocks xs) ys
+    → AreIn scope blocks (xs ++ ys)
 are_in_both scope blocks [] ys on_xs on_ys = on_ys
 are_in_both scope blocks (x ∷ xs) ys on_xs on_ys = (on_xs.0, are_in_both scope (behind blocks x) xs ys on_xs.1 on_ys)
 
-pub stay_both : (scope : Scope) (blocks between after : List Block) (xs ys : List LineForm) → Stay scope blocks xs between → Stay scope between ys after → Stay scope blocks (xs ++ ys) after
+pub stay_both : (scope : Scope) (blocks between after : List Block) (xs ys : List LineForm) → Stay scope blocks xs between → Stay scope between ys after
+    → Stay scope blocks (xs ++ ys) after
 stay_both scope blocks between after xs ys on_xs on_ys = record {
   leave = fold-append behind blocks xs ys ∙ ap (λ all. fold behind all ys) on_xs.leave ∙ on_ys.leave;
   are_in = are_in_both scope blocks xs ys on_xs.are_in (subst (λ all. AreIn scope all ys) (sym on_xs.leave) on_ys.are_in);
@@ -71,17 +73,22 @@ all_closed (one ∷ lines) blocks =
 pub all_in : (unit : Unit) (lines : List Stepped) (blocks : List Block) → in_step blocks ≡ true → AreIn (StepScope unit) blocks (forms_in lines)
 all_in unit [] blocks is = _
 all_in unit (one ∷ lines) blocks is =
-    are_in_both (StepScope unit) blocks (line_forms one.0) (forms_in lines) (one.1.are_in unit blocks is) (subst (λ all. AreIn (StepScope unit) all (forms_in lines)) (sym (one.1.closed blocks)) (all_in unit lines blocks is))
+    are_in_both (StepScope unit) blocks (line_forms one.0) (forms_in lines) (one.1.are_in unit blocks is)
+    (subst (λ all. AreIn (StepScope unit) all (forms_in lines)) (sym (one.1.closed blocks)) (all_in unit lines blocks is))
 
 -- The lines of a block, and what closes it.
-pub block_closed : (lines : List Stepped) (rest : List LineForm) (blocks after : List Block) → fold behind blocks rest ≡ after → fold behind blocks (forms_in lines ++ rest) ≡ after
+pub block_closed : (lines : List Stepped) (rest : List LineForm) (blocks after : List Block) → fold behind blocks rest ≡ after
+    → fold behind blocks (forms_in lines ++ rest) ≡ after
 block_closed lines rest blocks after is = fold-append behind blocks (forms_in lines) rest ∙ ap (λ all. fold behind all rest) (all_closed lines blocks) ∙ is
 
-pub block_in : (unit : Unit) (lines : List Stepped) (rest : List LineForm) (blocks : List Block) → in_step blocks ≡ true → AreIn (StepScope unit) blocks rest → AreIn (StepScope unit) blocks (forms_in lines ++ rest)
+pub block_in : (unit : Unit) (lines : List Stepped) (rest : List LineForm) (blocks : List Block) → in_step blocks ≡ true → AreIn (StepScope unit) blocks rest
+    → AreIn (StepScope unit) blocks (forms_in lines ++ rest)
 block_in unit lines rest blocks is on_rest =
-    are_in_both (StepScope unit) blocks (forms_in lines) rest (all_in unit lines blocks is) (subst (λ all. AreIn (StepScope unit) all rest) (sym (all_closed lines blocks)) on_rest)
+    are_in_both (StepScope unit) blocks (forms_in lines) rest (all_in unit lines blocks is)
+    (subst (λ all. AreIn (StepScope unit) all rest) (sym (all_closed lines blocks)) on_rest)
 
-pub in_step_scope : (unit : Unit) (blocks : List Block) (line : LineForm) → in_step blocks ≡ true → is_end line ≡ false → is_scope_in blocks (StepScope unit) line ≡ true
+pub in_step_scope : (unit : Unit) (blocks : List Block) (line : LineForm) → in_step blocks ≡ true → is_end line ≡ false
+    → is_scope_in blocks (StepScope unit) line ≡ true
 in_step_scope unit [] line is not_end = absurd (cc is)
 in_step_scope unit (InUnit ∷ blocks) line is not_end = absurd (cc is)
 in_step_scope unit (InStep ∷ blocks) line is not_end = rw not_end refl
@@ -123,7 +130,8 @@ if_forms condition then_lines rest = form.If condition ∷ forms_in then_lines +
 pub in_step-IfNone : (condition : Expr) (then_lines : List Stepped) → IsInStep (line.If condition (map line_in then_lines) None)
 in_step-IfNone condition then_lines =
     let are : line_forms (line.If condition (map line_in then_lines) None) ≡ if_forms condition then_lines (form.End ∷ []) =
-    fold-If (List LineForm) block_forms condition (map line_in then_lines) None ∙ ap (λ lines. form.If condition ∷ lines) (append_assoc (forms_in then_lines) [] (form.End ∷ [])) in
+    fold-If (List LineForm) block_forms condition (map line_in then_lines) None
+    ∙ ap (λ lines. form.If condition ∷ lines) (append_assoc (forms_in then_lines) [] (form.End ∷ [])) in
     record {
       closed = λ blocks. ap (fold behind blocks) are ∙ block_closed then_lines (form.End ∷ []) (InIf ∷ blocks) blocks refl;
       are_in = λ unit blocks is.
@@ -131,13 +139,16 @@ in_step-IfNone condition then_lines =
           (in_step_scope unit blocks (form.If condition) is refl, block_in unit then_lines (form.End ∷ []) (InIf ∷ blocks) refl (refl, _));
     }
 
-pub in_step-IfElse : (condition : Expr) (then_lines else_lines : List Stepped) → IsInStep (line.If condition (map line_in then_lines) (Some (map line_in else_lines)))
+pub in_step-IfElse : (condition : Expr) (then_lines else_lines : List Stepped)
+    → IsInStep (line.If condition (map line_in then_lines) (Some (map line_in else_lines)))
 in_step-IfElse condition then_lines else_lines =
     let rest = form.Else ∷ forms_in else_lines ++ (form.End ∷ []) in
     let are : line_forms (line.If condition (map line_in then_lines) (Some (map line_in else_lines))) ≡ if_forms condition then_lines rest =
-    fold-If (List LineForm) block_forms condition (map line_in then_lines) (Some (map line_in else_lines)) ∙ ap (λ lines. form.If condition ∷ lines) (append_assoc (forms_in then_lines) (form.Else ∷ forms_in else_lines) (form.End ∷ [])) in
+    fold-If (List LineForm) block_forms condition (map line_in then_lines) (Some (map line_in else_lines))
+    ∙ ap (λ lines. form.If condition ∷ lines) (append_assoc (forms_in then_lines) (form.Else ∷ forms_in else_lines) (form.End ∷ [])) in
     record {
-      closed = λ blocks. ap (fold behind blocks) are ∙ block_closed then_lines rest (InIf ∷ blocks) blocks (block_closed else_lines (form.End ∷ []) (InElse ∷ blocks) blocks refl);
+      closed = λ blocks. ap (fold behind blocks) are
+          ∙ block_closed then_lines rest (InIf ∷ blocks) blocks (block_closed else_lines (form.End ∷ []) (InElse ∷ blocks) blocks refl);
       are_in = λ unit blocks is.
           subst (AreIn (StepScope unit) blocks) (sym are) (
             in_step_scope unit blocks (form.If condition) is refl,
@@ -162,12 +173,15 @@ line_leaves some = (is_in_step some).closed
 pub lines_leave : (lines : List Line) (blocks : List Block) → fold behind blocks (flat_map line_forms lines) ≡ blocks
 lines_leave [] blocks = refl
 lines_leave (one ∷ lines) blocks =
-    fold-append behind blocks (line_forms one) (flat_map line_forms lines) ∙ ap (λ all. fold behind all (flat_map line_forms lines)) (line_leaves one blocks) ∙ lines_leave lines blocks
+    fold-append behind blocks (line_forms one) (flat_map line_forms lines) ∙ ap (λ all. fold behind all (flat_map line_forms lines)) (line_leaves one blocks)
+    ∙ lines_leave lines blocks
 
-pub lines_stay : (unit : Unit) (lines : List Line) (blocks : List Block) → in_step blocks ≡ true → Stay (StepScope unit) blocks (flat_map line_forms lines) blocks
+pub lines_stay : (unit : Unit) (lines : List Line) (blocks : List Block) → in_step blocks ≡ true
+    → Stay (StepScope unit) blocks (flat_map line_forms lines) blocks
 lines_stay unit [] blocks is = record { leave = refl; are_in = _ }
 lines_stay unit (one ∷ lines) blocks is =
-    stay_both (StepScope unit) blocks blocks blocks (line_forms one) (flat_map line_forms lines) (record { leave = line_leaves one blocks; are_in = (is_in_step one).are_in unit blocks is }) (lines_stay unit lines blocks is)
+    stay_both (StepScope unit) blocks blocks blocks (line_forms one) (flat_map line_forms lines)
+    (record { leave = line_leaves one blocks; are_in = (is_in_step one).are_in unit blocks is }) (lines_stay unit lines blocks is)
 
 -- ---- Parts
 
@@ -182,12 +196,14 @@ unit_part_leaves (parts.HasOutput output) = refl
 unit_part_leaves (parts.HasEventOut event) = refl
 unit_part_leaves (parts.Max value) = refl
 unit_part_leaves (parts.Step lines) =
-    fold-append behind (InStep ∷ InUnit ∷ []) (flat_map line_forms lines) (form.End ∷ []) ∙ ap (λ all. fold behind all (form.End ∷ [])) (lines_leave lines (InStep ∷ InUnit ∷ []))
+    fold-append behind (InStep ∷ InUnit ∷ []) (flat_map line_forms lines) (form.End ∷ [])
+    ∙ ap (λ all. fold behind all (form.End ∷ [])) (lines_leave lines (InStep ∷ InUnit ∷ []))
 
 pub unit_parts_leave : (inside : List UnitPart) → fold behind (InUnit ∷ []) (flat_map unit_part_forms inside) ≡ InUnit ∷ []
 unit_parts_leave [] = refl
 unit_parts_leave (part ∷ inside) =
-    fold-append behind (InUnit ∷ []) (unit_part_forms part) (flat_map unit_part_forms inside) ∙ ap (λ all. fold behind all (flat_map unit_part_forms inside)) (unit_part_leaves part) ∙ unit_parts_leave inside
+    fold-append behind (InUnit ∷ []) (unit_part_forms part) (flat_map unit_part_forms inside)
+    ∙ ap (λ all. fold behind all (flat_map unit_part_forms inside)) (unit_part_leaves part) ∙ unit_parts_leave inside
 
 pub settings_leave : (settings : List Setting) → fold behind (InInstance ∷ []) (map form.Setting settings) ≡ InInstance ∷ []
 settings_leave [] = refl
@@ -197,7 +213,8 @@ pub part_leaves : (part : Part) → fold behind [] (part_forms part) ≡ []
 part_leaves (parts.HasUnit name inside) =
     fold-append behind (InUnit ∷ []) (flat_map unit_part_forms inside) (form.End ∷ []) ∙ ap (λ all. fold behind all (form.End ∷ [])) (unit_parts_leave inside)
 part_leaves (parts.HasInstance instance) =
-    fold-append behind (InInstance ∷ []) (map form.Setting instance.settings) (form.End ∷ []) ∙ ap (λ all. fold behind all (form.End ∷ [])) (settings_leave instance.settings)
+    fold-append behind (InInstance ∷ []) (map form.Setting instance.settings) (form.End ∷ [])
+    ∙ ap (λ all. fold behind all (form.End ∷ [])) (settings_leave instance.settings)
 part_leaves (parts.Connects wire) = refl
 part_leaves (parts.Stop seconds) = refl
 part_leaves (parts.Longest seconds) = refl
@@ -208,4 +225,5 @@ part_leaves (parts.Samples port) = refl
 pub parts_leave : (all : List Part) → fold behind [] (flat_map part_forms all) ≡ []
 parts_leave [] = refl
 parts_leave (part ∷ all) =
-    fold-append behind [] (part_forms part) (flat_map part_forms all) ∙ ap (λ blocks. fold behind blocks (flat_map part_forms all)) (part_leaves part) ∙ parts_leave all
+    fold-append behind [] (part_forms part) (flat_map part_forms all) ∙ ap (λ blocks. fold behind blocks (flat_map part_forms all)) (part_leaves part)
+    ∙ parts_leave all

@@ -16,7 +16,8 @@ each_in P [] port all stands = absurd stands
 each_in P (first ∷ ports) port all (inl is) = subst P is all.0
 each_in P (first ∷ ports) port all (inr later) = each_in P ports port all.1 later
 
-pub front_is_orderly : (system : System) (before front behind : List PortName) → IsOrderlyAfter system before (front ++ behind) → IsOrderlyAfter system before front
+pub front_is_orderly : (system : System) (before front behind : List PortName) → IsOrderlyAfter system before (front ++ behind)
+    → IsOrderlyAfter system before front
 front_is_orderly system before [] behind orderly = _
 front_is_orderly system before (first ∷ front) behind orderly =
     (orderly.0, orderly.1, orderly.2, front_is_orderly system (before ++ (first ∷ [])) front behind orderly.3)
@@ -29,7 +30,8 @@ pub record Placed (system : System) (before order : List PortName) (port : PortN
   pub apart : IsIn (before ++ front) port → ⊥
   pub after_needs : AllByRecursion (IsIn (before ++ front)) (needed_by system port)
 
-pub place_of : (system : System) (before order : List PortName) (port : PortName) → IsOrderlyAfter system before order → IsIn order port → Placed system before order port
+pub place_of : (system : System) (before order : List PortName) (port : PortName) → IsOrderlyAfter system before order → IsIn order port
+    → Placed system before order port
 place_of system before [] port orderly stands = absurd stands
 place_of system before (first ∷ order) port orderly (inl is) = record {
   front = [];
@@ -56,7 +58,8 @@ pub record Before (order : List PortName) (port other : PortName) : Type 0 where
   pub apart : IsIn front port → ⊥
   pub holds : IsIn front other
 
-pub comes_before : (system : System) (port other : PortName) → DependsOn system port other → (order : List PortName) → IsOrderly system order → IsIn order port → Before order port other
+pub comes_before : (system : System) (port other : PortName) → DependsOn system port other → (order : List PortName) → IsOrderly system order
+    → IsIn order port → Before order port other
 comes_before system port other (needs port' other' direct) order orderly stands =
     let placed = place_of system [] order port orderly stands in
     record {
@@ -69,7 +72,9 @@ comes_before system port other (needs port' other' direct) order orderly stands 
 comes_before system port other (through port' between other' direct later) order orderly stands =
     let placed = place_of system [] order port orderly stands in
     let needed : IsIn placed.front between = each_in (IsIn placed.front) (needed_by system port) between placed.after_needs direct in
-    let inner = comes_before system between other later placed.front (front_is_orderly system [] placed.front placed.behind (subst (IsOrderly system) placed.cut orderly)) needed in
+    let inner =
+    comes_before system between other later placed.front
+    (front_is_orderly system [] placed.front placed.behind (subst (IsOrderly system) placed.cut orderly)) needed in
     record {
       front = placed.front;
       behind = placed.behind;

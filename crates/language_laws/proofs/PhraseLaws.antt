@@ -7,7 +7,8 @@ use Rattle.fixed_words.specs.Types.{is_word_of}
 use Rattle.fixed_words.specs.declared.types.Ty.TheVariants.{Int64}
 use Rattle.unit_tree.specs.Canonical.{placed, node_phrase, canonical_phrase}
 use Rattle.unit_tree.specs.Phrases as phrase
-use Rattle.unit_tree.specs.Phrases.{Phrase, Level, Whole, Or, And, Not, Comparison, Sum, Product, Negation, Primary, level_of, operand_level, left_level, right_level, unary_level, binary_level, allows, stands, tree_of}
+use Rattle.unit_tree.specs.Phrases.{Phrase, Level, Whole, Or, And, Not, Comparison, Sum, Product, Negation, Primary, level_of, operand_level, left_level}
+use Rattle.unit_tree.specs.Phrases.{right_level, unary_level, binary_level, allows, stands, tree_of}
 use Rattle.unit_tree.specs.Printable.{node_is_unsigned, is_unsigned}
 use Rattle.unit_tree.specs.declared.expr.BinOp.{BinOp}
 use Rattle.unit_tree.specs.declared.expr.Expr as expr
@@ -66,7 +67,8 @@ stands_where asked (phrase.Choose condition then_part else_part) so allowed = rw
 stands_where asked phrase.Absent so allowed = refl
 stands_where asked (phrase.Present name) so allowed = refl
 
-placed_by : (allowed : Bool) (asked : Level) (inner : Phrase) → allows asked (level_of inner) ≡ allowed → stands Whole inner ≡ true → stands asked (cond allowed inner (phrase.Parens inner)) ≡ true
+placed_by : (allowed : Bool) (asked : Level) (inner : Phrase) → allows asked (level_of inner) ≡ allowed → stands Whole inner ≡ true
+    → stands asked (cond allowed inner (phrase.Parens inner)) ≡ true
 placed_by true asked inner is so = stands_where asked inner so is
 placed_by false asked inner is so = so
 
@@ -94,8 +96,10 @@ right-Unary : (op : UnOp) (arg : Expr) → Claim arg → Claim (expr.Unary op ar
 right-Unary op arg given unsigned =
     let is = given (sym (fold-Unary Bool node_is_unsigned op arg) ∙ unsigned) in
     record {
-      is_tree = ap tree_of (fold-Unary Phrase node_phrase op arg) ∙ ap (expr.Unary op) (tree_placed (operand_level (unary_level op)) (canonical_phrase arg) ∙ is.is_tree);
-      stands_so = ap (stands Whole) (fold-Unary Phrase node_phrase op arg) ∙ rw (all_in_whole (unary_level op)) (placed_stands (operand_level (unary_level op)) (canonical_phrase arg) is.stands_so);
+      is_tree = ap tree_of (fold-Unary Phrase node_phrase op arg)
+          ∙ ap (expr.Unary op) (tree_placed (operand_level (unary_level op)) (canonical_phrase arg) ∙ is.is_tree);
+      stands_so = ap (stands Whole) (fold-Unary Phrase node_phrase op arg)
+          ∙ rw (all_in_whole (unary_level op)) (placed_stands (operand_level (unary_level op)) (canonical_phrase arg) is.stands_so);
     }
 
 right-Binary : (op : BinOp) (left right : Expr) → Claim left → Claim right → Claim (expr.Binary op left right)
@@ -106,10 +110,13 @@ right-Binary op left right on_left on_right unsigned =
     let left_tree = tree_placed (left_level (binary_level op)) (canonical_phrase left) ∙ l.is_tree in
     let right_tree = tree_placed (right_level (binary_level op)) (canonical_phrase right) ∙ r.is_tree in
     record {
-      is_tree = ap tree_of (fold-Binary Phrase node_phrase op left right) ∙ ap (λ e. expr.Binary op e (tree_of (placed (right_level (binary_level op)) (canonical_phrase right)))) left_tree ∙ ap (λ e. expr.Binary op left e) right_tree;
+      is_tree = ap tree_of (fold-Binary Phrase node_phrase op left right)
+          ∙ ap (λ e. expr.Binary op e (tree_of (placed (right_level (binary_level op)) (canonical_phrase right)))) left_tree
+          ∙ ap (λ e. expr.Binary op left e) right_tree;
       stands_so =
           ap (stands Whole) (fold-Binary Phrase node_phrase op left right)
-          ∙ rw (all_in_whole (binary_level op), placed_stands (left_level (binary_level op)) (canonical_phrase left) l.stands_so) (placed_stands (right_level (binary_level op)) (canonical_phrase right) r.stands_so);
+          ∙ rw (all_in_whole (binary_level op), placed_stands (left_level (binary_level op)) (canonical_phrase left) l.stands_so)
+          (placed_stands (right_level (binary_level op)) (canonical_phrase right) r.stands_so);
     }
 
 right-Clamp : (value low high : Expr) → Claim value → Claim low → Claim high → Claim (expr.Clamp value low high)
@@ -126,7 +133,8 @@ right-Clamp value low high on_value on_low on_high unsigned =
 
 right-Choose : (condition chosen other : Expr) → Claim condition → Claim chosen → Claim other → Claim (expr.Choose condition chosen other)
 right-Choose condition chosen other on_condition on_chosen on_other unsigned =
-    let all = and_parts (is_unsigned condition) (is_unsigned chosen && is_unsigned other) (sym (fold-Choose Bool node_is_unsigned condition chosen other) ∙ unsigned) in
+    let all =
+    and_parts (is_unsigned condition) (is_unsigned chosen && is_unsigned other) (sym (fold-Choose Bool node_is_unsigned condition chosen other) ∙ unsigned) in
     let parts = and_parts (is_unsigned chosen) (is_unsigned other) all.1 in
     let c = on_condition all.0 in
     let y = on_chosen parts.0 in
@@ -147,7 +155,8 @@ node (Expr-F.Binary op left right) = subst Claim (sym (rolls-Binary op (bare lef
 node (Expr-F.Clamp value low high) =
     subst Claim (sym (rolls-Clamp (bare value) (bare low) (bare high))) (right-Clamp (bare value) (bare low) (bare high) value.1 low.1 high.1)
 node (Expr-F.Choose condition then_part else_part) =
-    subst Claim (sym (rolls-Choose (bare condition) (bare then_part) (bare else_part))) (right-Choose (bare condition) (bare then_part) (bare else_part) condition.1 then_part.1 else_part.1)
+    subst Claim (sym (rolls-Choose (bare condition) (bare then_part) (bare else_part)))
+    (right-Choose (bare condition) (bare then_part) (bare else_part) condition.1 then_part.1 else_part.1)
 node Expr-F.Absent = λ unsigned. record { is_tree = simp the_lemmas; stands_so = simp the_lemmas }
 node (Expr-F.Present name) = λ unsigned. record { is_tree = simp the_lemmas; stands_so = simp the_lemmas }
 

@@ -10,7 +10,8 @@ use Rattle.unit_tree.specs.declared.expr.Expr as expr
 use Rattle.unit_tree.specs.declared.expr.Expr.{Expr, fold-Expr}
 use Rattle.unit_tree.specs.declared.expr.Expr.TheFolds.{ind-Expr, map-Expr}
 use Rattle.unit_tree.specs.declared.expr.Expr.TheOpen.{Expr-F}
-use Rattle.unit_tree.specs.declared.expr.Expr.TheVariants.{rolls-Number, rolls-Truth, rolls-Var, rolls-Time, rolls-Step, rolls-Unary, rolls-Binary, rolls-Clamp, rolls-Choose, rolls-Absent, rolls-Present}
+use Rattle.unit_tree.specs.declared.expr.Expr.TheVariants.{rolls-Number, rolls-Truth, rolls-Var, rolls-Time, rolls-Step, rolls-Unary, rolls-Binary, rolls-Clamp}
+use Rattle.unit_tree.specs.declared.expr.Expr.TheVariants.{rolls-Choose, rolls-Absent, rolls-Present}
 use Rattle.unit_tree.specs.declared.expr.Expr.TheViews.{roll-Expr}
 use Rattle.unit_tree.specs.declared.expr.UnOp.{UnOp}
 use Rattle.unit_tree.specs.declared.line.Line as line
@@ -19,7 +20,8 @@ use Rattle.unit_tree.specs.declared.line.Line.TheFolds.{ind-Line, map-Line}
 use Rattle.unit_tree.specs.declared.line.Line.TheOpen.{Line-F}
 use Rattle.unit_tree.specs.declared.line.Line.TheVariants.{rolls-Assign, rolls-If, rolls-Repeat, rolls-Accept}
 use Rattle.unit_tree.specs.declared.line.Line.TheViews.{roll-Line}
-use Rattle.unit_tree.proofs.FoldLemmas.{fold-Number, fold-Truth, fold-Var, fold-Time, fold-Step, fold-Unary, fold-Binary, fold-Clamp, fold-Choose, fold-Absent, fold-Present, fold-Assign, fold-If, fold-Repeat, fold-Accept}
+use Rattle.unit_tree.proofs.FoldLemmas.{fold-Number, fold-Truth, fold-Var, fold-Time, fold-Step, fold-Unary, fold-Binary, fold-Clamp, fold-Choose, fold-Absent}
+use Rattle.unit_tree.proofs.FoldLemmas.{fold-Present, fold-Assign, fold-If, fold-Repeat, fold-Accept}
 
 -- ---- As it is
 
@@ -41,13 +43,16 @@ plain-Step = fold-Step Expr node_plain
 pub plain-Unary : (op : UnOp) (arg : Expr) → plain_expression (expr.Unary op arg) ≡ expr.Unary op (plain_expression arg)
 plain-Unary op arg = fold-Unary Expr node_plain op arg
 
-pub plain-Binary : (op : BinOp) (left right : Expr) → plain_expression (expr.Binary op left right) ≡ expr.Binary op (plain_expression left) (plain_expression right)
+pub plain-Binary : (op : BinOp) (left right : Expr)
+    → plain_expression (expr.Binary op left right) ≡ expr.Binary op (plain_expression left) (plain_expression right)
 plain-Binary op left right = fold-Binary Expr node_plain op left right
 
-pub plain-Clamp : (value low high : Expr) → plain_expression (expr.Clamp value low high) ≡ expr.Clamp (plain_expression value) (plain_expression low) (plain_expression high)
+pub plain-Clamp : (value low high : Expr)
+    → plain_expression (expr.Clamp value low high) ≡ expr.Clamp (plain_expression value) (plain_expression low) (plain_expression high)
 plain-Clamp value low high = fold-Clamp Expr node_plain value low high
 
-pub plain-Choose : (cond then_part else_part : Expr) → plain_expression (expr.Choose cond then_part else_part) ≡ expr.Choose (plain_expression cond) (plain_expression then_part) (plain_expression else_part)
+pub plain-Choose : (cond then_part else_part : Expr)
+    → plain_expression (expr.Choose cond then_part else_part) ≡ expr.Choose (plain_expression cond) (plain_expression then_part) (plain_expression else_part)
 plain-Choose cond then_part else_part = fold-Choose Expr node_plain cond then_part else_part
 
 pub plain-Absent : plain_expression expr.Absent ≡ expr.Absent
@@ -71,19 +76,22 @@ same-Unary A step op arg is =
     ∙ ap (λ a. step (Expr-F.Unary op a)) is
     ∙ sym (fold-Unary A step op arg)
 
-pub same-Binary : (A : Type 0) (step : Expr-F A → A) (op : BinOp) (left right : Expr) → Same A step left → Same A step right → Same A step (expr.Binary op left right)
+pub same-Binary : (A : Type 0) (step : Expr-F A → A) (op : BinOp) (left right : Expr) → Same A step left → Same A step right
+    → Same A step (expr.Binary op left right)
 same-Binary A step op left right on_left on_right =
     ap (fold-Expr A step) (plain-Binary op left right)
     ∙ fold-Binary A step op (plain_expression left) (plain_expression right)
     ∙ rw (on_left, on_right) (sym (fold-Binary A step op left right))
 
-pub same-Clamp : (A : Type 0) (step : Expr-F A → A) (value low high : Expr) → Same A step value → Same A step low → Same A step high → Same A step (expr.Clamp value low high)
+pub same-Clamp : (A : Type 0) (step : Expr-F A → A) (value low high : Expr) → Same A step value → Same A step low → Same A step high
+    → Same A step (expr.Clamp value low high)
 same-Clamp A step value low high on_value on_low on_high =
     ap (fold-Expr A step) (plain-Clamp value low high)
     ∙ fold-Clamp A step (plain_expression value) (plain_expression low) (plain_expression high)
     ∙ rw (on_value, on_low, on_high) (sym (fold-Clamp A step value low high))
 
-pub same-Choose : (A : Type 0) (step : Expr-F A → A) (condition then_part else_part : Expr) → Same A step condition → Same A step then_part → Same A step else_part → Same A step (expr.Choose condition then_part else_part)
+pub same-Choose : (A : Type 0) (step : Expr-F A → A) (condition then_part else_part : Expr) → Same A step condition → Same A step then_part
+    → Same A step else_part → Same A step (expr.Choose condition then_part else_part)
 same-Choose A step condition then_part else_part on_condition on_then on_else =
     ap (fold-Expr A step) (plain-Choose condition then_part else_part)
     ∙ fold-Choose A step (plain_expression condition) (plain_expression then_part) (plain_expression else_part)
@@ -92,23 +100,29 @@ same-Choose A step condition then_part else_part on_condition on_then on_else =
 abbrev pub of_same : (A : Type 0) (step : Expr-F A → A) → SameOf A step → Expr
 of_same A step one = one.0
 
-pub same_node : (A : Type 0) (step : Expr-F A → A) → ((name : List ℕ) → step (Expr-F.Var (presence_name name)) ≡ step (Expr-F.Present name)) → (y : Expr-F (SameOf A step)) → Same A step (roll-Expr (map-Expr (SameOf A step) Expr (of_same A step) y))
-same_node A step present (Expr-F.Number number decimals) = subst (Same A step) (sym (rolls-Number number decimals)) (ap (fold-Expr A step) (plain-Number number decimals))
+pub same_node : (A : Type 0) (step : Expr-F A → A) → ((name : List ℕ) → step (Expr-F.Var (presence_name name)) ≡ step (Expr-F.Present name))
+    → (y : Expr-F (SameOf A step)) → Same A step (roll-Expr (map-Expr (SameOf A step) Expr (of_same A step) y))
+same_node A step present (Expr-F.Number number decimals) =
+    subst (Same A step) (sym (rolls-Number number decimals)) (ap (fold-Expr A step) (plain-Number number decimals))
 same_node A step present (Expr-F.Truth told) = subst (Same A step) (sym (rolls-Truth told)) (ap (fold-Expr A step) (plain-Truth told))
 same_node A step present (Expr-F.Var name) = subst (Same A step) (sym (rolls-Var name)) (ap (fold-Expr A step) (plain-Var name))
 same_node A step present Expr-F.Time = subst (Same A step) (sym rolls-Time) (ap (fold-Expr A step) plain-Time)
 same_node A step present Expr-F.Step = subst (Same A step) (sym rolls-Step) (ap (fold-Expr A step) plain-Step)
 same_node A step present (Expr-F.Unary op arg) = subst (Same A step) (sym (rolls-Unary op arg.0)) (same-Unary A step op arg.0 arg.1)
-same_node A step present (Expr-F.Binary op left right) = subst (Same A step) (sym (rolls-Binary op left.0 right.0)) (same-Binary A step op left.0 right.0 left.1 right.1)
+same_node A step present (Expr-F.Binary op left right) =
+    subst (Same A step) (sym (rolls-Binary op left.0 right.0)) (same-Binary A step op left.0 right.0 left.1 right.1)
 same_node A step present (Expr-F.Clamp value low high) =
     subst (Same A step) (sym (rolls-Clamp value.0 low.0 high.0)) (same-Clamp A step value.0 low.0 high.0 value.1 low.1 high.1)
 same_node A step present (Expr-F.Choose condition then_part else_part) =
-    subst (Same A step) (sym (rolls-Choose condition.0 then_part.0 else_part.0)) (same-Choose A step condition.0 then_part.0 else_part.0 condition.1 then_part.1 else_part.1)
+    subst (Same A step) (sym (rolls-Choose condition.0 then_part.0 else_part.0))
+    (same-Choose A step condition.0 then_part.0 else_part.0 condition.1 then_part.1 else_part.1)
 same_node A step present Expr-F.Absent = subst (Same A step) (sym rolls-Absent) (ap (fold-Expr A step) plain-Absent)
 same_node A step present (Expr-F.Present name) =
-    subst (Same A step) (sym (rolls-Present name)) (ap (fold-Expr A step) (plain-Present name) ∙ fold-Var A step (presence_name name) ∙ present name ∙ sym (fold-Present A step name))
+    subst (Same A step) (sym (rolls-Present name))
+    (ap (fold-Expr A step) (plain-Present name) ∙ fold-Var A step (presence_name name) ∙ present name ∙ sym (fold-Present A step name))
 
-pub same : (A : Type 0) (step : Expr-F A → A) → ((name : List ℕ) → step (Expr-F.Var (presence_name name)) ≡ step (Expr-F.Present name)) → (value : Expr) → Same A step value
+pub same : (A : Type 0) (step : Expr-F A → A) → ((name : List ℕ) → step (Expr-F.Var (presence_name name)) ≡ step (Expr-F.Present name)) → (value : Expr)
+    → Same A step value
 same A step present = ind-Expr (Same A step) (λ x y is. subst (λ z. Same A step (roll-Expr z)) is (same_node A step present y))
 
 -- The plain form is as deep as the expression, and costs as much.
@@ -151,17 +165,23 @@ cost-Repeat count body =
     ∙ ap (λ costs. part_cost (Line-F.Repeat count costs)) (same_costs body)
     ∙ sym (fold-Repeat ℕ part_cost count (map line_in body))
 
-pub same_else : (lines : Option (List Costed)) → option_map (map line_cost) (option_map (map plain_line) (option_map (map line_in) lines)) ≡ option_map (map line_cost) (option_map (map line_in) lines)
+pub same_else : (lines : Option (List Costed))
+    → option_map (map line_cost) (option_map (map plain_line) (option_map (map line_in) lines)) ≡ option_map (map line_cost) (option_map (map line_in) lines)
 same_else None = refl
 same_else (Some lines) = ap Some (same_costs lines)
 
-pub cost-If : (condition : Expr) (then_lines : List Costed) (else_lines : Option (List Costed)) → SameCost (line.If condition (map line_in then_lines) (option_map (map line_in) else_lines))
+pub cost-If : (condition : Expr) (then_lines : List Costed) (else_lines : Option (List Costed))
+    → SameCost (line.If condition (map line_in then_lines) (option_map (map line_in) else_lines))
 cost-If condition then_lines else_lines =
     ap line_cost (fold-If Line node_plain_line condition (map line_in then_lines) (option_map (map line_in) else_lines))
-    ∙ fold-If ℕ part_cost (plain_expression condition) (map plain_line (map line_in then_lines)) (option_map (map plain_line) (option_map (map line_in) else_lines))
-    ∙ ap (λ costs. part_cost (Line-F.If (plain_expression condition) costs (option_map (map line_cost) (option_map (map plain_line) (option_map (map line_in) else_lines))))) (same_costs then_lines)
+    ∙ fold-If ℕ part_cost (plain_expression condition) (map plain_line (map line_in then_lines))
+    (option_map (map plain_line) (option_map (map line_in) else_lines))
+    ∙ ap (λ costs.
+    part_cost (Line-F.If (plain_expression condition) costs (option_map (map line_cost) (option_map (map plain_line) (option_map (map line_in) else_lines)))))
+    (same_costs then_lines)
     ∙ ap (λ costs. part_cost (Line-F.If (plain_expression condition) (map line_cost (map line_in then_lines)) costs)) (same_else else_lines)
-    ∙ ap (λ c. c + 1 + sum (map line_cost (map line_in then_lines)) + else_cost (option_map (map line_cost) (option_map (map line_in) else_lines))) (plain_cost condition)
+    ∙ ap (λ c. c + 1 + sum (map line_cost (map line_in then_lines)) + else_cost (option_map (map line_cost) (option_map (map line_in) else_lines)))
+    (plain_cost condition)
     ∙ sym (fold-If ℕ part_cost condition (map line_in then_lines) (option_map (map line_in) else_lines))
 
 pub line_node : (y : Line-F Costed) → SameCost (roll-Line (map-Line Costed Line line_in y))
@@ -200,13 +220,15 @@ whole-Clamp value low high on_value on_low on_high gap change =
     ap (λ c. c.whole) (fold-Clamp Choices (node_choices gap change) value low high)
     ∙ rw (on_value gap change, on_low gap change, on_high gap change) refl
 
-pub whole-Choose : (condition chosen_part other : Expr) → IsWhole condition → IsWhole chosen_part → IsWhole other → IsWhole (expr.Choose condition chosen_part other)
+pub whole-Choose : (condition chosen_part other : Expr) → IsWhole condition → IsWhole chosen_part → IsWhole other
+    → IsWhole (expr.Choose condition chosen_part other)
 whole-Choose condition chosen_part other on_condition on_chosen on_other gap change =
     ap (λ c. c.whole) (fold-Choose Choices (node_choices gap change) condition chosen_part other)
     ∙ rw (on_condition gap change, on_chosen gap change, on_other gap change) refl
 
 pub node : (y : Expr-F Proved) → IsWhole (roll-Expr (map-Expr Proved Expr bare y))
-node (Expr-F.Number number decimals) = subst IsWhole (sym (rolls-Number number decimals)) (λ gap change. ap (λ c. c.whole) (fold-Number Choices (node_choices gap change) number decimals))
+node (Expr-F.Number number decimals) =
+    subst IsWhole (sym (rolls-Number number decimals)) (λ gap change. ap (λ c. c.whole) (fold-Number Choices (node_choices gap change) number decimals))
 node (Expr-F.Truth told) = subst IsWhole (sym (rolls-Truth told)) (λ gap change. ap (λ c. c.whole) (fold-Truth Choices (node_choices gap change) told))
 node (Expr-F.Var name) = subst IsWhole (sym (rolls-Var name)) (λ gap change. ap (λ c. c.whole) (fold-Var Choices (node_choices gap change) name))
 node Expr-F.Time = subst IsWhole (sym rolls-Time) (λ gap change. ap (λ c. c.whole) (fold-Time Choices (node_choices gap change)))
@@ -216,7 +238,8 @@ node (Expr-F.Binary op left right) = subst IsWhole (sym (rolls-Binary op (bare l
 node (Expr-F.Clamp value low high) =
     subst IsWhole (sym (rolls-Clamp (bare value) (bare low) (bare high))) (whole-Clamp (bare value) (bare low) (bare high) value.1 low.1 high.1)
 node (Expr-F.Choose condition then_part else_part) =
-    subst IsWhole (sym (rolls-Choose (bare condition) (bare then_part) (bare else_part))) (whole-Choose (bare condition) (bare then_part) (bare else_part) condition.1 then_part.1 else_part.1)
+    subst IsWhole (sym (rolls-Choose (bare condition) (bare then_part) (bare else_part)))
+    (whole-Choose (bare condition) (bare then_part) (bare else_part) condition.1 then_part.1 else_part.1)
 node Expr-F.Absent = subst IsWhole (sym rolls-Absent) (λ gap change. ap (λ c. c.whole) (fold-Absent Choices (node_choices gap change)))
 node (Expr-F.Present name) = subst IsWhole (sym (rolls-Present name)) (λ gap change. ap (λ c. c.whole) (fold-Present Choices (node_choices gap change) name))
 
@@ -226,12 +249,15 @@ whole = ind-Expr IsWhole (λ x y is. subst (λ z. IsWhole (roll-Expr z)) is (nod
 pub choices-Absent : (gap : Expr) (change : Expr → Expr) → with_choices gap change expr.Absent ≡ gap
 choices-Absent gap change = ap (λ c. c.changed) (fold-Absent Choices (node_choices gap change))
 
-pub choices-Choose : (gap : Expr) (change : Expr → Expr) (condition then_part else_part : Expr) → with_choices gap change (expr.Choose condition then_part else_part) ≡ expr.Choose condition (with_choices gap change then_part) (with_choices gap change else_part)
+pub choices-Choose : (gap : Expr) (change : Expr → Expr) (condition then_part else_part : Expr)
+    → with_choices gap change (expr.Choose condition then_part else_part)
+    ≡ expr.Choose condition (with_choices gap change then_part) (with_choices gap change else_part)
 choices-Choose gap change condition then_part else_part =
     ap (λ c. c.changed) (fold-Choose Choices (node_choices gap change) condition then_part else_part)
     ∙ ap (λ first. expr.Choose first (with_choices gap change then_part) (with_choices gap change else_part)) (whole condition gap change)
 
-pub choices-Number : (gap : Expr) (change : Expr → Expr) (number : ℤ) (decimals : ℕ) → with_choices gap change (expr.Number number decimals) ≡ change (expr.Number number decimals)
+pub choices-Number : (gap : Expr) (change : Expr → Expr) (number : ℤ) (decimals : ℕ)
+    → with_choices gap change (expr.Number number decimals) ≡ change (expr.Number number decimals)
 choices-Number gap change number decimals = ap (λ c. c.changed) (fold-Number Choices (node_choices gap change) number decimals)
 
 pub choices-Truth : (gap : Expr) (change : Expr → Expr) (told : Bool) → with_choices gap change (expr.Truth told) ≡ change (expr.Truth told)
@@ -250,11 +276,13 @@ pub choices-Unary : (gap : Expr) (change : Expr → Expr) (op : UnOp) (arg : Exp
 choices-Unary gap change op arg =
     ap (λ c. c.changed) (fold-Unary Choices (node_choices gap change) op arg) ∙ ap (λ a. change (expr.Unary op a)) (whole arg gap change)
 
-pub choices-Binary : (gap : Expr) (change : Expr → Expr) (op : BinOp) (left right : Expr) → with_choices gap change (expr.Binary op left right) ≡ change (expr.Binary op left right)
+pub choices-Binary : (gap : Expr) (change : Expr → Expr) (op : BinOp) (left right : Expr)
+    → with_choices gap change (expr.Binary op left right) ≡ change (expr.Binary op left right)
 choices-Binary gap change op left right =
     ap (λ c. c.changed) (fold-Binary Choices (node_choices gap change) op left right) ∙ rw (whole left gap change, whole right gap change) refl
 
-pub choices-Clamp : (gap : Expr) (change : Expr → Expr) (value low high : Expr) → with_choices gap change (expr.Clamp value low high) ≡ change (expr.Clamp value low high)
+pub choices-Clamp : (gap : Expr) (change : Expr → Expr) (value low high : Expr)
+    → with_choices gap change (expr.Clamp value low high) ≡ change (expr.Clamp value low high)
 choices-Clamp gap change value low high =
     ap (λ c. c.changed) (fold-Clamp Choices (node_choices gap change) value low high)
     ∙ rw (whole value gap change, whole low gap change, whole high gap change) refl
@@ -266,4 +294,27 @@ choices-Present gap change name = ap (λ c. c.changed) (fold-Present Choices (no
 pub ruleset plain_measures = (plain_depth, plain_cost, plain_line_cost)
 
 -- What takes the plain form of a written-out expression.
-pub ruleset plain_laws = (plain-Number, plain-Truth, plain-Var, plain-Time, plain-Step, plain-Unary, plain-Binary, plain-Clamp, plain-Choose, plain-Absent, plain-Present, choices-Number, choices-Truth, choices-Var, choices-Time, choices-Step, choices-Unary, choices-Binary, choices-Clamp, choices-Choose, choices-Absent, choices-Present)
+pub ruleset plain_laws = (
+  plain-Number,
+  plain-Truth,
+  plain-Var,
+  plain-Time,
+  plain-Step,
+  plain-Unary,
+  plain-Binary,
+  plain-Clamp,
+  plain-Choose,
+  plain-Absent,
+  plain-Present,
+  choices-Number,
+  choices-Truth,
+  choices-Var,
+  choices-Time,
+  choices-Step,
+  choices-Unary,
+  choices-Binary,
+  choices-Clamp,
+  choices-Choose,
+  choices-Absent,
+  choices-Present,
+)

@@ -7,7 +7,8 @@ use Rattle.std.proofs.lemmas.List.{append-nil, map-append}
 use Rattle.unit_tree.specs.Canonical.{optional, unit_parts, canonical_parts, canonical_forms}
 use Rattle.unit_tree.specs.Parts as parts
 use Rattle.unit_tree.specs.Parts.{Part, UnitPart, joined, block_forms, line_forms, unit_part_forms, part_forms, unit_of}
-use Rattle.unit_tree.specs.Plain.{plain_expression, node_plain_line, plain_line, plain_inputs, plain_output, plain_outputs, plain_unit, plain_wires, samples_or_all, plain_form, plain_forms}
+use Rattle.unit_tree.specs.Plain.{plain_expression, node_plain_line, plain_line, plain_inputs, plain_output, plain_outputs, plain_unit, plain_wires}
+use Rattle.unit_tree.specs.Plain.{samples_or_all, plain_form, plain_forms}
 use Rattle.unit_tree.specs.Sites.{Scope, TopScope, UnitScope, StepScope, InstanceScope, Site, Headed, alone, sites, headed_unit_part, headed_part, sites_of}
 use Rattle.unit_tree.specs.declared.expr.Expr.{Expr}
 use Rattle.unit_tree.specs.declared.line.Line as line
@@ -35,20 +36,25 @@ becomes system site = plain_forms system site.scope site.line
 abbrev pub all_becomes : System → Scope → Headed → List LineForm
 all_becomes system scope headed = plain_forms system scope headed.head ++ flat_map (becomes system) headed.block
 
-pub along : (system : System) (scope : Scope) (earlier : List LineForm) (headed : List Headed) → flat_map (becomes system) (sites scope earlier headed) ≡ flat_map (all_becomes system scope) headed
+pub along : (system : System) (scope : Scope) (earlier : List LineForm) (headed : List Headed)
+    → flat_map (becomes system) (sites scope earlier headed) ≡ flat_map (all_becomes system scope) headed
 along system scope earlier [] = refl
 along system scope earlier (first ∷ others) =
     let rest = sites scope (earlier ++ (first.head ∷ [])) others in
-    ap (λ inside. plain_forms system scope first.head ++ inside) (flat_map-append (becomes system) first.block rest ∙ ap (λ behind. flat_map (becomes system) first.block ++ behind) (along system scope (earlier ++ (first.head ∷ [])) others))
+    ap (λ inside. plain_forms system scope first.head ++ inside)
+    (flat_map-append (becomes system) first.block rest
+    ∙ ap (λ behind. flat_map (becomes system) first.block ++ behind) (along system scope (earlier ++ (first.head ∷ [])) others))
     ∙ sym (append_assoc (plain_forms system scope first.head) (flat_map (becomes system) first.block) (flat_map (all_becomes system scope) others))
 
-pub each_alone : (system : System) (scope : Scope) (lines : List LineForm) → flat_map (all_becomes system scope) (map alone lines) ≡ flat_map (plain_forms system scope) lines
+pub each_alone : (system : System) (scope : Scope) (lines : List LineForm)
+    → flat_map (all_becomes system scope) (map alone lines) ≡ flat_map (plain_forms system scope) lines
 each_alone system scope [] = refl
 each_alone system scope (line ∷ lines) =
     ap (λ front. front ++ flat_map (all_becomes system scope) (map alone lines)) (append-nil (plain_forms system scope line))
     ∙ ap (λ rest. plain_forms system scope line ++ rest) (each_alone system scope lines)
 
-pub along_alone : (system : System) (scope : Scope) (lines : List LineForm) → flat_map (becomes system) (sites scope [] (map alone lines)) ≡ flat_map (plain_forms system scope) lines
+pub along_alone : (system : System) (scope : Scope) (lines : List LineForm)
+    → flat_map (becomes system) (sites scope [] (map alone lines)) ≡ flat_map (plain_forms system scope) lines
 along_alone system scope lines = along system scope [] (map alone lines) ∙ each_alone system scope lines
 
 -- ---- Step lines
@@ -66,7 +72,8 @@ abbrev pub line_in : Proved → Line
 line_in one = one.0
 
 -- What the lines of a block become, before they are joined with those around it.
-pub joined_are : (system : System) (unit : Unit) (lines : List Proved) → flat_map (in_step system unit) (joined (map line_forms (map line_in lines))) ≡ joined (map line_forms (map plain_line (map line_in lines)))
+pub joined_are : (system : System) (unit : Unit) (lines : List Proved)
+    → flat_map (in_step system unit) (joined (map line_forms (map line_in lines))) ≡ joined (map line_forms (map plain_line (map line_in lines)))
 joined_are system unit [] = refl
 joined_are system unit (one ∷ lines) =
     flat_map-append (in_step system unit) (line_forms one.0) (joined (map line_forms (map line_in lines)))
@@ -86,23 +93,35 @@ plain-Accept value system unit =
 pub plain-Repeat : (count : ℕ) (body : List Proved) → IsPlain (line.Repeat count (map line_in body))
 plain-Repeat count body system unit =
     ap (flat_map (in_step system unit)) (fold-Repeat (List LineForm) block_forms count (map line_in body))
-    ∙ ap (λ rest. form.Repeat count ∷ rest) (flat_map-append (in_step system unit) (joined (map line_forms (map line_in body))) (form.End ∷ []) ∙ ap (λ inside. inside ++ (form.End ∷ [])) (joined_are system unit body))
-    ∙ sym (ap line_forms (fold-Repeat Line node_plain_line count (map line_in body)) ∙ fold-Repeat (List LineForm) block_forms count (map plain_line (map line_in body)))
+    ∙ ap (λ rest. form.Repeat count ∷ rest)
+    (flat_map-append (in_step system unit) (joined (map line_forms (map line_in body))) (form.End ∷ [])
+    ∙ ap (λ inside. inside ++ (form.End ∷ [])) (joined_are system unit body))
+    ∙ sym (ap line_forms (fold-Repeat Line node_plain_line count (map line_in body))
+    ∙ fold-Repeat (List LineForm) block_forms count (map plain_line (map line_in body)))
 
 pub plain-IfNone : (condition : Expr) (then_lines : List Proved) → IsPlain (line.If condition (map line_in then_lines) None)
 plain-IfNone condition then_lines system unit =
     let inside = joined (map line_forms (map line_in then_lines)) in
     ap (flat_map (in_step system unit)) (fold-If (List LineForm) block_forms condition (map line_in then_lines) None)
-    ∙ ap (λ rest. form.If (plain_expression condition) ∷ rest) (flat_map-append (in_step system unit) (inside ++ []) (form.End ∷ []) ∙ ap (λ front. front ++ (form.End ∷ [])) (flat_map-append (in_step system unit) inside [] ∙ ap (λ front. front ++ []) (joined_are system unit then_lines)))
-    ∙ sym (ap line_forms (fold-If Line node_plain_line condition (map line_in then_lines) None) ∙ fold-If (List LineForm) block_forms (plain_expression condition) (map plain_line (map line_in then_lines)) None)
+    ∙ ap (λ rest. form.If (plain_expression condition) ∷ rest)
+    (flat_map-append (in_step system unit) (inside ++ []) (form.End ∷ [])
+    ∙ ap (λ front. front ++ (form.End ∷ [])) (flat_map-append (in_step system unit) inside [] ∙ ap (λ front. front ++ []) (joined_are system unit then_lines)))
+    ∙ sym (ap line_forms (fold-If Line node_plain_line condition (map line_in then_lines) None)
+    ∙ fold-If (List LineForm) block_forms (plain_expression condition) (map plain_line (map line_in then_lines)) None)
 
-pub plain-IfElse : (condition : Expr) (then_lines else_lines : List Proved) → IsPlain (line.If condition (map line_in then_lines) (Some (map line_in else_lines)))
+pub plain-IfElse : (condition : Expr) (then_lines else_lines : List Proved)
+    → IsPlain (line.If condition (map line_in then_lines) (Some (map line_in else_lines)))
 plain-IfElse condition then_lines else_lines system unit =
     let inside = joined (map line_forms (map line_in then_lines)) in
     let other = joined (map line_forms (map line_in else_lines)) in
     ap (flat_map (in_step system unit)) (fold-If (List LineForm) block_forms condition (map line_in then_lines) (Some (map line_in else_lines)))
-    ∙ ap (λ rest. form.If (plain_expression condition) ∷ rest) (flat_map-append (in_step system unit) (inside ++ (form.Else ∷ other)) (form.End ∷ []) ∙ ap (λ front. front ++ (form.End ∷ [])) (flat_map-append (in_step system unit) inside (form.Else ∷ other) ∙ rw (joined_are system unit then_lines, joined_are system unit else_lines) refl))
-    ∙ sym (ap line_forms (fold-If Line node_plain_line condition (map line_in then_lines) (Some (map line_in else_lines))) ∙ fold-If (List LineForm) block_forms (plain_expression condition) (map plain_line (map line_in then_lines)) (Some (map plain_line (map line_in else_lines))))
+    ∙ ap (λ rest. form.If (plain_expression condition) ∷ rest)
+    (flat_map-append (in_step system unit) (inside ++ (form.Else ∷ other)) (form.End ∷ [])
+    ∙ ap (λ front. front ++ (form.End ∷ []))
+    (flat_map-append (in_step system unit) inside (form.Else ∷ other) ∙ rw (joined_are system unit then_lines, joined_are system unit else_lines) refl))
+    ∙ sym (ap line_forms (fold-If Line node_plain_line condition (map line_in then_lines) (Some (map line_in else_lines)))
+    ∙ fold-If (List LineForm) block_forms (plain_expression condition) (map plain_line (map line_in then_lines))
+    (Some (map plain_line (map line_in else_lines))))
 
 pub line_node : (y : Line-F Proved) → IsPlain (roll-Line (map-Line Proved Line line_in y))
 line_node (Line-F.Assign target value) = subst IsPlain (sym (rolls-Assign target value)) (plain-Assign target value)
@@ -115,7 +134,8 @@ line_node (Line-F.Accept value) = subst IsPlain (sym (rolls-Accept value)) (plai
 pub line_is : (some : Line) → IsPlain some
 line_is = ind-Line IsPlain (λ x y is. subst (λ z. IsPlain (roll-Line z)) is (line_node y))
 
-pub lines_are : (system : System) (unit : Unit) (lines : List Line) → flat_map (in_step system unit) (flat_map line_forms lines) ≡ flat_map line_forms (map plain_line lines)
+pub lines_are : (system : System) (unit : Unit) (lines : List Line)
+    → flat_map (in_step system unit) (flat_map line_forms lines) ≡ flat_map line_forms (map plain_line lines)
 lines_are system unit [] = refl
 lines_are system unit (one ∷ lines) =
     flat_map-append (in_step system unit) (line_forms one) (flat_map line_forms lines)
@@ -133,7 +153,8 @@ plain_unit_part unit (parts.Max value) = parts.Max (plain_expression value) ∷ 
 plain_unit_part unit (parts.Step lines) = parts.Step (map plain_line lines) ∷ []
 plain_unit_part unit part = part ∷ []
 
-pub unit_part_is : (system : System) (unit : Unit) (part : UnitPart) → flat_map (all_becomes system (UnitScope unit)) (headed_unit_part unit part) ≡ flat_map unit_part_forms (plain_unit_part unit part)
+pub unit_part_is : (system : System) (unit : Unit) (part : UnitPart)
+    → flat_map (all_becomes system (UnitScope unit)) (headed_unit_part unit part) ≡ flat_map unit_part_forms (plain_unit_part unit part)
 unit_part_is system unit (parts.Resolution decimals) = refl
 unit_part_is system unit (parts.HasParam param) = refl
 unit_part_is system unit (parts.HasState state) = refl
@@ -147,7 +168,8 @@ unit_part_is system unit (parts.Step lines) =
     ap (λ inside. form.Step ∷ inside ++ (form.End ∷ [])) (along_alone system (StepScope unit) (flat_map line_forms lines) ∙ lines_are system unit lines)
     ∙ sym (append-nil (form.Step ∷ flat_map line_forms (map plain_line lines) ++ (form.End ∷ [])))
 
-pub unit_parts_are : (system : System) (unit : Unit) (all : List UnitPart) → flat_map (all_becomes system (UnitScope unit)) (flat_map (headed_unit_part unit) all) ≡ flat_map unit_part_forms (flat_map (plain_unit_part unit) all)
+pub unit_parts_are : (system : System) (unit : Unit) (all : List UnitPart)
+    → flat_map (all_becomes system (UnitScope unit)) (flat_map (headed_unit_part unit) all) ≡ flat_map unit_part_forms (flat_map (plain_unit_part unit) all)
 unit_parts_are system unit [] = refl
 unit_parts_are system unit (part ∷ all) =
     flat_map-append (all_becomes system (UnitScope unit)) (headed_unit_part unit part) (flat_map (headed_unit_part unit) all)
@@ -155,51 +177,67 @@ unit_parts_are system unit (part ∷ all) =
     ∙ ap (λ rest. flat_map unit_part_forms (plain_unit_part unit part) ++ rest) (unit_parts_are system unit all)
     ∙ sym (flat_map-append unit_part_forms (plain_unit_part unit part) (flat_map (plain_unit_part unit) all))
 
-pub in_unit : (system : System) (unit : Unit) (inside : List UnitPart) → flat_map (becomes system) (sites (UnitScope unit) [] (flat_map (headed_unit_part unit) inside ++ (alone form.End ∷ []))) ≡ flat_map unit_part_forms (flat_map (plain_unit_part unit) inside) ++ (form.End ∷ [])
+pub in_unit : (system : System) (unit : Unit) (inside : List UnitPart)
+    → flat_map (becomes system) (sites (UnitScope unit) [] (flat_map (headed_unit_part unit) inside ++ (alone form.End ∷ [])))
+    ≡ flat_map unit_part_forms (flat_map (plain_unit_part unit) inside) ++ (form.End ∷ [])
 in_unit system unit inside =
     along system (UnitScope unit) [] (flat_map (headed_unit_part unit) inside ++ (alone form.End ∷ []))
     ∙ flat_map-append (all_becomes system (UnitScope unit)) (flat_map (headed_unit_part unit) inside) (alone form.End ∷ [])
     ∙ ap (λ front. front ++ (form.End ∷ [])) (unit_parts_are system unit inside)
 
 -- Parts of one kind, each of which becomes parts of one kind.
-pub kept : {A P : Type 0} (become : P → List P) (part : A → P) → ((x : A) → become (part x) ≡ part x ∷ []) → (xs : List A) → flat_map become (map part xs) ≡ map part xs
+pub kept : {A P : Type 0} (become : P → List P) (part : A → P) → ((x : A) → become (part x) ≡ part x ∷ []) → (xs : List A)
+    → flat_map become (map part xs) ≡ map part xs
 kept become part one [] = refl
 kept become part one (x ∷ xs) = ap (λ front. front ++ flat_map become (map part xs)) (one x) ∙ ap (λ rest. part x ∷ rest) (kept become part one xs)
 
-pub changed : {A P : Type 0} (become : P → List P) (part : A → P) (change : A → A) → ((x : A) → become (part x) ≡ part (change x) ∷ []) → (xs : List A) → flat_map become (map part xs) ≡ map part (map change xs)
+pub changed : {A P : Type 0} (become : P → List P) (part : A → P) (change : A → A) → ((x : A) → become (part x) ≡ part (change x) ∷ []) → (xs : List A)
+    → flat_map become (map part xs) ≡ map part (map change xs)
 changed become part change one [] = refl
 changed become part change one (x ∷ xs) =
     ap (λ front. front ++ flat_map become (map part xs)) (one x) ∙ ap (λ rest. part (change x) ∷ rest) (changed become part change one xs)
 
-pub spread : {A B P : Type 0} (become : P → List P) (part : A → P) (new : B → P) (change : A → List B) → ((x : A) → become (part x) ≡ map new (change x)) → (xs : List A) → flat_map become (map part xs) ≡ map new (flat_map change xs)
+pub spread : {A B P : Type 0} (become : P → List P) (part : A → P) (new : B → P) (change : A → List B) → ((x : A) → become (part x) ≡ map new (change x))
+    → (xs : List A) → flat_map become (map part xs) ≡ map new (flat_map change xs)
 spread become part new change one [] = refl
 spread become part new change one (x ∷ xs) =
     ap (λ front. front ++ flat_map become (map part xs)) (one x)
     ∙ ap (λ rest. map new (change x) ++ rest) (spread become part new change one xs)
     ∙ sym (map-append new (change x) (flat_map change xs))
 
-pub optional_kept : {A P : Type 0} (become : P → List P) (part : A → P) → ((x : A) → become (part x) ≡ part x ∷ []) → (given : Option A) → flat_map become (optional part given) ≡ optional part given
+pub optional_kept : {A P : Type 0} (become : P → List P) (part : A → P) → ((x : A) → become (part x) ≡ part x ∷ []) → (given : Option A)
+    → flat_map become (optional part given) ≡ optional part given
 optional_kept become part one None = refl
 optional_kept become part one (Some x) = ap (λ front. front ++ []) (one x)
 
-pub optional_changed : {A P : Type 0} (become : P → List P) (part : A → P) (change : A → A) → ((x : A) → become (part x) ≡ part (change x) ∷ []) → (given : Option A) → flat_map become (optional part given) ≡ optional part (option_map change given)
+pub optional_changed : {A P : Type 0} (become : P → List P) (part : A → P) (change : A → A) → ((x : A) → become (part x) ≡ part (change x) ∷ [])
+    → (given : Option A) → flat_map become (optional part given) ≡ optional part (option_map change given)
 optional_changed become part change one None = refl
 optional_changed become part change one (Some x) = ap (λ front. front ++ []) (one x)
 
-pub flat_ten : {A B : Type 0} (f : A → List B) (a b c d e g h i j k : List A) → flat_map f (a ++ b ++ c ++ d ++ e ++ g ++ h ++ i ++ j ++ k) ≡ flat_map f a ++ flat_map f b ++ flat_map f c ++ flat_map f d ++ flat_map f e ++ flat_map f g ++ flat_map f h ++ flat_map f i ++ flat_map f j ++ flat_map f k
+pub flat_ten : {A B : Type 0} (f : A → List B) (a b c d e g h i j k : List A)
+    → flat_map f (a ++ b ++ c ++ d ++ e ++ g ++ h ++ i ++ j ++ k)
+    ≡ flat_map f a ++ flat_map f b ++ flat_map f c ++ flat_map f d ++ flat_map f e ++ flat_map f g ++ flat_map f h ++ flat_map f i ++ flat_map f j
+    ++ flat_map f k
 flat_ten f a b c d e g h i j k = simp flat_map-append refl
 
-pub flat_eight : {A B : Type 0} (f : A → List B) (a b c d e g h i : List A) → flat_map f (a ++ b ++ c ++ d ++ e ++ g ++ h ++ i) ≡ flat_map f a ++ flat_map f b ++ flat_map f c ++ flat_map f d ++ flat_map f e ++ flat_map f g ++ flat_map f h ++ flat_map f i
+pub flat_eight : {A B : Type 0} (f : A → List B) (a b c d e g h i : List A)
+    → flat_map f (a ++ b ++ c ++ d ++ e ++ g ++ h ++ i)
+    ≡ flat_map f a ++ flat_map f b ++ flat_map f c ++ flat_map f d ++ flat_map f e ++ flat_map f g ++ flat_map f h ++ flat_map f i
 flat_eight f a b c d e g h i = simp flat_map-append refl
 
 -- The ports of events stand behind the plain ones of their kind.
-pub regrouped : {A I O : Type 0} (input : I → A) (output : O → A) (a b c d : List A) (e f : List I) (g h : List O) (i j : List A) → a ++ b ++ c ++ d ++ map input e ++ map input f ++ map output g ++ map output h ++ i ++ j ≡ a ++ b ++ c ++ d ++ map input (e ++ f) ++ [] ++ map output (g ++ h) ++ [] ++ i ++ j
+pub regrouped : {A I O : Type 0} (input : I → A) (output : O → A) (a b c d : List A) (e f : List I) (g h : List O) (i j : List A)
+    → a ++ b ++ c ++ d ++ map input e ++ map input f ++ map output g ++ map output h ++ i ++ j
+    ≡ a ++ b ++ c ++ d ++ map input (e ++ f) ++ [] ++ map output (g ++ h) ++ [] ++ i ++ j
 regrouped input output a b c d e f g h i j = simp (map-append, append_assoc, append-nil) refl
 
 pub plain_parts_are : (unit : Unit) → flat_map (plain_unit_part unit) (unit_parts unit) ≡ unit_parts (plain_unit unit)
 plain_parts_are unit =
     let become = plain_unit_part unit in
-    flat_ten become (optional parts.Resolution unit.resolution) (map parts.HasParam unit.params) (map parts.HasState unit.states) (map parts.HasLocal unit.locals) (map parts.HasInput unit.inputs) (map parts.HasEventIn unit.events_in) (map parts.HasOutput unit.outputs) (map parts.HasEventOut unit.events_out) (optional parts.Max unit.max) (optional parts.Step unit.step)
+    flat_ten become (optional parts.Resolution unit.resolution) (map parts.HasParam unit.params) (map parts.HasState unit.states)
+    (map parts.HasLocal unit.locals) (map parts.HasInput unit.inputs) (map parts.HasEventIn unit.events_in) (map parts.HasOutput unit.outputs)
+    (map parts.HasEventOut unit.events_out) (optional parts.Max unit.max) (optional parts.Step unit.step)
     ∙ rw (
       optional_kept become parts.Resolution (λ x. refl) unit.resolution,
       kept become parts.HasParam (λ x. refl) unit.params,
@@ -211,7 +249,10 @@ plain_parts_are unit =
       spread become parts.HasEventOut parts.HasOutput (plain_outputs unit) (λ x. refl) unit.events_out,
       optional_changed become parts.Max plain_expression (λ x. refl) unit.max,
       optional_changed become parts.Step (map plain_line) (λ x. refl) unit.step,
-    ) (regrouped parts.HasInput parts.HasOutput (optional parts.Resolution unit.resolution) (map parts.HasParam unit.params) (map parts.HasState unit.states) (map parts.HasLocal unit.locals) unit.inputs (flat_map plain_inputs unit.events_in) (map (plain_output unit) unit.outputs) (flat_map (plain_outputs unit) unit.events_out) (optional parts.Max (option_map plain_expression unit.max)) (optional parts.Step (option_map (map plain_line) unit.step)))
+    ) (regrouped parts.HasInput parts.HasOutput (optional parts.Resolution unit.resolution) (map parts.HasParam unit.params) (map parts.HasState unit.states)
+    (map parts.HasLocal unit.locals) unit.inputs (flat_map plain_inputs unit.events_in) (map (plain_output unit) unit.outputs)
+    (flat_map (plain_outputs unit) unit.events_out) (optional parts.Max (option_map plain_expression unit.max))
+    (optional parts.Step (option_map (map plain_line) unit.step)))
 
 -- ---- A system
 
@@ -225,7 +266,8 @@ pub wires_forms : (wires : List Wire) → flat_map part_forms (map parts.Connect
 wires_forms [] = refl
 wires_forms (wire ∷ wires) = ap (λ rest. form.Connect wire ∷ rest) (wires_forms wires)
 
-pub settings_are : (system : System) (instance : Instance) (settings : List Setting) → flat_map (plain_forms system (InstanceScope instance)) (map form.Setting settings ++ (form.End ∷ [])) ≡ map form.Setting settings ++ (form.End ∷ [])
+pub settings_are : (system : System) (instance : Instance) (settings : List Setting)
+    → flat_map (plain_forms system (InstanceScope instance)) (map form.Setting settings ++ (form.End ∷ [])) ≡ map form.Setting settings ++ (form.End ∷ [])
 settings_are system instance [] = refl
 settings_are system instance (one ∷ settings) = ap (λ rest. form.Setting one ∷ rest) (settings_are system instance settings)
 
@@ -233,7 +275,8 @@ pub part_is : (system : System) (part : Part) → flat_map (all_becomes system T
 part_is system (parts.HasUnit name inside) =
     ap (λ block. form.Unit name ∷ block ++ []) (in_unit system (unit_of name inside) inside)
 part_is system (parts.HasInstance instance) =
-    ap (λ block. form.Instance instance.name instance.unit ∷ block ++ []) (along_alone system (InstanceScope instance) (map form.Setting instance.settings ++ (form.End ∷ [])) ∙ settings_are system instance instance.settings)
+    ap (λ block. form.Instance instance.name instance.unit ∷ block ++ [])
+    (along_alone system (InstanceScope instance) (map form.Setting instance.settings ++ (form.End ∷ [])) ∙ settings_are system instance instance.settings)
 part_is system (parts.Connects wire) = append-nil _ ∙ append-nil _ ∙ sym (wires_forms (plain_wires system wire))
 part_is system (parts.Stop seconds) = refl
 part_is system (parts.Longest seconds) = refl
@@ -241,7 +284,8 @@ part_is system (parts.Zero count) = refl
 part_is system (parts.Rows count) = refl
 part_is system (parts.Samples port) = refl
 
-pub parts_are : (system : System) (all : List Part) → flat_map (all_becomes system TopScope) (flat_map headed_part all) ≡ flat_map part_forms (flat_map (plain_part system) all)
+pub parts_are : (system : System) (all : List Part)
+    → flat_map (all_becomes system TopScope) (flat_map headed_part all) ≡ flat_map part_forms (flat_map (plain_part system) all)
 parts_are system [] = refl
 parts_are system (part ∷ all) =
     flat_map-append (all_becomes system TopScope) (headed_part part) (flat_map headed_part all)
@@ -267,7 +311,9 @@ plain_system system = record system {
 pub system_parts_are : (system : System) → flat_map (plain_part system) (canonical_parts system) ≡ canonical_parts (plain_system system)
 system_parts_are system =
     let become = plain_part system in
-    flat_eight become (map canonical_unit system.units) (map parts.HasInstance system.instances) (map parts.Connects system.wires) (optional parts.Stop system.stop) (optional parts.Longest system.longest) (optional parts.Zero system.zero) (optional parts.Rows system.rows) (map parts.Samples system.samples)
+    flat_eight become (map canonical_unit system.units) (map parts.HasInstance system.instances) (map parts.Connects system.wires)
+    (optional parts.Stop system.stop) (optional parts.Longest system.longest) (optional parts.Zero system.zero) (optional parts.Rows system.rows)
+    (map parts.Samples system.samples)
     ∙ rw (
       changed become canonical_unit plain_unit (unit_becomes system) system.units,
       kept become parts.HasInstance (λ x. refl) system.instances,
@@ -279,11 +325,14 @@ system_parts_are system =
       kept become parts.Samples (λ x. refl) system.samples,
     ) refl
 
-pub plain_lines_are : (system : System) → system.version ≡ 2 → flat_map (becomes system) (sites_of system) ≡ canonical_forms (record (plain_form system) { samples = system.samples })
+pub plain_lines_are : (system : System) → system.version ≡ 2
+    → flat_map (becomes system) (sites_of system) ≡ canonical_forms (record (plain_form system) { samples = system.samples })
 plain_lines_are system is =
     along system TopScope [] (alone (form.Header system.version) ∷ flat_map headed_part (canonical_parts system))
     ∙ ap (λ rest. form.Header system.version ∷ rest) (parts_are system (canonical_parts system) ∙ ap (flat_map part_forms) (system_parts_are system))
-    ∙ sym (ap (λ b. canonical_forms (record (if b then record (plain_system system) { samples = samples_or_all system } else system) { samples = system.samples })) version_is)
+    ∙ sym (ap
+    (λ b. canonical_forms
+    (record (if b then record (plain_system system) { samples = samples_or_all system } else system) { samples = system.samples })) version_is)
   where
     version_is : (system.version == 2) ≡ true
     version_is = ap (λ v. v == 2) is

@@ -102,7 +102,8 @@ module _ (system : System) (ranged : IsRanged system) where
 
   pub plain_on : (line : LineForm) (name : List ℕ) → Has (canonical_forms system) line → Has (names_said line) name → IsPlain name
   plain_on line name has said =
-      word_is_plain name (each_has IsWord (names_on line) name (words_on line has) (has_front (names_said line) (names_on_expression (expression_on line)) name said))
+      word_is_plain name
+      (each_has IsWord (names_on line) name (words_on line has) (has_front (names_said line) (names_on_expression (expression_on line)) name said))
 
   abbrev pub units : List Part
   units = map (λ unit. parts.HasUnit unit.name (unit_parts unit)) system.units
@@ -140,13 +141,15 @@ module _ (system : System) (ranged : IsRanged system) where
   pub plain_wire : (wire : Wire) → Has system.wires wire → IsPlain wire.to.port
   plain_wire wire has =
       plain_on (form.Connect wire) wire.to.port
-      (has_part (parts.Connects wire) (form.Connect wire) (has_behind (units ++ instances) wires (parts.Connects wire) (has_map parts.Connects system.wires wire has)) (inl refl))
+      (has_part (parts.Connects wire) (form.Connect wire)
+      (has_behind (units ++ instances) wires (parts.Connects wire) (has_map parts.Connects system.wires wire has)) (inl refl))
       (inr (inr (inr (inl refl))))
 
   module _ (unit : Unit) (declared : Has system.units unit) where
     abbrev pub before : List UnitPart
     before =
-        optional parts.Resolution unit.resolution ++ map parts.HasParam unit.params ++ map parts.HasState unit.states ++ map parts.HasLocal unit.locals ++ map parts.HasInput unit.inputs ++ map parts.HasEventIn unit.events_in
+        optional parts.Resolution unit.resolution ++ map parts.HasParam unit.params ++ map parts.HasState unit.states ++ map parts.HasLocal unit.locals
+        ++ map parts.HasInput unit.inputs ++ map parts.HasEventIn unit.events_in
 
     abbrev pub outputs : List UnitPart
     outputs = map parts.HasOutput unit.outputs
@@ -154,32 +157,48 @@ module _ (system : System) (ranged : IsRanged system) where
     abbrev pub events : List UnitPart
     events = map parts.HasEventOut unit.events_out
 
-    pub unit_line : (part : UnitPart) (line : LineForm) → Has ((before ++ outputs) ++ events) part → Has (unit_part_forms part) line → Has (canonical_forms system) line
+    pub unit_line : (part : UnitPart) (line : LineForm) → Has ((before ++ outputs) ++ events) part → Has (unit_part_forms part) line
+        → Has (canonical_forms system) line
     unit_line part line has inside =
         let a = has_front ((before ++ outputs) ++ events) (optional parts.Max unit.max) part has in
         let b = has_front (((before ++ outputs) ++ events) ++ optional parts.Max unit.max) (optional parts.Step unit.step) part a in
         let here = has_flat unit_part_forms (unit_parts unit) part line b inside in
         let unit_part : Part = parts.HasUnit unit.name (unit_parts unit) in
         has_part unit_part line
-        (has_front (units ++ instances) wires unit_part (has_front units instances unit_part (has_map (λ (u : Unit). parts.HasUnit u.name (unit_parts u)) system.units unit declared)))
+        (has_front (units ++ instances) wires unit_part
+        (has_front units instances unit_part (has_map (λ (u : Unit). parts.HasUnit u.name (unit_parts u)) system.units unit declared)))
         (inr (has_front (flat_map unit_part_forms (unit_parts unit)) (form.End ∷ []) line here))
 
     pub output_line : (output : Output) → Has unit.outputs output → Has (canonical_forms system) (form.Output output)
     output_line output has =
-        unit_line (parts.HasOutput output) (form.Output output) (has_front (before ++ outputs) events (parts.HasOutput output) (has_behind before outputs (parts.HasOutput output) (has_map parts.HasOutput unit.outputs output has))) (inl refl)
+        unit_line (parts.HasOutput output) (form.Output output)
+        (has_front (before ++ outputs) events (parts.HasOutput output)
+        (has_behind before outputs (parts.HasOutput output) (has_map parts.HasOutput unit.outputs output has)))
+        (inl refl)
 
     pub event_line : (event : EventOut) → Has unit.events_out event → Has (canonical_forms system) (form.EventOutput event)
     event_line event has =
-        unit_line (parts.HasEventOut event) (form.EventOutput event) (has_behind (before ++ outputs) events (parts.HasEventOut event) (has_map parts.HasEventOut unit.events_out event has)) (inl refl)
+        unit_line (parts.HasEventOut event) (form.EventOutput event)
+        (has_behind (before ++ outputs) events (parts.HasEventOut event) (has_map parts.HasEventOut unit.events_out event has)) (inl refl)
 
     pub plain_port_names : (port : Port) → Has (output_ports unit) port → PlainNames port
     plain_port_names port has = elim (has_either (map of_output unit.outputs) (map of_event unit.events_out) port has) [
       | inl here ↦
           let from = map_has of_output unit.outputs port here in
           let line = output_line from.one from.has in
-          subst PlainNames from.is (record { name = plain_on (form.Output from.one) from.one.name line (inl refl); needs = λ need stands. plain_on (form.Output from.one) need line (inr stands) })
+          subst PlainNames from.is
+          (record {
+            name = plain_on (form.Output from.one) from.one.name line (inl refl);
+            needs =
+                λ need stands. plain_on (form.Output from.one) need line (inr stands);
+          })
       | inr here ↦
           let from = map_has of_event unit.events_out port here in
           let line = event_line from.one from.has in
-          subst PlainNames from.is (record { name = plain_on (form.EventOutput from.one) from.one.name line (inl refl); needs = λ need stands. plain_on (form.EventOutput from.one) need line (inr stands) })
+          subst PlainNames from.is
+          (record {
+            name = plain_on (form.EventOutput from.one) from.one.name line (inl refl);
+            needs =
+                λ need stands. plain_on (form.EventOutput from.one) need line (inr stands);
+          })
     ]

@@ -3,13 +3,15 @@ use Rattle.std.proofs.Common.{◌≡◌, ℕ, ◌<◌, ◌≤◌, List, ◌⊎�
 use Rattle.unit_tree.specs.Texts.{IsFirstBroken, IsUnended, IsRefused}
 
 -- Of two lines with rules, each before the other or the same with no greater rule, both are the same.
-first_of_both : (line by other rule : ℕ) → (line < other) ⊎ ((line ≡ other) × (by ≤ rule)) → (other < line) ⊎ ((other ≡ line) × (rule ≤ by)) → (line ≡ other) × (by ≡ rule)
+first_of_both : (line by other rule : ℕ) → (line < other) ⊎ ((line ≡ other) × (by ≤ rule)) → (other < line) ⊎ ((other ≡ line) × (rule ≤ by))
+    → (line ≡ other) × (by ≡ rule)
 first_of_both line by other rule (inl less) (inl more) = absurd (omega arith)
 first_of_both line by other rule (inl less) (inr same) = absurd (omega (arith, same.0))
 first_of_both line by other rule (inr same) (inl more) = absurd (omega (arith, same.0))
 first_of_both line by other rule (inr one) (inr other_way) = (one.0, omega (arith, one.1, other_way.1))
 
-by_lines : (lines : List (List ℕ)) (line by other rule : ℕ) → IsFirstBroken lines line by ⊎ IsUnended lines line by → IsFirstBroken lines other rule ⊎ IsUnended lines other rule → (line ≡ other) × (by ≡ rule)
+by_lines : (lines : List (List ℕ)) (line by other rule : ℕ) → IsFirstBroken lines line by ⊎ IsUnended lines line by
+    → IsFirstBroken lines other rule ⊎ IsUnended lines other rule → (line ≡ other) × (by ≡ rule)
 by_lines lines line by other rule (inl one) (inl two) = first_of_both line by other rule (one.first other rule two.breaks) (two.first line by one.breaks)
 by_lines lines line by other rule (inl one) (inr two) = absurd (two.unbroken line by one.breaks)
 by_lines lines line by other rule (inr one) (inl two) = absurd (one.unbroken other rule two.breaks)

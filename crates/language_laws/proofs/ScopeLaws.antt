@@ -8,7 +8,8 @@ use Rattle.unit_tree.specs.Blocks.{Block, InUnit, InStep, InInstance, behind, no
 use Rattle.unit_tree.specs.Canonical.{canonical_parts}
 use Rattle.unit_tree.specs.Parts as parts
 use Rattle.unit_tree.specs.Parts.{Part, UnitPart, line_forms, unit_of}
-use Rattle.unit_tree.specs.Sites.{Scope, TopScope, UnitScope, StepScope, InstanceScope, Site, alone, sites, headed_unit_part, headed_part, sites_of, is_scope_in}
+use Rattle.unit_tree.specs.Sites.{Scope, TopScope, UnitScope, StepScope, InstanceScope, Site, alone, sites, headed_unit_part, headed_part, sites_of}
+use Rattle.unit_tree.specs.Sites.{is_scope_in}
 use Rattle.unit_tree.specs.declared.line.Line.{Line}
 use Rattle.unit_tree.specs.declared.line_form.LineForm.{LineForm}
 use Rattle.unit_tree.specs.declared.line_form.LineForm.TheVariants as form
@@ -29,7 +30,8 @@ pub record Pass (blocks : List Block) (all : List Site) (after : List Block) : T
   pub leave : fold behind blocks (map line_at all) ≡ after
   pub scoped : AreScoped blocks all
 
-pub both_scoped : (blocks : List Block) (xs ys : List Site) → AreScoped blocks xs → AreScoped (fold behind blocks (map line_at xs)) ys → AreScoped blocks (xs ++ ys)
+pub both_scoped : (blocks : List Block) (xs ys : List Site) → AreScoped blocks xs → AreScoped (fold behind blocks (map line_at xs)) ys
+    → AreScoped blocks (xs ++ ys)
 both_scoped blocks [] ys on_xs on_ys = on_ys
 both_scoped blocks (x ∷ xs) ys on_xs on_ys = (on_xs.0, both_scoped (behind blocks x.line) xs ys on_xs.1 on_ys)
 
@@ -43,37 +45,44 @@ pass_both blocks between after xs ys on_xs on_ys = record {
   scoped = both_scoped blocks xs ys on_xs.scoped (subst (λ all. AreScoped all ys) (sym on_xs.leave) on_ys.scoped);
 }
 
-pub pass_one : (blocks after : List Block) (site : Site) (all : List Site) → is_scope_in blocks site.scope site.line ≡ true → Pass (behind blocks site.line) all after → Pass blocks (site ∷ all) after
+pub pass_one : (blocks after : List Block) (site : Site) (all : List Site) → is_scope_in blocks site.scope site.line ≡ true
+    → Pass (behind blocks site.line) all after → Pass blocks (site ∷ all) after
 pass_one blocks after site all is rest = record { leave = rest.leave; scoped = (is, rest.scoped) }
 
 pub pass_none : (blocks : List Block) → Pass blocks [] blocks
 pass_none blocks = record { leave = refl; scoped = _ }
 
 -- Lines without blocks.
-pub alone_scoped : (scope : Scope) (earlier : List LineForm) (blocks : List Block) (lines : List LineForm) → AreIn scope blocks lines → AreScoped blocks (sites scope earlier (map alone lines))
+pub alone_scoped : (scope : Scope) (earlier : List LineForm) (blocks : List Block) (lines : List LineForm) → AreIn scope blocks lines
+    → AreScoped blocks (sites scope earlier (map alone lines))
 alone_scoped scope earlier blocks [] are = _
 alone_scoped scope earlier blocks (line ∷ lines) are = (are.0, alone_scoped scope (earlier ++ (line ∷ [])) (behind blocks line) lines are.1)
 
-pub alone_pass : (scope : Scope) (blocks after : List Block) (lines : List LineForm) → Stay scope blocks lines after → Pass blocks (sites scope [] (map alone lines)) after
+pub alone_pass : (scope : Scope) (blocks after : List Block) (lines : List LineForm) → Stay scope blocks lines after
+    → Pass blocks (sites scope [] (map alone lines)) after
 alone_pass scope blocks after lines stay =
     record { leave = ap (fold behind blocks) (alone_in scope lines) ∙ stay.leave; scoped = alone_scoped scope [] blocks lines stay.are_in }
 
 -- ---- A unit
 
-pub step_pass : (unit : Unit) (lines : List Line) → Pass (InStep ∷ InUnit ∷ []) (sites (StepScope unit) [] (map alone (flat_map line_forms lines))) (InStep ∷ InUnit ∷ [])
+pub step_pass : (unit : Unit) (lines : List Line)
+    → Pass (InStep ∷ InUnit ∷ []) (sites (StepScope unit) [] (map alone (flat_map line_forms lines))) (InStep ∷ InUnit ∷ [])
 step_pass unit lines =
     alone_pass (StepScope unit) (InStep ∷ InUnit ∷ []) (InStep ∷ InUnit ∷ []) (flat_map line_forms lines) (lines_stay unit lines (InStep ∷ InUnit ∷ []) refl)
 
-pub unit_pass : (unit : Unit) (earlier : List LineForm) (inside : List UnitPart) → Pass (InUnit ∷ []) (sites (UnitScope unit) earlier (flat_map (headed_unit_part unit) inside ++ (alone form.End ∷ []))) []
+pub unit_pass : (unit : Unit) (earlier : List LineForm) (inside : List UnitPart)
+    → Pass (InUnit ∷ []) (sites (UnitScope unit) earlier (flat_map (headed_unit_part unit) inside ++ (alone form.End ∷ []))) []
 unit_pass unit earlier [] = record { leave = refl; scoped = (refl, _) }
-unit_pass unit earlier (parts.Resolution decimals ∷ inside) = pass_one (InUnit ∷ []) [] _ _ refl (unit_pass unit (earlier ++ (form.Resolution decimals ∷ [])) inside)
+unit_pass unit earlier (parts.Resolution decimals ∷ inside) =
+    pass_one (InUnit ∷ []) [] _ _ refl (unit_pass unit (earlier ++ (form.Resolution decimals ∷ [])) inside)
 unit_pass unit earlier (parts.HasParam param ∷ inside) = pass_one (InUnit ∷ []) [] _ _ refl (unit_pass unit (earlier ++ (form.Param param ∷ [])) inside)
 unit_pass unit earlier (parts.HasState state ∷ inside) = pass_one (InUnit ∷ []) [] _ _ refl (unit_pass unit (earlier ++ (form.State state ∷ [])) inside)
 unit_pass unit earlier (parts.HasLocal local ∷ inside) = pass_one (InUnit ∷ []) [] _ _ refl (unit_pass unit (earlier ++ (form.Local local ∷ [])) inside)
 unit_pass unit earlier (parts.HasInput input ∷ inside) = pass_one (InUnit ∷ []) [] _ _ refl (unit_pass unit (earlier ++ (form.Input input ∷ [])) inside)
 unit_pass unit earlier (parts.HasEventIn event ∷ inside) = pass_one (InUnit ∷ []) [] _ _ refl (unit_pass unit (earlier ++ (form.EventInput event ∷ [])) inside)
 unit_pass unit earlier (parts.HasOutput output ∷ inside) = pass_one (InUnit ∷ []) [] _ _ refl (unit_pass unit (earlier ++ (form.Output output ∷ [])) inside)
-unit_pass unit earlier (parts.HasEventOut event ∷ inside) = pass_one (InUnit ∷ []) [] _ _ refl (unit_pass unit (earlier ++ (form.EventOutput event ∷ [])) inside)
+unit_pass unit earlier (parts.HasEventOut event ∷ inside) =
+    pass_one (InUnit ∷ []) [] _ _ refl (unit_pass unit (earlier ++ (form.EventOutput event ∷ [])) inside)
 unit_pass unit earlier (parts.Max value ∷ inside) = pass_one (InUnit ∷ []) [] _ _ refl (unit_pass unit (earlier ++ (form.Max value ∷ [])) inside)
 unit_pass unit earlier (parts.Step lines ∷ inside) =
     pass_one (InUnit ∷ []) [] _ _ refl
@@ -82,7 +91,8 @@ unit_pass unit earlier (parts.Step lines ∷ inside) =
 
 -- ---- A text
 
-pub settings_stay : (instance : Instance) (settings : List Setting) → Stay (InstanceScope instance) (InInstance ∷ []) (map form.Setting settings ++ (form.End ∷ [])) []
+pub settings_stay : (instance : Instance) (settings : List Setting)
+    → Stay (InstanceScope instance) (InInstance ∷ []) (map form.Setting settings ++ (form.End ∷ [])) []
 settings_stay instance [] = record { leave = refl; are_in = (refl, _) }
 settings_stay instance (setting ∷ settings) = let rest = settings_stay instance settings in record { leave = rest.leave; are_in = (refl, rest.are_in) }
 
@@ -90,11 +100,14 @@ pub text_pass : (earlier : List LineForm) (all : List Part) → Pass [] (sites T
 text_pass earlier [] = pass_none []
 text_pass earlier (parts.HasUnit name inside ∷ all) =
     pass_one [] [] _ _ refl
-    (pass_both (InUnit ∷ []) [] [] (sites (UnitScope (unit_of name inside)) [] (flat_map (headed_unit_part (unit_of name inside)) inside ++ (alone form.End ∷ []))) _ (unit_pass (unit_of name inside) [] inside) (text_pass (earlier ++ (form.Unit name ∷ [])) all))
+    (pass_both (InUnit ∷ []) [] []
+    (sites (UnitScope (unit_of name inside)) [] (flat_map (headed_unit_part (unit_of name inside)) inside ++ (alone form.End ∷ []))) _
+    (unit_pass (unit_of name inside) [] inside) (text_pass (earlier ++ (form.Unit name ∷ [])) all))
 text_pass earlier (parts.HasInstance instance ∷ all) =
     pass_one [] [] _ _ refl
     (pass_both (InInstance ∷ []) [] [] (sites (InstanceScope instance) [] (map alone (map form.Setting instance.settings ++ (form.End ∷ [])))) _
-    (alone_pass (InstanceScope instance) (InInstance ∷ []) [] (map form.Setting instance.settings ++ (form.End ∷ [])) (settings_stay instance instance.settings))
+    (alone_pass (InstanceScope instance) (InInstance ∷ []) [] (map form.Setting instance.settings ++ (form.End ∷ []))
+    (settings_stay instance instance.settings))
     (text_pass (earlier ++ (form.Instance instance.name instance.unit ∷ [])) all))
 text_pass earlier (parts.Connects wire ∷ all) = pass_one [] [] _ _ refl (text_pass (earlier ++ (form.Connect wire ∷ [])) all)
 text_pass earlier (parts.Stop seconds ∷ all) = pass_one [] [] _ _ refl (text_pass (earlier ++ (form.Stop seconds ∷ [])) all)
@@ -108,11 +121,13 @@ system_pass system = pass_one [] [] _ _ refl (text_pass (form.Header system.vers
 
 -- ---- One site
 
-pub scoped_at : (blocks : List Block) (before later : List Site) (site : Site) → AreScoped blocks (before ++ (site ∷ later)) → is_scope_in (fold behind blocks (map line_at before)) site.scope site.line ≡ true
+pub scoped_at : (blocks : List Block) (before later : List Site) (site : Site) → AreScoped blocks (before ++ (site ∷ later))
+    → is_scope_in (fold behind blocks (map line_at before)) site.scope site.line ≡ true
 scoped_at blocks [] later site all = all.0
 scoped_at blocks (one ∷ before) later site all = scoped_at (behind blocks one.line) before later site all.1
 
-pub has_scope : (system : System) (before later : List Site) (site : Site) → sites_of system ≡ before ++ (site ∷ later) → is_scope_in (open_blocks (map (λ one. one.line) before)) site.scope site.line ≡ true
+pub has_scope : (system : System) (before later : List Site) (site : Site) → sites_of system ≡ before ++ (site ∷ later)
+    → is_scope_in (open_blocks (map (λ one. one.line) before)) site.scope site.line ≡ true
 has_scope system before later site is =
     subst (λ blocks. is_scope_in blocks site.scope site.line ≡ true) (sym (blocks_behind no_lines (map line_at before)))
     (scoped_at [] before later site (subst (AreScoped []) is (system_pass system).scoped))

@@ -22,7 +22,9 @@ all_of headed = headed.head ∷ map line_at headed.block
 pub lines_in : (scope : Scope) (earlier : List LineForm) (headed : List Headed) → map line_at (sites scope earlier headed) ≡ flat_map all_of headed
 lines_in scope earlier [] = refl
 lines_in scope earlier (first ∷ others) =
-    ap (λ rest. first.head ∷ rest) (map-append line_at first.block (sites scope (earlier ++ (first.head ∷ [])) others) ∙ ap (λ rest. map line_at first.block ++ rest) (lines_in scope (earlier ++ (first.head ∷ [])) others))
+    ap (λ rest. first.head ∷ rest)
+    (map-append line_at first.block (sites scope (earlier ++ (first.head ∷ [])) others)
+    ∙ ap (λ rest. map line_at first.block ++ rest) (lines_in scope (earlier ++ (first.head ∷ [])) others))
 
 pub each_alone : (lines : List LineForm) → flat_map all_of (map alone lines) ≡ lines
 each_alone [] = refl
@@ -48,7 +50,9 @@ unit_parts_are unit [] = refl
 unit_parts_are unit (part ∷ all) =
     flat_map-append all_of (headed_unit_part unit part) (flat_map (headed_unit_part unit) all) ∙ rw (unit_part_is unit part, unit_parts_are unit all) refl
 
-pub unit_is : (unit : Unit) (inside : List UnitPart) → map line_at (sites (UnitScope unit) [] (flat_map (headed_unit_part unit) inside ++ (alone form.End ∷ []))) ≡ flat_map unit_part_forms inside ++ (form.End ∷ [])
+pub unit_is : (unit : Unit) (inside : List UnitPart)
+    → map line_at (sites (UnitScope unit) [] (flat_map (headed_unit_part unit) inside ++ (alone form.End ∷ [])))
+    ≡ flat_map unit_part_forms inside ++ (form.End ∷ [])
 unit_is unit inside =
     lines_in (UnitScope unit) [] (flat_map (headed_unit_part unit) inside ++ (alone form.End ∷ []))
     ∙ flat_map-append all_of (flat_map (headed_unit_part unit) inside) (alone form.End ∷ [])

@@ -1,5 +1,6 @@
 -- The lines of a text, put into canonical order, are the canonical lines of what it says.
-use Rattle.std.proofs.Common.{◌≡◌, ℕ, ◌≤◌, Bool, true, false, cond, List, [], ◌∷◌, ◌++◌, append_assoc, map, length, drop, Option, Some, None, refl, ap, sym, subst, ◌∙◌, arith}
+use Rattle.std.proofs.Common.{◌≡◌, ℕ, ◌≤◌, Bool, true, false, cond, List, [], ◌∷◌, ◌++◌, append_assoc, map, length, drop, Option, Some, None, refl, ap, sym}
+use Rattle.std.proofs.Common.{subst, ◌∙◌, arith}
 use Rattle.std.specs.Prelude.{IsTrue, ⊤, ◌==◌, not, ◌&&◌, ◌||◌}
 use Rattle.std.specs.List.{flat_map, filter, list_all, list_any}
 use Rattle.std.proofs.lemmas.Bool.{and_parts}
@@ -24,20 +25,27 @@ use Rattle.list_laws.proofs.Lists.{all_of_two}
 -- ---- Lines that go along with themselves
 
 -- Each part with its own lines, whatever comes behind.
-own_lines : {P : Type 0} (rank : P → ℕ) (forms : P → List LineForm) (inside : P → List LineForm → List LineForm) (all : List P) (extra : List LineForm) → each_ranked rank (λ part. length (forms part)) inside all (flat_map forms all ++ extra) ≡ map (λ part. (rank part, inside part (forms part))) all
+own_lines : {P : Type 0} (rank : P → ℕ) (forms : P → List LineForm) (inside : P → List LineForm → List LineForm) (all : List P) (extra : List LineForm)
+    → each_ranked rank (λ part. length (forms part)) inside all (flat_map forms all ++ extra) ≡ map (λ part. (rank part, inside part (forms part))) all
 own_lines rank forms inside [] extra = refl
 own_lines rank forms inside (part ∷ all) extra =
     let whole : flat_map forms (part ∷ all) ++ extra ≡ forms part ++ (flat_map forms all ++ extra) = append_assoc (forms part) (flat_map forms all) extra in
     ap (each_ranked rank (λ p. length (forms p)) inside (part ∷ all)) whole
-    ∙ ap (λ lines. (rank part, inside part lines) ∷ each_ranked rank (λ p. length (forms p)) inside all (drop (length (forms part)) (forms part ++ (flat_map forms all ++ extra)))) (take-append_seam (forms part) (flat_map forms all ++ extra))
-    ∙ ap (λ lines. (rank part, inside part (forms part)) ∷ each_ranked rank (λ p. length (forms p)) inside all lines) (drop-append_seam (forms part) (flat_map forms all ++ extra))
+    ∙ ap (λ lines. (rank part, inside part lines)
+    ∷ each_ranked rank (λ p. length (forms p)) inside all (drop (length (forms part)) (forms part ++ (flat_map forms all ++ extra))))
+    (take-append_seam (forms part) (flat_map forms all ++ extra))
+    ∙ ap (λ lines. (rank part, inside part (forms part)) ∷ each_ranked rank (λ p. length (forms p)) inside all lines)
+    (drop-append_seam (forms part) (flat_map forms all ++ extra))
     ∙ ap (λ rest. (rank part, inside part (forms part)) ∷ rest) (own_lines rank forms inside all extra)
 
-of_own_by : {P : Type 0} (test : Bool) (rank : P → ℕ) (lines : P → List LineForm) (part : P) (all : List P) (asked : ℕ) → (rank part == asked) ≡ test → of_rank (map (λ p. (rank p, lines p)) all) asked ≡ flat_map lines (filter (λ p. rank p == asked) all) → of_rank (map (λ p. (rank p, lines p)) (part ∷ all)) asked ≡ flat_map lines (filter (λ p. rank p == asked) (part ∷ all))
+of_own_by : {P : Type 0} (test : Bool) (rank : P → ℕ) (lines : P → List LineForm) (part : P) (all : List P) (asked : ℕ) → (rank part == asked) ≡ test
+    → of_rank (map (λ p. (rank p, lines p)) all) asked ≡ flat_map lines (filter (λ p. rank p == asked) all)
+    → of_rank (map (λ p. (rank p, lines p)) (part ∷ all)) asked ≡ flat_map lines (filter (λ p. rank p == asked) (part ∷ all))
 of_own_by true rank lines part all asked is rest = rw is (ap (λ more. lines part ++ more) rest)
 of_own_by false rank lines part all asked is rest = rw is rest
 
-of_own : {P : Type 0} (rank : P → ℕ) (lines : P → List LineForm) (all : List P) (asked : ℕ) → of_rank (map (λ p. (rank p, lines p)) all) asked ≡ flat_map lines (filter (λ p. rank p == asked) all)
+of_own : {P : Type 0} (rank : P → ℕ) (lines : P → List LineForm) (all : List P) (asked : ℕ)
+    → of_rank (map (λ p. (rank p, lines p)) all) asked ≡ flat_map lines (filter (λ p. rank p == asked) all)
 of_own rank lines [] asked = refl
 of_own rank lines (part ∷ all) asked = of_own_by (rank part == asked) rank lines part all asked refl (of_own rank lines all asked)
 
@@ -46,17 +54,55 @@ flat_two f [] ys = refl
 flat_two f (x ∷ xs) ys = ap (λ rest. f x ++ rest) (flat_two f xs ys) ∙ sym (append_assoc (f x) (flat_map f xs) (flat_map f ys))
 
 -- Lists that are joined, with equal ones in their places.
-ten_lists : {a b c d e f g h i j a' b' c' d' e' f' g' h' i' j' : List LineForm} → a ≡ a' → b ≡ b' → c ≡ c' → d ≡ d' → e ≡ e' → f ≡ f' → g ≡ g' → h ≡ h' → i ≡ i' → j ≡ j' → a ++ (b ++ (c ++ (d ++ (e ++ (f ++ (g ++ (h ++ (i ++ (j ++ []))))))))) ≡ a' ++ (b' ++ (c' ++ (d' ++ (e' ++ (f' ++ (g' ++ (h' ++ (i' ++ (j' ++ [])))))))))
+ten_lists : {a b c d e f g h i j a' b' c' d' e' f' g' h' i' j' : List LineForm} → a ≡ a' → b ≡ b' → c ≡ c' → d ≡ d' → e ≡ e' → f ≡ f' → g ≡ g' → h ≡ h'
+    → i ≡ i' → j ≡ j'
+    → a ++ (b ++ (c ++ (d ++ (e ++ (f ++ (g ++ (h ++ (i ++ (j ++ []))))))))) ≡ a' ++ (b' ++ (c' ++ (d' ++ (e' ++ (f' ++ (g' ++ (h' ++ (i' ++ (j' ++ [])))))))))
 ten_lists pa pb pc pd pe pf pg ph pi pj = rw (pa, pb, pc, pd, pe, pf, pg, ph, pi, pj) refl
 
-ten_flat : {P : Type 0} (of : P → List LineForm) (a b c d e f g h i j : List P) → flat_map of a ++ (flat_map of b ++ (flat_map of c ++ (flat_map of d ++ (flat_map of e ++ (flat_map of f ++ (flat_map of g ++ (flat_map of h ++ (flat_map of i ++ (flat_map of j ++ []))))))))) ≡ flat_map of (a ++ (b ++ (c ++ (d ++ (e ++ (f ++ (g ++ (h ++ (i ++ j)))))))))
-ten_flat of a b c d e f g h i j = ap (λ more. flat_map of a ++ more) (ap (λ more. flat_map of b ++ more) (ap (λ more. flat_map of c ++ more) (ap (λ more. flat_map of d ++ more) (ap (λ more. flat_map of e ++ more) (ap (λ more. flat_map of f ++ more) (ap (λ more. flat_map of g ++ more) (ap (λ more. flat_map of h ++ more) (ap (λ more. flat_map of i ++ more) (append-nil (flat_map of j)) ∙ sym (flat_two of i (j))) ∙ sym (flat_two of h (i ++ j))) ∙ sym (flat_two of g (h ++ (i ++ j)))) ∙ sym (flat_two of f (g ++ (h ++ (i ++ j))))) ∙ sym (flat_two of e (f ++ (g ++ (h ++ (i ++ j)))))) ∙ sym (flat_two of d (e ++ (f ++ (g ++ (h ++ (i ++ j))))))) ∙ sym (flat_two of c (d ++ (e ++ (f ++ (g ++ (h ++ (i ++ j)))))))) ∙ sym (flat_two of b (c ++ (d ++ (e ++ (f ++ (g ++ (h ++ (i ++ j))))))))) ∙ sym (flat_two of a (b ++ (c ++ (d ++ (e ++ (f ++ (g ++ (h ++ (i ++ j)))))))))
+ten_flat : {P : Type 0} (of : P → List LineForm) (a b c d e f g h i j : List P)
+    → flat_map of a
+    ++ (flat_map of b
+    ++ (flat_map of c
+    ++ (flat_map of d ++ (flat_map of e ++ (flat_map of f ++ (flat_map of g ++ (flat_map of h ++ (flat_map of i ++ (flat_map of j ++ [])))))))))
+    ≡ flat_map of (a ++ (b ++ (c ++ (d ++ (e ++ (f ++ (g ++ (h ++ (i ++ j)))))))))
+ten_flat of a b c d e f g h i j =
+    ap (λ more. flat_map of a ++ more)
+    (ap (λ more. flat_map of b ++ more)
+    (ap (λ more. flat_map of c ++ more)
+    (ap (λ more. flat_map of d ++ more)
+    (ap (λ more. flat_map of e ++ more)
+    (ap (λ more. flat_map of f ++ more)
+    (ap (λ more. flat_map of g ++ more)
+    (ap (λ more. flat_map of h ++ more) (ap (λ more. flat_map of i ++ more) (append-nil (flat_map of j)) ∙ sym (flat_two of i (j)))
+    ∙ sym (flat_two of h (i ++ j)))
+    ∙ sym (flat_two of g (h ++ (i ++ j))))
+    ∙ sym (flat_two of f (g ++ (h ++ (i ++ j)))))
+    ∙ sym (flat_two of e (f ++ (g ++ (h ++ (i ++ j))))))
+    ∙ sym (flat_two of d (e ++ (f ++ (g ++ (h ++ (i ++ j)))))))
+    ∙ sym (flat_two of c (d ++ (e ++ (f ++ (g ++ (h ++ (i ++ j))))))))
+    ∙ sym (flat_two of b (c ++ (d ++ (e ++ (f ++ (g ++ (h ++ (i ++ j)))))))))
+    ∙ sym (flat_two of a (b ++ (c ++ (d ++ (e ++ (f ++ (g ++ (h ++ (i ++ j)))))))))
 
-eight_lists : {a b c d e f g h a' b' c' d' e' f' g' h' : List LineForm} → a ≡ a' → b ≡ b' → c ≡ c' → d ≡ d' → e ≡ e' → f ≡ f' → g ≡ g' → h ≡ h' → a ++ (b ++ (c ++ (d ++ (e ++ (f ++ (g ++ (h ++ []))))))) ≡ a' ++ (b' ++ (c' ++ (d' ++ (e' ++ (f' ++ (g' ++ (h' ++ [])))))))
+eight_lists : {a b c d e f g h a' b' c' d' e' f' g' h' : List LineForm} → a ≡ a' → b ≡ b' → c ≡ c' → d ≡ d' → e ≡ e' → f ≡ f' → g ≡ g' → h ≡ h'
+    → a ++ (b ++ (c ++ (d ++ (e ++ (f ++ (g ++ (h ++ []))))))) ≡ a' ++ (b' ++ (c' ++ (d' ++ (e' ++ (f' ++ (g' ++ (h' ++ [])))))))
 eight_lists pa pb pc pd pe pf pg ph = rw (pa, pb, pc, pd, pe, pf, pg, ph) refl
 
-eight_flat : {P : Type 0} (of : P → List LineForm) (a b c d e f g h : List P) → flat_map of a ++ (flat_map of b ++ (flat_map of c ++ (flat_map of d ++ (flat_map of e ++ (flat_map of f ++ (flat_map of g ++ (flat_map of h ++ []))))))) ≡ flat_map of (a ++ (b ++ (c ++ (d ++ (e ++ (f ++ (g ++ h)))))))
-eight_flat of a b c d e f g h = ap (λ more. flat_map of a ++ more) (ap (λ more. flat_map of b ++ more) (ap (λ more. flat_map of c ++ more) (ap (λ more. flat_map of d ++ more) (ap (λ more. flat_map of e ++ more) (ap (λ more. flat_map of f ++ more) (ap (λ more. flat_map of g ++ more) (append-nil (flat_map of h)) ∙ sym (flat_two of g (h))) ∙ sym (flat_two of f (g ++ h))) ∙ sym (flat_two of e (f ++ (g ++ h)))) ∙ sym (flat_two of d (e ++ (f ++ (g ++ h))))) ∙ sym (flat_two of c (d ++ (e ++ (f ++ (g ++ h)))))) ∙ sym (flat_two of b (c ++ (d ++ (e ++ (f ++ (g ++ h))))))) ∙ sym (flat_two of a (b ++ (c ++ (d ++ (e ++ (f ++ (g ++ h)))))))
+eight_flat : {P : Type 0} (of : P → List LineForm) (a b c d e f g h : List P)
+    → flat_map of a ++ (flat_map of b ++ (flat_map of c ++ (flat_map of d ++ (flat_map of e ++ (flat_map of f ++ (flat_map of g ++ (flat_map of h ++ [])))))))
+    ≡ flat_map of (a ++ (b ++ (c ++ (d ++ (e ++ (f ++ (g ++ h)))))))
+eight_flat of a b c d e f g h =
+    ap (λ more. flat_map of a ++ more)
+    (ap (λ more. flat_map of b ++ more)
+    (ap (λ more. flat_map of c ++ more)
+    (ap (λ more. flat_map of d ++ more)
+    (ap (λ more. flat_map of e ++ more)
+    (ap (λ more. flat_map of f ++ more) (ap (λ more. flat_map of g ++ more) (append-nil (flat_map of h)) ∙ sym (flat_two of g (h)))
+    ∙ sym (flat_two of f (g ++ h)))
+    ∙ sym (flat_two of e (f ++ (g ++ h))))
+    ∙ sym (flat_two of d (e ++ (f ++ (g ++ h)))))
+    ∙ sym (flat_two of c (d ++ (e ++ (f ++ (g ++ h))))))
+    ∙ sym (flat_two of b (c ++ (d ++ (e ++ (f ++ (g ++ h)))))))
+    ∙ sym (flat_two of a (b ++ (c ++ (d ++ (e ++ (f ++ (g ++ h)))))))
 
 -- ---- The parts of a unit, kind by kind
 
@@ -64,9 +110,11 @@ at_most_one : {A : Type 0} (x : A) (xs : List A) → length (x ∷ xs) ≤ 1 →
 at_most_one x [] few = refl
 at_most_one x (y ∷ xs) few = absurd (omega arith)
 
-resolution_is : (name : List ℕ) (all : List UnitPart) → length (filter (λ part. unit_part_rank part == 0) all) ≤ 1 → filter (λ part. unit_part_rank part == 0) all ≡ optional parts.Resolution (unit_of name all).resolution
+resolution_is : (name : List ℕ) (all : List UnitPart) → length (filter (λ part. unit_part_rank part == 0) all) ≤ 1
+    → filter (λ part. unit_part_rank part == 0) all ≡ optional parts.Resolution (unit_of name all).resolution
 resolution_is name [] few = refl
-resolution_is name (parts.Resolution decimals ∷ all) few = ap (λ rest. parts.Resolution decimals ∷ rest) (at_most_one (parts.Resolution decimals) (filter (λ part. unit_part_rank part == 0) all) few)
+resolution_is name (parts.Resolution decimals ∷ all) few =
+    ap (λ rest. parts.Resolution decimals ∷ rest) (at_most_one (parts.Resolution decimals) (filter (λ part. unit_part_rank part == 0) all) few)
 resolution_is name (parts.HasParam param ∷ all) few = resolution_is name all few
 resolution_is name (parts.HasState state ∷ all) few = resolution_is name all few
 resolution_is name (parts.HasLocal local ∷ all) few = resolution_is name all few
@@ -168,7 +216,8 @@ events_out_are name (parts.HasEventOut event ∷ all) = ap (λ rest. parts.HasEv
 events_out_are name (parts.Max value ∷ all) = events_out_are name all
 events_out_are name (parts.Step lines ∷ all) = events_out_are name all
 
-max_is : (name : List ℕ) (all : List UnitPart) → length (filter (λ part. unit_part_rank part == 8) all) ≤ 1 → filter (λ part. unit_part_rank part == 8) all ≡ optional parts.Max (unit_of name all).max
+max_is : (name : List ℕ) (all : List UnitPart) → length (filter (λ part. unit_part_rank part == 8) all) ≤ 1
+    → filter (λ part. unit_part_rank part == 8) all ≡ optional parts.Max (unit_of name all).max
 max_is name [] few = refl
 max_is name (parts.Resolution decimals ∷ all) few = max_is name all few
 max_is name (parts.HasParam param ∷ all) few = max_is name all few
@@ -178,10 +227,12 @@ max_is name (parts.HasInput input ∷ all) few = max_is name all few
 max_is name (parts.HasEventIn event ∷ all) few = max_is name all few
 max_is name (parts.HasOutput output ∷ all) few = max_is name all few
 max_is name (parts.HasEventOut event ∷ all) few = max_is name all few
-max_is name (parts.Max value ∷ all) few = ap (λ rest. parts.Max value ∷ rest) (at_most_one (parts.Max value) (filter (λ part. unit_part_rank part == 8) all) few)
+max_is name (parts.Max value ∷ all) few =
+    ap (λ rest. parts.Max value ∷ rest) (at_most_one (parts.Max value) (filter (λ part. unit_part_rank part == 8) all) few)
 max_is name (parts.Step lines ∷ all) few = max_is name all few
 
-step_is : (name : List ℕ) (all : List UnitPart) → length (filter (λ part. unit_part_rank part == 9) all) ≤ 1 → filter (λ part. unit_part_rank part == 9) all ≡ optional parts.Step (unit_of name all).step
+step_is : (name : List ℕ) (all : List UnitPart) → length (filter (λ part. unit_part_rank part == 9) all) ≤ 1
+    → filter (λ part. unit_part_rank part == 9) all ≡ optional parts.Step (unit_of name all).step
 step_is name [] few = refl
 step_is name (parts.Resolution decimals ∷ all) few = step_is name all few
 step_is name (parts.HasParam param ∷ all) few = step_is name all few
@@ -192,7 +243,8 @@ step_is name (parts.HasEventIn event ∷ all) few = step_is name all few
 step_is name (parts.HasOutput output ∷ all) few = step_is name all few
 step_is name (parts.HasEventOut event ∷ all) few = step_is name all few
 step_is name (parts.Max value ∷ all) few = step_is name all few
-step_is name (parts.Step lines ∷ all) few = ap (λ rest. parts.Step lines ∷ rest) (at_most_one (parts.Step lines) (filter (λ part. unit_part_rank part == 9) all) few)
+step_is name (parts.Step lines ∷ all) few =
+    ap (λ rest. parts.Step lines ∷ rest) (at_most_one (parts.Step lines) (filter (λ part. unit_part_rank part == 9) all) few)
 
 -- What a unit says of itself once.
 record UnitSaysOnce (all : List UnitPart) : Type 0 where
@@ -200,13 +252,28 @@ record UnitSaysOnce (all : List UnitPart) : Type 0 where
   max : length (filter (λ part. unit_part_rank part == 8) all) ≤ 1
   step : length (filter (λ part. unit_part_rank part == 9) all) ≤ 1
 
-unit_in_order : (name : List ℕ) (all : List UnitPart) (extra : List LineForm) → UnitSaysOnce all → unit_lines_in_order all (flat_map unit_part_forms all ++ extra) ≡ flat_map unit_part_forms (unit_parts (unit_of name all))
+unit_in_order : (name : List ℕ) (all : List UnitPart) (extra : List LineForm) → UnitSaysOnce all
+    → unit_lines_in_order all (flat_map unit_part_forms all ++ extra) ≡ flat_map unit_part_forms (unit_parts (unit_of name all))
 unit_in_order name all extra once =
     let unit = unit_of name all in
     ap (by_rank (0 ∷ 1 ∷ 2 ∷ 3 ∷ 4 ∷ 5 ∷ 6 ∷ 7 ∷ 8 ∷ 9 ∷ [])) (own_lines unit_part_rank unit_part_forms (λ part inside. inside) all extra)
-    ∙ ten_lists (of_own unit_part_rank unit_part_forms all 0 ∙ ap (flat_map unit_part_forms) (resolution_is name all once.resolution)) (of_own unit_part_rank unit_part_forms all 1 ∙ ap (flat_map unit_part_forms) (params_are name all)) (of_own unit_part_rank unit_part_forms all 2 ∙ ap (flat_map unit_part_forms) (states_are name all)) (of_own unit_part_rank unit_part_forms all 3 ∙ ap (flat_map unit_part_forms) (locals_are name all)) (of_own unit_part_rank unit_part_forms all 4 ∙ ap (flat_map unit_part_forms) (inputs_are name all)) (of_own unit_part_rank unit_part_forms all 5 ∙ ap (flat_map unit_part_forms) (events_in_are name all)) (of_own unit_part_rank unit_part_forms all 6 ∙ ap (flat_map unit_part_forms) (outputs_are name all)) (of_own unit_part_rank unit_part_forms all 7 ∙ ap (flat_map unit_part_forms) (events_out_are name all)) (of_own unit_part_rank unit_part_forms all 8 ∙ ap (flat_map unit_part_forms) (max_is name all once.max)) (of_own unit_part_rank unit_part_forms all 9 ∙ ap (flat_map unit_part_forms) (step_is name all once.step))
-    ∙ ten_flat unit_part_forms (optional parts.Resolution unit.resolution) (map parts.HasParam unit.params) (map parts.HasState unit.states) (map parts.HasLocal unit.locals) (map parts.HasInput unit.inputs) (map parts.HasEventIn unit.events_in) (map parts.HasOutput unit.outputs) (map parts.HasEventOut unit.events_out) (optional parts.Max unit.max) (optional parts.Step unit.step)
-    ∙ ap (flat_map unit_part_forms) (sym (grouped_ten (optional parts.Resolution unit.resolution) (map parts.HasParam unit.params) (map parts.HasState unit.states) (map parts.HasLocal unit.locals) (map parts.HasInput unit.inputs) (map parts.HasEventIn unit.events_in) (map parts.HasOutput unit.outputs) (map parts.HasEventOut unit.events_out) (optional parts.Max unit.max) (optional parts.Step unit.step)))
+    ∙ ten_lists (of_own unit_part_rank unit_part_forms all 0 ∙ ap (flat_map unit_part_forms) (resolution_is name all once.resolution))
+    (of_own unit_part_rank unit_part_forms all 1 ∙ ap (flat_map unit_part_forms) (params_are name all))
+    (of_own unit_part_rank unit_part_forms all 2 ∙ ap (flat_map unit_part_forms) (states_are name all))
+    (of_own unit_part_rank unit_part_forms all 3 ∙ ap (flat_map unit_part_forms) (locals_are name all))
+    (of_own unit_part_rank unit_part_forms all 4 ∙ ap (flat_map unit_part_forms) (inputs_are name all))
+    (of_own unit_part_rank unit_part_forms all 5 ∙ ap (flat_map unit_part_forms) (events_in_are name all))
+    (of_own unit_part_rank unit_part_forms all 6 ∙ ap (flat_map unit_part_forms) (outputs_are name all))
+    (of_own unit_part_rank unit_part_forms all 7 ∙ ap (flat_map unit_part_forms) (events_out_are name all))
+    (of_own unit_part_rank unit_part_forms all 8 ∙ ap (flat_map unit_part_forms) (max_is name all once.max))
+    (of_own unit_part_rank unit_part_forms all 9 ∙ ap (flat_map unit_part_forms) (step_is name all once.step))
+    ∙ ten_flat unit_part_forms (optional parts.Resolution unit.resolution) (map parts.HasParam unit.params) (map parts.HasState unit.states)
+    (map parts.HasLocal unit.locals) (map parts.HasInput unit.inputs) (map parts.HasEventIn unit.events_in) (map parts.HasOutput unit.outputs)
+    (map parts.HasEventOut unit.events_out) (optional parts.Max unit.max) (optional parts.Step unit.step)
+    ∙ ap (flat_map unit_part_forms)
+    (sym (grouped_ten (optional parts.Resolution unit.resolution) (map parts.HasParam unit.params) (map parts.HasState unit.states)
+    (map parts.HasLocal unit.locals) (map parts.HasInput unit.inputs) (map parts.HasEventIn unit.events_in) (map parts.HasOutput unit.outputs)
+    (map parts.HasEventOut unit.events_out) (optional parts.Max unit.max) (optional parts.Step unit.step)))
 
 -- ---- The parts of a text, kind by kind
 
@@ -230,10 +297,13 @@ ordered part = part_lines_in_order part (part_forms part)
 abbrev unit_part : Unit → Part
 unit_part unit = parts.HasUnit unit.name (unit_parts unit)
 
-ordered_unit : (name : List ℕ) (inside : List UnitPart) → UnitSaysOnce inside → ordered (parts.HasUnit name inside) ≡ part_forms (unit_part (unit_of name inside))
+ordered_unit : (name : List ℕ) (inside : List UnitPart) → UnitSaysOnce inside
+    → ordered (parts.HasUnit name inside) ≡ part_forms (unit_part (unit_of name inside))
 ordered_unit name inside once =
-    ap (λ lines. form.Unit name ∷ lines ++ drop (length (flat_map unit_part_forms inside)) (flat_map unit_part_forms inside ++ (form.End ∷ []))) (unit_in_order name inside (form.End ∷ []) once)
-    ∙ ap (λ end. form.Unit name ∷ flat_map unit_part_forms (unit_parts (unit_of name inside)) ++ end) (drop-append_seam (flat_map unit_part_forms inside) (form.End ∷ []))
+    ap (λ lines. form.Unit name ∷ lines ++ drop (length (flat_map unit_part_forms inside)) (flat_map unit_part_forms inside ++ (form.End ∷ [])))
+    (unit_in_order name inside (form.End ∷ []) once)
+    ∙ ap (λ end. form.Unit name ∷ flat_map unit_part_forms (unit_parts (unit_of name inside)) ++ end)
+    (drop-append_seam (flat_map unit_part_forms inside) (form.End ∷ []))
     ∙ ap (λ called. form.Unit called ∷ flat_map unit_part_forms (unit_parts (unit_of name inside)) ++ (form.End ∷ [])) (sym (unit_name name inside))
 
 abbrev UnitsSayOnce : List Part → Type 0
@@ -247,7 +317,8 @@ UnitsSayOnce (parts.Zero count ∷ all) = UnitsSayOnce all
 UnitsSayOnce (parts.Rows count ∷ all) = UnitsSayOnce all
 UnitsSayOnce (parts.Samples port ∷ all) = UnitsSayOnce all
 
-units_in_order : (version : ℕ) (all : List Part) → UnitsSayOnce all → flat_map ordered (filter (λ part. part_rank part == 0) all) ≡ flat_map part_forms (map unit_part (system_of version all).units)
+units_in_order : (version : ℕ) (all : List Part) → UnitsSayOnce all
+    → flat_map ordered (filter (λ part. part_rank part == 0) all) ≡ flat_map part_forms (map unit_part (system_of version all).units)
 units_in_order version [] once = refl
 units_in_order version (parts.HasUnit name inside ∷ all) once =
     ap (λ lines. lines ++ flat_map ordered (filter (λ part. part_rank part == 0) all)) (ordered_unit name inside once.0)
@@ -290,12 +361,14 @@ wires_ordered : (given : List _) → flat_map ordered (map parts.Connects given)
 wires_ordered [] = refl
 wires_ordered (x ∷ given) = ap (λ rest. part_forms (parts.Connects x) ++ rest) (wires_ordered given)
 
-stop_is : (version : ℕ) (all : List Part) → length (filter (λ part. part_rank part == 3) all) ≤ 1 → filter (λ part. part_rank part == 3) all ≡ optional parts.Stop (system_of version all).stop
+stop_is : (version : ℕ) (all : List Part) → length (filter (λ part. part_rank part == 3) all) ≤ 1
+    → filter (λ part. part_rank part == 3) all ≡ optional parts.Stop (system_of version all).stop
 stop_is version [] few = refl
 stop_is version (parts.HasUnit name inside ∷ all) few = stop_is version all few
 stop_is version (parts.HasInstance instance ∷ all) few = stop_is version all few
 stop_is version (parts.Connects wire ∷ all) few = stop_is version all few
-stop_is version (parts.Stop seconds ∷ all) few = ap (λ rest. parts.Stop seconds ∷ rest) (at_most_one (parts.Stop seconds) (filter (λ part. part_rank part == 3) all) few)
+stop_is version (parts.Stop seconds ∷ all) few =
+    ap (λ rest. parts.Stop seconds ∷ rest) (at_most_one (parts.Stop seconds) (filter (λ part. part_rank part == 3) all) few)
 stop_is version (parts.Longest seconds ∷ all) few = stop_is version all few
 stop_is version (parts.Zero count ∷ all) few = stop_is version all few
 stop_is version (parts.Rows count ∷ all) few = stop_is version all few
@@ -305,13 +378,15 @@ stop_ordered : (given : Option _) → flat_map ordered (optional parts.Stop give
 stop_ordered None = refl
 stop_ordered (Some x) = refl
 
-longest_is : (version : ℕ) (all : List Part) → length (filter (λ part. part_rank part == 4) all) ≤ 1 → filter (λ part. part_rank part == 4) all ≡ optional parts.Longest (system_of version all).longest
+longest_is : (version : ℕ) (all : List Part) → length (filter (λ part. part_rank part == 4) all) ≤ 1
+    → filter (λ part. part_rank part == 4) all ≡ optional parts.Longest (system_of version all).longest
 longest_is version [] few = refl
 longest_is version (parts.HasUnit name inside ∷ all) few = longest_is version all few
 longest_is version (parts.HasInstance instance ∷ all) few = longest_is version all few
 longest_is version (parts.Connects wire ∷ all) few = longest_is version all few
 longest_is version (parts.Stop seconds ∷ all) few = longest_is version all few
-longest_is version (parts.Longest seconds ∷ all) few = ap (λ rest. parts.Longest seconds ∷ rest) (at_most_one (parts.Longest seconds) (filter (λ part. part_rank part == 4) all) few)
+longest_is version (parts.Longest seconds ∷ all) few =
+    ap (λ rest. parts.Longest seconds ∷ rest) (at_most_one (parts.Longest seconds) (filter (λ part. part_rank part == 4) all) few)
 longest_is version (parts.Zero count ∷ all) few = longest_is version all few
 longest_is version (parts.Rows count ∷ all) few = longest_is version all few
 longest_is version (parts.Samples port ∷ all) few = longest_is version all few
@@ -320,14 +395,16 @@ longest_ordered : (given : Option _) → flat_map ordered (optional parts.Longes
 longest_ordered None = refl
 longest_ordered (Some x) = refl
 
-zero_is : (version : ℕ) (all : List Part) → length (filter (λ part. part_rank part == 5) all) ≤ 1 → filter (λ part. part_rank part == 5) all ≡ optional parts.Zero (system_of version all).zero
+zero_is : (version : ℕ) (all : List Part) → length (filter (λ part. part_rank part == 5) all) ≤ 1
+    → filter (λ part. part_rank part == 5) all ≡ optional parts.Zero (system_of version all).zero
 zero_is version [] few = refl
 zero_is version (parts.HasUnit name inside ∷ all) few = zero_is version all few
 zero_is version (parts.HasInstance instance ∷ all) few = zero_is version all few
 zero_is version (parts.Connects wire ∷ all) few = zero_is version all few
 zero_is version (parts.Stop seconds ∷ all) few = zero_is version all few
 zero_is version (parts.Longest seconds ∷ all) few = zero_is version all few
-zero_is version (parts.Zero count ∷ all) few = ap (λ rest. parts.Zero count ∷ rest) (at_most_one (parts.Zero count) (filter (λ part. part_rank part == 5) all) few)
+zero_is version (parts.Zero count ∷ all) few =
+    ap (λ rest. parts.Zero count ∷ rest) (at_most_one (parts.Zero count) (filter (λ part. part_rank part == 5) all) few)
 zero_is version (parts.Rows count ∷ all) few = zero_is version all few
 zero_is version (parts.Samples port ∷ all) few = zero_is version all few
 
@@ -335,7 +412,8 @@ zero_ordered : (given : Option _) → flat_map ordered (optional parts.Zero give
 zero_ordered None = refl
 zero_ordered (Some x) = refl
 
-rows_is : (version : ℕ) (all : List Part) → length (filter (λ part. part_rank part == 6) all) ≤ 1 → filter (λ part. part_rank part == 6) all ≡ optional parts.Rows (system_of version all).rows
+rows_is : (version : ℕ) (all : List Part) → length (filter (λ part. part_rank part == 6) all) ≤ 1
+    → filter (λ part. part_rank part == 6) all ≡ optional parts.Rows (system_of version all).rows
 rows_is version [] few = refl
 rows_is version (parts.HasUnit name inside ∷ all) few = rows_is version all few
 rows_is version (parts.HasInstance instance ∷ all) few = rows_is version all few
@@ -343,7 +421,8 @@ rows_is version (parts.Connects wire ∷ all) few = rows_is version all few
 rows_is version (parts.Stop seconds ∷ all) few = rows_is version all few
 rows_is version (parts.Longest seconds ∷ all) few = rows_is version all few
 rows_is version (parts.Zero count ∷ all) few = rows_is version all few
-rows_is version (parts.Rows count ∷ all) few = ap (λ rest. parts.Rows count ∷ rest) (at_most_one (parts.Rows count) (filter (λ part. part_rank part == 6) all) few)
+rows_is version (parts.Rows count ∷ all) few =
+    ap (λ rest. parts.Rows count ∷ rest) (at_most_one (parts.Rows count) (filter (λ part. part_rank part == 6) all) few)
 rows_is version (parts.Samples port ∷ all) few = rows_is version all few
 
 rows_ordered : (given : Option _) → flat_map ordered (optional parts.Rows given) ≡ flat_map part_forms (optional parts.Rows given)
@@ -387,12 +466,25 @@ record TextSaysOnce (all : List Part) : Type 0 where
 text_in_order : (version : ℕ) (all : List Part) → TextSaysOnce all → in_canonical_order all (text_forms version all) ≡ canonical_forms (system_of version all)
 text_in_order version all once =
     let system = system_of version all in
-    ap (λ lines. form.Header version ∷ by_rank (0 ∷ 1 ∷ 2 ∷ 3 ∷ 4 ∷ 5 ∷ 6 ∷ 7 ∷ []) (each_ranked part_rank (λ part. length (part_forms part)) part_lines_in_order all lines)) (sym (append-nil (flat_map part_forms all)))
+    ap (λ lines. form.Header version
+    ∷ by_rank (0 ∷ 1 ∷ 2 ∷ 3 ∷ 4 ∷ 5 ∷ 6 ∷ 7 ∷ []) (each_ranked part_rank (λ part. length (part_forms part)) part_lines_in_order all lines))
+    (sym (append-nil (flat_map part_forms all)))
     ∙ ap (λ lists. form.Header version ∷ by_rank (0 ∷ 1 ∷ 2 ∷ 3 ∷ 4 ∷ 5 ∷ 6 ∷ 7 ∷ []) lists) (own_lines part_rank part_forms part_lines_in_order all [])
     ∙ ap (λ lines. form.Header version ∷ lines) (
-    eight_lists (of_own part_rank ordered all 0 ∙ units_in_order version all once.units) (of_own part_rank ordered all 1 ∙ ap (flat_map ordered) (instances_are version all) ∙ instances_ordered system.instances) (of_own part_rank ordered all 2 ∙ ap (flat_map ordered) (wires_are version all) ∙ wires_ordered system.wires) (of_own part_rank ordered all 3 ∙ ap (flat_map ordered) (stop_is version all once.stop) ∙ stop_ordered system.stop) (of_own part_rank ordered all 4 ∙ ap (flat_map ordered) (longest_is version all once.longest) ∙ longest_ordered system.longest) (of_own part_rank ordered all 5 ∙ ap (flat_map ordered) (zero_is version all once.zero) ∙ zero_ordered system.zero) (of_own part_rank ordered all 6 ∙ ap (flat_map ordered) (rows_is version all once.rows) ∙ rows_ordered system.rows) (of_own part_rank ordered all 7 ∙ ap (flat_map ordered) (samples_are version all) ∙ samples_ordered system.samples)
-    ∙ eight_flat part_forms (map unit_part system.units) (map parts.HasInstance system.instances) (map parts.Connects system.wires) (optional parts.Stop system.stop) (optional parts.Longest system.longest) (optional parts.Zero system.zero) (optional parts.Rows system.rows) (map parts.Samples system.samples)
-    ∙ ap (flat_map part_forms) (sym (grouped (map unit_part system.units) (map parts.HasInstance system.instances) (map parts.Connects system.wires) (optional parts.Stop system.stop) (optional parts.Longest system.longest) (optional parts.Zero system.zero) (optional parts.Rows system.rows) (map parts.Samples system.samples))))
+    eight_lists (of_own part_rank ordered all 0 ∙ units_in_order version all once.units)
+    (of_own part_rank ordered all 1 ∙ ap (flat_map ordered) (instances_are version all) ∙ instances_ordered system.instances)
+    (of_own part_rank ordered all 2 ∙ ap (flat_map ordered) (wires_are version all) ∙ wires_ordered system.wires)
+    (of_own part_rank ordered all 3 ∙ ap (flat_map ordered) (stop_is version all once.stop) ∙ stop_ordered system.stop)
+    (of_own part_rank ordered all 4 ∙ ap (flat_map ordered) (longest_is version all once.longest) ∙ longest_ordered system.longest)
+    (of_own part_rank ordered all 5 ∙ ap (flat_map ordered) (zero_is version all once.zero) ∙ zero_ordered system.zero)
+    (of_own part_rank ordered all 6 ∙ ap (flat_map ordered) (rows_is version all once.rows) ∙ rows_ordered system.rows)
+    (of_own part_rank ordered all 7 ∙ ap (flat_map ordered) (samples_are version all) ∙ samples_ordered system.samples)
+    ∙ eight_flat part_forms (map unit_part system.units) (map parts.HasInstance system.instances) (map parts.Connects system.wires)
+    (optional parts.Stop system.stop) (optional parts.Longest system.longest) (optional parts.Zero system.zero) (optional parts.Rows system.rows)
+    (map parts.Samples system.samples)
+    ∙ ap (flat_map part_forms)
+    (sym (grouped (map unit_part system.units) (map parts.HasInstance system.instances) (map parts.Connects system.wires) (optional parts.Stop system.stop)
+    (optional parts.Longest system.longest) (optional parts.Zero system.zero) (optional parts.Rows system.rows) (map parts.Samples system.samples))))
     ∙ ap (λ v. form.Header v ∷ flat_map part_forms (canonical_parts system)) (sym (version_is version all))
 
 -- ---- Lines that stand where they may
@@ -407,11 +499,13 @@ in_text_is : (before : Before) (lines : List LineForm) → (and_lines before lin
 in_text_is before [] = sym (append-nil before.in_text)
 in_text_is before (x ∷ lines) = in_text_is (and_line before x) lines ∙ append_assoc before.in_text (x ∷ []) lines
 
-inside_unit_by : (test : Bool) (before : Before) (x : LineForm) → opens_unit x ≡ test → not test ≡ true → (and_line before x).in_unit ≡ before.in_unit ++ (x ∷ [])
+inside_unit_by : (test : Bool) (before : Before) (x : LineForm) → opens_unit x ≡ test → not test ≡ true
+    → (and_line before x).in_unit ≡ before.in_unit ++ (x ∷ [])
 inside_unit_by true before x is told = absurd (cc told)
 inside_unit_by false before x is told = rw is refl
 
-in_unit_is : (before : Before) (lines : List LineForm) → list_all (λ line. not (opens_unit line)) lines ≡ true → (and_lines before lines).in_unit ≡ before.in_unit ++ lines
+in_unit_is : (before : Before) (lines : List LineForm) → list_all (λ line. not (opens_unit line)) lines ≡ true
+    → (and_lines before lines).in_unit ≡ before.in_unit ++ lines
 in_unit_is before [] none = sym (append-nil before.in_unit)
 in_unit_is before (x ∷ lines) none =
     let both = and_parts (not (opens_unit x)) (list_all (λ line. not (opens_unit line)) lines) none in
@@ -463,7 +557,9 @@ part_opens_none (parts.HasEventIn event) = refl
 part_opens_none (parts.HasOutput output) = refl
 part_opens_none (parts.HasEventOut event) = refl
 part_opens_none (parts.Max value) = refl
-part_opens_none (parts.Step lines) = all_of_two (λ line. not (opens_unit line)) (flat_map line_forms lines) (form.End ∷ []) (steps_open_none (flat_map line_forms lines) (all_step_lines lines)) refl
+part_opens_none (parts.Step lines) =
+    all_of_two (λ line. not (opens_unit line)) (flat_map line_forms lines) (form.End ∷ [])
+    (steps_open_none (flat_map line_forms lines) (all_step_lines lines)) refl
 
 any_of_two : (test : LineForm → Bool) (xs ys : List LineForm) → list_any test xs ≡ true → list_any test (xs ++ ys) ≡ true
 any_of_two test [] ys told = absurd (cc told)
@@ -486,33 +582,49 @@ any_behind test (x ∷ xs) ys told = let later : list_any test (xs ++ ys) ≡ tr
 record StandsOnce {P : Type 0} (rank : P → ℕ) (forms : P → List LineForm) (kind : ℕ) (key : LineForm → Bool) (seen : Before → List LineForm) : Type 0 where
   keeps : (before : Before) (part : P) → seen (and_lines before (forms part)) ≡ seen before ++ forms part
   shows : (part : P) → (rank part == kind) ≡ true → list_any key (forms part) ≡ true
-  blocked : (before : Before) (part : P) (rest : List LineForm) → (rank part == kind) ≡ true → are_placed before (forms part ++ rest) ≡ true → list_any key (seen before) ≡ false
+  blocked : (before : Before) (part : P) (rest : List LineForm) → (rank part == kind) ≡ true → are_placed before (forms part ++ rest) ≡ true
+      → list_any key (seen before) ≡ false
 
 -- The lines of the parts behind the first one, in what stands.
-behind_first : {P : Type 0} (forms : P → List LineForm) (before : Before) (part : P) (all : List P) (extra : List LineForm) → are_placed before (flat_map forms (part ∷ all) ++ extra) ≡ true → are_placed before (forms part ++ (flat_map forms all ++ extra)) ≡ true
+behind_first : {P : Type 0} (forms : P → List LineForm) (before : Before) (part : P) (all : List P) (extra : List LineForm)
+    → are_placed before (flat_map forms (part ∷ all) ++ extra) ≡ true → are_placed before (forms part ++ (flat_map forms all ++ extra)) ≡ true
 behind_first forms before part all extra placed = subst (λ lines. are_placed before lines ≡ true) (append_assoc (forms part) (flat_map forms all) extra) placed
 
-no_more_by : {P : Type 0} {rank : P → ℕ} {forms : P → List LineForm} {kind : ℕ} {key : LineForm → Bool} {seen : Before → List LineForm} (rule : StandsOnce rank forms kind key seen) (test : Bool) (before : Before) (part : P) (all : List P) (extra : List LineForm) → (rank part == kind) ≡ test → are_placed before (forms part ++ (flat_map forms all ++ extra)) ≡ true → list_any key (seen before) ≡ true → filter (λ p. rank p == kind) all ≡ [] → filter (λ p. rank p == kind) (part ∷ all) ≡ []
-no_more_by {forms = forms} rule true before part all extra is placed told rest = let blocked = rule.blocked before part (flat_map forms all ++ extra) is placed in absurd (cc (told, blocked))
+no_more_by : {P : Type 0} {rank : P → ℕ} {forms : P → List LineForm} {kind : ℕ} {key : LineForm → Bool} {seen : Before → List LineForm}
+    (rule : StandsOnce rank forms kind key seen) (test : Bool) (before : Before) (part : P) (all : List P) (extra : List LineForm)
+    → (rank part == kind) ≡ test → are_placed before (forms part ++ (flat_map forms all ++ extra)) ≡ true → list_any key (seen before) ≡ true
+    → filter (λ p. rank p == kind) all ≡ [] → filter (λ p. rank p == kind) (part ∷ all) ≡ []
+no_more_by {forms = forms} rule true before part all extra is placed told rest = let blocked =
+    rule.blocked before part (flat_map forms all ++ extra) is placed in
+    absurd (cc (told, blocked))
 no_more_by rule false before part all extra is placed told rest = rw is rest
 
-no_more : {P : Type 0} {rank : P → ℕ} {forms : P → List LineForm} {kind : ℕ} {key : LineForm → Bool} {seen : Before → List LineForm} (rule : StandsOnce rank forms kind key seen) (before : Before) (all : List P) (extra : List LineForm) → are_placed before (flat_map forms all ++ extra) ≡ true → list_any key (seen before) ≡ true → filter (λ p. rank p == kind) all ≡ []
+no_more : {P : Type 0} {rank : P → ℕ} {forms : P → List LineForm} {kind : ℕ} {key : LineForm → Bool} {seen : Before → List LineForm}
+    (rule : StandsOnce rank forms kind key seen) (before : Before) (all : List P) (extra : List LineForm)
+    → are_placed before (flat_map forms all ++ extra) ≡ true → list_any key (seen before) ≡ true → filter (λ p. rank p == kind) all ≡ []
 no_more rule before [] extra placed told = refl
 no_more {rank = rank} {forms = forms} {kind = kind} {key = key} {seen = seen} rule before (part ∷ all) extra placed told =
     let here = behind_first forms before part all extra placed in
     no_more_by rule (rank part == kind) before part all extra refl here told
-    (no_more rule (and_lines before (forms part)) all extra (placed_behind before (forms part) (flat_map forms all ++ extra) here) (subst (λ all_seen. list_any key all_seen ≡ true) (sym (rule.keeps before part)) (any_of_two key (seen before) (forms part) told)))
+    (no_more rule (and_lines before (forms part)) all extra (placed_behind before (forms part) (flat_map forms all ++ extra) here)
+    (subst (λ all_seen. list_any key all_seen ≡ true) (sym (rule.keeps before part)) (any_of_two key (seen before) (forms part) told)))
 
-one_at_most_by : {P : Type 0} (test : Bool) (rank : P → ℕ) (kind : ℕ) (part : P) (all : List P) → (rank part == kind) ≡ test → ((rank part == kind) ≡ true → filter (λ p. rank p == kind) all ≡ []) → length (filter (λ p. rank p == kind) all) ≤ 1 → length (filter (λ p. rank p == kind) (part ∷ all)) ≤ 1
+one_at_most_by : {P : Type 0} (test : Bool) (rank : P → ℕ) (kind : ℕ) (part : P) (all : List P) → (rank part == kind) ≡ test
+    → ((rank part == kind) ≡ true → filter (λ p. rank p == kind) all ≡ []) → length (filter (λ p. rank p == kind) all) ≤ 1
+    → length (filter (λ p. rank p == kind) (part ∷ all)) ≤ 1
 one_at_most_by true rank kind part all is none few = let empty = none is in rw (is, empty) (omega arith)
 one_at_most_by false rank kind part all is none few = rw is few
 
-one_at_most : {P : Type 0} {rank : P → ℕ} {forms : P → List LineForm} {kind : ℕ} {key : LineForm → Bool} {seen : Before → List LineForm} (rule : StandsOnce rank forms kind key seen) (before : Before) (all : List P) (extra : List LineForm) → are_placed before (flat_map forms all ++ extra) ≡ true → length (filter (λ p. rank p == kind) all) ≤ 1
+one_at_most : {P : Type 0} {rank : P → ℕ} {forms : P → List LineForm} {kind : ℕ} {key : LineForm → Bool} {seen : Before → List LineForm}
+    (rule : StandsOnce rank forms kind key seen) (before : Before) (all : List P) (extra : List LineForm)
+    → are_placed before (flat_map forms all ++ extra) ≡ true → length (filter (λ p. rank p == kind) all) ≤ 1
 one_at_most rule before [] extra placed = omega arith
 one_at_most {rank = rank} {forms = forms} {kind = kind} {key = key} {seen = seen} rule before (part ∷ all) extra placed =
     let here = behind_first forms before part all extra placed in
     let later = placed_behind before (forms part) (flat_map forms all ++ extra) here in
-    one_at_most_by (rank part == kind) rank kind part all refl (λ is. no_more rule (and_lines before (forms part)) all extra later (subst (λ all_seen. list_any key all_seen ≡ true) (sym (rule.keeps before part)) (any_behind key (seen before) (forms part) (rule.shows part is))))
+    one_at_most_by (rank part == kind) rank kind part all refl
+    (λ is. no_more rule (and_lines before (forms part)) all extra later
+    (subst (λ all_seen. list_any key all_seen ≡ true) (sym (rule.keeps before part)) (any_behind key (seen before) (forms part) (rule.shows part is))))
     (one_at_most rule (and_lines before (forms part)) all extra later)
 
 -- A line that may stand has no rival.
@@ -538,7 +650,8 @@ resolution_shows (parts.HasEventOut event) is = absurd (cc is)
 resolution_shows (parts.Max value) is = absurd (cc is)
 resolution_shows (parts.Step lines) is = absurd (cc is)
 
-resolution_blocked : (before : Before) (part : UnitPart) (rest : List LineForm) → (unit_part_rank part == 0) ≡ true → are_placed before (unit_part_forms part ++ rest) ≡ true → list_any (are_alike (form.Resolution 0)) before.in_unit ≡ false
+resolution_blocked : (before : Before) (part : UnitPart) (rest : List LineForm) → (unit_part_rank part == 0) ≡ true
+    → are_placed before (unit_part_forms part ++ rest) ≡ true → list_any (are_alike (form.Resolution 0)) before.in_unit ≡ false
 resolution_blocked before (parts.Resolution decimals) rest is placed = no_rival before (form.Resolution decimals) _ placed
 resolution_blocked before (parts.HasParam param) rest is placed = absurd (cc is)
 resolution_blocked before (parts.HasState state) rest is placed = absurd (cc is)
@@ -551,7 +664,8 @@ resolution_blocked before (parts.Max value) rest is placed = absurd (cc is)
 resolution_blocked before (parts.Step lines) rest is placed = absurd (cc is)
 
 resolution_once : StandsOnce unit_part_rank unit_part_forms 0 (are_alike (form.Resolution 0)) (λ before. before.in_unit)
-resolution_once = record { keeps = λ before part. in_unit_is before (unit_part_forms part) (part_opens_none part); shows = resolution_shows; blocked = resolution_blocked }
+resolution_once =
+    record { keeps = λ before part. in_unit_is before (unit_part_forms part) (part_opens_none part); shows = resolution_shows; blocked = resolution_blocked }
 
 max_shows : (part : UnitPart) → (unit_part_rank part == 8) ≡ true → list_any (are_alike (form.Max expr.Time)) (unit_part_forms part) ≡ true
 max_shows (parts.Resolution decimals) is = absurd (cc is)
@@ -565,7 +679,8 @@ max_shows (parts.HasEventOut event) is = absurd (cc is)
 max_shows (parts.Max value) is = refl
 max_shows (parts.Step lines) is = absurd (cc is)
 
-max_blocked : (before : Before) (part : UnitPart) (rest : List LineForm) → (unit_part_rank part == 8) ≡ true → are_placed before (unit_part_forms part ++ rest) ≡ true → list_any (are_alike (form.Max expr.Time)) before.in_unit ≡ false
+max_blocked : (before : Before) (part : UnitPart) (rest : List LineForm) → (unit_part_rank part == 8) ≡ true
+    → are_placed before (unit_part_forms part ++ rest) ≡ true → list_any (are_alike (form.Max expr.Time)) before.in_unit ≡ false
 max_blocked before (parts.Resolution decimals) rest is placed = absurd (cc is)
 max_blocked before (parts.HasParam param) rest is placed = absurd (cc is)
 max_blocked before (parts.HasState state) rest is placed = absurd (cc is)
@@ -592,7 +707,8 @@ step_shows (parts.HasEventOut event) is = absurd (cc is)
 step_shows (parts.Max value) is = absurd (cc is)
 step_shows (parts.Step lines) is = refl
 
-step_blocked : (before : Before) (part : UnitPart) (rest : List LineForm) → (unit_part_rank part == 9) ≡ true → are_placed before (unit_part_forms part ++ rest) ≡ true → list_any (are_alike form.Step) before.in_unit ≡ false
+step_blocked : (before : Before) (part : UnitPart) (rest : List LineForm) → (unit_part_rank part == 9) ≡ true
+    → are_placed before (unit_part_forms part ++ rest) ≡ true → list_any (are_alike form.Step) before.in_unit ≡ false
 step_blocked before (parts.Resolution decimals) rest is placed = absurd (cc is)
 step_blocked before (parts.HasParam param) rest is placed = absurd (cc is)
 step_blocked before (parts.HasState state) rest is placed = absurd (cc is)
@@ -617,7 +733,8 @@ stop_shows (parts.Zero count) is = absurd (cc is)
 stop_shows (parts.Rows count) is = absurd (cc is)
 stop_shows (parts.Samples port) is = absurd (cc is)
 
-stop_blocked : (before : Before) (part : Part) (rest : List LineForm) → (part_rank part == 3) ≡ true → are_placed before (part_forms part ++ rest) ≡ true → list_any (are_alike (form.Stop (literal.Truth true))) before.in_text ≡ false
+stop_blocked : (before : Before) (part : Part) (rest : List LineForm) → (part_rank part == 3) ≡ true → are_placed before (part_forms part ++ rest) ≡ true
+    → list_any (are_alike (form.Stop (literal.Truth true))) before.in_text ≡ false
 stop_blocked before (parts.HasUnit name inside) rest is placed = absurd (cc is)
 stop_blocked before (parts.HasInstance instance) rest is placed = absurd (cc is)
 stop_blocked before (parts.Connects wire) rest is placed = absurd (cc is)
@@ -640,7 +757,8 @@ longest_shows (parts.Zero count) is = absurd (cc is)
 longest_shows (parts.Rows count) is = absurd (cc is)
 longest_shows (parts.Samples port) is = absurd (cc is)
 
-longest_blocked : (before : Before) (part : Part) (rest : List LineForm) → (part_rank part == 4) ≡ true → are_placed before (part_forms part ++ rest) ≡ true → list_any (are_alike (form.Longest (literal.Truth true))) before.in_text ≡ false
+longest_blocked : (before : Before) (part : Part) (rest : List LineForm) → (part_rank part == 4) ≡ true → are_placed before (part_forms part ++ rest) ≡ true
+    → list_any (are_alike (form.Longest (literal.Truth true))) before.in_text ≡ false
 longest_blocked before (parts.HasUnit name inside) rest is placed = absurd (cc is)
 longest_blocked before (parts.HasInstance instance) rest is placed = absurd (cc is)
 longest_blocked before (parts.Connects wire) rest is placed = absurd (cc is)
@@ -663,7 +781,8 @@ zero_shows (parts.Zero count) is = refl
 zero_shows (parts.Rows count) is = absurd (cc is)
 zero_shows (parts.Samples port) is = absurd (cc is)
 
-zero_blocked : (before : Before) (part : Part) (rest : List LineForm) → (part_rank part == 5) ≡ true → are_placed before (part_forms part ++ rest) ≡ true → list_any (are_alike (form.Zero 0)) before.in_text ≡ false
+zero_blocked : (before : Before) (part : Part) (rest : List LineForm) → (part_rank part == 5) ≡ true → are_placed before (part_forms part ++ rest) ≡ true
+    → list_any (are_alike (form.Zero 0)) before.in_text ≡ false
 zero_blocked before (parts.HasUnit name inside) rest is placed = absurd (cc is)
 zero_blocked before (parts.HasInstance instance) rest is placed = absurd (cc is)
 zero_blocked before (parts.Connects wire) rest is placed = absurd (cc is)
@@ -686,7 +805,8 @@ rows_shows (parts.Zero count) is = absurd (cc is)
 rows_shows (parts.Rows count) is = refl
 rows_shows (parts.Samples port) is = absurd (cc is)
 
-rows_blocked : (before : Before) (part : Part) (rest : List LineForm) → (part_rank part == 6) ≡ true → are_placed before (part_forms part ++ rest) ≡ true → list_any (are_alike (form.Rows 0)) before.in_text ≡ false
+rows_blocked : (before : Before) (part : Part) (rest : List LineForm) → (part_rank part == 6) ≡ true → are_placed before (part_forms part ++ rest) ≡ true
+    → list_any (are_alike (form.Rows 0)) before.in_text ≡ false
 rows_blocked before (parts.HasUnit name inside) rest is placed = absurd (cc is)
 rows_blocked before (parts.HasInstance instance) rest is placed = absurd (cc is)
 rows_blocked before (parts.Connects wire) rest is placed = absurd (cc is)
@@ -699,10 +819,15 @@ rows_blocked before (parts.Samples port) rest is placed = absurd (cc is)
 rows_once : StandsOnce part_rank part_forms 6 (are_alike (form.Rows 0)) (λ before. before.in_text)
 rows_once = record { keeps = λ before part. in_text_is before (part_forms part); shows = rows_shows; blocked = rows_blocked }
 
-unit_says_once : (before : Before) (name : List ℕ) (inside : List UnitPart) (rest : List LineForm) → are_placed before (part_forms (parts.HasUnit name inside) ++ rest) ≡ true → UnitSaysOnce inside
+unit_says_once : (before : Before) (name : List ℕ) (inside : List UnitPart) (rest : List LineForm)
+    → are_placed before (part_forms (parts.HasUnit name inside) ++ rest) ≡ true → UnitSaysOnce inside
 unit_says_once before name inside rest placed =
-    let behind_name = (and_parts (may_stand before (form.Unit name)) (are_placed (and_line before (form.Unit name)) ((flat_map unit_part_forms inside ++ (form.End ∷ [])) ++ rest)) placed).1 in
-    let here = subst (λ lines. are_placed (and_line before (form.Unit name)) lines ≡ true) (append_assoc (flat_map unit_part_forms inside) (form.End ∷ []) rest) behind_name in
+    let behind_name =
+    (and_parts (may_stand before (form.Unit name))
+    (are_placed (and_line before (form.Unit name)) ((flat_map unit_part_forms inside ++ (form.End ∷ [])) ++ rest)) placed).1 in
+    let here =
+    subst (λ lines. are_placed (and_line before (form.Unit name)) lines ≡ true)
+    (append_assoc (flat_map unit_part_forms inside) (form.End ∷ []) rest) behind_name in
     record {
       resolution = one_at_most resolution_once (and_line before (form.Unit name)) inside (form.End ∷ rest) here;
       max = one_at_most max_once (and_line before (form.Unit name)) inside (form.End ∷ rest) here;
@@ -712,21 +837,47 @@ unit_says_once before name inside rest placed =
 units_say_once : (before : Before) (all : List Part) (extra : List LineForm) → are_placed before (flat_map part_forms all ++ extra) ≡ true → UnitsSayOnce all
 units_say_once before [] extra placed = _
 units_say_once before (parts.HasUnit name inside ∷ all) extra placed =
-    let here = behind_first part_forms before (parts.HasUnit name inside) all extra placed in
-    (unit_says_once before name inside (flat_map part_forms all ++ extra) here, units_say_once (and_lines before (part_forms (parts.HasUnit name inside))) all extra (placed_behind before (part_forms (parts.HasUnit name inside)) (flat_map part_forms all ++ extra) here))
-units_say_once before (parts.HasInstance instance ∷ all) extra placed = units_say_once (and_lines before (part_forms (parts.HasInstance instance))) all extra (placed_behind before (part_forms (parts.HasInstance instance)) (flat_map part_forms all ++ extra) (behind_first part_forms before (parts.HasInstance instance) all extra placed))
-units_say_once before (parts.Connects wire ∷ all) extra placed = units_say_once (and_lines before (part_forms (parts.Connects wire))) all extra (placed_behind before (part_forms (parts.Connects wire)) (flat_map part_forms all ++ extra) (behind_first part_forms before (parts.Connects wire) all extra placed))
-units_say_once before (parts.Stop seconds ∷ all) extra placed = units_say_once (and_lines before (part_forms (parts.Stop seconds))) all extra (placed_behind before (part_forms (parts.Stop seconds)) (flat_map part_forms all ++ extra) (behind_first part_forms before (parts.Stop seconds) all extra placed))
-units_say_once before (parts.Longest seconds ∷ all) extra placed = units_say_once (and_lines before (part_forms (parts.Longest seconds))) all extra (placed_behind before (part_forms (parts.Longest seconds)) (flat_map part_forms all ++ extra) (behind_first part_forms before (parts.Longest seconds) all extra placed))
-units_say_once before (parts.Zero count ∷ all) extra placed = units_say_once (and_lines before (part_forms (parts.Zero count))) all extra (placed_behind before (part_forms (parts.Zero count)) (flat_map part_forms all ++ extra) (behind_first part_forms before (parts.Zero count) all extra placed))
-units_say_once before (parts.Rows count ∷ all) extra placed = units_say_once (and_lines before (part_forms (parts.Rows count))) all extra (placed_behind before (part_forms (parts.Rows count)) (flat_map part_forms all ++ extra) (behind_first part_forms before (parts.Rows count) all extra placed))
-units_say_once before (parts.Samples port ∷ all) extra placed = units_say_once (and_lines before (part_forms (parts.Samples port))) all extra (placed_behind before (part_forms (parts.Samples port)) (flat_map part_forms all ++ extra) (behind_first part_forms before (parts.Samples port) all extra placed))
+    let here = behind_first part_forms before (parts.HasUnit name inside) all extra placed in (
+      unit_says_once before name inside (flat_map part_forms all ++ extra) here,
+      units_say_once (and_lines before (part_forms (parts.HasUnit name inside))) all extra
+          (placed_behind before (part_forms (parts.HasUnit name inside)) (flat_map part_forms all ++ extra) here),
+    )
+units_say_once before (parts.HasInstance instance ∷ all) extra placed =
+    units_say_once (and_lines before (part_forms (parts.HasInstance instance))) all extra
+    (placed_behind before (part_forms (parts.HasInstance instance)) (flat_map part_forms all ++ extra)
+    (behind_first part_forms before (parts.HasInstance instance) all extra placed))
+units_say_once before (parts.Connects wire ∷ all) extra placed =
+    units_say_once (and_lines before (part_forms (parts.Connects wire))) all extra
+    (placed_behind before (part_forms (parts.Connects wire)) (flat_map part_forms all ++ extra)
+    (behind_first part_forms before (parts.Connects wire) all extra placed))
+units_say_once before (parts.Stop seconds ∷ all) extra placed =
+    units_say_once (and_lines before (part_forms (parts.Stop seconds))) all extra
+    (placed_behind before (part_forms (parts.Stop seconds)) (flat_map part_forms all ++ extra)
+    (behind_first part_forms before (parts.Stop seconds) all extra placed))
+units_say_once before (parts.Longest seconds ∷ all) extra placed =
+    units_say_once (and_lines before (part_forms (parts.Longest seconds))) all extra
+    (placed_behind before (part_forms (parts.Longest seconds)) (flat_map part_forms all ++ extra)
+    (behind_first part_forms before (parts.Longest seconds) all extra placed))
+units_say_once before (parts.Zero count ∷ all) extra placed =
+    units_say_once (and_lines before (part_forms (parts.Zero count))) all extra
+    (placed_behind before (part_forms (parts.Zero count)) (flat_map part_forms all ++ extra)
+    (behind_first part_forms before (parts.Zero count) all extra placed))
+units_say_once before (parts.Rows count ∷ all) extra placed =
+    units_say_once (and_lines before (part_forms (parts.Rows count))) all extra
+    (placed_behind before (part_forms (parts.Rows count)) (flat_map part_forms all ++ extra)
+    (behind_first part_forms before (parts.Rows count) all extra placed))
+units_say_once before (parts.Samples port ∷ all) extra placed =
+    units_say_once (and_lines before (part_forms (parts.Samples port))) all extra
+    (placed_behind before (part_forms (parts.Samples port)) (flat_map part_forms all ++ extra)
+    (behind_first part_forms before (parts.Samples port) all extra placed))
 
-pub forms_are : (version : ℕ) (all : List Part) → IsTrue (are_placed no_lines (text_forms version all)) → in_canonical_order all (text_forms version all) ≡ canonical_forms (system_of version all)
+pub forms_are : (version : ℕ) (all : List Part) → IsTrue (are_placed no_lines (text_forms version all))
+    → in_canonical_order all (text_forms version all) ≡ canonical_forms (system_of version all)
 forms_are version all placed =
     let before = and_line no_lines (form.Header version) in
     let behind_header = (and_parts (may_stand no_lines (form.Header version)) (are_placed before (flat_map part_forms all)) placed).1 in
-    let here : are_placed before (flat_map part_forms all ++ []) ≡ true = subst (λ lines. are_placed before lines ≡ true) (sym (append-nil (flat_map part_forms all))) behind_header in
+    let here : are_placed before (flat_map part_forms all ++ []) ≡ true =
+    subst (λ lines. are_placed before lines ≡ true) (sym (append-nil (flat_map part_forms all))) behind_header in
     text_in_order version all (record {
       stop = one_at_most stop_once before all [] here;
       longest = one_at_most longest_once before all [] here;

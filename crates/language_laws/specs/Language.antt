@@ -30,13 +30,15 @@ pub record IsJudgedOnce : Type 0 where
 pub record SitesAreCanonicalLines : Type 0 where
   pub lines : (system : System) → map (λ site. site.line) (sites_of system) ≡ canonical_forms system
   pub blocks : (system : System) (before later : List Site) (site : Site) → sites_of system ≡ before ++ (site ∷ later) → StandsBehind system before site
-  pub scopes : (system : System) (before later : List Site) (site : Site) → sites_of system ≡ before ++ (site ∷ later) → IsTrue (is_scope_in (open_blocks (map (λ one. one.line) before)) site.scope site.line)
+  pub scopes : (system : System) (before later : List Site) (site : Site) → sites_of system ≡ before ++ (site ∷ later)
+      → IsTrue (is_scope_in (open_blocks (map (λ one. one.line) before)) site.scope site.line)
 
 -- For a system of version 2 the lines of the plain form that its lines become are, one behind the other, the canonical
 -- lines of the plain form; what is sampled stays as it was written.
 abbrev pub PlainLinesAreThose : Type 0
 PlainLinesAreThose =
-    (system : System) → system.version ≡ 2 → flat_map (λ site. plain_forms system site.scope site.line) (sites_of system) ≡ canonical_forms (record (plain_form system) { samples = system.samples })
+    (system : System) → system.version ≡ 2
+    → flat_map (λ site. plain_forms system site.scope site.line) (sites_of system) ≡ canonical_forms (record (plain_form system) { samples = system.samples })
 
 -- The canonical parts of a system say this system.
 abbrev pub CanonicalPartsSayTheSystem : Type 0
@@ -59,13 +61,16 @@ pub record CyclesHaveNoOrder : Type 0 where
 
 -- Each output of a well-formed system has its canonical line, at which the rule of cycles can name it.
 abbrev pub OutputsHaveLines : Type 0
-OutputsHaveLines = (system : System) (port : PortName) → IsWellFormed system → IsIn (outputs_of system) port → (line : ℕ) × (line_of_output system port ≡ Some line)
+OutputsHaveLines = (system : System) (port : PortName) → IsWellFormed system → IsIn (outputs_of system) port
+    → (line : ℕ) × (line_of_output system port ≡ Some line)
 
 -- The lines of parts that stand where they may, put into canonical order, are the canonical lines of what the parts say; and
 -- the numbers of a text's lines are put into this order each once.
 pub record SourceLinesAreRight : Type 0 where
-  pub forms : (version : ℕ) (parts : List Part) → IsTrue (are_placed no_lines (text_forms version parts)) → in_canonical_order parts (text_forms version parts) ≡ canonical_forms (system_of version parts)
-  pub each_once : (version : ℕ) (parts : List Part) (lines : List ℕ) → length lines ≡ length (text_forms version parts) → IsPermutation (in_canonical_order parts lines) lines
+  pub forms : (version : ℕ) (parts : List Part) → IsTrue (are_placed no_lines (text_forms version parts))
+      → in_canonical_order parts (text_forms version parts) ≡ canonical_forms (system_of version parts)
+  pub each_once : (version : ℕ) (parts : List Part) (lines : List ℕ) → length lines ≡ length (text_forms version parts)
+      → IsPermutation (in_canonical_order parts lines) lines
 
 -- A text is refused at one line and by one rule at most.
 abbrev pub IsRefusedOnce : Type 0

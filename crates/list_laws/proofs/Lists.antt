@@ -1,5 +1,6 @@
 -- What holds of each element of a list.
-use Rattle.std.proofs.Common.{◌≡◌, ℕ, zero, suc, ◌+◌, ◌<◌, ◌≤◌, Bool, true, false, List, [], ◌∷◌, ◌++◌, map, length, Option, Some, None, Result, Ok, Err, inl, inr, refl, ap, sym, subst, ◌∙◌, ◌⊎◌, arith}
+use Rattle.std.proofs.Common.{◌≡◌, ℕ, zero, suc, ◌+◌, ◌<◌, ◌≤◌, Bool, true, false, List, [], ◌∷◌, ◌++◌, map, length, Option, Some, None, Result, Ok, Err, inl}
+use Rattle.std.proofs.Common.{inr, refl, ap, sym, subst, ◌∙◌, ◌⊎◌, arith}
 use Rattle.std.specs.Prelude.{⊤, ◌&&◌}
 use Rattle.std.specs.List.{AllByRecursion, flat_map, list_all}
 use Rattle.std.proofs.lemmas.Bool.{and_parts}
@@ -20,7 +21,8 @@ pub back_of : {A : Type 0} (P : A → Type 0) (xs ys : List A) → AllByRecursio
 back_of P [] ys all = all
 back_of P (x ∷ xs) ys all = back_of P xs ys all.1
 
-pub of_flat : {A B : Type 0} (P : B → Type 0) (f : A → List B) (xs : List A) → AllByRecursion P (flat_map f xs) → AllByRecursion (λ x. AllByRecursion P (f x)) xs
+pub of_flat : {A B : Type 0} (P : B → Type 0) (f : A → List B) (xs : List A) → AllByRecursion P (flat_map f xs)
+    → AllByRecursion (λ x. AllByRecursion P (f x)) xs
 of_flat P f [] all = _
 of_flat P f (x ∷ xs) all = (front_of P (f x) (flat_map f xs) all, of_flat P f xs (back_of P (f x) (flat_map f xs) all))
 

@@ -1,5 +1,6 @@
 -- Two lists side by side.
-use Rattle.std.proofs.Common.{◌≡◌, ℕ, zero, suc, ◌+◌, ◌<◌, ◌≤◌, Bool, true, false, List, [], ◌∷◌, ◌++◌, map, length, Option, Some, None, Result, Ok, Err, inl, inr, refl, ap, sym, subst, ◌∙◌, ◌⊎◌, arith}
+use Rattle.std.proofs.Common.{◌≡◌, ℕ, zero, suc, ◌+◌, ◌<◌, ◌≤◌, Bool, true, false, List, [], ◌∷◌, ◌++◌, map, length, Option, Some, None, Result, Ok, Err, inl}
+use Rattle.std.proofs.Common.{inr, refl, ap, sym, subst, ◌∙◌, ◌⊎◌, arith}
 use Rattle.std.specs.Prelude.{⊤, slice_get, get_or, set}
 use Rattle.std.specs.List.{AllZip}
 
@@ -18,9 +19,11 @@ pub zip_at : {A B : Type 0} (R : A → B → Type 0) (xs : List A) (ys : List B)
 zip_at R [] ys k x all is = absurd (cc)
 zip_at R (first ∷ xs) [] k x all is = absurd all
 zip_at R (first ∷ xs) (y ∷ ys) zero x all is = let same : first ≡ x = cc in record { other = y; is = refl; related = subst (λ z. R z y) same all.0 }
-zip_at R (first ∷ xs) (y ∷ ys) (suc k) x all is = let later = zip_at R xs ys k x all.1 is in record { other = later.other; is = later.is; related = later.related }
+zip_at R (first ∷ xs) (y ∷ ys) (suc k) x all is = let later = zip_at R xs ys k x all.1 is in
+    record { other = later.other; is = later.is; related = later.related }
 
-pub zip_set : {A B : Type 0} (R : A → B → Type 0) (xs : List A) (ys : List B) (k : ℕ) (default y : B) → AllZip R xs ys → ((x : A) → R x (get_or ys k default) → R x y) → AllZip R xs (set ys k y)
+pub zip_set : {A B : Type 0} (R : A → B → Type 0) (xs : List A) (ys : List B) (k : ℕ) (default y : B) → AllZip R xs ys
+    → ((x : A) → R x (get_or ys k default) → R x y) → AllZip R xs (set ys k y)
 zip_set R [] [] k default y all one = tt
 zip_set R [] (first ∷ ys) k default y all one = absurd all
 zip_set R (x ∷ xs) [] k default y all one = absurd all

@@ -1,5 +1,6 @@
 -- Step lines keep words in their types, and accept at most the whole step.
-use Rattle.std.proofs.Common.{◌≡◌, ℕ, zero, suc, ◌≤◌, cond, Bool, true, false, ◌⊎◌, ℤ, pos, negsuc, List, [], ◌∷◌, ◌++◌, map, length, take, drop, Option, Some, None, Result, Ok, Err, append_assoc, inl, inr, refl, ap, sym, subst, ◌∙◌, arith}
+use Rattle.std.proofs.Common.{◌≡◌, ℕ, zero, suc, ◌≤◌, cond, Bool, true, false, ◌⊎◌, ℤ, pos, negsuc, List, [], ◌∷◌, ◌++◌, map, length, take, drop, Option, Some}
+use Rattle.std.proofs.Common.{None, Result, Ok, Err, append_assoc, inl, inr, refl, ap, sym, subst, ◌∙◌, arith}
 use Rattle.std.specs.Prelude.{⊤, int_le, unsigned_abs}
 use Rattle.std.specs.List.{AllByRecursion}
 use Rattle.std.specs.Option.{IfSome}
@@ -53,12 +54,14 @@ kept_same [] words = refl
 kept_same (first ∷ variables) [] = refl
 kept_same (first ∷ variables) (word ∷ words) = (inl refl, kept_same variables words)
 
-pub kept_one : (first : Variable) (old between new : ℤ) → (between ≡ old) ⊎ (is_word_of first.ty between ≡ true) → (new ≡ between) ⊎ (is_word_of first.ty new ≡ true) → (new ≡ old) ⊎ (is_word_of first.ty new ≡ true)
+pub kept_one : (first : Variable) (old between new : ℤ) → (between ≡ old) ⊎ (is_word_of first.ty between ≡ true)
+    → (new ≡ between) ⊎ (is_word_of first.ty new ≡ true) → (new ≡ old) ⊎ (is_word_of first.ty new ≡ true)
 kept_one first old between new one (inr fits) = inr fits
 kept_one first old between new (inl same) (inl is) = inl (is ∙ same)
 kept_one first old between new (inr fits) (inl is) = inr (ap (is_word_of first.ty) is ∙ fits)
 
-pub kept_both : (variables : List Variable) (olds betweens news : List ℤ) → Kept variables olds betweens → Kept variables betweens news → Kept variables olds news
+pub kept_both : (variables : List Variable) (olds betweens news : List ℤ) → Kept variables olds betweens → Kept variables betweens news
+    → Kept variables olds news
 kept_both [] olds betweens news one other = other ∙ one
 kept_both (first ∷ variables) [] [] news one other = other
 kept_both (first ∷ variables) [] (between ∷ betweens) news one other = absurd (cc)
@@ -68,7 +71,10 @@ kept_both (first ∷ variables) (old ∷ olds) (between ∷ betweens) (new ∷ n
     (kept_one first old between new one.0 other.0, kept_both variables olds betweens news one.1 other.1)
 
 -- With whether the first variable has the name, and whether the word is one of its type.
-pub stored_by : (named fits : Bool) (first : Variable) (variables : List Variable) (old : ℤ) (words changed : List ℤ) (name : List ℕ) (word : ℤ) → is_word_of first.ty word ≡ fits → ((rest : List ℤ) → stored variables words name word ≡ Ok rest → Kept variables words rest) → cond named (cond fits (Ok (word ∷ words)) (Err Range)) (stored variables words name word >>= λ rest. Ok (old ∷ rest)) ≡ Ok changed → Kept (first ∷ variables) (old ∷ words) changed
+pub stored_by : (named fits : Bool) (first : Variable) (variables : List Variable) (old : ℤ) (words changed : List ℤ) (name : List ℕ) (word : ℤ)
+    → is_word_of first.ty word ≡ fits → ((rest : List ℤ) → stored variables words name word ≡ Ok rest → Kept variables words rest)
+    → cond named (cond fits (Ok (word ∷ words)) (Err Range)) (stored variables words name word >>= λ rest. Ok (old ∷ rest)) ≡ Ok changed
+    → Kept (first ∷ variables) (old ∷ words) changed
 stored_by true true first variables old words changed name word is later done =
     let same : word ∷ words ≡ changed = cc in
     subst (Kept (first ∷ variables) (old ∷ words)) same (inr is, kept_same variables words)
@@ -77,11 +83,13 @@ stored_by false fits first variables old words changed name word is later done =
     let rest = bound (stored variables words name word) (λ rest. Ok (old ∷ rest)) changed done in
     subst (Kept (first ∷ variables) (old ∷ words)) (done_is (old ∷ rest.between) changed rest.then_is) (inl refl, later rest.between rest.was)
 
-pub stored_keeps : (variables : List Variable) (words changed : List ℤ) (name : List ℕ) (word : ℤ) → stored variables words name word ≡ Ok changed → Kept variables words changed
+pub stored_keeps : (variables : List Variable) (words changed : List ℤ) (name : List ℕ) (word : ℤ) → stored variables words name word ≡ Ok changed
+    → Kept variables words changed
 stored_keeps [] words changed name word is = cc
 stored_keeps (first ∷ variables) [] changed name word is = cc
 stored_keeps (first ∷ variables) (old ∷ words) changed name word is =
-    stored_by (bytes_eq first.name name) (is_word_of first.ty word) first variables old words changed name word refl (λ rest. stored_keeps variables words rest name word) is
+    stored_by (bytes_eq first.name name) (is_word_of first.ty word) first variables old words changed name word refl
+    (λ rest. stored_keeps variables words rest name word) is
 
 -- ---- Effects
 
@@ -101,7 +109,8 @@ env_same env = record { variables = refl; words = kept_same env.variables env.wo
 pub env_both : (env between after : Environment) → KeepsEnv env between → KeepsEnv between after → KeepsEnv env after
 env_both env between after one other = record {
   variables = other.variables ∙ one.variables;
-  words = kept_both env.variables env.words between.words after.words one.words (subst (λ variables. Kept variables between.words after.words) one.variables other.words);
+  words = kept_both env.variables env.words between.words after.words one.words
+      (subst (λ variables. Kept variables between.words after.words) one.variables other.words);
   step = other.step ∙ one.step;
   accepted = λ within. other.accepted (one.accepted within);
 }
@@ -144,7 +153,8 @@ length_within (negsuc k) step within =
     differ is = cc
 
 -- With whether the length is allowed.
-pub accepting_by : (allowed : Bool) (length : ℤ) (env after : Environment) → is_between (pos 0) (pos env.step) length ≡ allowed → cond allowed (Ok (record env { accepted = unsigned_abs length })) (Err Accept) ≡ Ok after → KeepsEnv env after
+pub accepting_by : (allowed : Bool) (length : ℤ) (env after : Environment) → is_between (pos 0) (pos env.step) length ≡ allowed
+    → cond allowed (Ok (record env { accepted = unsigned_abs length })) (Err Accept) ≡ Ok after → KeepsEnv env after
 accepting_by true length env after within is =
     env_is env (record env { accepted = unsigned_abs length }) after is (record {
       variables = refl;
@@ -163,7 +173,9 @@ otherwise_keeps (Some effects) all env after is = in_sequence_keeps effects all 
 
 -- ---- Lines
 
-pub branch_keeps : (told : Bool) (then_lines : List Effect) (else_lines : Option (List Effect)) → AllByRecursion Keeps then_lines → IfSome else_lines (AllByRecursion Keeps) → (env after : Environment) → cond told (in_sequence then_lines env) (otherwise else_lines env) ≡ Ok after → KeepsEnv env after
+pub branch_keeps : (told : Bool) (then_lines : List Effect) (else_lines : Option (List Effect)) → AllByRecursion Keeps then_lines
+    → IfSome else_lines (AllByRecursion Keeps) → (env after : Environment) → cond told (in_sequence then_lines env) (otherwise else_lines env) ≡ Ok after
+    → KeepsEnv env after
 branch_keeps true then_lines else_lines on_then on_else env after is = in_sequence_keeps then_lines on_then env after is
 branch_keeps false then_lines else_lines on_then on_else env after is = otherwise_keeps else_lines on_else env after is
 
@@ -223,18 +235,21 @@ lines_keep lines = in_sequence_keeps (map effect_of lines) (all_keep lines)
 
 -- ---- States
 
-pub kept_behind : (front variables : List Variable) (words olds news : List ℤ) → length words ≡ length front → Kept (front ++ variables) (words ++ olds) news → Kept variables olds (drop (length words) news)
+pub kept_behind : (front variables : List Variable) (words olds news : List ℤ) → length words ≡ length front → Kept (front ++ variables) (words ++ olds) news
+    → Kept variables olds (drop (length words) news)
 kept_behind [] variables [] olds news same kept = kept
 kept_behind [] variables (word ∷ words) olds news same kept = absurd (omega (arith, same))
 kept_behind (first ∷ front) variables [] olds news same kept = absurd (omega (arith, same))
 kept_behind (first ∷ front) variables (word ∷ words) olds [] same kept = absurd kept
 kept_behind (first ∷ front) variables (word ∷ words) olds (new ∷ news) same kept = kept_behind front variables words olds news (omega (arith, same)) kept.1
 
-pub fits_still : (state : State) (old new : ℤ) → is_word_of state.ty old ≡ true → (new ≡ old) ⊎ (is_word_of state.ty new ≡ true) → is_word_of state.ty new ≡ true
+pub fits_still : (state : State) (old new : ℤ) → is_word_of state.ty old ≡ true → (new ≡ old) ⊎ (is_word_of state.ty new ≡ true)
+    → is_word_of state.ty new ≡ true
 fits_still state old new fits (inl same) = ap (is_word_of state.ty) same ∙ fits
 fits_still state old new fits (inr is) = is
 
-pub states_keep : (states : List State) (variables : List Variable) (words olds news : List ℤ) → AreWordsOf states words → Kept (map (λ state. variable state.name state.ty) states ++ variables) (words ++ olds) news → AreWordsOf states (take (length states) news)
+pub states_keep : (states : List State) (variables : List Variable) (words olds news : List ℤ) → AreWordsOf states words
+    → Kept (map (λ state. variable state.name state.ty) states ++ variables) (words ++ olds) news → AreWordsOf states (take (length states) news)
 states_keep [] variables words olds news are kept = tt
 states_keep (state ∷ states) variables [] olds news are kept = absurd are
 states_keep (state ∷ states) variables (word ∷ words) olds [] are kept = absurd kept
@@ -244,7 +259,9 @@ states_keep (state ∷ states) variables (word ∷ words) olds (new ∷ news) ar
 pub four_lists : {A : Type 0} (one two three four : List A) → ((one ++ two) ++ three) ++ four ≡ one ++ (two ++ (three ++ four))
 four_lists one two three four = append_assoc (one ++ two) three four ∙ append_assoc one two (three ++ four)
 
-pub moved_keeps : (lines : Option (List Line)) (component : Component) (state inputs : List ℤ) (time step : ℕ) (moved : Moved) → length component.params ≡ length component.unit.params → AreWordsOf component.unit.states state → moved_by lines component state (environment_of component state inputs time step) ≡ Ok moved → KeepsWords component step moved
+pub moved_keeps : (lines : Option (List Line)) (component : Component) (state inputs : List ℤ) (time step : ℕ) (moved : Moved)
+    → length component.params ≡ length component.unit.params → AreWordsOf component.unit.states state
+    → moved_by lines component state (environment_of component state inputs time step) ≡ Ok moved → KeepsWords component step moved
 moved_keeps None component state inputs time step moved one_each are is =
     let same : record { state = state; accepted = step } ≡ moved = cc in
     subst (KeepsWords component step) same (record { words = are; accepted = omega arith })
@@ -253,20 +270,29 @@ moved_keeps (Some lines) component state inputs time step moved one_each are is 
     let after = bound (effect_of_lines lines env) (λ after. Ok (record { state = state_in component after; accepted = after.accepted })) moved is in
     let keeps : KeepsEnv env after.between = lines_keep lines env after.between after.was in
     let names : List Variable = map (λ param. variable param.name param.ty) component.unit.params in
-    let others : List Variable = map (λ input. variable input.name input.ty) component.unit.inputs ++ map (λ local. variable local.name local.ty) component.unit.locals in
+    let others : List Variable =
+    map (λ input. variable input.name input.ty) component.unit.inputs ++ map (λ local. variable local.name local.ty) component.unit.locals in
     let behind : List ℤ = inputs ++ map (λ local. pos 0) component.unit.locals in
     let front : length component.params ≡ length names = one_each ∙ sym (length-map component.unit.params (λ param. variable param.name param.ty)) in
-    let all : Kept (names ++ (map (λ state. variable state.name state.ty) component.unit.states ++ others)) (component.params ++ (state ++ behind)) after.between.words =
-    subst (λ words. Kept (names ++ (map (λ state. variable state.name state.ty) component.unit.states ++ others)) words after.between.words) (four_lists component.params state inputs (map (λ local. pos 0) component.unit.locals))
-    (subst (λ variables. Kept variables env.words after.between.words) (four_lists names (map (λ state. variable state.name state.ty) component.unit.states) (map (λ input. variable input.name input.ty) component.unit.inputs) (map (λ local. variable local.name local.ty) component.unit.locals)) keeps.words) in
-    let kept : Kept (map (λ state. variable state.name state.ty) component.unit.states ++ others) (state ++ behind) (drop (length component.params) after.between.words) =
-    kept_behind names (map (λ state. variable state.name state.ty) component.unit.states ++ others) component.params (state ++ behind) after.between.words front all in
+    let all : Kept (names ++ (map (λ state. variable state.name state.ty) component.unit.states ++ others))
+    (component.params ++ (state ++ behind)) after.between.words =
+    subst (λ words. Kept (names ++ (map (λ state. variable state.name state.ty) component.unit.states ++ others)) words after.between.words)
+    (four_lists component.params state inputs (map (λ local. pos 0) component.unit.locals))
+    (subst (λ variables. Kept variables env.words after.between.words)
+    (four_lists names (map (λ state. variable state.name state.ty) component.unit.states) (map (λ input. variable input.name input.ty) component.unit.inputs)
+    (map (λ local. variable local.name local.ty) component.unit.locals)) keeps.words) in
+    let kept : Kept (map (λ state. variable state.name state.ty) component.unit.states ++ others) (state ++ behind)
+    (drop (length component.params) after.between.words) =
+    kept_behind names (map (λ state. variable state.name state.ty) component.unit.states ++ others) component.params
+    (state ++ behind) after.between.words front all in
     let whole : after.between.accepted ≤ after.between.step = keeps.accepted (omega arith) in
     let same_step : after.between.step ≡ step = keeps.step in
-    subst (KeepsWords component step) (done_is (record { state = state_in component after.between; accepted = after.between.accepted }) moved after.then_is) (record {
+    subst (KeepsWords component step) (done_is (record { state = state_in component after.between; accepted = after.between.accepted }) moved after.then_is)
+    (record {
       words = states_keep component.unit.states others state behind (drop (length component.params) after.between.words) are kept;
       accepted = omega arith;
     })
 
-pub step_keeps : (component : Component) (state inputs : List ℤ) (time step : ℕ) (moved : Moved) → length component.params ≡ length component.unit.params → AreWordsOf component.unit.states state → step_of component state inputs time step ≡ Ok moved → KeepsWords component step moved
+pub step_keeps : (component : Component) (state inputs : List ℤ) (time step : ℕ) (moved : Moved) → length component.params ≡ length component.unit.params
+    → AreWordsOf component.unit.states state → step_of component state inputs time step ≡ Ok moved → KeepsWords component step moved
 step_keeps component state inputs time step moved one_each are is = moved_keeps component.unit.step component state inputs time step moved one_each are is

@@ -10,7 +10,8 @@ ends_in_order run stand going = record {
   redo_ends = λ ending whole redone is. rw (going.ports_known, going.before_stop, going.rows_left, going.limits_told, whole, redone, is) refl;
   zero_ends = λ ending whole accepted is. rw (going.ports_known, going.before_stop, going.rows_left, going.limits_told, whole, accepted, is) refl;
   whole_goes = λ whole same within. rw (going.ports_known, going.before_stop, going.rows_left, going.limits_told, whole, same, within) refl;
-  redo_goes = λ whole redone accepted within. rw (going.ports_known, going.before_stop, going.rows_left, going.limits_told, whole, redone, accepted, within) refl;
+  redo_goes =
+      λ whole redone accepted within. rw (going.ports_known, going.before_stop, going.rows_left, going.limits_told, whole, redone, accepted, within) refl;
 }
 
 pub first_ends_in_order : (run : Composition) (stand : Stand) → FirstEndsInOrder run stand

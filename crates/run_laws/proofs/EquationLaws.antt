@@ -1,5 +1,6 @@
 -- Systems of equations, one for each place, whose places have an order: they have exactly one solution.
-use Rattle.std.proofs.Common.{◌≡◌, ℕ, zero, suc, ◌+◌, ◌<◌, List, [], ◌∷◌, ◌++◌, length, Some, None, append_assoc, append-nil, replicate, inl, inr, refl, ap, sym, subst, ◌∙◌, arith}
+use Rattle.std.proofs.Common.{◌≡◌, ℕ, zero, suc, ◌+◌, ◌<◌, List, [], ◌∷◌, ◌++◌, length, Some, None, append_assoc, append-nil, replicate, inl, inr, refl, ap}
+use Rattle.std.proofs.Common.{sym, subst, ◌∙◌, arith}
 use Rattle.std.proofs.lemmas.List.{length-replicate}
 use Rattle.std.specs.Prelude.{slice_get}
 use Rattle.std.specs.List.{AllByRecursion}
@@ -22,7 +23,8 @@ all_behind P [] place all holds = (holds, tt)
 all_behind P (first ∷ places) place all holds = (all.0, all_behind P places place all.1 holds)
 
 -- Two lists that are as long and have the same at each place are one.
-pub same_lists : {A : Type 0} (xs ys : List A) (count : ℕ) → length xs ≡ count → length ys ≡ count → ((place : ℕ) → place < count → slice_get xs place ≡ slice_get ys place) → xs ≡ ys
+pub same_lists : {A : Type 0} (xs ys : List A) (count : ℕ) → length xs ≡ count → length ys ≡ count
+    → ((place : ℕ) → place < count → slice_get xs place ≡ slice_get ys place) → xs ≡ ys
 same_lists [] [] count x y each = refl
 same_lists [] (y ∷ ys) count is_x is_y each = absurd (omega (arith, is_x, is_y))
 same_lists (x ∷ xs) [] count is_x is_y each = absurd (omega (arith, is_x, is_y))
@@ -37,17 +39,25 @@ same_lists (x ∷ xs) (y ∷ ys) count is_x is_y each =
 -- What the right sides of equations have to be: as many as places, each looking at the places that it needs alone.
 pub record AreEquations (run : Composition) (sides : Ports → Ports) : Type 0 where
   pub count : (ports : Ports) → length (sides ports) ≡ length (needs_of_places run)
-  pub looks_at_needs : (one other : Ports) (place : ℕ) → place < length (needs_of_places run) → AllByRecursion (λ needed. slice_get one needed ≡ slice_get other needed) (needs_at run place) → slice_get (sides one) place ≡ slice_get (sides other) place
+  pub looks_at_needs : (one other : Ports) (place : ℕ) → place < length (needs_of_places run)
+      → AllByRecursion (λ needed. slice_get one needed ≡ slice_get other needed) (needs_at run place)
+      → slice_get (sides one) place ≡ slice_get (sides other) place
 
 module _ (run : Composition) (sides : Ports → Ports) (equations : AreEquations run sides) where
   -- Two solutions agree along an order.
-  agree_along : (one other : Ports) → one ≡ sides one → other ≡ sides other → (before order : List ℕ) → IsOrderedAfter run before order → AllByRecursion (λ place. slice_get one place ≡ slice_get other place) before → AllByRecursion (λ place. slice_get one place ≡ slice_get other place) order
+  agree_along : (one other : Ports) → one ≡ sides one → other ≡ sides other → (before order : List ℕ) → IsOrderedAfter run before order
+      → AllByRecursion (λ place. slice_get one place ≡ slice_get other place) before
+      → AllByRecursion (λ place. slice_get one place ≡ slice_get other place) order
   agree_along one other is_one is_other before [] ordered agree = tt
   agree_along one other is_one is_other before (place ∷ later) ordered agree =
       let needed = all_among (λ place. slice_get one place ≡ slice_get other place) before (needs_at run place) agree ordered.2 in
       let here : slice_get one place ≡ slice_get other place =
-      ap (λ ports. slice_get ports place) is_one ∙ equations.looks_at_needs one other place ordered.0 needed ∙ ap (λ ports. slice_get ports place) (sym is_other) in
-      (here, agree_along one other is_one is_other (before ++ (place ∷ [])) later ordered.3 (all_behind (λ place. slice_get one place ≡ slice_get other place) before place agree here))
+      ap (λ ports. slice_get ports place) is_one ∙ equations.looks_at_needs one other place ordered.0 needed
+      ∙ ap (λ ports. slice_get ports place) (sym is_other) in (
+        here,
+        agree_along one other is_one is_other (before ++ (place ∷ [])) later ordered.3
+            (all_behind (λ place. slice_get one place ≡ slice_get other place) before place agree here),
+      )
 
   pub one_solution : (order : List ℕ) → IsPlaceOrder run order → (one other : Ports) → one ≡ sides one → other ≡ sides other → one ≡ other
   one_solution order is_order one other is_one is_other =
@@ -69,24 +79,30 @@ module _ (run : Composition) (sides : Ports → Ports) (equations : AreEquations
 
   still_settled : (start : Ports) (count place : ℕ) → Settled start count place → Settled start (suc count) place
   still_settled start count place settled more =
-      repeated_at start (more + suc count) (suc more + count) place (omega arith) ∙ settled (suc more) ∙ sym (settled 1) ∙ repeated_at start (1 + count) (suc count) place (omega arith)
+      repeated_at start (more + suc count) (suc more + count) place (omega arith) ∙ settled (suc more) ∙ sym (settled 1)
+      ∙ repeated_at start (1 + count) (suc count) place (omega arith)
 
-  all_settled_on : (start : Ports) (count : ℕ) (places : List ℕ) → AllByRecursion (Settled start count) places → AllByRecursion (Settled start (suc count)) places
+  all_settled_on : (start : Ports) (count : ℕ) (places : List ℕ) → AllByRecursion (Settled start count) places
+      → AllByRecursion (Settled start (suc count)) places
   all_settled_on start count [] all = tt
   all_settled_on start count (place ∷ places) all = (still_settled start count place all.0, all_settled_on start count places all.1)
 
-  agree_now : (start : Ports) (count more : ℕ) (places : List ℕ) → AllByRecursion (Settled start count) places → AllByRecursion (λ place. slice_get (repeated start (more + count)) place ≡ slice_get (repeated start count) place) places
+  agree_now : (start : Ports) (count more : ℕ) (places : List ℕ) → AllByRecursion (Settled start count) places
+      → AllByRecursion (λ place. slice_get (repeated start (more + count)) place ≡ slice_get (repeated start count) place) places
   agree_now start count more [] all = tt
   agree_now start count more (place ∷ places) all = (all.0 more, agree_now start count more places all.1)
 
-  settle_along : (start : Ports) (count : ℕ) (before order : List ℕ) → IsOrderedAfter run before order → AllByRecursion (Settled start count) before → AllByRecursion (Settled start (length order + count)) (before ++ order)
+  settle_along : (start : Ports) (count : ℕ) (before order : List ℕ) → IsOrderedAfter run before order → AllByRecursion (Settled start count) before
+      → AllByRecursion (Settled start (length order + count)) (before ++ order)
   settle_along start count before [] ordered settled =
-      subst (λ k. AllByRecursion (Settled start k) (before ++ [])) (omega arith) (subst (AllByRecursion (Settled start count)) (sym (append-nil before)) settled)
+      subst (λ k. AllByRecursion (Settled start k) (before ++ [])) (omega arith)
+      (subst (AllByRecursion (Settled start count)) (sym (append-nil before)) settled)
   settle_along start count before (place ∷ later) ordered settled =
       let here : Settled start (suc count) place =
       λ more.
       repeated_at start (more + suc count) (suc (more + count)) place (omega arith)
-      ∙ equations.looks_at_needs (repeated start (more + count)) (repeated start count) place ordered.0 (agree_now start count more (needs_at run place) (all_among (Settled start count) before (needs_at run place) settled ordered.2)) in
+      ∙ equations.looks_at_needs (repeated start (more + count)) (repeated start count) place ordered.0
+      (agree_now start count more (needs_at run place) (all_among (Settled start count) before (needs_at run place) settled ordered.2)) in
       let all = all_behind (Settled start (suc count)) before place (all_settled_on start count before settled) here in
       let rest = settle_along start (suc count) (before ++ (place ∷ [])) later ordered.3 all in
       let at_end : AllByRecursion (Settled start (length (place ∷ later) + count)) ((before ++ (place ∷ [])) ++ later) =
@@ -102,7 +118,8 @@ module _ (run : Composition) (sides : Ports → Ports) (equations : AreEquations
   has_solution order is_order =
       let start : Ports = replicate (length (needs_of_places run)) None in
       let settled = settle_along start 0 [] order is_order.ordered tt in
-      let length_is : length (repeated start (length order + 0)) ≡ length (needs_of_places run) = length_repeated start (length order + 0) (length-replicate _ _) in (
+      let length_is : length (repeated start (length order + 0)) ≡ length (needs_of_places run) =
+      length_repeated start (length order + 0) (length-replicate _ _) in (
         repeated start (length order + 0),
         same_lists (repeated start (length order + 0)) (sides (repeated start (length order + 0))) (length (needs_of_places run)) length_is (equations.count _)
             (λ place within.

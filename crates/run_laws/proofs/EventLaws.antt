@@ -30,7 +30,8 @@ in_both (line ∷ one) other told =
     let rest = in_both one other first.1 in
     (rw (first.0, rest.0) refl, rest.1)
 
-of_both : {P : Type 0} (forms : P → List LineForm) (one other : List P) → has_event (flat_map forms (one ++ other)) ≡ false → (has_event (flat_map forms one) ≡ false) × (has_event (flat_map forms other) ≡ false)
+of_both : {P : Type 0} (forms : P → List LineForm) (one other : List P) → has_event (flat_map forms (one ++ other)) ≡ false
+    → (has_event (flat_map forms one) ≡ false) × (has_event (flat_map forms other) ≡ false)
 of_both forms one other told =
     in_both (flat_map forms one) (flat_map forms other) (subst (λ lines. has_event lines ≡ false) (flat_map-append forms one other) told)
 
@@ -46,7 +47,9 @@ none_out (event ∷ events) told = absurd (cc told)
 
 unit_has_none : (unit : Unit) → has_event (flat_map unit_part_forms (unit_parts unit)) ≡ false → (unit.events_in ≡ []) × (unit.events_out ≡ [])
 unit_has_none unit told =
-    let to_inputs = optional parts.Resolution unit.resolution ++ map parts.HasParam unit.params ++ map parts.HasState unit.states ++ map parts.HasLocal unit.locals ++ map parts.HasInput unit.inputs in
+    let to_inputs =
+    optional parts.Resolution unit.resolution ++ map parts.HasParam unit.params ++ map parts.HasState unit.states ++ map parts.HasLocal unit.locals
+    ++ map parts.HasInput unit.inputs in
     let to_events = to_inputs ++ map parts.HasEventIn unit.events_in in
     let to_outputs = to_events ++ map parts.HasOutput unit.outputs in
     let to_all = to_outputs ++ map parts.HasEventOut unit.events_out in
@@ -62,7 +65,8 @@ unit_has_none unit told =
 abbrev as_part : Unit → Part
 as_part unit = parts.HasUnit unit.name (unit_parts unit)
 
-units_have_none : (units : List Unit) → has_event (flat_map part_forms (map as_part units)) ≡ false → AllByRecursion (λ unit. (unit.events_in ≡ []) × (unit.events_out ≡ [])) units
+units_have_none : (units : List Unit) → has_event (flat_map part_forms (map as_part units)) ≡ false
+    → AllByRecursion (λ unit. (unit.events_in ≡ []) × (unit.events_out ≡ [])) units
 units_have_none [] told = tt
 units_have_none (unit ∷ units) told =
     let both = in_both (part_forms (as_part unit)) (flat_map part_forms (map as_part units)) told in

@@ -1,5 +1,6 @@
 -- The plain form of a well-formed system in range has names that differ, and no cycle where the system has none.
-use Rattle.std.proofs.Common.{◌≡◌, ℕ, Bool, true, false, cond, List, [], ◌∷◌, ◌++◌, map, Option, Some, None, inl, inr, refl, ap, sym, subst, ◌∙◌, ◌⊎◌, append-nil, append_assoc}
+use Rattle.std.proofs.Common.{◌≡◌, ℕ, Bool, true, false, cond, List, [], ◌∷◌, ◌++◌, map, Option, Some, None, inl, inr, refl, ap, sym, subst, ◌∙◌, ◌⊎◌}
+use Rattle.std.proofs.Common.{append-nil, append_assoc}
 use Rattle.std.proofs.lemmas.Grind.{flat_map-append}
 use Rattle.std.specs.Prelude.{unwrap_or}
 use Rattle.std.specs.List.{AllByRecursion, flat_map, filter_map, cons_option}
@@ -8,7 +9,8 @@ use Rattle.std.specs.Str.{bytes_eq}
 use Rattle.fixed_words.specs.declared.types.Ty.TheVariants as types
 use Rattle.unit_tree.specs.Names.{Port, output_ports, output_names, event_input_names, is_among, unit_named, unit_of_instance, port_named, output_at, same_port}
 use Rattle.unit_tree.specs.Orders.{IsIn, IsOrderlyAfter, HasNoCycle, port_of, outputs_in, outputs_of, source_if, sources_of, needs_of, needed_by}
-use Rattle.unit_tree.specs.Plain.{presence_name, plain_need, plain_needs, plain_output, plain_outputs, plain_unit, presence_port, is_event_output, plain_wires, samples_or_all}
+use Rattle.unit_tree.specs.Plain.{presence_name, plain_need, plain_needs, plain_output, plain_outputs, plain_unit, presence_port, is_event_output, plain_wires}
+use Rattle.unit_tree.specs.Plain.{samples_or_all}
 use Rattle.unit_tree.specs.Printable.{IsRanged}
 use Rattle.unit_tree.specs.WellFormed.{IsWellFormed}
 use Rattle.unit_tree.specs.declared.system.Instance.{Instance}
@@ -21,7 +23,8 @@ use Rattle.unit_tree.specs.declared.unit.Unit.{Unit}
 use Rattle.language_laws.proofs.NameLaws.{NamesDiffer, PortsDiffer, ports_differ, same_port_of, found}
 use Rattle.language_laws.proofs.OrderLaws.{each_in}
 use Rattle.run_laws.proofs.PlaceOrders.{in_has, has_in, same_port_is}
-use Rattle.language_laws.proofs.PlainNames.{each_has, has_flat, Mapped, map_has, Flat, flat_has, IsPlain, same_presence, PlainNames, plain_wire, plain_port_names, of_output, of_event}
+use Rattle.language_laws.proofs.PlainNames.{each_has, has_flat, Mapped, map_has, Flat, flat_has, IsPlain, same_presence, PlainNames, plain_wire}
+use Rattle.language_laws.proofs.PlainNames.{plain_port_names, of_output, of_event}
 use Rattle.list_laws.proofs.Members.{Has, Distinct, has_front, has_behind, has_either, has_map, all_has}
 
 -- ---- Outputs of a system with their declarations
@@ -37,7 +40,8 @@ pub record Declared (system : System) (port : PortName) : Type 0 where
   pub has : Has (output_ports unit) output
   pub is : port_of instance output.name ≡ port
 
-pub named_by : (first unit : Unit) (units : List Unit) (rest : Option Unit) (told : Bool) → (rest ≡ Some unit → Has units unit) → cond told (Some first) rest ≡ Some unit → Has (first ∷ units) unit
+pub named_by : (first unit : Unit) (units : List Unit) (rest : Option Unit) (told : Bool) → (rest ≡ Some unit → Has units unit)
+    → cond told (Some first) rest ≡ Some unit → Has (first ∷ units) unit
 named_by first unit units rest true later is = inl (cc)
 named_by first unit units rest false later is = inr (later is)
 
@@ -52,7 +56,8 @@ module _ (system : System) where
   abbrev pub ports_of : Instance → List PortName
   ports_of instance = ports_with instance (outputs_in (unit_of_instance system instance))
 
-  pub declared_by : (instance : Instance) (given : Option Unit) (port : PortName) → Has system.instances instance → unit_of_instance system instance ≡ given → Has (ports_with instance (outputs_in given)) port → Declared system port
+  pub declared_by : (instance : Instance) (given : Option Unit) (port : PortName) → Has system.instances instance → unit_of_instance system instance ≡ given
+      → Has (ports_with instance (outputs_in given)) port → Declared system port
   declared_by instance None port instance_has unit_is has = absurd has
   declared_by instance (Some unit) port instance_has unit_is has =
       let from = map_has (λ (output : Port). port_of instance output.name) (output_ports unit) port has in
@@ -72,17 +77,22 @@ module _ (system : System) where
       let from = flat_has ports_of system.instances port (in_has (outputs_of system) port stands) in
       declared_by from.one (unit_of_instance system from.one) port from.has refl from.inside
 
-  pub stands_there : (instance : Instance) (unit : Unit) (output : Port) → Has system.instances instance → unit_of_instance system instance ≡ Some unit → Has (output_ports unit) output → IsIn (outputs_of system) (port_of instance output.name)
+  pub stands_there : (instance : Instance) (unit : Unit) (output : Port) → Has system.instances instance → unit_of_instance system instance ≡ Some unit
+      → Has (output_ports unit) output → IsIn (outputs_of system) (port_of instance output.name)
   stands_there instance unit output instance_has unit_is has =
       has_in (outputs_of system) (port_of instance output.name)
       (has_flat ports_of system.instances instance (port_of instance output.name) instance_has
-      (subst (λ given. Has (ports_with instance (outputs_in given)) (port_of instance output.name)) (sym unit_is) (has_map (λ (o : Port). port_of instance o.name) (output_ports unit) output has)))
+      (subst (λ given. Has (ports_with instance (outputs_in given)) (port_of instance output.name)) (sym unit_is)
+      (has_map (λ (o : Port). port_of instance o.name) (output_ports unit) output has)))
 
-  pub output_is : PortsDiffer system → (instance : Instance) (unit : Unit) (output : Port) → Has system.instances instance → unit_of_instance system instance ≡ Some unit → Has (output_ports unit) output → output_at system (port_of instance output.name) ≡ Some output
+  pub output_is : PortsDiffer system → (instance : Instance) (unit : Unit) (output : Port) → Has system.instances instance
+      → unit_of_instance system instance ≡ Some unit → Has (output_ports unit) output → output_at system (port_of instance output.name) ≡ Some output
   output_is differ instance unit output instance_has unit_is has =
-      ap (λ named. option_and_then (λ u. port_named (output_ports u) output.name) (option_and_then (unit_of_instance system) named)) (found (λ (i : Instance). i.name) system.instances instance differ.instances instance_has)
+      ap (λ named. option_and_then (λ u. port_named (output_ports u) output.name) (option_and_then (unit_of_instance system) named))
+      (found (λ (i : Instance). i.name) system.instances instance differ.instances instance_has)
       ∙ ap (option_and_then (λ u. port_named (output_ports u) output.name)) unit_is
-      ∙ found (λ (port : Port). port.name) (output_ports unit) output (each_has (λ u. Distinct (output_names u)) system.units unit differ.outputs (named_has system.units instance.unit unit unit_is)) has
+      ∙ found (λ (port : Port). port.name) (output_ports unit) output
+      (each_has (λ u. Distinct (output_names u)) system.units unit differ.outputs (named_has system.units instance.unit unit unit_is)) has
 
 -- ---- Units
 
@@ -118,14 +128,17 @@ becomes unit port has = elim (has_either (map of_output unit.outputs) (map of_ev
   where
     of_one : Mapped of_output unit.outputs port → Becomes unit port
     of_one from = subst (Becomes unit) from.is (record {
-      whole = has_plain_ports unit (plain_output unit from.one) (has_front (ones unit) (twos unit) (plain_output unit from.one) (has_map (plain_output unit) unit.outputs from.one from.has));
+      whole = has_plain_ports unit (plain_output unit from.one)
+          (has_front (ones unit) (twos unit) (plain_output unit from.one) (has_map (plain_output unit) unit.outputs from.one from.has));
       presence = λ is. absurd (cc);
     })
 
     of_two : Mapped of_event unit.events_out port → Becomes unit port
     of_two from =
         let made : (output : Output) → Has (plain_outputs unit from.one) output → Has (output_ports (plain_unit unit)) (of_output output) =
-        λ output inside. has_plain_ports unit output (has_behind (ones unit) (twos unit) output (has_flat (plain_outputs unit) unit.events_out from.one output from.has inside)) in
+        λ output inside.
+        has_plain_ports unit output
+        (has_behind (ones unit) (twos unit) output (has_flat (plain_outputs unit) unit.events_out from.one output from.has inside)) in
         subst (Becomes unit) from.is (record { whole = made _ (inr (inl refl)); presence = λ is. made _ (inl refl) })
 
 -- What a port of the plain form comes from.
@@ -141,14 +154,24 @@ comes unit port has = of_made (map_has of_output (ones unit ++ twos unit) port (
     of_one output here =
         let made = map_has (plain_output unit) unit.outputs output here in
         subst (λ o. Comes unit (of_output o)) made.is
-        (record { from = of_output made.one; has = has_front (map of_output unit.outputs) (map of_event unit.events_out) (of_output made.one) (has_map of_output unit.outputs made.one made.has); is = inl refl })
+        (record {
+          from = of_output made.one;
+          has =
+              has_front (map of_output unit.outputs) (map of_event unit.events_out) (of_output made.one) (has_map of_output unit.outputs made.one made.has);
+          is =
+              inl refl;
+        })
 
     of_event_port : (event : EventOut) → Has unit.events_out event → Has (output_ports unit) (of_event event)
-    of_event_port event has_event = has_behind (map of_output unit.outputs) (map of_event unit.events_out) (of_event event) (has_map of_event unit.events_out event has_event)
+    of_event_port event has_event =
+        has_behind (map of_output unit.outputs) (map of_event unit.events_out) (of_event event) (has_map of_event unit.events_out event has_event)
 
-    of_two : (output : Output) (made : Flat (plain_outputs unit) unit.events_out output) → Has (plain_outputs unit made.one) output → Comes unit (of_output output)
-    of_two output made (inl is) = subst (λ o. Comes unit (of_output o)) is (record { from = of_event made.one; has = of_event_port made.one made.has; is = inr (refl, refl) })
-    of_two output made (inr (inl is)) = subst (λ o. Comes unit (of_output o)) is (record { from = of_event made.one; has = of_event_port made.one made.has; is = inl refl })
+    of_two : (output : Output) (made : Flat (plain_outputs unit) unit.events_out output) → Has (plain_outputs unit made.one) output
+        → Comes unit (of_output output)
+    of_two output made (inl is) =
+        subst (λ o. Comes unit (of_output o)) is (record { from = of_event made.one; has = of_event_port made.one made.has; is = inr (refl, refl) })
+    of_two output made (inr (inl is)) =
+        subst (λ o. Comes unit (of_output o)) is (record { from = of_event made.one; has = of_event_port made.one made.has; is = inl refl })
     of_two output made (inr (inr none)) = absurd none
 
     of_made : Mapped of_output (ones unit ++ twos unit) port → Comes unit port
@@ -168,7 +191,8 @@ pub twos_names : (unit : Unit) (events : List EventOut) → map output_name (fla
 twos_names unit [] = refl
 twos_names unit (event ∷ events) = ap (λ rest. presence_name event.name ∷ event.name ∷ rest) (twos_names unit events)
 
-pub names_are : (unit : Unit) (outputs : List Output) (events : List EventOut) → map output_name (map (plain_output unit) outputs ++ flat_map (plain_outputs unit) events) ≡ map output_name outputs ++ flat_map both_names events
+pub names_are : (unit : Unit) (outputs : List Output) (events : List EventOut)
+    → map output_name (map (plain_output unit) outputs ++ flat_map (plain_outputs unit) events) ≡ map output_name outputs ++ flat_map both_names events
 names_are unit [] events = twos_names unit events
 names_are unit (output ∷ outputs) events = ap (λ rest. output.name ∷ rest) (names_are unit outputs events)
 
@@ -176,7 +200,8 @@ abbrev pub event_name : EventOut → List ℕ
 event_name event = event.name
 
 -- A name among those of both ports is an event's, or one of presence.
-pub among_both : (events : List EventOut) (name : List ℕ) → Has (flat_map both_names events) name → Has (map event_name events) name ⊎ ((other : List ℕ) × Has (map event_name events) other × (name ≡ presence_name other))
+pub among_both : (events : List EventOut) (name : List ℕ) → Has (flat_map both_names events) name
+    → Has (map event_name events) name ⊎ ((other : List ℕ) × Has (map event_name events) other × (name ≡ presence_name other))
 among_both [] name has = absurd has
 among_both (event ∷ events) name (inl is) = inr (event.name, inl refl, sym is)
 among_both (event ∷ events) name (inr (inl is)) = inl (inl is)
@@ -185,7 +210,8 @@ among_both (event ∷ events) name (inr (inr has)) = elim (among_both events nam
   | inr later ↦ inr (later.0, inr later.1, later.2)
 ]
 
-pub both_apart : (events : List EventOut) → Distinct (map event_name events) → AllByRecursion IsPlain (map event_name events) → Distinct (flat_map both_names events)
+pub both_apart : (events : List EventOut) → Distinct (map event_name events) → AllByRecursion IsPlain (map event_name events)
+    → Distinct (flat_map both_names events)
 both_apart [] apart plain = tt
 both_apart (event ∷ events) apart plain = (presence_not, (name_not, both_apart events apart.1 plain.1))
   where
@@ -199,7 +225,8 @@ both_apart (event ∷ events) apart plain = (presence_not, (name_not, both_apart
       | inr later ↦ apart.0 (subst (Has (map event_name events)) (sym (same_presence event.name later.0 later.2)) later.1)
     ]
 
-pub names_apart : (outputs : List Output) (events : List EventOut) → Distinct (map output_name outputs ++ map event_name events) → AllByRecursion IsPlain (map output_name outputs ++ map event_name events) → Distinct (map output_name outputs ++ flat_map both_names events)
+pub names_apart : (outputs : List Output) (events : List EventOut) → Distinct (map output_name outputs ++ map event_name events)
+    → AllByRecursion IsPlain (map output_name outputs ++ map event_name events) → Distinct (map output_name outputs ++ flat_map both_names events)
 names_apart [] events apart plain = both_apart events apart plain
 names_apart (output ∷ outputs) events apart plain = (name_not, names_apart outputs events apart.1 plain.1)
   where
@@ -212,7 +239,8 @@ names_apart (output ∷ outputs) events apart plain = (name_not, names_apart out
       ]
     ]
 
-pub source_names : (outputs : List Output) (events : List EventOut) → map (λ (port : Port). port.name) (map of_output outputs ++ map of_event events) ≡ map output_name outputs ++ map event_name events
+pub source_names : (outputs : List Output) (events : List EventOut)
+    → map (λ (port : Port). port.name) (map of_output outputs ++ map of_event events) ≡ map output_name outputs ++ map event_name events
 source_names [] [] = refl
 source_names [] (event ∷ events) = ap (λ rest. event.name ∷ rest) (source_names [] events)
 source_names (output ∷ outputs) events = ap (λ rest. output.name ∷ rest) (source_names outputs events)
@@ -220,7 +248,8 @@ source_names (output ∷ outputs) events = ap (λ rest. output.name ∷ rest) (s
 pub unit_apart : (unit : Unit) → Distinct (output_names unit) → AllByRecursion IsPlain (output_names unit) → Distinct (map output_name (ones unit ++ twos unit))
 unit_apart unit apart plain =
     subst Distinct (sym (names_are unit unit.outputs unit.events_out))
-    (names_apart unit.outputs unit.events_out (subst Distinct (source_names unit.outputs unit.events_out) apart) (subst (AllByRecursion IsPlain) (source_names unit.outputs unit.events_out) plain))
+    (names_apart unit.outputs unit.events_out (subst Distinct (source_names unit.outputs unit.events_out) apart)
+    (subst (AllByRecursion IsPlain) (source_names unit.outputs unit.events_out) plain))
 
 pub made_names : (outputs : List Output) → map (λ (port : Port). port.name) (map of_output outputs) ≡ map output_name outputs
 made_names [] = refl
@@ -236,13 +265,15 @@ plain_of system = record system {
   samples = samples_or_all system;
 }
 
-pub plain_named_by : (told : Bool) (first : Unit) (plain rest : Option Unit) → plain ≡ option_map plain_unit rest → cond told (Some (plain_unit first)) plain ≡ option_map plain_unit (cond told (Some first) rest)
+pub plain_named_by : (told : Bool) (first : Unit) (plain rest : Option Unit) → plain ≡ option_map plain_unit rest
+    → cond told (Some (plain_unit first)) plain ≡ option_map plain_unit (cond told (Some first) rest)
 plain_named_by true first plain rest is = refl
 plain_named_by false first plain rest is = is
 
 pub plain_named : (units : List Unit) (name : List ℕ) → unit_named (map plain_unit units) name ≡ option_map plain_unit (unit_named units name)
 plain_named [] name = refl
-plain_named (first ∷ units) name = plain_named_by (bytes_eq first.name name) first (unit_named (map plain_unit units) name) (unit_named units name) (plain_named units name)
+plain_named (first ∷ units) name =
+    plain_named_by (bytes_eq first.name name) first (unit_named (map plain_unit units) name) (unit_named units name) (plain_named units name)
 
 -- A connection to a port, among some.
 pub record Joined (wires : List Wire) (port source : PortName) : Type 0 where
@@ -251,16 +282,21 @@ pub record Joined (wires : List Wire) (port source : PortName) : Type 0 where
   pub to : wire.to ≡ port
   pub from : wire.from ≡ source
 
-pub wired_by : (told : Bool) (first : Wire) (wires : List Wire) (port source : PortName) (rest : List PortName) → same_port first.to port ≡ told → (Has rest source → Joined wires port source) → Has (cons_option (cond told (Some first.from) None) rest) source → Joined (first ∷ wires) port source
+pub wired_by : (told : Bool) (first : Wire) (wires : List Wire) (port source : PortName) (rest : List PortName) → same_port first.to port ≡ told
+    → (Has rest source → Joined wires port source) → Has (cons_option (cond told (Some first.from) None) rest) source → Joined (first ∷ wires) port source
 wired_by true first wires port source rest told later (inl is) = record { wire = first; has = inl refl; to = same_port_is first.to port told; from = is }
-wired_by true first wires port source rest told later (inr has) = let wired = later has in record { wire = wired.wire; has = inr wired.has; to = wired.to; from = wired.from }
-wired_by false first wires port source rest told later has = let wired = later has in record { wire = wired.wire; has = inr wired.has; to = wired.to; from = wired.from }
+wired_by true first wires port source rest told later (inr has) = let wired = later has in
+    record { wire = wired.wire; has = inr wired.has; to = wired.to; from = wired.from }
+wired_by false first wires port source rest told later has = let wired = later has in
+    record { wire = wired.wire; has = inr wired.has; to = wired.to; from = wired.from }
 
 pub wired : (wires : List Wire) (port source : PortName) → Has (filter_map (source_if port) wires) source → Joined wires port source
 wired [] port source has = absurd has
-wired (first ∷ wires) port source has = wired_by (same_port first.to port) first wires port source (filter_map (source_if port) wires) refl (wired wires port source) has
+wired (first ∷ wires) port source has =
+    wired_by (same_port first.to port) first wires port source (filter_map (source_if port) wires) refl (wired wires port source) has
 
-pub has_source_by : (told : Bool) (first source : PortName) (rest : List PortName) → Has rest source → Has (cons_option (cond told (Some first) None) rest) source
+pub has_source_by : (told : Bool) (first source : PortName) (rest : List PortName) → Has rest source
+    → Has (cons_option (cond told (Some first) None) rest) source
 has_source_by true first source rest has = inr has
 has_source_by false first source rest has = has
 
@@ -268,28 +304,33 @@ pub has_source : (wires : List Wire) (port : PortName) (wire : Wire) → Has wir
 has_source [] port wire has to = absurd has
 has_source (first ∷ wires) port wire (inl is) to =
     let same : same_port first.to port ≡ true = same_port_of first.to port (ap (λ (w : Wire). w.to) is ∙ to) in
-    subst (λ told. Has (cons_option (cond told (Some first.from) None) (filter_map (source_if port) wires)) wire.from) (sym same) (inl (ap (λ (w : Wire). w.from) is))
-has_source (first ∷ wires) port wire (inr has) to = has_source_by (same_port first.to port) first.from wire.from (filter_map (source_if port) wires) (has_source wires port wire has to)
+    subst (λ told. Has (cons_option (cond told (Some first.from) None) (filter_map (source_if port) wires)) wire.from) (sym same)
+    (inl (ap (λ (w : Wire). w.from) is))
+has_source (first ∷ wires) port wire (inr has) to =
+    has_source_by (same_port first.to port) first.from wire.from (filter_map (source_if port) wires) (has_source wires port wire has to)
 
 abbrev pub presence_wire : Wire → Wire
 presence_wire wire = record { from = presence_port wire.from; to = presence_port wire.to }
 
 -- A connection of the plain form is one of the system, or that of the two ports which tell of an event.
-pub wire_by : (told : Bool) (wire plain : Wire) → Has (cond told (presence_wire wire ∷ wire ∷ []) (wire ∷ [])) plain → (wire ≡ plain) ⊎ ((told ≡ true) × (presence_wire wire ≡ plain))
+pub wire_by : (told : Bool) (wire plain : Wire) → Has (cond told (presence_wire wire ∷ wire ∷ []) (wire ∷ [])) plain
+    → (wire ≡ plain) ⊎ ((told ≡ true) × (presence_wire wire ≡ plain))
 wire_by true wire plain (inl is) = inr (refl, is)
 wire_by true wire plain (inr (inl is)) = inl is
 wire_by true wire plain (inr (inr none)) = absurd none
 wire_by false wire plain (inl is) = inl is
 wire_by false wire plain (inr none) = absurd none
 
-pub need_by : (told : Bool) (need input : List ℕ) → Has (cond told (presence_name need ∷ need ∷ []) (need ∷ [])) input → (need ≡ input) ⊎ (presence_name need ≡ input)
+pub need_by : (told : Bool) (need input : List ℕ) → Has (cond told (presence_name need ∷ need ∷ []) (need ∷ [])) input
+    → (need ≡ input) ⊎ (presence_name need ≡ input)
 need_by true need input (inl is) = inr is
 need_by true need input (inr (inl is)) = inl is
 need_by true need input (inr (inr none)) = absurd none
 need_by false need input (inl is) = inl is
 need_by false need input (inr none) = absurd none
 
-pub port_by : (told : Bool) (port made : PortName) → Has (cond told (presence_port port ∷ port ∷ []) (port ∷ [])) made → (port ≡ made) ⊎ (presence_port port ≡ made)
+pub port_by : (told : Bool) (port made : PortName) → Has (cond told (presence_port port ∷ port ∷ []) (port ∷ [])) made
+    → (port ≡ made) ⊎ (presence_port port ≡ made)
 port_by true port made (inl is) = inr is
 port_by true port made (inr (inl is)) = inl is
 port_by true port made (inr (inr none)) = absurd none
@@ -313,7 +354,8 @@ all_longer P [] port all holds = (holds, tt)
 all_longer P (first ∷ ports) port all holds = (all.0, all_longer P ports port all.1 holds)
 
 -- A unit that the plain form has is that of one.
-pub comes_from : (units : List Unit) (name : List ℕ) (given : Option Unit) (plain : Unit) → unit_named units name ≡ given → option_map plain_unit given ≡ Some plain → (unit : Unit) × (unit_named units name ≡ Some unit) × (plain_unit unit ≡ plain)
+pub comes_from : (units : List Unit) (name : List ℕ) (given : Option Unit) (plain : Unit) → unit_named units name ≡ given
+    → option_map plain_unit given ≡ Some plain → (unit : Unit) × (unit_named units name ≡ Some unit) × (plain_unit unit ≡ plain)
 comes_from units name None plain is made = absurd (cc)
 comes_from units name (Some unit) plain is made = (unit, is, some_same (plain_unit unit) plain made)
   where
@@ -333,14 +375,17 @@ module _ (system : System) (ranged : IsRanged system) (kept : IsWellFormed syste
       let from = map_has (λ (port : Port). port.name) (output_ports unit) name stands in
       subst IsPlain from.is (plain_port_names system ranged unit has from.one from.has).name)
 
-  pub units_apart : (units : List Unit) → AllByRecursion (λ unit. Distinct (output_names unit) × AllByRecursion IsPlain (output_names unit)) units → AllByRecursion (λ unit. Distinct (map (λ output. output.name) unit.outputs)) (map plain_unit units)
+  pub units_apart : (units : List Unit) → AllByRecursion (λ unit. Distinct (output_names unit) × AllByRecursion IsPlain (output_names unit)) units
+      → AllByRecursion (λ unit. Distinct (map (λ output. output.name) unit.outputs)) (map plain_unit units)
   units_apart [] all = tt
   units_apart (unit ∷ units) all = (unit_apart unit all.0.0 all.0.1, units_apart units all.1)
 
-  pub ports_apart : (units : List Unit) → AllByRecursion (λ unit. Distinct (output_names unit) × AllByRecursion IsPlain (output_names unit)) units → AllByRecursion (λ unit. Distinct (output_names unit)) (map plain_unit units)
+  pub ports_apart : (units : List Unit) → AllByRecursion (λ unit. Distinct (output_names unit) × AllByRecursion IsPlain (output_names unit)) units
+      → AllByRecursion (λ unit. Distinct (output_names unit)) (map plain_unit units)
   ports_apart [] all = tt
   ports_apart (unit ∷ units) all = (
-    subst (λ (ports : List Port). Distinct (map (λ port. port.name) ports)) (sym (plain_ports unit)) (subst Distinct (sym (made_names (ones unit ++ twos unit))) (unit_apart unit all.0.0 all.0.1)),
+    subst (λ (ports : List Port). Distinct (map (λ port. port.name) ports)) (sym (plain_ports unit))
+        (subst Distinct (sym (made_names (ones unit ++ twos unit))) (unit_apart unit all.0.0 all.0.1)),
     ports_apart units all.1,
   )
 
@@ -375,10 +420,13 @@ module _ (system : System) (ranged : IsRanged system) (kept : IsWellFormed syste
   pub in_splits : (ports : List PortName) (port made : PortName) → IsIn ports port → Has (split port) made → IsIn (splits ports) made
   in_splits ports port made stands has = has_in (splits ports) made (has_flat split ports port made (in_has ports port stands) has)
 
-  pub is_event_is : (d : Port) (instance : Instance) (unit : Unit) → Has system.instances instance → unit_of_instance system instance ≡ Some unit → Has (output_ports unit) d → is_event_output system (port_of instance d.name) ≡ d.is_event
-  is_event_is d instance unit instance_has unit_is has = ap (λ given. unwrap_or (option_map (λ (o : Port). o.is_event) given) false) (output_is system differ instance unit d instance_has unit_is has)
+  pub is_event_is : (d : Port) (instance : Instance) (unit : Unit) → Has system.instances instance → unit_of_instance system instance ≡ Some unit
+      → Has (output_ports unit) d → is_event_output system (port_of instance d.name) ≡ d.is_event
+  is_event_is d instance unit instance_has unit_is has =
+      ap (λ given. unwrap_or (option_map (λ (o : Port). o.is_event) given) false) (output_is system differ instance unit d instance_has unit_is has)
 
-  pub plain_unit_is : (instance : Instance) (unit : Unit) → unit_of_instance system instance ≡ Some unit → unit_of_instance plain instance ≡ Some (plain_unit unit)
+  pub plain_unit_is : (instance : Instance) (unit : Unit) → unit_of_instance system instance ≡ Some unit
+      → unit_of_instance plain instance ≡ Some (plain_unit unit)
   plain_unit_is instance unit is = plain_named system.units instance.unit ∙ ap (option_map plain_unit) is
 
   -- What an orderly list asks of an output of the plain form that comes next.
@@ -386,26 +434,34 @@ module _ (system : System) (ranged : IsRanged system) (kept : IsWellFormed syste
   Next before made = IsIn (outputs_of plain) made × (IsIn (splits before) made → ⊥) × AllByRecursion (IsIn (splits before)) (needed_by plain made)
 
   pub plain_name : (port : PortName) → IsIn (outputs_of system) port → IsPlain port.port
-  plain_name port stands = let d = declared system port stands in subst (λ (p : PortName). IsPlain p.port) d.is (plain_port_names system ranged d.unit d.unit_has d.output d.has).name
+  plain_name port stands = let d = declared system port stands in
+      subst (λ (p : PortName). IsPlain p.port) d.is (plain_port_names system ranged d.unit d.unit_has d.output d.has).name
 
   -- What two ports become is the same only where they are.
-  pub same_origin : (one other made : PortName) → IsPlain one.port → IsPlain other.port → (one ≡ made) ⊎ (presence_port one ≡ made) → (other ≡ made) ⊎ (presence_port other ≡ made) → one ≡ other
+  pub same_origin : (one other made : PortName) → IsPlain one.port → IsPlain other.port → (one ≡ made) ⊎ (presence_port one ≡ made)
+      → (other ≡ made) ⊎ (presence_port other ≡ made) → one ≡ other
   same_origin one other made plain_one_name plain_other_name (inl is) (inl is') = is ∙ sym is'
-  same_origin one other made plain_one_name plain_other_name (inl is) (inr is') = absurd (plain_one_name other.port (ap (λ (p : PortName). p.port) (is ∙ sym is')))
-  same_origin one other made plain_one_name plain_other_name (inr is) (inl is') = absurd (plain_other_name one.port (ap (λ (p : PortName). p.port) (is' ∙ sym is)))
+  same_origin one other made plain_one_name plain_other_name (inl is) (inr is') =
+      absurd (plain_one_name other.port (ap (λ (p : PortName). p.port) (is ∙ sym is')))
+  same_origin one other made plain_one_name plain_other_name (inr is) (inl is') =
+      absurd (plain_other_name one.port (ap (λ (p : PortName). p.port) (is' ∙ sym is)))
   same_origin one other made plain_one_name plain_other_name (inr is) (inr is') =
       let same : presence_port one ≡ presence_port other = is ∙ sym is' in
       same_ports one other (ap (λ (p : PortName). p.instance) same) (same_presence one.port other.port (ap (λ (p : PortName). p.port) same))
 
-  pub not_before : (before : List PortName) (port made : PortName) → AllByRecursion (IsIn (outputs_of system)) before → IsPlain port.port → Has (split port) made → IsIn (splits before) made → IsIn before port
+  pub not_before : (before : List PortName) (port made : PortName) → AllByRecursion (IsIn (outputs_of system)) before → IsPlain port.port
+      → Has (split port) made → IsIn (splits before) made → IsIn before port
   not_before before port made outputs name has stands =
       let from = flat_has split before made (in_has (splits before) made stands) in
       let one_in = has_in before from.one from.has in
       let one_name = plain_name from.one (each_in (IsIn (outputs_of system)) before from.one outputs one_in) in
-      let same = same_origin from.one port made one_name name (port_by (is_event_output system from.one) from.one made from.inside) (port_by (is_event_output system port) port made has) in
+      let same =
+      same_origin from.one port made one_name name (port_by (is_event_output system from.one) from.one made from.inside)
+      (port_by (is_event_output system port) port made has) in
       subst (IsIn before) same one_in
 
-  module _ (instance : Instance) (unit : Unit) (output : Port) (instance_has : Has system.instances instance) (unit_is : unit_of_instance system instance ≡ Some unit) (has : Has (output_ports unit) output) where
+  module _ (instance : Instance) (unit : Unit) (output : Port) (instance_has : Has system.instances instance)
+      (unit_is : unit_of_instance system instance ≡ Some unit) (has : Has (output_ports unit) output) where
     abbrev port : PortName
     port = port_of instance output.name
 
@@ -432,28 +488,42 @@ module _ (system : System) (ranged : IsRanged system) (kept : IsWellFormed syste
     abbrev to_input : List ℕ → PortName
     to_input input = record { instance = instance.name; port = input }
 
-    needed_source : (wire : Wire) (need : List ℕ) → Has system.wires wire → Has output.needs need → wire.to ≡ to_input need → IsIn (needed_by system port) wire.from
+    needed_source : (wire : Wire) (need : List ℕ) → Has system.wires wire → Has output.needs need → wire.to ≡ to_input need
+        → IsIn (needed_by system port) wire.from
     needed_source wire need wire_has need_has to =
         has_in (needed_by system port) wire.from
-        (subst (λ found. Has (flat_map (λ input. sources_of system (to_input input)) (needs_of found)) wire.from) (sym (output_is system differ instance unit output instance_has unit_is has))
-        (has_flat (λ input. sources_of system (to_input input)) output.needs need wire.from need_has (has_source system.wires (to_input need) wire wire_has to)))
+        (subst (λ found. Has (flat_map (λ input. sources_of system (to_input input)) (needs_of found)) wire.from)
+        (sym (output_is system differ instance unit output instance_has unit_is has))
+        (has_flat (λ input. sources_of system (to_input input)) output.needs need wire.from need_has
+        (has_source system.wires (to_input need) wire wire_has to)))
 
     -- The source of a connection of the plain form stands in front where the outputs that the port needs do in the system.
-    source_in : (before : List PortName) (wire made : Wire) (need input : List ℕ) → AllByRecursion (IsIn before) (needed_by system port) → Has system.wires wire → Has output.needs need → made.to ≡ to_input input → (wire ≡ made) ⊎ ((is_event_output system wire.from ≡ true) × (presence_wire wire ≡ made)) → (need ≡ input) ⊎ (presence_name need ≡ input) → IsIn (splits before) made.from
+    source_in : (before : List PortName) (wire made : Wire) (need input : List ℕ) → AllByRecursion (IsIn before) (needed_by system port)
+        → Has system.wires wire → Has output.needs need → made.to ≡ to_input input
+        → (wire ≡ made) ⊎ ((is_event_output system wire.from ≡ true) × (presence_wire wire ≡ made)) → (need ≡ input) ⊎ (presence_name need ≡ input)
+        → IsIn (splits before) made.from
     source_in before wire made need input all wire_has need_has to (inl is) (inl same) =
-        let stands = each_in (IsIn before) (needed_by system port) wire.from all (needed_source wire need wire_has need_has (ap (λ (w : Wire). w.to) is ∙ to ∙ ap to_input (sym same))) in
-        in_splits before wire.from made.from stands (subst (Has (split wire.from)) (ap (λ (w : Wire). w.from) is) (has_itself (is_event_output system wire.from) wire.from))
+        let stands =
+        each_in (IsIn before) (needed_by system port) wire.from all
+        (needed_source wire need wire_has need_has (ap (λ (w : Wire). w.to) is ∙ to ∙ ap to_input (sym same))) in
+        in_splits before wire.from made.from stands
+        (subst (Has (split wire.from)) (ap (λ (w : Wire). w.from) is) (has_itself (is_event_output system wire.from) wire.from))
     source_in before wire made need input all wire_has need_has to (inl is) (inr same) =
         absurd (plain_wire system ranged wire wire_has need (ap (λ (w : Wire). w.to.port) is ∙ ap (λ (p : PortName). p.port) to ∙ sym same))
     source_in before wire made need input all wire_has need_has to (inr is) (inl same) =
         absurd (names.needs need need_has wire.to.port (same ∙ sym (ap (λ (p : PortName). p.port) to) ∙ sym (ap (λ (w : Wire). w.to.port) is.1)))
     source_in before wire made need input all wire_has need_has to (inr is) (inr same) =
         let name : presence_name wire.to.port ≡ presence_name need = ap (λ (w : Wire). w.to.port) is.1 ∙ ap (λ (p : PortName). p.port) to ∙ sym same in
-        let at : wire.to ≡ to_input need = same_ports wire.to (to_input need) (ap (λ (w : Wire). w.to.instance) is.1 ∙ ap (λ (p : PortName). p.instance) to) (same_presence wire.to.port need name) in
+        let at : wire.to ≡ to_input need =
+        same_ports wire.to (to_input need) (ap (λ (w : Wire). w.to.instance) is.1 ∙ ap (λ (p : PortName). p.instance) to)
+        (same_presence wire.to.port need name) in
         let stands = each_in (IsIn before) (needed_by system port) wire.from all (needed_source wire need wire_has need_has at) in
-        in_splits before wire.from made.from stands (subst (Has (split wire.from)) (ap (λ (w : Wire). w.from) is.1) (has_presence (is_event_output system wire.from) wire.from is.0))
+        in_splits before wire.from made.from stands
+        (subst (Has (split wire.from)) (ap (λ (w : Wire). w.from) is.1) (has_presence (is_event_output system wire.from) wire.from is.0))
 
-    needed_in : (before : List PortName) (declaring : Port) → AllByRecursion (IsIn before) (needed_by system port) → Has (output_ports (plain_unit unit)) declaring → declaring.needs ≡ plain_needs unit output.needs → (source : PortName) → Has (needed_by plain (port_of instance declaring.name)) source → IsIn (splits before) source
+    needed_in : (before : List PortName) (declaring : Port) → AllByRecursion (IsIn before) (needed_by system port)
+        → Has (output_ports (plain_unit unit)) declaring → declaring.needs ≡ plain_needs unit output.needs → (source : PortName)
+        → Has (needed_by plain (port_of instance declaring.name)) source → IsIn (splits before) source
     needed_in before declaring all stands needs source source_has =
         let found_is = output_is plain plain_differ instance (plain_unit unit) declaring instance_has (plain_unit_is instance unit unit_is) stands in
         let listed : Has (flat_map (λ input. sources_of plain (to_input input)) (plain_needs unit output.needs)) source =
@@ -464,15 +534,21 @@ module _ (system : System) (ranged : IsRanged system) (kept : IsWellFormed syste
         let of_wire = wired plain.wires (to_input of_input.one) source of_input.inside in
         let of_source = flat_has (plain_wires system) system.wires of_wire.wire of_wire.has in
         subst (IsIn (splits before)) of_wire.from
-        (source_in before of_source.one of_wire.wire of_need.one of_input.one all of_source.has of_need.has of_wire.to (wire_by (is_event_output system of_source.one.from) of_source.one of_wire.wire of_source.inside) (need_by (is_among (event_input_names unit) of_need.one) of_need.one of_input.one of_need.inside))
+        (source_in before of_source.one of_wire.wire of_need.one of_input.one all of_source.has of_need.has of_wire.to
+        (wire_by (is_event_output system of_source.one.from) of_source.one of_wire.wire of_source.inside)
+        (need_by (is_among (event_input_names unit) of_need.one) of_need.one of_input.one of_need.inside))
 
-    next_of : (before : List PortName) → AllByRecursion (IsIn (outputs_of system)) before → (IsIn before port → ⊥) → AllByRecursion (IsIn before) (needed_by system port) → (made : PortName) → Has (split port) made → Next before made
+    next_of : (before : List PortName) → AllByRecursion (IsIn (outputs_of system)) before → (IsIn before port → ⊥)
+        → AllByRecursion (IsIn before) (needed_by system port) → (made : PortName) → Has (split port) made → Next before made
     next_of before outputs apart all made made_has =
         let event = is_event_is output instance unit instance_has unit_is has in
         let from = made_by (is_event_output system port) made (sym event) made_has in (
-          subst (IsIn (outputs_of plain)) from.is (stands_there plain instance (plain_unit unit) from.declaring instance_has (plain_unit_is instance unit unit_is) from.stands),
+          subst (IsIn (outputs_of plain)) from.is
+              (stands_there plain instance (plain_unit unit) from.declaring instance_has (plain_unit_is instance unit unit_is) from.stands),
           (λ stands. apart (not_before before port made outputs names.name made_has stands)),
-          subst (λ p. AllByRecursion (IsIn (splits before)) (needed_by plain p)) from.is (all_has (IsIn (splits before)) (needed_by plain (port_of instance from.declaring.name)) (needed_in before from.declaring all from.stands from.needs)),
+          subst (λ p. AllByRecursion (IsIn (splits before)) (needed_by plain p)) from.is
+              (all_has (IsIn (splits before)) (needed_by plain (port_of instance from.declaring.name))
+              (needed_in before from.declaring all from.stands from.needs)),
         )
 
   -- What an output becomes, the plain form has.
@@ -481,16 +557,21 @@ module _ (system : System) (ranged : IsRanged system) (kept : IsWellFormed syste
       let d = declared system port stands in
       subst (λ p. (made : PortName) → Has (split p) made → IsIn (outputs_of plain) made) d.is (λ made made_has.
       let event = is_event_is d.output d.instance d.unit d.instance_has d.unit_is d.has in
-      let from = made_by d.instance d.unit d.output d.instance_has d.unit_is d.has (is_event_output system (port_of d.instance d.output.name)) made (sym event) made_has in
-      subst (IsIn (outputs_of plain)) from.is (stands_there plain d.instance (plain_unit d.unit) from.declaring d.instance_has (plain_unit_is d.instance d.unit d.unit_is) from.stands))
+      let from =
+      made_by d.instance d.unit d.output d.instance_has d.unit_is d.has (is_event_output system (port_of d.instance d.output.name)) made (sym event) made_has in
+      subst (IsIn (outputs_of plain)) from.is
+      (stands_there plain d.instance (plain_unit d.unit) from.declaring d.instance_has (plain_unit_is d.instance d.unit d.unit_is) from.stands))
 
-  pub next : (before : List PortName) (port : PortName) → AllByRecursion (IsIn (outputs_of system)) before → IsIn (outputs_of system) port → (IsIn before port → ⊥) → AllByRecursion (IsIn before) (needed_by system port) → (made : PortName) → Has (split port) made → Next before made
+  pub next : (before : List PortName) (port : PortName) → AllByRecursion (IsIn (outputs_of system)) before → IsIn (outputs_of system) port
+      → (IsIn before port → ⊥) → AllByRecursion (IsIn before) (needed_by system port) → (made : PortName) → Has (split port) made → Next before made
   next before port outputs stands =
       let d = declared system port stands in
       subst (λ p. (IsIn before p → ⊥) → AllByRecursion (IsIn before) (needed_by system p) → (made : PortName) → Has (split p) made → Next before made) d.is
       (next_of d.instance d.unit d.output d.instance_has d.unit_is d.has before outputs)
 
-  pub put : (told : Bool) (before later : List PortName) (port : PortName) → IsPlain port.port → ((made : PortName) → Has (split_by told port) made → Next before made) → IsOrderlyAfter plain (splits before ++ split_by told port) later → IsOrderlyAfter plain (splits before) (split_by told port ++ later)
+  pub put : (told : Bool) (before later : List PortName) (port : PortName) → IsPlain port.port
+      → ((made : PortName) → Has (split_by told port) made → Next before made) → IsOrderlyAfter plain (splits before ++ split_by told port) later
+      → IsOrderlyAfter plain (splits before) (split_by told port ++ later)
   put false before later port name each rest = let here = each port (inl refl) in (here.0, here.1, here.2, rest)
   put true before later port name each rest =
       let first = each (presence_port port) (inl refl) in
@@ -504,7 +585,8 @@ module _ (system : System) (ranged : IsRanged system) (kept : IsWellFormed syste
             | inl earlier ↦ second.1 (has_in (splits before) port earlier)
             | inr there ↦ itself_not there
           ]),
-          all_weaker (IsIn (splits before)) (IsIn (splits before ++ (presence_port port ∷ []))) (needed_by plain port) (in_longer (splits before) (presence_port port ∷ [])) second.2,
+          all_weaker (IsIn (splits before)) (IsIn (splits before ++ (presence_port port ∷ []))) (needed_by plain port)
+              (in_longer (splits before) (presence_port port ∷ [])) second.2,
           subst (λ front. IsOrderlyAfter plain front later) (sym (append_assoc (splits before) (presence_port port ∷ []) (port ∷ []))) rest,
         ),
       )
@@ -516,7 +598,8 @@ module _ (system : System) (ranged : IsRanged system) (kept : IsWellFormed syste
   pub splits_longer : (before : List PortName) (port : PortName) → splits (before ++ (port ∷ [])) ≡ splits before ++ split port
   splits_longer before port = flat_map-append split before (port ∷ []) ∙ ap (λ rest. splits before ++ rest) (append-nil (split port))
 
-  pub ordered : (before order : List PortName) → AllByRecursion (IsIn (outputs_of system)) before → IsOrderlyAfter system before order → IsOrderlyAfter plain (splits before) (splits order)
+  pub ordered : (before order : List PortName) → AllByRecursion (IsIn (outputs_of system)) before → IsOrderlyAfter system before order
+      → IsOrderlyAfter plain (splits before) (splits order)
   ordered before [] outputs orderly = tt
   ordered before (port ∷ later) outputs orderly =
       put (is_event_output system port) before (splits later) port (plain_name port orderly.0) (next before port outputs orderly.0 orderly.1 orderly.2)
@@ -525,21 +608,31 @@ module _ (system : System) (ranged : IsRanged system) (kept : IsWellFormed syste
 
   -- ---- All outputs of the plain form stand there
 
-  pub made_has : (instance : Instance) (unit : Unit) (output : Port) (come : Comes unit output) → Has system.instances instance → unit_of_instance system instance ≡ Some unit → (output.name ≡ come.from.name) ⊎ ((come.from.is_event ≡ true) × (output.name ≡ presence_name come.from.name)) → Has (split (port_of instance come.from.name)) (port_of instance output.name)
+  pub made_has : (instance : Instance) (unit : Unit) (output : Port) (come : Comes unit output) → Has system.instances instance
+      → unit_of_instance system instance ≡ Some unit
+      → (output.name ≡ come.from.name) ⊎ ((come.from.is_event ≡ true) × (output.name ≡ presence_name come.from.name))
+      → Has (split (port_of instance come.from.name)) (port_of instance output.name)
   made_has instance unit output come instance_has unit_is (inl same) =
-      subst (Has (split (port_of instance come.from.name))) (ap (port_of instance) (sym same)) (has_itself (is_event_output system (port_of instance come.from.name)) (port_of instance come.from.name))
+      subst (Has (split (port_of instance come.from.name))) (ap (port_of instance) (sym same))
+      (has_itself (is_event_output system (port_of instance come.from.name)) (port_of instance come.from.name))
   made_has instance unit output come instance_has unit_is (inr is) =
       subst (Has (split (port_of instance come.from.name))) (ap (port_of instance) (sym is.1))
-      (has_presence (is_event_output system (port_of instance come.from.name)) (port_of instance come.from.name) (is_event_is come.from instance unit instance_has unit_is come.has ∙ is.0))
+      (has_presence (is_event_output system (port_of instance come.from.name)) (port_of instance come.from.name)
+      (is_event_is come.from instance unit instance_has unit_is come.has ∙ is.0))
 
   pub all_stand : (order : List PortName) → AllByRecursion (IsIn order) (outputs_of system) → AllByRecursion (IsIn (splits order)) (outputs_of plain)
   all_stand order all =
       all_has (IsIn (splits order)) (outputs_of plain) (λ made has.
       let d = declared plain made (has_in (outputs_of plain) made has) in
-      let unit = comes_from system.units d.instance.unit (unit_of_instance system d.instance) d.unit refl (sym (plain_named system.units d.instance.unit) ∙ d.unit_is) in
+      let unit =
+      comes_from system.units d.instance.unit (unit_of_instance system d.instance) d.unit refl (sym (plain_named system.units d.instance.unit) ∙ d.unit_is) in
       let come = comes unit.0 d.output (subst (λ u. Has (output_ports u) d.output) (sym unit.2) d.has) in
-      let stands = each_in (IsIn order) (outputs_of system) (port_of d.instance come.from.name) all (stands_there system d.instance unit.0 come.from d.instance_has unit.1 come.has) in
-      subst (IsIn (splits order)) d.is (in_splits order (port_of d.instance come.from.name) (port_of d.instance d.output.name) stands (made_has d.instance unit.0 d.output come d.instance_has unit.1 come.is)))
+      let stands =
+      each_in (IsIn order) (outputs_of system) (port_of d.instance come.from.name) all
+      (stands_there system d.instance unit.0 come.from d.instance_has unit.1 come.has) in
+      subst (IsIn (splits order)) d.is
+      (in_splits order (port_of d.instance come.from.name) (port_of d.instance d.output.name) stands
+      (made_has d.instance unit.0 d.output come d.instance_has unit.1 come.is)))
 
   pub plain_has_no_cycle : HasNoCycle system → HasNoCycle plain
   plain_has_no_cycle no_cycle = (splits no_cycle.0, ordered [] no_cycle.0 tt no_cycle.1, all_stand no_cycle.0 no_cycle.2)

@@ -25,7 +25,11 @@ or_true false other is = inr is
 pub among : (names : List (List ℕ)) (name : List ℕ) → is_among names name ≡ true → Has names name
 among [] name is = absurd (cc)
 among (first ∷ names) name is =
-    elim (or_true (bytes_eq name first) (list_any (bytes_eq name) names) is) [ inl same ↦ inl (sym (same_bytes name first same)) | inr later ↦ inr (among names name later) ]
+    elim (or_true (bytes_eq name first) (list_any (bytes_eq name) names) is) [
+      | inl same ↦ inl (sym (same_bytes name first same))
+      | inr later ↦
+          inr (among names name later)
+    ]
 
 pub has_among : (names : List (List ℕ)) (name : List ℕ) → Has names name → is_among names name ≡ true
 has_among [] name has = absurd has
@@ -46,16 +50,23 @@ all_among names (first ∷ used) each = rw (has_among names first (each first (i
 abbrev pub ports_in : Instance → List Port → List PortName
 ports_in instance ports = map (λ (port : Port). port_of instance port.name) ports
 
-pub named_at : (told : Bool) (first instance : Instance) (instances : List Instance) (name : List ℕ) → bytes_eq first.name name ≡ told → (find (λ (i : Instance). bytes_eq i.name name) instances ≡ Some instance → Has instances instance × (instance.name ≡ name)) → cond told (Some first) (find (λ (i : Instance). bytes_eq i.name name) instances) ≡ Some instance → Has (first ∷ instances) instance × (instance.name ≡ name)
+pub named_at : (told : Bool) (first instance : Instance) (instances : List Instance) (name : List ℕ) → bytes_eq first.name name ≡ told
+    → (find (λ (i : Instance). bytes_eq i.name name) instances ≡ Some instance → Has instances instance × (instance.name ≡ name))
+    → cond told (Some first) (find (λ (i : Instance). bytes_eq i.name name) instances) ≡ Some instance
+    → Has (first ∷ instances) instance × (instance.name ≡ name)
 named_at true first instance instances name is later found_is =
     let same : first ≡ instance = cc in (inl same, subst (λ (i : Instance). i.name ≡ name) same (same_bytes first.name name is))
 named_at false first instance instances name is later found_is = let rest = later found_is in (inr rest.0, rest.1)
 
-pub instance_at : (instances : List Instance) (name : List ℕ) (instance : Instance) → find (λ (i : Instance). bytes_eq i.name name) instances ≡ Some instance → Has instances instance × (instance.name ≡ name)
+pub instance_at : (instances : List Instance) (name : List ℕ) (instance : Instance) → find (λ (i : Instance). bytes_eq i.name name) instances ≡ Some instance
+    → Has instances instance × (instance.name ≡ name)
 instance_at [] name instance is = absurd (cc)
-instance_at (first ∷ instances) name instance is = named_at (bytes_eq first.name name) first instance instances name refl (instance_at instances name instance) is
+instance_at (first ∷ instances) name instance is =
+    named_at (bytes_eq first.name name) first instance instances name refl (instance_at instances name instance) is
 
-pub port_by : (told : Bool) (instance : Instance) (first : Port) (ports : List Port) (port : PortName) → instance.name ≡ port.instance → bytes_eq first.name port.port ≡ told → (is_none (port_named ports port.port) ≡ false → Has (ports_in instance ports) port) → is_none (cond told (Some first) (port_named ports port.port)) ≡ false → Has (ports_in instance (first ∷ ports)) port
+pub port_by : (told : Bool) (instance : Instance) (first : Port) (ports : List Port) (port : PortName) → instance.name ≡ port.instance
+    → bytes_eq first.name port.port ≡ told → (is_none (port_named ports port.port) ≡ false → Has (ports_in instance ports) port)
+    → is_none (cond told (Some first) (port_named ports port.port)) ≡ false → Has (ports_in instance (first ∷ ports)) port
 port_by true instance first ports port instance_is is later some =
     let same : port_of instance first.name ≡ port =
     ap (λ name. record { instance = name; port = first.name }) instance_is
@@ -63,11 +74,14 @@ port_by true instance first ports port instance_is is later some =
     inl same
 port_by false instance first ports port instance_is is later some = inr (later some)
 
-pub port_there : (instance : Instance) (ports : List Port) (port : PortName) → instance.name ≡ port.instance → is_none (port_named ports port.port) ≡ false → Has (ports_in instance ports) port
+pub port_there : (instance : Instance) (ports : List Port) (port : PortName) → instance.name ≡ port.instance → is_none (port_named ports port.port) ≡ false
+    → Has (ports_in instance ports) port
 port_there instance [] port instance_is some = absurd (cc)
-port_there instance (first ∷ ports) port instance_is some = port_by (bytes_eq first.name port.port) instance first ports port instance_is refl (port_there instance ports port instance_is) some
+port_there instance (first ∷ ports) port instance_is some =
+    port_by (bytes_eq first.name port.port) instance first ports port instance_is refl (port_there instance ports port instance_is) some
 
-pub unit_there : (instance : Instance) (given : Option Unit) (port : PortName) → instance.name ≡ port.instance → is_none (option_and_then (λ unit. port_named (output_ports unit) port.port) given) ≡ false → Has (ports_in instance (outputs_in given)) port
+pub unit_there : (instance : Instance) (given : Option Unit) (port : PortName) → instance.name ≡ port.instance
+    → is_none (option_and_then (λ unit. port_named (output_ports unit) port.port) given) ≡ false → Has (ports_in instance (outputs_in given)) port
 unit_there instance None port instance_is some = absurd (cc)
 unit_there instance (Some unit) port instance_is some = port_there instance (output_ports unit) port instance_is some
 
@@ -75,7 +89,9 @@ module _ (system : System) where
   abbrev pub ports_of : Instance → List PortName
   ports_of instance = ports_in instance (outputs_in (unit_of_instance system instance))
 
-  pub instance_there : (given : Option Instance) (port : PortName) → instance_named system port.instance ≡ given → is_none (option_and_then (λ unit. port_named (output_ports unit) port.port) (option_and_then (unit_of_instance system) given)) ≡ false → Has (outputs_of system) port
+  pub instance_there : (given : Option Instance) (port : PortName) → instance_named system port.instance ≡ given
+      → is_none (option_and_then (λ unit. port_named (output_ports unit) port.port) (option_and_then (unit_of_instance system) given)) ≡ false
+      → Has (outputs_of system) port
   instance_there None port is some = absurd (cc)
   instance_there (Some instance) port is some =
       let at = instance_at system.instances port.instance instance is in

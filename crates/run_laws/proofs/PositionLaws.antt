@@ -68,17 +68,21 @@ first_has_words (member ∷ members) = (starts_fit member.component.unit.states,
 -- ---- The next position
 
 -- With whether the member is held, and what its step gives.
-pub after_by : (held : Bool) (result : Result Moved Fault) (member : Member) (state inputs : List ℤ) (time step : ℕ) → IsMember member → Words member state → step_of member.component state inputs time step ≡ result → Words member (state_after (state, cond held None (Some result)))
+pub after_by : (held : Bool) (result : Result Moved Fault) (member : Member) (state inputs : List ℤ) (time step : ℕ) → IsMember member → Words member state
+    → step_of member.component state inputs time step ≡ result → Words member (state_after (state, cond held None (Some result)))
 after_by true result member state inputs time step is words gives = words
 after_by false (Ok moved) member state inputs time step is words gives = (step_keeps member.component state inputs time step moved is.params words gives).words
 after_by false (Err fault) member state inputs time step is words gives = words
 
-pub all_after : (t h : ℕ) (ports : Ports) (members : List Member) (states : List (List ℤ)) → AllByRecursion IsMember members → AllZip Words members states → AllZip Words members (map state_after (zip states (map (step_at t h ports) (zip members states))))
+pub all_after : (t h : ℕ) (ports : Ports) (members : List Member) (states : List (List ℤ)) → AllByRecursion IsMember members → AllZip Words members states
+    → AllZip Words members (map state_after (zip states (map (step_at t h ports) (zip members states))))
 all_after t h ports [] [] are words = tt
 all_after t h ports [] (state ∷ states) are words = absurd words
 all_after t h ports (member ∷ members) [] are words = absurd words
 all_after t h ports (member ∷ members) (state ∷ states) are words = (
-  after_by (is_held member.factor t h) (step_of member.component state (inputs_at ports member) (local_time member.factor t) (local_step member.factor t h)) member state (inputs_at ports member) (local_time member.factor t) (local_step member.factor t h) are.0 words.0 refl,
+  after_by (is_held member.factor t h)
+      (step_of member.component state (inputs_at ports member) (local_time member.factor t) (local_step member.factor t h)) member state
+      (inputs_at ports member) (local_time member.factor t) (local_step member.factor t h) are.0 words.0 refl,
   all_after t h ports members states are.1 words.1,
 )
 
@@ -90,19 +94,26 @@ positions_keep run are = record {
 
 -- ---- The agreed step
 
-pub reply_within : (held : Bool) (result : Result Moved Fault) (member : Member) (state inputs : List ℤ) (time t h : ℕ) → IsMember member → Words member state → step_of member.component state inputs time (local_step member.factor t h) ≡ result → reply_at t h (member, cond held None (Some result)) ≤ h
+pub reply_within : (held : Bool) (result : Result Moved Fault) (member : Member) (state inputs : List ℤ) (time t h : ℕ) → IsMember member → Words member state
+    → step_of member.component state inputs time (local_step member.factor t h) ≡ result → reply_at t h (member, cond held None (Some result)) ≤ h
 reply_within true result member state inputs time t h is words gives = omega arith
 reply_within false (Ok moved) member state inputs time t h is words gives =
-    reply_is_at_most member.factor t h moved.accepted is.factor (step_keeps member.component state inputs time (local_step member.factor t h) moved is.params words gives).accepted
+    reply_is_at_most member.factor t h moved.accepted is.factor
+    (step_keeps member.component state inputs time (local_step member.factor t h) moved is.params words gives).accepted
 reply_within false (Err fault) member state inputs time t h is words gives = omega arith
 
-pub agreed_within : (t h : ℕ) (ports : Ports) (members : List Member) (states : List (List ℤ)) → AllByRecursion IsMember members → AllZip Words members states → agreed_step h (map (reply_at t h) (zip members (map (step_at t h ports) (zip members states)))) ≤ h
+pub agreed_within : (t h : ℕ) (ports : Ports) (members : List Member) (states : List (List ℤ)) → AllByRecursion IsMember members → AllZip Words members states
+    → agreed_step h (map (reply_at t h) (zip members (map (step_at t h ports) (zip members states)))) ≤ h
 agreed_within t h ports [] states are words = omega arith
 agreed_within t h ports (member ∷ members) [] are words = absurd words
 agreed_within t h ports (member ∷ members) (state ∷ states) are words =
     let first : reply_at t h (member, step_at t h ports (member, state)) ≤ h =
-    reply_within (is_held member.factor t h) (step_of member.component state (inputs_at ports member) (local_time member.factor t) (local_step member.factor t h)) member state (inputs_at ports member) (local_time member.factor t) t h are.0 words.0 refl in
-    let least = agreed_is_least h (reply_at t h (member, step_at t h ports (member, state))) (map (reply_at t h) (zip members (map (step_at t h ports) (zip members states)))) in
+    reply_within (is_held member.factor t h)
+    (step_of member.component state (inputs_at ports member) (local_time member.factor t) (local_step member.factor t h)) member state
+    (inputs_at ports member) (local_time member.factor t) t h are.0 words.0 refl in
+    let least =
+    agreed_is_least h (reply_at t h (member, step_at t h ports (member, state)))
+    (map (reply_at t h) (zip members (map (step_at t h ports) (zip members states)))) in
     let below = least.is_least.0 in
     omega (arith, first, below)
 
@@ -111,12 +122,21 @@ agreed_is_at_most run at ports are words = agreed_within at.point.t (proposed ru
 
 -- ---- The members of a system
 
-pub member_is : (system : System) (instance : Instance) (unit : Option Unit) (rest : List Member) → AllByRecursion IsMember rest → AllByRecursion IsMember (cons_option (member_with system instance unit) rest)
+pub member_is : (system : System) (instance : Instance) (unit : Option Unit) (rest : List Member) → AllByRecursion IsMember rest
+    → AllByRecursion IsMember (cons_option (member_with system instance unit) rest)
 member_is system instance None rest are = are
-member_is system instance (Some unit) rest are =
-    (record { factor = one-le-pow (resolution_of system - unwrap_or unit.resolution 0) 10 (omega arith); params = length-map unit.params _; sources = length-map unit.inputs _ }, are)
+member_is system instance (Some unit) rest are = (
+  record {
+    factor = one-le-pow (resolution_of system - unwrap_or unit.resolution 0) 10 (omega arith);
+    params = length-map unit.params _;
+    sources =
+        length-map unit.inputs _;
+  },
+  are,
+)
 
-pub members_are : (system : System) (instances : List Instance) → AllByRecursion IsMember (filter_map (λ instance. member_with system instance (unit_of_instance system instance)) instances)
+pub members_are : (system : System) (instances : List Instance)
+    → AllByRecursion IsMember (filter_map (λ instance. member_with system instance (unit_of_instance system instance)) instances)
 members_are system [] = tt
 members_are system (instance ∷ instances) = member_is system instance (unit_of_instance system instance) _ (members_are system instances)
 

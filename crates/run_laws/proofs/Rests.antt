@@ -16,7 +16,9 @@ use Rattle.run_laws.specs.RestLaws.{IsTail}
 next_number : (run : Composition) (here next : Stand) → Goes run here next → next.at.number ≡ suc here.at.number
 next_number run here next on = sym (ap (λ (at : Position). at.number) (goes_to run here next on))
 
-tail_from : (run : Composition) (from : Stand) (before : List Stand) (here : Stand) (later : List Stand) (ending : Ending) → Follows run from (before ++ (here ∷ later)) ending → IsStand run here × Follows run here later ending × (here.at.number ≡ from.at.number + suc (length before))
+tail_from : (run : Composition) (from : Stand) (before : List Stand) (here : Stand) (later : List Stand) (ending : Ending)
+    → Follows run from (before ++ (here ∷ later)) ending
+    → IsStand run here × Follows run here later ending × (here.at.number ≡ from.at.number + suc (length before))
 tail_from run from [] here later ending follows =
     let one = next_number run from here follows.0 in
     (follows.0.1, follows.1, omega arith)
@@ -25,7 +27,8 @@ tail_from run from (next ∷ before) here later ending follows =
     let tail = tail_from run next before here later ending follows.1 in
     (tail.0, tail.1, omega (arith, tail.2))
 
-pub tail : (run : Composition) (before : List Stand) (here : Stand) (later : List Stand) (ending : Ending) → IsTrace run (before ++ (here ∷ later)) ending → IsTail run before here later ending
+pub tail : (run : Composition) (before : List Stand) (here : Stand) (later : List Stand) (ending : Ending) → IsTrace run (before ++ (here ∷ later)) ending
+    → IsTail run before here later ending
 tail run [] here later ending trace = record { goes_on = (refl, trace.1, trace.2); number = ap (λ (at : Position). at.number) trace.0 }
 tail run (first ∷ before) here later ending trace =
     let found = tail_from run first before here later ending trace.2 in
@@ -33,23 +36,32 @@ tail run (first ∷ before) here later ending trace =
     record { goes_on = (refl, found.0, found.1); number = omega (arith, found.2) }
 
 -- the words of a trace's positions
-words_from : (run : Composition) (from : Stand) (before : List Stand) (here : Stand) (later : List Stand) (ending : Ending) → AreMembers run → HasWords run from.at → Follows run from (before ++ (here ∷ later)) ending → HasWords run here.at
+words_from : (run : Composition) (from : Stand) (before : List Stand) (here : Stand) (later : List Stand) (ending : Ending) → AreMembers run
+    → HasWords run from.at → Follows run from (before ++ (here ∷ later)) ending → HasWords run here.at
 words_from run from [] here later ending are words follows = goes_keeps run from here are words follows.0
-words_from run from (next ∷ before) here later ending are words follows = words_from run next before here later ending are (goes_keeps run from next are words follows.0) follows.1
+words_from run from (next ∷ before) here later ending are words follows =
+    words_from run next before here later ending are (goes_keeps run from next are words follows.0) follows.1
 
-words_at : (run : Composition) (before : List Stand) (here : Stand) (later : List Stand) (ending : Ending) → AreMembers run → IsTrace run (before ++ (here ∷ later)) ending → HasWords run here.at
+words_at : (run : Composition) (before : List Stand) (here : Stand) (later : List Stand) (ending : Ending) → AreMembers run
+    → IsTrace run (before ++ (here ∷ later)) ending → HasWords run here.at
 words_at run [] here later ending are trace = subst (HasWords run) (sym trace.0) (positions_keep run are).first
-words_at run (first ∷ before) here later ending are trace = words_from run first before here later ending are (subst (HasWords run) (sym trace.0) (positions_keep run are).first) trace.2
+words_at run (first ∷ before) here later ending are trace =
+    words_from run first before here later ending are (subst (HasWords run) (sym trace.0) (positions_keep run are).first) trace.2
 
 -- ---- The rest behind a cut
 
 module _ (run : Composition) (order : List ℕ) (are : AreMembers run) (is_order : IsPlaceOrder run order) where
-  pub rest_ends_trace : (at : Position) (stands before : List Stand) (here : Stand) (later : List Stand) (rows : List Row) (last : Point) (ending end : Ending) → IsTrace run stands ending → stands ≡ before ++ (here ∷ later) → here.at ≡ at → IsRest run at rows last end → (rows_of run stands ≡ rows_of run before ++ rows) × (end ≡ ending)
+  pub rest_ends_trace : (at : Position) (stands before : List Stand) (here : Stand) (later : List Stand) (rows : List Row) (last : Point) (ending end : Ending)
+      → IsTrace run stands ending → stands ≡ before ++ (here ∷ later) → here.at ≡ at → IsRest run at rows last end
+      → (rows_of run stands ≡ rows_of run before ++ rows) × (end ≡ ending)
   rest_ends_trace at stands before here later rows last ending end trace split is rest =
       let cut : IsTrace run (before ++ (here ∷ later)) ending = subst (λ (xs : List Stand). IsTrace run xs ending) split trace in
       let words = words_at run before here later ending are cut in
       let goes_on = (tail run before here later ending cut).goes_on in
-      let same = same_rests run order are is_order here.at (here ∷ later) rest.stands ending end words goes_on (subst (λ (p : Position). GoesOnFrom run p rest.stands end) (sym is) rest.goes_on) in (
-        ap (rows_of run) split ∙ filter_map-append (row_at run) before (here ∷ later) ∙ ap (λ xs. rows_of run before ++ rows_of run xs) same.0 ∙ ap (λ xs. rows_of run before ++ xs) (sym rest.rows_are),
+      let same =
+      same_rests run order are is_order here.at (here ∷ later) rest.stands ending end words goes_on
+      (subst (λ (p : Position). GoesOnFrom run p rest.stands end) (sym is) rest.goes_on) in (
+        ap (rows_of run) split ∙ filter_map-append (row_at run) before (here ∷ later) ∙ ap (λ xs. rows_of run before ++ rows_of run xs) same.0
+            ∙ ap (λ xs. rows_of run before ++ xs) (sym rest.rows_are),
         sym same.1,
       )

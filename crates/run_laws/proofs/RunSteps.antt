@@ -21,15 +21,18 @@ none_by (Some ending) position next is = absurd (cc)
 pub next_row : (number budget : ℕ) → number < budget → (suc number == budget) ≡ false → suc number < budget
 next_row number budget within not_last = grind (arith, nat_tests)
 
-pub goes_within : (run : Composition) (one next : Stand) → AreMembers run → Goes run one next → HasWords run one.at → IsInBounds run one.at → IsInBounds run next.at
+pub goes_within : (run : Composition) (one next : Stand) → AreMembers run → Goes run one next → HasWords run one.at → IsInBounds run one.at
+    → IsInBounds run next.at
 goes_within run one next are on words within =
-    let none : first_some (ends_at run one.at one.ports) ≡ None = none_by (first_some (ends_at run one.at one.ports)) (after run one.at one.ports) next.at on.0 in
+    let none : first_some (ends_at run one.at one.ports) ≡ None =
+    none_by (first_some (ends_at run one.at one.ports)) (after run one.at one.ports) next.at on.0 in
     let nearer = next_is_nearer run one are words (record { stop = within.stop; zeros = within.zeros }) none in
     subst (IsInBounds run) (goes_to run one next on) (record { stop = nearer.stop; zeros = nearer.zeros })
 
 pub goes_in_rows : (run : Composition) (one next : Stand) → Goes run one next → IsInRows run one.at → IsInRows run next.at
 goes_in_rows run one next on within =
-    let none : first_some (ends_at run one.at one.ports) ≡ None = none_by (first_some (ends_at run one.at one.ports)) (after run one.at one.ports) next.at on.0 in
+    let none : first_some (ends_at run one.at one.ports) ≡ None =
+    none_by (first_some (ends_at run one.at one.ports)) (after run one.at one.ports) next.at on.0 in
     let not_last : (suc one.at.number == run.row_budget) ≡ false = when_none _ _ (none_at (ends_at run one.at one.ports) 2 (row_end run one.at) none refl) in
     subst (IsInRows run) (goes_to run one next on) (next_row one.at.number run.row_budget within not_last)
 
@@ -43,16 +46,23 @@ step_is_right run one next are on = record {
 
 -- ---- A trace
 
-pub words_along : (run : Composition) (stand : Stand) (others : List Stand) (ending : Ending) → AreMembers run → HasWords run stand.at → Follows run stand others ending → AllByRecursion (λ (each : Stand). HasWords run each.at) (stand ∷ others)
+pub words_along : (run : Composition) (stand : Stand) (others : List Stand) (ending : Ending) → AreMembers run → HasWords run stand.at
+    → Follows run stand others ending → AllByRecursion (λ (each : Stand). HasWords run each.at) (stand ∷ others)
 words_along run stand [] ending are words follow = (words, tt)
-words_along run stand (next ∷ others) ending are words follow = (words, words_along run next others ending are (goes_keeps run stand next are words follow.0) follow.1)
+words_along run stand (next ∷ others) ending are words follow =
+    (words, words_along run next others ending are (goes_keeps run stand next are words follow.0) follow.1)
 
-pub bounds_along : (run : Composition) (stand : Stand) (others : List Stand) (ending : Ending) → AreMembers run → HasWords run stand.at → IsInBounds run stand.at → Follows run stand others ending → AllByRecursion (λ (each : Stand). IsInBounds run each.at) (stand ∷ others)
+pub bounds_along : (run : Composition) (stand : Stand) (others : List Stand) (ending : Ending) → AreMembers run → HasWords run stand.at
+    → IsInBounds run stand.at → Follows run stand others ending → AllByRecursion (λ (each : Stand). IsInBounds run each.at) (stand ∷ others)
 bounds_along run stand [] ending are words within follow = (within, tt)
-bounds_along run stand (next ∷ others) ending are words within follow =
-    (within, bounds_along run next others ending are (goes_keeps run stand next are words follow.0) (goes_within run stand next are follow.0 words within) follow.1)
+bounds_along run stand (next ∷ others) ending are words within follow = (
+  within,
+  bounds_along run next others ending are (goes_keeps run stand next are words follow.0)
+      (goes_within run stand next are follow.0 words within) follow.1,
+)
 
-pub rows_along : (run : Composition) (stand : Stand) (others : List Stand) (ending : Ending) → IsInRows run stand.at → Follows run stand others ending → AllByRecursion (λ (each : Stand). IsInRows run each.at) (stand ∷ others)
+pub rows_along : (run : Composition) (stand : Stand) (others : List Stand) (ending : Ending) → IsInRows run stand.at → Follows run stand others ending
+    → AllByRecursion (λ (each : Stand). IsInRows run each.at) (stand ∷ others)
 rows_along run stand [] ending within follow = (within, tt)
 rows_along run stand (next ∷ others) ending within follow = (within, rows_along run next others ending (goes_in_rows run stand next follow.0 within) follow.1)
 

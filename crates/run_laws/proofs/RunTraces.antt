@@ -1,5 +1,6 @@
 -- A position of a composition whose outputs have an order has exactly one rest, and the first one exactly one trace.
-use Rattle.std.proofs.Common.{◌≡◌, ℕ, zero, suc, ◌+◌, ◌-◌, ◌*◌, ◌<◌, ◌≤◌, ◌==◌, cond, Bool, true, false, List, [], ◌∷◌, length, Option, Some, None, refl, ap, sym, subst, ◌∙◌, arith}
+use Rattle.std.proofs.Common.{◌≡◌, ℕ, zero, suc, ◌+◌, ◌-◌, ◌*◌, ◌<◌, ◌≤◌, ◌==◌, cond, Bool, true, false, List, [], ◌∷◌, length, Option, Some, None, refl, ap}
+use Rattle.std.proofs.Common.{sym, subst, ◌∙◌, arith}
 use Rattle.std.proofs.lemmas.Bool.Decides.{nat_tests}
 use Rattle.std.specs.Prelude.{◌&&◌}
 use Rattle.std.specs.List.{AllZip}
@@ -35,7 +36,8 @@ pub record Nearer (run : Composition) (point next : Point) : Type 0 where
   pub zeros : next.n ≤ run.zero_budget
   pub less : left_at run next < left_at run point
 
-pub nearer_zero : (run : Composition) (point : Point) → point.t ≤ run.stop → point.n ≤ run.zero_budget → (point.n == run.zero_budget) ≡ false → Nearer run point (record { t = point.t; n = suc point.n })
+pub nearer_zero : (run : Composition) (point : Point) → point.t ≤ run.stop → point.n ≤ run.zero_budget → (point.n == run.zero_budget) ≡ false
+    → Nearer run point (record { t = point.t; n = suc point.n })
 nearer_zero run point within zeros not_last =
     let more : point.n < run.zero_budget = grind (arith, nat_tests) in
     record { stop = within; zeros = omega arith; less = omega arith }
@@ -43,21 +45,26 @@ nearer_zero run point within zeros not_last =
 pub further : (ticks h zeros n : ℕ) → ticks * (zeros + 1) + zeros < (ticks + suc h) * (zeros + 1) + (zeros - n)
 further ticks h zeros n = omega arith
 
-pub nearer_on : (run : Composition) (point : Point) (h : ℕ) → point.t ≤ run.stop → suc h ≤ run.stop - point.t → Nearer run point (record { t = point.t + suc h; n = 0 })
+pub nearer_on : (run : Composition) (point : Point) (h : ℕ) → point.t ≤ run.stop → suc h ≤ run.stop - point.t
+    → Nearer run point (record { t = point.t + suc h; n = 0 })
 nearer_on run point h within fits =
     let longer : run.stop - point.t ≡ (run.stop - (point.t + suc h)) + suc h = omega arith in
     let less = further (run.stop - (point.t + suc h)) h run.zero_budget point.n in
     record { stop = omega arith; zeros = omega arith; less = rw longer (omega (arith, less)) }
 
-pub nearer_by : (waits : Bool) (run : Composition) (point : Point) (h : ℕ) → point.t ≤ run.stop → point.n ≤ run.zero_budget → h ≤ run.stop - point.t → (h == 0) ≡ waits → (waits && (point.n == run.zero_budget)) ≡ false → Nearer run point (cond waits (record { t = point.t; n = suc point.n }) (record { t = point.t + h; n = 0 }))
+pub nearer_by : (waits : Bool) (run : Composition) (point : Point) (h : ℕ) → point.t ≤ run.stop → point.n ≤ run.zero_budget → h ≤ run.stop - point.t
+    → (h == 0) ≡ waits → (waits && (point.n == run.zero_budget)) ≡ false
+    → Nearer run point (cond waits (record { t = point.t; n = suc point.n }) (record { t = point.t + h; n = 0 }))
 nearer_by true run point h within zeros fits is open_budget = nearer_zero run point within zeros open_budget
 nearer_by false run point zero within zeros fits is open_budget = absurd (cc)
 nearer_by false run point (suc h) within zeros fits is open_budget = nearer_on run point h within fits
 
-pub next_is_nearer : (run : Composition) (stand : Stand) → AreMembers run → HasWords run stand.at → IsInBounds run stand.at → first_some (ends_at run stand.at stand.ports) ≡ None → Nearer run stand.at.point (after run stand.at stand.ports).point
+pub next_is_nearer : (run : Composition) (stand : Stand) → AreMembers run → HasWords run stand.at → IsInBounds run stand.at
+    → first_some (ends_at run stand.at stand.ports) ≡ None → Nearer run stand.at.point (after run stand.at stand.ports).point
 next_is_nearer run stand are words within none =
     let h = agreed run stand.at stand.ports in
-    let open_budget : ((h == 0) && (stand.at.point.n == run.zero_budget)) ≡ false = when_none _ _ (none_at (ends_at run stand.at stand.ports) 6 (zero_end run stand.at stand.ports) none refl) in
+    let open_budget : ((h == 0) && (stand.at.point.n == run.zero_budget)) ≡ false =
+    when_none _ _ (none_at (ends_at run stand.at stand.ports) 6 (zero_end run stand.at stand.ports) none refl) in
     let allowed = (proposal_is_greatest run.stop run.longest stand.at.point.t (limits run stand.at stand.ports)).holds.within_stop in
     let at_most = agreed_is_at_most run stand.at stand.ports are words in
     nearer_by (h == 0) run stand.at.point h within.stop within.zeros (omega (arith, allowed, at_most)) refl open_budget
@@ -80,7 +87,8 @@ abbrev pub Rest : Composition → Stand → Type 0
 Rest run stand = (stands : List Stand) × (ending : Ending) × Follows run stand stands ending
 
 module _ (run : Composition) (order : List ℕ) (are : AreMembers run) (is_order : IsPlaceOrder run order) where
-  pub rest_by : (end : Option Ending) (stand : Stand) → first_some (ends_at run stand.at stand.ports) ≡ end → (end ≡ None → (next : Stand) × Goes run stand next × Rest run next) → Rest run stand
+  pub rest_by : (end : Option Ending) (stand : Stand) → first_some (ends_at run stand.at stand.ports) ≡ end
+      → (end ≡ None → (next : Stand) × Goes run stand next × Rest run next) → Rest run stand
   rest_by (Some ending) stand is later = ([], ending, ap (λ end. ends_or end (after run stand.at stand.ports)) is)
   rest_by None stand is later = let next = later refl in (next.0 ∷ next.2.0, next.2.1, (next.1, next.2.2))
 
@@ -90,7 +98,8 @@ module _ (run : Composition) (order : List ℕ) (are : AreMembers run) (is_order
       rest_by (first_some (ends_at run stand.at stand.ports)) stand refl (λ none.
       let nearer = next_is_nearer run stand are words within none in
       let kept = (positions_keep run are).next stand.at stand.ports words in
-      let assigned = one_assignment run order (after run stand.at stand.ports).states is_order (one_each _ run.members (after run stand.at stand.ports).states kept) in
+      let assigned =
+      one_assignment run order (after run stand.at stand.ports).states is_order (one_each _ run.members (after run stand.at stand.ports).states kept) in
       let next : Stand = record { at = after run stand.at stand.ports; ports = assigned.ports } in (
         next,
         (ap (λ end. ends_or end (after run stand.at stand.ports)) none, assigned.is_assignment),
@@ -111,7 +120,8 @@ module _ (run : Composition) (order : List ℕ) (are : AreMembers run) (is_order
   goes_same here one other words to_one to_other =
       same_stand one other (goes_keeps run here one are words to_one) to_one.1 to_other.1 (sym (goes_to run here one to_one) ∙ goes_to run here other to_other)
 
-  pub same_rest : (here : Stand) (xs ys : List Stand) (e f : Ending) → HasWords run here.at → Follows run here xs e → Follows run here ys f → (xs ≡ ys) × (e ≡ f)
+  pub same_rest : (here : Stand) (xs ys : List Stand) (e f : Ending) → HasWords run here.at → Follows run here xs e → Follows run here ys f
+      → (xs ≡ ys) × (e ≡ f)
   same_rest here [] [] e f words p q = (refl, cc)
   same_rest here [] (y ∷ ys) e f words p q = absurd (cc)
   same_rest here (x ∷ xs) [] e f words p q = absurd (cc)

@@ -1,5 +1,6 @@
 -- What the value of an expression looks at: the words of the names in it.
-use Rattle.std.proofs.Common.{◌≡◌, ℕ, Bool, true, false, List, [], ◌∷◌, ◌++◌, map, length, ℤ, pos, inl, inr, refl, ap, sym, subst, ◌∙◌, cond, ◌+◌, append_assoc, arith}
+use Rattle.std.proofs.Common.{◌≡◌, ℕ, Bool, true, false, List, [], ◌∷◌, ◌++◌, map, length, ℤ, pos, inl, inr, refl, ap, sym, subst, ◌∙◌, cond, ◌+◌, append_assoc}
+use Rattle.std.proofs.Common.{arith}
 use Rattle.std.specs.Prelude.{Ok, Err, not, ◌&&◌, ◌||◌}
 use Rattle.std.specs.List.{list_any}
 use Rattle.std.specs.Str.{bytes_eq}
@@ -49,7 +50,10 @@ pub of_behind : (front behind : List (List ℕ)) (one other : Environment) → S
 of_behind front behind one other same = record { time = same.time; step = same.step; words = λ name has. same.words name (has_behind front behind name has) }
 
 -- One node, of parts whose values are the same.
-pub node_same : (y : Expr-F Proved) (one other : Environment) → ShowSame (node_names (map-Expr Expr (List (List ℕ)) names_in (map-Expr Proved Expr bare y))) one other → node_meaning (map-Expr Expr Meaning value_of (map-Expr Proved Expr bare y)) one ≡ node_meaning (map-Expr Expr Meaning value_of (map-Expr Proved Expr bare y)) other
+pub node_same : (y : Expr-F Proved) (one other : Environment)
+    → ShowSame (node_names (map-Expr Expr (List (List ℕ)) names_in (map-Expr Proved Expr bare y))) one other
+    → node_meaning (map-Expr Expr Meaning value_of (map-Expr Proved Expr bare y)) one
+    ≡ node_meaning (map-Expr Expr Meaning value_of (map-Expr Proved Expr bare y)) other
 node_same (Expr-F.Number number decimals) one other same = refl
 node_same (Expr-F.Truth told) one other same = refl
 node_same (Expr-F.Var name) one other same = ap (λ v. Ok v) (same.words name (inl refl))
@@ -59,7 +63,8 @@ node_same (Expr-F.Unary op arg) one other same = ap (λ x. x >>= unary_value op)
 node_same (Expr-F.Binary op left right) one other same =
     let on_left = left.1 one other (of_front (names_in (bare left)) (names_in (bare right)) one other same) in
     let on_right = right.1 one other (of_behind (names_in (bare left)) (names_in (bare right)) one other same) in
-    ap (λ x. x >>= λ l. (value_of (bare right) one >>= λ r. binary_value op l r)) on_left ∙ ap (λ y. value_of (bare left) other >>= λ l. (y >>= λ r. binary_value op l r)) on_right
+    ap (λ x. x >>= λ l. (value_of (bare right) one >>= λ r. binary_value op l r)) on_left
+    ∙ ap (λ y. value_of (bare left) other >>= λ l. (y >>= λ r. binary_value op l r)) on_right
 node_same (Expr-F.Clamp value low high) one other same =
     let front = names_in (bare value) ++ names_in (bare low) in
     let bounds = of_front front (names_in (bare high)) one other same in
@@ -93,22 +98,29 @@ value_same = ind-Expr Claim (λ x y is. subst (λ z. Claim (roll-Expr z)) is (no
 -- ---- The value of an output
 
 -- Behind variables with the same words, a name has the same value where it has it in the rest.
-pub lookup_behind : (front rest : List Variable) (words ones others : List ℤ) (name : List ℕ) → length words ≡ length front → value_of_name rest ones name ≡ value_of_name rest others name → value_of_name (front ++ rest) (words ++ ones) name ≡ value_of_name (front ++ rest) (words ++ others) name
+pub lookup_behind : (front rest : List Variable) (words ones others : List ℤ) (name : List ℕ) → length words ≡ length front
+    → value_of_name rest ones name ≡ value_of_name rest others name
+    → value_of_name (front ++ rest) (words ++ ones) name ≡ value_of_name (front ++ rest) (words ++ others) name
 lookup_behind [] rest [] ones others name one_each same = same
 lookup_behind [] rest (word ∷ words) ones others name one_each same = absurd (omega (arith, one_each))
 lookup_behind (first ∷ front) rest [] ones others name one_each same = absurd (omega (arith, one_each))
 lookup_behind (first ∷ front) rest (word ∷ words) ones others name one_each same =
-    ap (cond (bytes_eq first.name name) (record { kind = kind_of first.ty; word = word })) (lookup_behind front rest words ones others name (omega (arith, one_each)) same)
+    ap (cond (bytes_eq first.name name) (record { kind = kind_of first.ty; word = word }))
+    (lookup_behind front rest words ones others name (omega (arith, one_each)) same)
 
 -- An input of the name is in the needs.
 abbrev pub Covered : List (List ℕ) → List Input → List ℕ → Type 0
 Covered needs inputs name = (input : Input) → Has inputs input → bytes_eq input.name name ≡ true → is_among needs input.name ≡ true
 
-pub input_by : (named : Bool) (input : Input) (one other : ℤ) (first second : Value) → (named ≡ true → one ≡ other) → first ≡ second → cond named (record { kind = kind_of input.ty; word = one }) first ≡ cond named (record { kind = kind_of input.ty; word = other }) second
+pub input_by : (named : Bool) (input : Input) (one other : ℤ) (first second : Value) → (named ≡ true → one ≡ other) → first ≡ second
+    → cond named (record { kind = kind_of input.ty; word = one }) first ≡ cond named (record { kind = kind_of input.ty; word = other }) second
 input_by true input one other first second same later = ap (λ word. record { kind = kind_of input.ty; word = word }) (same refl)
 input_by false input one other first second same later = later
 
-pub lookup_inputs : (needs : List (List ℕ)) (inputs : List Input) (rest : List Variable) (ones others words : List ℤ) (name : List ℕ) → AgreeOn needs inputs ones others → Covered needs inputs name → value_of_name (map (λ input. variable input.name input.ty) inputs ++ rest) (ones ++ words) name ≡ value_of_name (map (λ input. variable input.name input.ty) inputs ++ rest) (others ++ words) name
+pub lookup_inputs : (needs : List (List ℕ)) (inputs : List Input) (rest : List Variable) (ones others words : List ℤ) (name : List ℕ)
+    → AgreeOn needs inputs ones others → Covered needs inputs name
+    → value_of_name (map (λ input. variable input.name input.ty) inputs ++ rest) (ones ++ words) name
+    ≡ value_of_name (map (λ input. variable input.name input.ty) inputs ++ rest) (others ++ words) name
 lookup_inputs needs [] rest [] [] words name agree covered = refl
 lookup_inputs needs [] rest [] (other ∷ others) words name agree covered = absurd agree
 lookup_inputs needs [] rest (one ∷ ones) others words name agree covered = absurd agree
@@ -137,7 +149,8 @@ any_front name (first ∷ front) behind is = any_by (bytes_eq name first) (is_am
     any_by true later all is on = refl
     any_by false later all is on = on is
 
-pub input_among : (inputs : List Input) (input : Input) (name : List ℕ) → Has inputs input → name ≡ input.name → is_among (map (λ (input : Input). input.name) inputs) name ≡ true
+pub input_among : (inputs : List Input) (input : Input) (name : List ℕ) → Has inputs input → name ≡ input.name
+    → is_among (map (λ (input : Input). input.name) inputs) name ≡ true
 input_among [] input name has is = absurd has
 input_among (first ∷ inputs) input name (inl same) is =
     ap (λ b. b || is_among (map (λ (input : Input). input.name) inputs) name) (bytes_of name first.name (is ∙ sym (ap (λ (i : Input). i.name) same)))
@@ -147,7 +160,9 @@ input_among (first ∷ inputs) input name (inr has) is = or_later (bytes_eq name
     or_later true later so = refl
     or_later false later so = so
 
-pub names_of_inputs : (inputs : List Input) → map (λ (port : Port). port.name) (map (λ (input : Input). record { name = input.name; ty = input.ty; is_event = false; needs = [] }) inputs) ≡ map (λ (input : Input). input.name) inputs
+pub names_of_inputs : (inputs : List Input)
+    → map (λ (port : Port). port.name) (map (λ (input : Input). record { name = input.name; ty = input.ty; is_event = false; needs = [] }) inputs)
+    ≡ map (λ (input : Input). input.name) inputs
 names_of_inputs [] = refl
 names_of_inputs (input ∷ inputs) = ap (λ rest. input.name ∷ rest) (names_of_inputs inputs)
 
@@ -160,11 +175,13 @@ among_inputs unit input name has is =
     (any_front name (map (λ (port : Port). port.name) plain) (map (λ (port : Port). port.name) events)
     (subst (λ names. is_among names name ≡ true) (sym (names_of_inputs unit.inputs)) (input_among unit.inputs input name has is)))
 
-pub is_covered : (unit : Unit) (needs : List (List ℕ)) (value : Expr) (name : List ℕ) → uses_other_input unit needs value ≡ false → Has (names_in value) name → Covered needs unit.inputs name
+pub is_covered : (unit : Unit) (needs : List (List ℕ)) (value : Expr) (name : List ℕ) → uses_other_input unit needs value ≡ false → Has (names_in value) name
+    → Covered needs unit.inputs name
 is_covered unit needs value name kept has input there same =
     let is : input.name ≡ name = same_bytes input.name name same in
     let needed : is_among needs name ≡ true =
-    and_false (is_among (input_names unit) name) (is_among needs name) (among_inputs unit input name there (sym is)) (kept_at (λ n. is_among (input_names unit) n && not (is_among needs n)) (names_in value) name kept has) in
+    and_false (is_among (input_names unit) name) (is_among needs name) (among_inputs unit input name there (sym is))
+    (kept_at (λ n. is_among (input_names unit) n && not (is_among needs n)) (names_in value) name kept has) in
     subst (λ n. is_among needs n ≡ true) (sym is) needed
 
 pub get_same : OutputsLookAtNeeds
@@ -177,7 +194,8 @@ get_same component state one other output params states agree kept =
     let words : List ℤ = component.params ++ state in
     let one_each : length words ≡ length front =
     length-append component.params state ∙ ap (λ n. n + length state) (params ∙ sym (length-map unit.params (λ param. variable param.name param.ty)))
-    ∙ ap (λ n. length (map (λ param. variable param.name param.ty) unit.params) + n) (states ∙ sym (length-map unit.states (λ state. variable state.name state.ty)))
+    ∙ ap (λ n. length (map (λ param. variable param.name param.ty) unit.params) + n)
+    (states ∙ sym (length-map unit.states (λ state. variable state.name state.ty)))
     ∙ sym (length-append (map (λ param. variable param.name param.ty) unit.params) (map (λ state. variable state.name state.ty) unit.states)) in
     let same : ShowSame (names_in output.value) (environment_of component state one 0 0) (environment_of component state other 0 0) =
     record {
@@ -186,11 +204,13 @@ get_same component state one other output params states agree kept =
       words = λ name has.
           ap (λ vs. value_of_name vs ((words ++ one) ++ zeros) name) (append_assoc front inputs locals)
           ∙ ap (λ ws. value_of_name (front ++ (inputs ++ locals)) ws name) (append_assoc words one zeros)
-          ∙ lookup_behind front (inputs ++ locals) words (one ++ zeros) (other ++ zeros) name one_each (lookup_inputs output.needs unit.inputs locals one other zeros name agree (is_covered unit output.needs output.value name kept has))
+          ∙ lookup_behind front (inputs ++ locals) words (one ++ zeros) (other ++ zeros) name one_each
+          (lookup_inputs output.needs unit.inputs locals one other zeros name agree (is_covered unit output.needs output.value name kept has))
           ∙ sym (ap (λ ws. value_of_name (front ++ (inputs ++ locals)) ws name) (append_assoc words other zeros))
           ∙ sym (ap (λ vs. value_of_name vs ((words ++ other) ++ zeros) name) (append_assoc front inputs locals));
     } in
-    ap (λ value. value >>= given_as output.ty) (value_same output.value (environment_of component state one 0 0) (environment_of component state other 0 0) same)
+    ap (λ value. value >>= given_as output.ty)
+    (value_same output.value (environment_of component state one 0 0) (environment_of component state other 0 0) same)
 
 pub given_fits : (fits : Bool) (ty : Ty) (given word : ℤ) → is_word_of ty given ≡ fits → cond fits (Ok given) (Err Range) ≡ Ok word → is_word_of ty word ≡ true
 given_fits true ty given word is same = let equal : given ≡ word = cc in subst (λ w. is_word_of ty w ≡ true) equal is

@@ -14,7 +14,8 @@ pub record IsTail (run : Composition) (before : List Stand) (here : Stand) (late
   pub number : here.at.number ≡ length before
 
 abbrev pub TailsGoOn : Type 0
-TailsGoOn = (run : Composition) (before : List Stand) (here : Stand) (later : List Stand) (ending : Ending) → IsTrace run (before ++ (here ∷ later)) ending → IsTail run before here later ending
+TailsGoOn = (run : Composition) (before : List Stand) (here : Stand) (later : List Stand) (ending : Ending) → IsTrace run (before ++ (here ∷ later)) ending
+    → IsTail run before here later ending
 
 -- A position with words, within the stop and the budget of steps of length zero, has exactly one rest, where the places have an order.
 pub record HasOneRest (run : Composition) (at : Position) : Type 0 where
@@ -24,9 +25,13 @@ pub record HasOneRest (run : Composition) (at : Position) : Type 0 where
   pub is_only : (other : List Stand) (end : Ending) → GoesOnFrom run at other end → (other ≡ stands) × (end ≡ ending)
 
 abbrev pub PositionsHaveOneRest : Type 0
-PositionsHaveOneRest = (run : Composition) (order : List ℕ) (at : Position) → AreMembers run → IsPlaceOrder run order → HasWords run at → IsInBounds run at → HasOneRest run at
+PositionsHaveOneRest = (run : Composition) (order : List ℕ) (at : Position) → AreMembers run → IsPlaceOrder run order → HasWords run at → IsInBounds run at
+    → HasOneRest run at
 
 -- The rows of a trace are those before a position of it, and those of this position's rest, with which it ends.
 abbrev pub RestsEndTraces : Type 0
 RestsEndTraces =
-    (run : Composition) (order : List ℕ) (at : Position) (stands before : List Stand) (here : Stand) (later : List Stand) (rows : List Row) (last : Point) (ending end : Ending) → AreMembers run → IsPlaceOrder run order → IsTrace run stands ending → stands ≡ before ++ (here ∷ later) → here.at ≡ at → IsRest run at rows last end → (rows_of run stands ≡ rows_of run before ++ rows) × (end ≡ ending)
+    (run : Composition) (order : List ℕ) (at : Position) (stands before : List Stand) (here : Stand) (later : List Stand) (rows : List Row) (last : Point)
+    (ending end : Ending)
+    → AreMembers run → IsPlaceOrder run order → IsTrace run stands ending → stands ≡ before ++ (here ∷ later) → here.at ≡ at → IsRest run at rows last end
+    → (rows_of run stands ≡ rows_of run before ++ rows) × (end ≡ ending)

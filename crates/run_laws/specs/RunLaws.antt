@@ -12,7 +12,8 @@ use Rattle.unit_tree.specs.Orders.{HasNoCycle}
 use Rattle.unit_tree.specs.Plain.{plain_form}
 use Rattle.unit_tree.specs.Ports.{Ports, IsAmong, IsAssignment, IsPlaceOrder, port_fault}
 use Rattle.unit_tree.specs.Printable.{IsRanged}
-use Rattle.unit_tree.specs.Successor.{Position, goes, ends, first_position, after, agreed, proposed, is_redone, stop_end, row_end, max_end, trial_end, redo_end, redo_end_by, zero_end, successor}
+use Rattle.unit_tree.specs.Successor.{Position, goes, ends, first_position, after, agreed, proposed, is_redone, stop_end, row_end, max_end, trial_end, redo_end}
+use Rattle.unit_tree.specs.Successor.{redo_end_by, zero_end, successor}
 use Rattle.unit_tree.specs.Trace.{Stand, Goes, IsGoing, IsTrace, Row, IsTraceOf, HasCells, AreWordsOf, HasWords}
 use Rattle.unit_tree.specs.WellFormed.{IsWellFormed, uses_other_input}
 use Rattle.unit_tree.specs.declared.ending.Ending.{Ending}
@@ -33,7 +34,8 @@ AssignmentsAreUnique =
 -- There is a port fault exactly where some output is undefined.
 abbrev pub UndefinedOutputsFault : Type 0
 UndefinedOutputsFault =
-    (run : Composition) (order : List ℕ) (states : List (List ℤ)) (ports : Ports) → IsPlaceOrder run order → length states ≡ length run.members → IsAssignment run states ports → (port_fault run states ports ≡ None) ↔ (list_all is_some ports ≡ true)
+    (run : Composition) (order : List ℕ) (states : List (List ℤ)) (ports : Ports) → IsPlaceOrder run order → length states ≡ length run.members
+    → IsAssignment run states ports → (port_fault run states ports ≡ None) ↔ (list_all is_some ports ≡ true)
 
 -- ---- Outputs
 
@@ -47,12 +49,15 @@ AgreeOn needs _ _ _ = ⊥
 -- system do, depends on these alone.
 abbrev pub OutputsLookAtNeeds : Type 0
 OutputsLookAtNeeds =
-    (component : Component) (state one other : List ℤ) (output : Output) → length component.params ≡ length component.unit.params → length state ≡ length component.unit.states → AgreeOn output.needs component.unit.inputs one other → uses_other_input component.unit output.needs output.value ≡ false → get_of component state one output ≡ get_of component state other output
+    (component : Component) (state one other : List ℤ) (output : Output) → length component.params ≡ length component.unit.params
+    → length state ≡ length component.unit.states → AgreeOn output.needs component.unit.inputs one other
+    → uses_other_input component.unit output.needs output.value ≡ false → get_of component state one output ≡ get_of component state other output
 
 -- What get gives is a word of the output's type, or a fault.
 abbrev pub OutputsAreWords : Type 0
 OutputsAreWords =
-    (component : Component) (state inputs : List ℤ) (output : Output) (word : ℤ) → get_of component state inputs output ≡ Ok word → is_word_of output.ty word ≡ true
+    (component : Component) (state inputs : List ℤ) (output : Output) (word : ℤ) → get_of component state inputs output ≡ Ok word
+    → is_word_of output.ty word ≡ true
 
 -- ---- Steps
 
@@ -91,7 +96,8 @@ pub record KeepsWords (component : Component) (step : ℕ) (moved : Moved) : Typ
 
 abbrev pub StepsKeepWords : Type 0
 StepsKeepWords =
-    (component : Component) (state inputs : List ℤ) (time step : ℕ) (moved : Moved) → length component.params ≡ length component.unit.params → AreWordsOf component.unit.states state → step_of component state inputs time step ≡ Ok moved → KeepsWords component step moved
+    (component : Component) (state inputs : List ℤ) (time step : ℕ) (moved : Moved) → length component.params ≡ length component.unit.params
+    → AreWordsOf component.unit.states state → step_of component state inputs time step ≡ Ok moved → KeepsWords component step moved
 
 -- The components of a system are members.
 abbrev pub SystemsHaveMembers : Type 0
@@ -144,17 +150,25 @@ AgreedStepsAreAtMost = (run : Composition) (at : Position) (ports : Ports) → A
 -- How the run goes on from a stand at which it does not end before its trial.
 pub record EndsInOrder (run : Composition) (stand : Stand) : Type 0 where
   pub trial_ends : (ending : Ending) → trial_end run stand.at stand.ports ≡ Some ending → successor run stand.at stand.ports ≡ ends ending
-  pub redo_ends : (ending : Ending) → trial_end run stand.at stand.ports ≡ None → is_redone run stand.at stand.ports ≡ true → redo_end_by run stand.at stand.ports (agreed run stand.at stand.ports) ≡ Some ending → successor run stand.at stand.ports ≡ ends ending
-  pub zero_ends : (ending : Ending) → trial_end run stand.at stand.ports ≡ None → redo_end run stand.at stand.ports ≡ None → zero_end run stand.at stand.ports ≡ Some ending → successor run stand.at stand.ports ≡ ends ending
-  pub whole_goes : trial_end run stand.at stand.ports ≡ None → is_redone run stand.at stand.ports ≡ false → zero_end run stand.at stand.ports ≡ None → successor run stand.at stand.ports ≡ goes (after run stand.at stand.ports)
-  pub redo_goes : trial_end run stand.at stand.ports ≡ None → is_redone run stand.at stand.ports ≡ true → redo_end_by run stand.at stand.ports (agreed run stand.at stand.ports) ≡ None → zero_end run stand.at stand.ports ≡ None → successor run stand.at stand.ports ≡ goes (after run stand.at stand.ports)
+  pub redo_ends : (ending : Ending) → trial_end run stand.at stand.ports ≡ None → is_redone run stand.at stand.ports ≡ true
+      → redo_end_by run stand.at stand.ports (agreed run stand.at stand.ports) ≡ Some ending → successor run stand.at stand.ports ≡ ends ending
+  pub zero_ends : (ending : Ending) → trial_end run stand.at stand.ports ≡ None → redo_end run stand.at stand.ports ≡ None
+      → zero_end run stand.at stand.ports ≡ Some ending → successor run stand.at stand.ports ≡ ends ending
+  pub whole_goes : trial_end run stand.at stand.ports ≡ None → is_redone run stand.at stand.ports ≡ false → zero_end run stand.at stand.ports ≡ None
+      → successor run stand.at stand.ports ≡ goes (after run stand.at stand.ports)
+  pub redo_goes : trial_end run stand.at stand.ports ≡ None → is_redone run stand.at stand.ports ≡ true
+      → redo_end_by run stand.at stand.ports (agreed run stand.at stand.ports) ≡ None → zero_end run stand.at stand.ports ≡ None
+      → successor run stand.at stand.ports ≡ goes (after run stand.at stand.ports)
 
 -- How it ends at a stand before a trial.
 pub record FirstEndsInOrder (run : Composition) (stand : Stand) : Type 0 where
   pub port_ends : (ending : Ending) → port_fault run stand.at.states stand.ports ≡ Some ending → successor run stand.at stand.ports ≡ ends ending
-  pub stop_ends : (ending : Ending) → port_fault run stand.at.states stand.ports ≡ None → stop_end run stand.at ≡ Some ending → successor run stand.at stand.ports ≡ ends ending
-  pub row_ends : (ending : Ending) → port_fault run stand.at.states stand.ports ≡ None → stop_end run stand.at ≡ None → row_end run stand.at ≡ Some ending → successor run stand.at stand.ports ≡ ends ending
-  pub max_ends : (ending : Ending) → port_fault run stand.at.states stand.ports ≡ None → stop_end run stand.at ≡ None → row_end run stand.at ≡ None → max_end run stand.at stand.ports ≡ Some ending → successor run stand.at stand.ports ≡ ends ending
+  pub stop_ends : (ending : Ending) → port_fault run stand.at.states stand.ports ≡ None → stop_end run stand.at ≡ Some ending
+      → successor run stand.at stand.ports ≡ ends ending
+  pub row_ends : (ending : Ending) → port_fault run stand.at.states stand.ports ≡ None → stop_end run stand.at ≡ None → row_end run stand.at ≡ Some ending
+      → successor run stand.at stand.ports ≡ ends ending
+  pub max_ends : (ending : Ending) → port_fault run stand.at.states stand.ports ≡ None → stop_end run stand.at ≡ None → row_end run stand.at ≡ None
+      → max_end run stand.at stand.ports ≡ Some ending → successor run stand.at stand.ports ≡ ends ending
 
 abbrev pub FirstEndsAreJudgedInOrder : Type 0
 FirstEndsAreJudgedInOrder = (run : Composition) (stand : Stand) → FirstEndsInOrder run stand

@@ -1,5 +1,6 @@
 -- What the store of a slab has under an id is what the slab has under that key.
-use Rattle.std.proofs.Common.{◌≡◌, ◌≢◌, ℕ, zero, suc, ◌+◌, ◌<◌, ℤ, pos, true, false, cond, List, [], ◌∷◌, ◌++◌, take, drop, map, length, get_or, set, get_or-set_same, get_or-set_other, subst, Option, Some, None, refl, sym, ap, ◌∙◌, arith, add-zero, zero-add}
+use Rattle.std.proofs.Common.{◌≡◌, ◌≢◌, ℕ, zero, suc, ◌+◌, ◌<◌, ℤ, pos, true, false, cond, List, [], ◌∷◌, ◌++◌, take, drop, map, length, get_or, set}
+use Rattle.std.proofs.Common.{get_or-set_same, get_or-set_other, subst, Option, Some, None, refl, sym, ap, ◌∙◌, arith, add-zero, zero-add}
 use Rattle.std.proofs.Math.Seq.{take-append_seam}
 use Rattle.std.proofs.lemmas.Bool.Decides.{nat_tests}
 use Rattle.std.specs.Cmp.{nat_cmp_total}
@@ -63,7 +64,8 @@ module _ {X : Type 0} (f : X → List ℤ) where
 
     -- a live id is a key of the slab
     pub slot_of_live : (id key : ℕ) → key ≡ id → IsLive store id → IsSome (get_or slots key None)
-    slot_of_live id key same live = some_from_map (get_or slots key None) (subst (λ o. IsSome o) (held id ∙ ap (λ k. option_map f (get_or slots k None)) (sym same)) live)
+    slot_of_live id key same live =
+        some_from_map (get_or slots key None) (subst (λ o. IsSome o) (held id ∙ ap (λ k. option_map f (get_or slots k None)) (sym same)) live)
 
     -- what a key of the slab has, the store has under the id
     pub words_in_slot : (id key : ℕ) (x : X) → key ≡ id → get_or slots key None ≡ Some x → words_of store id ≡ Some (f x)
@@ -74,7 +76,8 @@ module _ {X : Type 0} (f : X → List ℤ) where
     length_of_live id key count x same found asked = asked (f x) (words_in_slot id key x same found)
 
     -- where one key alone changes, every other id has what it had
-    pub others_kept : (new : List (Option X)) (id key : ℕ) → key ≡ id → ((other : ℕ) → other ≢ key → get_or new other None ≡ get_or slots other None) → KeepsOthers store (view new) id
+    pub others_kept : (new : List (Option X)) (id key : ℕ) → key ≡ id → ((other : ℕ) → other ≢ key → get_or new other None ≡ get_or slots other None)
+        → KeepsOthers store (view new) id
     others_kept new id key same kept other differs =
         let apart : other ≢ key = λ e. differs (e ∙ same) in
         words_of-stored new other ∙ ap (option_map f) (kept other apart) ∙ sym (held other)
@@ -88,7 +91,8 @@ module _ {X : Type 0} (f : X → List ℤ) where
   within (slot ∷ slots) (suc key) there = let rest = within slots key there in omega arith
 
   -- a key that was written
-  pub words_after_set : (slots : List (Option X)) (id key : ℕ) (x : X) → key ≡ id → IsSome (get_or slots key None) → words_of (view (set slots key (Some x))) id ≡ Some (f x)
+  pub words_after_set : (slots : List (Option X)) (id key : ℕ) (x : X) → key ≡ id → IsSome (get_or slots key None)
+      → words_of (view (set slots key (Some x))) id ≡ Some (f x)
   words_after_set slots id key x same there =
       ap (words_of (view (set slots key (Some x)))) (sym same)
       ∙ words_of-stored (set slots key (Some x)) key

@@ -10,6 +10,7 @@ least_of_two first other [] = refl
 least_of_two first other (next ∷ others) = omega arith
 
 -- The number at a place is put to the least of those before it.
-pub least_next : (least place : ℕ) (numbers : List ℕ) → place < length numbers → least_of least (drop place numbers) ≡ least_of (min least (get_or numbers place 0)) (drop (place + 1) numbers)
+pub least_next : (least place : ℕ) (numbers : List ℕ) → place < length numbers
+    → least_of least (drop place numbers) ≡ least_of (min least (get_or numbers place 0)) (drop (place + 1) numbers)
 least_next least place numbers within =
     at_drop_more (least_of least) numbers place 0 within ∙ sym (least_of_two least (get_or numbers place 0) (drop (place + 1) numbers))

@@ -18,7 +18,8 @@ passes factor t zero some =
     let same : (t + limit_of factor t zero) / factor ≡ t / factor = ap (λ time. time / factor) (omega arith) in
     omega arith
 passes factor t (suc local) some =
-    let end : (t + limit_of factor t (suc local)) / factor ≡ t / factor + suc local = ap (λ time. time / factor) (ends_at factor t local some) ∙ mul-div_cancel (t / factor + suc local) some in
+    let end : (t + limit_of factor t (suc local)) / factor ≡ t / factor + suc local = ap (λ time. time / factor) (ends_at factor t local some)
+    ∙ mul-div_cancel (t / factor + suc local) some in
     omega arith
 
 pub is_least : (factor t local h : ℕ) → 1 ≤ factor → h < limit_of factor t local → local_step factor t h < local

@@ -8,7 +8,8 @@ use Rattle.super_time.specs.declared.seconds.SecondsFault.TheVariants.{NotDecima
 -- A step to the limit is a local step of so many local ticks, and every shorter one is a shorter local step.
 abbrev pub LimitsPassLocalTicks : Type 0
 LimitsPassLocalTicks =
-    (factor t local : ℕ) → 1 ≤ factor → (local_step factor t (limit_of factor t local) ≡ local) × ((h : ℕ) → h < limit_of factor t local → local_step factor t h < local)
+    (factor t local : ℕ) → 1 ≤ factor
+    → (local_step factor t (limit_of factor t local) ≡ local) × ((h : ℕ) → h < limit_of factor t local → local_step factor t h < local)
 
 -- Local times, local steps and limits.
 pub record TimesAreWorked : Type 0 where

@@ -17,7 +17,8 @@ AreDecimalsOf (literal.Number number decimals) = decimals ≤ 9
 abbrev pub ticks_in : ℕ → Literal → Option ℕ
 ticks_in resolution (literal.Truth told) = None
 ticks_in resolution (literal.Number number decimals) =
-    if not (is_negative number) && ((unsigned_abs number * 10 ^ resolution) % 10 ^ decimals == 0) then Some (unsigned_abs number * 10 ^ resolution / 10 ^ decimals) else None
+    if not (is_negative number) && ((unsigned_abs number * 10 ^ resolution) % 10 ^ decimals == 0) then Some
+    (unsigned_abs number * 10 ^ resolution / 10 ^ decimals) else None
 
 -- A run has at most 10^15 ticks.
 abbrev pub within_run : Option ℕ → Result ℕ SecondsFault

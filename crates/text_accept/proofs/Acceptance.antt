@@ -1,5 +1,6 @@
 -- Each text is accepted as one system, or refused at one line by one rule.
-use Rattle.std.proofs.Common.{◌≡◌, ℕ, zero, suc, ◌+◌, ◌-◌, ◌<◌, ◌≤◌, ◌⊎◌, inl, inr, Bool, true, false, List, [], ◌∷◌, ◌++◌, length, Option, Some, None, refl, ap, sym, subst, ◌∙◌, arith}
+use Rattle.std.proofs.Common.{◌≡◌, ℕ, zero, suc, ◌+◌, ◌-◌, ◌<◌, ◌≤◌, ◌⊎◌, inl, inr, Bool, true, false, List, [], ◌∷◌, ◌++◌, length, Option, Some, None, refl}
+use Rattle.std.proofs.Common.{ap, sym, subst, ◌∙◌, arith}
 use Rattle.std.specs.Prelude.{slice_get, ⊤}
 use Rattle.std.specs.List.{filter_map, find, enumerate_from}
 use Rattle.std.specs.Option.{option_map}
@@ -33,9 +34,11 @@ use Rattle.list_laws.proofs.Options.{some_same}
 once : (text : List ℕ) → IsAnsweredOnce text
 once text = answered_once known text
 
-one_source : (text : List ℕ) (one other : System) (ones others : List ℕ) → ReadsFrom text one ones → ReadsFrom text other others → (one ≡ other) × (ones ≡ others)
+one_source : (text : List ℕ) (one other : System) (ones others : List ℕ) → ReadsFrom text one ones → ReadsFrom text other others
+    → (one ≡ other) × (ones ≡ others)
 one_source text one other ones others a b =
-    let same_parts : a.reads.parts ≡ b.reads.parts = ((once text).one_reading one.version other.version a.reads.parts b.reads.parts a.reads.lines b.reads.lines).1 in (
+    let same_parts : a.reads.parts ≡ b.reads.parts =
+    ((once text).one_reading one.version other.version a.reads.parts b.reads.parts a.reads.lines b.reads.lines).1 in (
       (once text).one_system one other a.reads b.reads,
       a.are_lines ∙ ap (λ (parts : List Part). in_canonical_order parts (numbers_of (source_lines text))) same_parts ∙ sym b.are_lines,
     )
@@ -49,9 +52,11 @@ get_within (line ∷ lines) (suc place) within = get_within lines place (omega (
 
 -- there are as many lines that canonical lines came from as canonical lines
 pub as_many : (text : List ℕ) (system : System) (lines : List ℕ) → ReadsFrom text system lines → length (sites_of system) ≡ length lines
-as_many text system lines from = sym (length-map (sites_of system) (λ site. site.line)) ∙ ap length (sites_are system) ∙ sym (one_for_one text system lines from)
+as_many text system lines from = sym (length-map (sites_of system) (λ site. site.line)) ∙ ap length (sites_are system)
+    ∙ sym (one_for_one text system lines from)
 
-pub has_source : (text : List ℕ) (system : System) (lines : List ℕ) (item : ℕ) → ReadsFrom text system lines → 1 ≤ item → item ≤ length (sites_of system) → (line : ℕ) × (source_line lines item ≡ Some line)
+pub has_source : (text : List ℕ) (system : System) (lines : List ℕ) (item : ℕ) → ReadsFrom text system lines → 1 ≤ item → item ≤ length (sites_of system)
+    → (line : ℕ) × (source_line lines item ≡ Some line)
 has_source text system lines item from first last =
     let same = as_many text system lines from in
     get_within lines (item - 1) (omega (arith, first, last, same))
@@ -66,7 +71,9 @@ unfolding Within
 within_later from site all [] is = tt
 within_later from site all (at ∷ others) is = (let low = is.0 in omega (arith, low), let high = is.1 in omega (arith, high))
 
-breaking_by : (breaks : Site → Bool) (from : ℕ) (site : Site) (all : List Site) (told : Bool) → breaks site ≡ told → Within (from + 1) all (filter_map (number_where breaks) (enumerate_from (from + 1) all)) → Within from (site ∷ all) (filter_map (number_where breaks) (enumerate_from from (site ∷ all)))
+breaking_by : (breaks : Site → Bool) (from : ℕ) (site : Site) (all : List Site) (told : Bool) → breaks site ≡ told
+    → Within (from + 1) all (filter_map (number_where breaks) (enumerate_from (from + 1) all))
+    → Within from (site ∷ all) (filter_map (number_where breaks) (enumerate_from from (site ∷ all)))
 unfolding Within
 breaking_by breaks from site all true is later =
     rw is (let low : from ≤ from = omega arith in let high : from < from + suc (length all) = omega arith in (low, high))
@@ -81,7 +88,8 @@ breaking_within breaks from (site ∷ all) = breaking_by breaks from site all (b
 AreLines : System → Refusal → Type 0
 AreLines system refusal = (1 ≤ refusal.at) × (refusal.at ≤ length (sites_of system))
 
-refusal_by_found : (rule : Rule) (system : System) (refusal : Refusal) (later : Option Refusal) (found : List ℕ) → Within 1 (sites_of system) found → (later ≡ Some refusal → AreLines system refusal) → or_later rule later found ≡ Some refusal → AreLines system refusal
+refusal_by_found : (rule : Rule) (system : System) (refusal : Refusal) (later : Option Refusal) (found : List ℕ) → Within 1 (sites_of system) found
+    → (later ≡ Some refusal → AreLines system refusal) → or_later rule later found ≡ Some refusal → AreLines system refusal
 unfolding Within AreLines
 refusal_by_found rule system refusal later [] within behind is = behind is
 refusal_by_found rule system refusal later (at ∷ others) within behind is =
@@ -93,7 +101,8 @@ refusal_by_found rule system refusal later (at ∷ others) within behind is =
 refusal_within : (judged : List Rule) (system : System) (refusal : Refusal) → refusal_by judged system ≡ Some refusal → AreLines system refusal
 refusal_within [] system refusal is = absurd (cc)
 refusal_within (rule ∷ judged) system refusal is =
-    refusal_by_found rule system refusal (refusal_by judged system) (lines_breaking rule system) (breaking_within (rule.breaks system) 1 (sites_of system)) (refusal_within judged system refusal) is
+    refusal_by_found rule system refusal (refusal_by judged system) (lines_breaking rule system) (breaking_within (rule.breaks system) 1 (sites_of system))
+    (refusal_within judged system refusal) is
 
 pub refusal_lines : (system : System) (refusal : Refusal) → refusal_of system ≡ Some refusal → (1 ≤ refusal.at) × (refusal.at ≤ length (sites_of system))
 unfolding AreLines
@@ -103,7 +112,9 @@ refusal_lines system refusal is = refusal_within rules system refusal is
 abbrev number_at : ℕ × Site → ℕ
 number_at at = at.0
 
-found_by : (test : ℕ × Site → Bool) (from : ℕ) (site : Site) (all : List Site) (item : ℕ) (told : Bool) → test (from, site) ≡ told → (option_map number_at (find test (enumerate_from (from + 1) all)) ≡ Some item → (from + 1 ≤ item) × (item < from + 1 + length all)) → option_map number_at (find test (enumerate_from from (site ∷ all))) ≡ Some item → (from ≤ item) × (item < from + suc (length all))
+found_by : (test : ℕ × Site → Bool) (from : ℕ) (site : Site) (all : List Site) (item : ℕ) (told : Bool) → test (from, site) ≡ told
+    → (option_map number_at (find test (enumerate_from (from + 1) all)) ≡ Some item → (from + 1 ≤ item) × (item < from + 1 + length all))
+    → option_map number_at (find test (enumerate_from from (site ∷ all))) ≡ Some item → (from ≤ item) × (item < from + suc (length all))
 found_by test from site all item true holds later is =
     let here : find test (enumerate_from from (site ∷ all)) ≡ Some (from, site) = rw holds refl in
     let same : from ≡ item = some_same from item (sym (ap (option_map number_at) here) ∙ is) in
@@ -115,7 +126,8 @@ found_by test from site all item false fails later is =
     let high = within.1 in
     (omega (arith, low), omega (arith, high))
 
-found_within : (test : ℕ × Site → Bool) (from : ℕ) (all : List Site) (item : ℕ) → option_map number_at (find test (enumerate_from from all)) ≡ Some item → (from ≤ item) × (item < from + length all)
+found_within : (test : ℕ × Site → Bool) (from : ℕ) (all : List Site) (item : ℕ) → option_map number_at (find test (enumerate_from from all)) ≡ Some item
+    → (from ≤ item) × (item < from + length all)
 found_within test from [] item is = absurd (cc)
 found_within test from (site ∷ all) item is = found_by test from site all item (test (from, site)) refl (found_within test (from + 1) all item) is
 
@@ -128,31 +140,51 @@ first_is_output system port first = subst (λ outputs. IsIn outputs port) (sym f
     behind [] = inl refl
     behind (other ∷ before) = inr (behind before)
 
-pub broken_is_refused : (text : List ℕ) (system : System) (lines : List ℕ) (refusal : Refusal) → ReadsFrom text system lines → refusal_of system ≡ Some refusal → (line : ℕ) × IsRefusedAt text line refusal.by
+pub broken_is_refused : (text : List ℕ) (system : System) (lines : List ℕ) (refusal : Refusal) → ReadsFrom text system lines
+    → refusal_of system ≡ Some refusal → (line : ℕ) × IsRefusedAt text line refusal.by
 broken_is_refused text system lines refusal from found =
     let within = refusal_lines system refusal found in
     let source = has_source text system lines refusal.at from within.0 within.1 in
     (source.0, inr (inl (record { system = system; lines = lines; reads = from; refusal = refusal; found = found; at = source.1; by = refl })))
 
-pub cycle_is_refused : (text : List ℕ) (system : System) (lines : List ℕ) (port : PortName) → ReadsFrom text system lines → IsWellFormed system → IsFirstWithoutOrder system port → (line : ℕ) × IsRefusedAt text line 15
+pub cycle_is_refused : (text : List ℕ) (system : System) (lines : List ℕ) (port : PortName) → ReadsFrom text system lines → IsWellFormed system
+    → IsFirstWithoutOrder system port → (line : ℕ) × IsRefusedAt text line 15
 cycle_is_refused text system lines port from well first =
     let declared = has_line system port well (first_is_output system port first) in
     let within = found_within (λ at. declares_output port.port (unit_at system port) at.1.scope at.1.line) 1 (sites_of system) declared.0 declared.1 in
     let low = within.0 in
     let high = within.1 in
-    let source = has_source text system lines declared.0 from low (omega (arith, high)) in
-    (source.0, inr (inr (record { system = system; lines = lines; reads = from; well_formed = well; port = port; first = first; item = declared.0; declared = declared.1; at = source.1; by = refl })))
+    let source = has_source text system lines declared.0 from low (omega (arith, high)) in (
+      source.0,
+      inr (inr
+          (record {
+            system = system;
+            lines = lines;
+            reads = from;
+            well_formed = well;
+            port = port;
+            first = first;
+            item = declared.0;
+            declared =
+                declared.1;
+            at = source.1;
+            by = refl;
+          })),
+    )
 
-judged_by_order : CyclesAreJudgedOnce → (text : List ℕ) (system : System) (lines : List ℕ) → ReadsFrom text system lines → IsWellFormed system → IsAcceptedOrRefused text
+judged_by_order : CyclesAreJudgedOnce → (text : List ℕ) (system : System) (lines : List ℕ) → ReadsFrom text system lines → IsWellFormed system
+    → IsAcceptedOrRefused text
 judged_by_order cycles text system lines from well = by_order (cycles.judged system)
   where
     by_order : HasNoCycle system ⊎ ((port : PortName) × IsFirstWithoutOrder system port) → IsAcceptedOrRefused text
     by_order (inl ordered) = inl (system, lines, record { reads = from; well_formed = well; ordered = ordered })
     by_order (inr (port, first)) = let refused = cycle_is_refused text system lines port from well first in inr (refused.0, 15, refused.1)
 
-judged_by_rules : CyclesAreJudgedOnce → (text : List ℕ) (system : System) (lines : List ℕ) → ReadsFrom text system lines → (found : Option Refusal) → refusal_of system ≡ found → IsAcceptedOrRefused text
+judged_by_rules : CyclesAreJudgedOnce → (text : List ℕ) (system : System) (lines : List ℕ) → ReadsFrom text system lines → (found : Option Refusal)
+    → refusal_of system ≡ found → IsAcceptedOrRefused text
 judged_by_rules cycles text system lines from None is = judged_by_order cycles text system lines from ((well_formed system).1 is)
-judged_by_rules cycles text system lines from (Some refusal) is = let refused = broken_is_refused text system lines refusal from is in inr (refused.0, refusal.by, refused.1)
+judged_by_rules cycles text system lines from (Some refusal) is = let refused = broken_is_refused text system lines refusal from is in
+    inr (refused.0, refusal.by, refused.1)
 
 pub judged : CyclesAreJudgedOnce → (text : List ℕ) → IsAcceptedOrRefused text
 judged cycles text = by_answer (once text).answered
@@ -166,14 +198,16 @@ judged cycles text = by_answer (once text).answered
 -- ---- Lines of the code's answers
 
 -- the line of a refusal is one of those that canonical lines came from
-pub refusal_inside : (text : List ℕ) (system : System) (lines : List ℕ) (refusal : Refusal) → ReadsFrom text system lines → refusal_of system ≡ Some refusal → (1 ≤ refusal.at) × (refusal.at ≤ length lines)
+pub refusal_inside : (text : List ℕ) (system : System) (lines : List ℕ) (refusal : Refusal) → ReadsFrom text system lines → refusal_of system ≡ Some refusal
+    → (1 ≤ refusal.at) × (refusal.at ≤ length lines)
 refusal_inside text system lines refusal from found =
     let within = refusal_lines system refusal found in
     let same = as_many text system lines from in
     (within.0, let last = within.1 in omega (arith, last, same))
 
 -- and so is that of an output
-pub output_inside : (text : List ℕ) (system : System) (lines : List ℕ) (port : PortName) (item : ℕ) → ReadsFrom text system lines → line_of_output system port ≡ Some item → (1 ≤ item) × (item ≤ length lines)
+pub output_inside : (text : List ℕ) (system : System) (lines : List ℕ) (port : PortName) (item : ℕ) → ReadsFrom text system lines
+    → line_of_output system port ≡ Some item → (1 ≤ item) × (item ≤ length lines)
 output_inside text system lines port item from declared =
     let within = found_within (λ at. declares_output port.port (unit_at system port) at.1.scope at.1.line) 1 (sites_of system) item declared in
     let same = as_many text system lines from in
@@ -181,7 +215,8 @@ output_inside text system lines port item from declared =
 
 -- ---- Once
 
-pub accepted_once : (text : List ℕ) (one other : System) (ones others : List ℕ) → IsAcceptedAs text one ones → IsAcceptedAs text other others → (one ≡ other) × (ones ≡ others)
+pub accepted_once : (text : List ℕ) (one other : System) (ones others : List ℕ) → IsAcceptedAs text one ones → IsAcceptedAs text other others
+    → (one ≡ other) × (ones ≡ others)
 accepted_once text one other ones others a b = one_source text one other ones others a.reads b.reads
 
 -- A system without a refusal is well-formed, and one with a refusal is not.
@@ -200,7 +235,8 @@ two_cycles : CyclesAreJudgedOnce → (text : List ℕ) (line by other rule : ℕ
 two_cycles cycles text line by other rule a b =
     let same = one_source text a.system b.system a.lines b.lines a.reads b.reads in
     let port : a.port ≡ b.port = cycles.one_port b.system a.port b.port (subst (λ (s : System). IsFirstWithoutOrder s a.port) same.0 a.first) b.first in
-    let item : a.item ≡ b.item = some_same a.item b.item (sym a.declared ∙ ap (λ (s : System). line_of_output s a.port) same.0 ∙ ap (line_of_output b.system) port ∙ b.declared) in (
+    let item : a.item ≡ b.item =
+    some_same a.item b.item (sym a.declared ∙ ap (λ (s : System). line_of_output s a.port) same.0 ∙ ap (line_of_output b.system) port ∙ b.declared) in (
       some_same line other (sym a.at ∙ ap (λ lines. source_line lines a.item) same.1 ∙ ap (source_line b.lines) item ∙ b.at),
       a.by ∙ sym b.by,
     )
@@ -210,7 +246,8 @@ rule_and_cycle text line by other rule a b =
     let same = one_source text a.system b.system a.lines b.lines a.reads b.reads in
     none_refused b.system a.refusal b.well_formed (ap refusal_of (sym same.0) ∙ a.found)
 
-pub refused_at_once : CyclesAreJudgedOnce → (text : List ℕ) (line by other rule : ℕ) → IsRefusedAt text line by → IsRefusedAt text other rule → (line ≡ other) × (by ≡ rule)
+pub refused_at_once : CyclesAreJudgedOnce → (text : List ℕ) (line by other rule : ℕ) → IsRefusedAt text line by → IsRefusedAt text other rule
+    → (line ≡ other) × (by ≡ rule)
 refused_at_once cycles text line by other rule (inl a) (inl b) = refused_once text line by other rule a b
 refused_at_once cycles text line by other rule (inl a) (inr (inl b)) = absurd ((once text).not_both b.system line by b.reads.reads a)
 refused_at_once cycles text line by other rule (inl a) (inr (inr b)) = absurd ((once text).not_both b.system line by b.reads.reads a)
@@ -221,7 +258,8 @@ refused_at_once cycles text line by other rule (inr (inl a)) (inr (inr b)) = abs
 refused_at_once cycles text line by other rule (inr (inr a)) (inr (inl b)) = absurd (rule_and_cycle text other rule line by b a)
 refused_at_once cycles text line by other rule (inr (inr a)) (inr (inr b)) = two_cycles cycles text line by other rule a b
 
-pub not_both : CyclesAreJudgedOnce → (text : List ℕ) (system : System) (lines : List ℕ) (line rule : ℕ) → IsAcceptedAs text system lines → IsRefusedAt text line rule → ⊥
+pub not_both : CyclesAreJudgedOnce → (text : List ℕ) (system : System) (lines : List ℕ) (line rule : ℕ) → IsAcceptedAs text system lines
+    → IsRefusedAt text line rule → ⊥
 not_both cycles text system lines line rule a (inl b) = (once text).not_both system line rule a.reads.reads b
 not_both cycles text system lines line rule a (inr (inl b)) =
     let same = one_source text system b.system lines b.lines a.reads b.reads in

@@ -23,14 +23,18 @@ one_of : {A : Type 0} (given : Option A) (one other : A) → given ≡ Some one 
 one_of given one other first second = cc
 
 -- Two numbers name one output.
-numbered_once : (system : System) (instance output : ℕ) (one other : PortName) → IsNumbered system instance output one → IsNumbered system instance output other → one ≡ other
+numbered_once : (system : System) (instance output : ℕ) (one other : PortName) → IsNumbered system instance output one
+    → IsNumbered system instance output other → one ≡ other
 numbered_once system instance output one other a b =
     let component : a.component ≡ b.component = one_of (slice_get (components_in system) instance) a.component b.component a.is_instance b.is_instance in
-    let declared : a.declared ≡ b.declared = one_of (slice_get b.component.1.outputs output) a.declared b.declared (subst (λ (c : Named). slice_get c.1.outputs output ≡ Some a.declared) component a.is_output) b.is_output in
+    let declared : a.declared ≡ b.declared =
+    one_of (slice_get b.component.1.outputs output) a.declared b.declared
+    (subst (λ (c : Named). slice_get c.1.outputs output ≡ Some a.declared) component a.is_output) b.is_output in
     sym a.is ∙ ap (λ (c : Named). port_named c.0 a.declared.name) component ∙ ap (λ (o : Output). port_named b.component.0 o.name) declared ∙ b.is
 
 -- The port of the system, from the names of the plain form without the mark.
-pub same_source : (system : System) → IsRanged system → IsWellFormed system → (names : PortName) (without : List ℕ) (source : SourceOutput system names) → IsWithoutMark names.port without → port_named names.instance without ≡ source.port
+pub same_source : (system : System) → IsRanged system → IsWellFormed system → (names : PortName) (without : List ℕ) (source : SourceOutput system names)
+    → IsWithoutMark names.port without → port_named names.instance without ≡ source.port
 same_source system ranged kept names without source mark = by source.makes
   where
     by : IsMadeOf system names source.port → port_named names.instance without ≡ source.port
@@ -48,7 +52,9 @@ pub record CycleLine (system : System) (names : PortName) : Type 0 where
   pub item : ℕ
   pub declared : line_of_output system names ≡ Some item
 
-pub cycle_line : (system : System) → IsRanged system → IsWellFormed system → (instance output : ℕ) → IsRightFault system (Loop instance output) → (names : PortName) → IsNumbered (plain_form system) instance output names → (without : List ℕ) → IsWithoutMark names.port without → CycleLine system (port_named names.instance without)
+pub cycle_line : (system : System) → IsRanged system → IsWellFormed system → (instance output : ℕ) → IsRightFault system (Loop instance output)
+    → (names : PortName) → IsNumbered (plain_form system) instance output names → (without : List ℕ) → IsWithoutMark names.port without
+    → CycleLine system (port_named names.instance without)
 cycle_line system ranged kept instance output fault names numbered without mark =
     let same : fault.0 ≡ names = numbered_once (plain_form system) instance output fault.0 names fault.1 numbered in
     let source = source_of system names ranged kept (subst (IsFirstWithoutOrder (plain_form system)) same fault.2) in
@@ -60,7 +66,8 @@ pub some_line : (found : Option ℕ) (item : ℕ) → found ≡ Some item → Is
 some_line found item is = subst IsSome (sym is) refl
 
 -- What is checked and has an order is accepted.
-pub accepted : (text : List ℕ) (system : System) (lines : List ℕ) (order : Ordered) → IsCheckedAs text system lines → IsOrderOf (run_of system) order → IsAcceptedAs text system lines
+pub accepted : (text : List ℕ) (system : System) (lines : List ℕ) (order : Ordered) → IsCheckedAs text system lines → IsOrderOf (run_of system) order
+    → IsAcceptedAs text system lines
 accepted text system lines order checked is_order = record {
   reads = checked.reads;
   well_formed = checked.well_formed;

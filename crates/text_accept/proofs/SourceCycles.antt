@@ -1,5 +1,6 @@
 -- The first output without an order of the plain form is made of the first one of the system itself.
-use Rattle.std.proofs.Common.{◌≡◌, ℕ, ◌+◌, Bool, true, false, cond, List, [], ◌∷◌, ◌++◌, map, Option, Some, None, ◌⊎◌, inl, inr, refl, ap, sym, subst, ◌∙◌, append_assoc, append-nil}
+use Rattle.std.proofs.Common.{◌≡◌, ℕ, ◌+◌, Bool, true, false, cond, List, [], ◌∷◌, ◌++◌, map, Option, Some, None, ◌⊎◌, inl, inr, refl, ap, sym, subst, ◌∙◌}
+use Rattle.std.proofs.Common.{append_assoc, append-nil}
 use Rattle.std.proofs.lemmas.Grind.{flat_map-append}
 use Rattle.std.specs.Prelude.{◌==◌, ⊤}
 use Rattle.std.specs.List.{AllByRecursion, flat_map}
@@ -22,12 +23,14 @@ use Rattle.language_laws.proofs.NameLaws.{names_differ, is_wired}
 use Rattle.run_laws.proofs.PlaceOrders.{has_in, has_no_cycle}
 use Rattle.run_laws.proofs.PlainCycles.{plain_is_wired, has_none_of_plain, is_output, outputs_among, orderly, kept_in, told_in}
 use Rattle.language_laws.proofs.PlainNames.{IsPlain, of_output, of_event}
-use Rattle.run_laws.proofs.PlainOrders.{plain_of, plain_named, plain_names_differ, plain_ports, ones, twos, names_are, both_names, output_name, split_by, split, splits, in_splits, is_event_is, ordered, plain_name}
+use Rattle.run_laws.proofs.PlainOrders.{plain_of, plain_named, plain_names_differ, plain_ports, ones, twos, names_are, both_names, output_name, split_by, split}
+use Rattle.run_laws.proofs.PlainOrders.{splits, in_splits, is_event_is, ordered, plain_name}
 use Rattle.list_laws.proofs.Members.{Has}
 
 -- ---- The outputs of the plain form are those that the outputs become
 
-made_ports : (instance : Instance) (outputs : List Output) → map (λ (port : Port). port_of instance port.name) (map of_output outputs) ≡ map (port_of instance) (map output_name outputs)
+made_ports : (instance : Instance) (outputs : List Output)
+    → map (λ (port : Port). port_of instance port.name) (map of_output outputs) ≡ map (port_of instance) (map output_name outputs)
 made_ports instance [] = refl
 made_ports instance (output ∷ outputs) = ap (λ rest. port_of instance output.name ∷ rest) (made_ports instance outputs)
 
@@ -38,22 +41,30 @@ module _ (system : System) (ranged : IsRanged system) (kept : IsWellFormed syste
 
   events_become : (instance : Instance) (events : List EventOut) → become instance (map of_event events) ≡ map (port_of instance) (flat_map both_names events)
   events_become instance [] = refl
-  events_become instance (event ∷ events) = ap (λ rest. port_of instance (presence_name event.name) ∷ port_of instance event.name ∷ rest) (events_become instance events)
+  events_become instance (event ∷ events) =
+      ap (λ rest. port_of instance (presence_name event.name) ∷ port_of instance event.name ∷ rest) (events_become instance events)
 
-  ports_become : (instance : Instance) (outputs : List Output) (events : List EventOut) → become instance (map of_output outputs ++ map of_event events) ≡ map (port_of instance) (map output_name outputs ++ flat_map both_names events)
+  ports_become : (instance : Instance) (outputs : List Output) (events : List EventOut)
+      → become instance (map of_output outputs ++ map of_event events) ≡ map (port_of instance) (map output_name outputs ++ flat_map both_names events)
   ports_become instance [] events = events_become instance events
   ports_become instance (output ∷ outputs) events = ap (λ rest. port_of instance output.name ∷ rest) (ports_become instance outputs events)
 
-  splits_become : (instance : Instance) (unit : Unit) → Has system.instances instance → unit_of_instance system instance ≡ Some unit → (ports : List Port) → ((port : Port) → Has ports port → Has (output_ports unit) port) → splits system ranged kept (map (λ (port : Port). port_of instance port.name) ports) ≡ become instance ports
+  splits_become : (instance : Instance) (unit : Unit) → Has system.instances instance → unit_of_instance system instance ≡ Some unit → (ports : List Port)
+      → ((port : Port) → Has ports port → Has (output_ports unit) port)
+      → splits system ranged kept (map (λ (port : Port). port_of instance port.name) ports) ≡ become instance ports
   splits_become instance unit stands is [] inside = refl
   splits_become instance unit stands is (port ∷ ports) inside =
-      ap (λ told. split_by system ranged kept told (port_of instance port.name) ++ splits system ranged kept (map (λ (p : Port). port_of instance p.name) ports)) (is_event_is system ranged kept port instance unit stands is (inside port (inl refl)))
-      ∙ ap (λ rest. split_by system ranged kept port.is_event (port_of instance port.name) ++ rest) (splits_become instance unit stands is ports (λ p has. inside p (inr has)))
+      ap (λ told. split_by system ranged kept told (port_of instance port.name)
+      ++ splits system ranged kept (map (λ (p : Port). port_of instance p.name) ports))
+      (is_event_is system ranged kept port instance unit stands is (inside port (inl refl)))
+      ∙ ap (λ rest. split_by system ranged kept port.is_event (port_of instance port.name) ++ rest)
+      (splits_become instance unit stands is ports (λ p has. inside p (inr has)))
 
   abbrev ports_with : Instance → Option Unit → List PortName
   ports_with instance unit = map (λ (port : Port). port_of instance port.name) (outputs_in unit)
 
-  instance_splits : (instance : Instance) (unit : Option Unit) → Has system.instances instance → unit_of_instance system instance ≡ unit → ports_with instance (option_map plain_unit unit) ≡ splits system ranged kept (ports_with instance unit)
+  instance_splits : (instance : Instance) (unit : Option Unit) → Has system.instances instance → unit_of_instance system instance ≡ unit
+      → ports_with instance (option_map plain_unit unit) ≡ splits system ranged kept (ports_with instance unit)
   instance_splits instance None stands is = refl
   instance_splits instance (Some unit) stands is =
       ap (map (λ (port : Port). port_of instance port.name)) (plain_ports unit)
@@ -62,15 +73,20 @@ module _ (system : System) (ranged : IsRanged system) (kept : IsWellFormed syste
       ∙ sym (ports_become instance unit.outputs unit.events_out)
       ∙ sym (splits_become instance unit stands is (output_ports unit) (λ port has. has))
 
-  instances_split : (instances : List Instance) → ((instance : Instance) → Has instances instance → Has system.instances instance) → flat_map (λ instance. ports_with instance (unit_of_instance (plain_of system) instance)) instances ≡ splits system ranged kept (flat_map (λ instance. ports_with instance (unit_of_instance system instance)) instances)
+  instances_split : (instances : List Instance) → ((instance : Instance) → Has instances instance → Has system.instances instance)
+      → flat_map (λ instance. ports_with instance (unit_of_instance (plain_of system) instance)) instances
+      ≡ splits system ranged kept (flat_map (λ instance. ports_with instance (unit_of_instance system instance)) instances)
   instances_split [] inside = refl
   instances_split (instance ∷ instances) inside =
-      let here : ports_with instance (unit_of_instance (plain_of system) instance) ≡ splits system ranged kept (ports_with instance (unit_of_instance system instance)) =
-      ap (ports_with instance) (plain_named system.units instance.unit) ∙ instance_splits instance (unit_of_instance system instance) (inside instance (inl refl)) refl in
+      let here : ports_with instance (unit_of_instance (plain_of system) instance)
+      ≡ splits system ranged kept (ports_with instance (unit_of_instance system instance)) =
+      ap (ports_with instance) (plain_named system.units instance.unit)
+      ∙ instance_splits instance (unit_of_instance system instance) (inside instance (inl refl)) refl in
       let later = instances_split instances (λ i has. inside i (inr has)) in
       ap (λ front. front ++ flat_map (λ i. ports_with i (unit_of_instance (plain_of system) i)) instances) here
       ∙ ap (λ rest. splits system ranged kept (ports_with instance (unit_of_instance system instance)) ++ rest) later
-      ∙ sym (flat_map-append (split system ranged kept) (ports_with instance (unit_of_instance system instance)) (flat_map (λ i. ports_with i (unit_of_instance system i)) instances))
+      ∙ sym (flat_map-append (split system ranged kept) (ports_with instance (unit_of_instance system instance))
+      (flat_map (λ i. ports_with i (unit_of_instance system i)) instances))
 
   outputs_split : outputs_of (plain_of system) ≡ splits system ranged kept (outputs_of system)
   outputs_split = instances_split system.instances (λ instance has. has)
@@ -92,7 +108,8 @@ module _ (system : System) (ranged : IsRanged system) (kept : IsWellFormed syste
   here : (port made : PortName) (outputs before : List PortName) → Has (split system ranged kept port) made → Origin (port ∷ outputs) before made
   here port made outputs before from = record { front = []; later = outputs; port = port; cut = refl; from = from; earlier = tt }
 
-  beyond : (port made : PortName) (outputs before all : List PortName) → IsIn all port → ((q : PortName) → IsIn before q → IsIn all q) → Origin outputs before made → Origin (port ∷ outputs) all made
+  beyond : (port made : PortName) (outputs before all : List PortName) → IsIn all port → ((q : PortName) → IsIn before q → IsIn all q)
+      → Origin outputs before made → Origin (port ∷ outputs) all made
   beyond port made outputs before all stands wider origin = record {
     front = port ∷ origin.front;
     later = origin.later;
@@ -112,20 +129,29 @@ module _ (system : System) (ranged : IsRanged system) (kept : IsWellFormed syste
   tails : (a b : PortName) (xs ys : List PortName) → a ∷ xs ≡ b ∷ ys → xs ≡ ys
   tails a b xs ys same = cc
 
-  origin_by : (told : Bool) (port : PortName) (outputs later : List PortName) (made : PortName) → is_event_output system port ≡ told → ((before : List PortName) → splits system ranged kept outputs ≡ before ++ (made ∷ later) → Origin outputs before made) → (before : List PortName) → split_by system ranged kept told port ++ splits system ranged kept outputs ≡ before ++ (made ∷ later) → Origin (port ∷ outputs) before made
+  origin_by : (told : Bool) (port : PortName) (outputs later : List PortName) (made : PortName) → is_event_output system port ≡ told
+      → ((before : List PortName) → splits system ranged kept outputs ≡ before ++ (made ∷ later) → Origin outputs before made) → (before : List PortName)
+      → split_by system ranged kept told port ++ splits system ranged kept outputs ≡ before ++ (made ∷ later) → Origin (port ∷ outputs) before made
   origin_by false port outputs later made event on [] is =
-      here port made outputs [] (subst (λ told. Has (split_by system ranged kept told port) made) (sym event) (inl (heads port made (splits system ranged kept outputs) later is)))
+      here port made outputs []
+      (subst (λ told. Has (split_by system ranged kept told port) made) (sym event) (inl (heads port made (splits system ranged kept outputs) later is)))
   origin_by false port outputs later made event on (first ∷ before) is =
-      beyond port made outputs before (first ∷ before) (inl (sym (heads port first (splits system ranged kept outputs) (before ++ (made ∷ later)) is))) (λ q stands. inr stands)
+      beyond port made outputs before (first ∷ before) (inl (sym (heads port first (splits system ranged kept outputs) (before ++ (made ∷ later)) is)))
+      (λ q stands. inr stands)
       (on before (tails port first (splits system ranged kept outputs) (before ++ (made ∷ later)) is))
   origin_by true port outputs later made event on [] is =
-      here port made outputs [] (subst (λ told. Has (split_by system ranged kept told port) made) (sym event) (inl (heads (presence_port port) made (port ∷ splits system ranged kept outputs) later is)))
+      here port made outputs []
+      (subst (λ told. Has (split_by system ranged kept told port) made) (sym event)
+      (inl (heads (presence_port port) made (port ∷ splits system ranged kept outputs) later is)))
   origin_by true port outputs later made event on (first ∷ []) is =
       let rest = tails (presence_port port) first (port ∷ splits system ranged kept outputs) (made ∷ later) is in
-      here port made outputs (first ∷ []) (subst (λ told. Has (split_by system ranged kept told port) made) (sym event) (inr (inl (heads port made (splits system ranged kept outputs) later rest))))
+      here port made outputs (first ∷ [])
+      (subst (λ told. Has (split_by system ranged kept told port) made) (sym event)
+      (inr (inl (heads port made (splits system ranged kept outputs) later rest))))
   origin_by true port outputs later made event on (first ∷ second ∷ before) is =
       let rest = tails (presence_port port) first (port ∷ splits system ranged kept outputs) (second ∷ (before ++ (made ∷ later))) is in
-      beyond port made outputs before (first ∷ second ∷ before) (inr (inl (sym (heads port second (splits system ranged kept outputs) (before ++ (made ∷ later)) rest)))) (λ q stands. inr (inr stands))
+      beyond port made outputs before (first ∷ second ∷ before)
+      (inr (inl (sym (heads port second (splits system ranged kept outputs) (before ++ (made ∷ later)) rest)))) (λ q stands. inr (inr stands))
       (on before (tails port second (splits system ranged kept outputs) (before ++ (made ∷ later)) rest))
 
   origin : (outputs before later : List PortName) (made : PortName) → splits system ranged kept outputs ≡ before ++ (made ∷ later) → Origin outputs before made
@@ -142,9 +168,12 @@ module _ (system : System) (ranged : IsRanged system) (kept : IsWellFormed syste
 
   some_of_made : (port : PortName) → IsIn (outputs_of system) port → (HasNoOrder (plain_of system) port → ⊥) → HasNoOrder system port → ⊥
   some_of_made port output some none =
-      some (λ order is_orderly stands. none (outputs_among system ranged kept order) (orderly system ranged kept [] order is_orderly) (kept_in (is_output system ranged kept) order port (told_in (outputs_of system) port output) stands))
+      some
+      (λ order is_orderly stands. none (outputs_among system ranged kept order) (orderly system ranged kept [] order is_orderly)
+      (kept_in (is_output system ranged kept) order port (told_in (outputs_of system) port output) stands))
 
-  first_of_plain : (made : PortName) → IsFirstWithoutOrder (plain_of system) made → (port : PortName) × Has (split system ranged kept port) made × IsFirstWithoutOrder system port
+  first_of_plain : (made : PortName) → IsFirstWithoutOrder (plain_of system) made
+      → (port : PortName) × Has (split system ranged kept port) made × IsFirstWithoutOrder system port
   first_of_plain made first =
       let o = origin (outputs_of system) first.before first.later made (sym outputs_split ∙ first.cut) in (
         o.port,
@@ -163,12 +192,14 @@ module _ (system : System) (ranged : IsRanged system) (kept : IsWellFormed syste
       in_front (q ∷ front) behind port (inl is) = inl is
       in_front (q ∷ front) behind port (inr stands) = inr (in_front front behind port stands)
 
-      each_of : (ports : List PortName) (port : PortName) → AllByRecursion (λ q. HasNoOrder (plain_of system) q → ⊥) ports → IsIn ports port → HasNoOrder (plain_of system) port → ⊥
+      each_of : (ports : List PortName) (port : PortName) → AllByRecursion (λ q. HasNoOrder (plain_of system) q → ⊥) ports → IsIn ports port
+          → HasNoOrder (plain_of system) port → ⊥
       each_of [] port all stands = absurd stands
       each_of (q ∷ ports) port all (inl is) = subst (λ p. HasNoOrder (plain_of system) p → ⊥) is all.0
       each_of (q ∷ ports) port all (inr stands) = each_of ports port all.1 stands
 
-      firsts : (front : List PortName) → ((port : PortName) → IsIn front port → IsIn (outputs_of system) port) → AllByRecursion (IsIn first.before) front → AllByRecursion (λ q. HasNoOrder system q → ⊥) front
+      firsts : (front : List PortName) → ((port : PortName) → IsIn front port → IsIn (outputs_of system) port) → AllByRecursion (IsIn first.before) front
+          → AllByRecursion (λ q. HasNoOrder system q → ⊥) front
       firsts [] inside all = tt
       firsts (port ∷ front) inside all =
           (some_of_made port (inside port (inl refl)) (each_of first.before port first.is_first all.0), firsts front (λ q stands. inside q (inr stands)) all.1)
@@ -179,7 +210,8 @@ module _ (system : System) (ranged : IsRanged system) (kept : IsWellFormed syste
 abbrev pub IsMadeOf : System → PortName → PortName → Type 0
 IsMadeOf system made port = (made ≡ port) ⊎ (made ≡ presence_port port)
 
-split_makes : (told : Bool) (system : System) (port made : PortName) → Has (cond told (presence_port port ∷ port ∷ []) (port ∷ [])) made → IsMadeOf system made port
+split_makes : (told : Bool) (system : System) (port made : PortName) → Has (cond told (presence_port port ∷ port ∷ []) (port ∷ [])) made
+    → IsMadeOf system made port
 split_makes false system port made (inl is) = inl (sym is)
 split_makes false system port made (inr none) = absurd none
 split_makes true system port made (inl is) = inr (sym is)
@@ -199,7 +231,8 @@ first_stands system port first = subst (λ outputs. IsIn outputs port) (sym firs
     behind [] = inl refl
     behind (other ∷ before) = inr (behind before)
 
-pub source_of : (system : System) (made : PortName) → IsRanged system → IsWellFormed system → IsFirstWithoutOrder (plain_form system) made → SourceOutput system made
+pub source_of : (system : System) (made : PortName) → IsRanged system → IsWellFormed system → IsFirstWithoutOrder (plain_form system) made
+    → SourceOutput system made
 source_of system made ranged kept first = by_version (one_or_two system.version ranged.version.0 ranged.version.1)
   where
     by_version : (system.version ≡ 1) ⊎ (system.version ≡ 2) → SourceOutput system made
@@ -207,8 +240,15 @@ source_of system made ranged kept first = by_version (one_or_two system.version 
         let same = subst (λ s. IsFirstWithoutOrder s made) (plain_form_1 system is) first in
         record { port = made; first = same; stands = first_stands system made same; makes = inl refl }
     by_version (inr is) =
-        let found = first_of_plain system ranged kept made (subst (λ version. IsFirstWithoutOrder (cond (version == 2) (plain_of system) system) made) is first) in
-        record { port = found.0; first = found.2; stands = first_stands system found.0 found.2; makes = split_makes (is_event_output system found.0) system found.0 made found.1 }
+        let found =
+        first_of_plain system ranged kept made (subst (λ version. IsFirstWithoutOrder (cond (version == 2) (plain_of system) system) made) is first) in
+        record {
+          port = found.0;
+          first = found.2;
+          stands = first_stands system found.0 found.2;
+          makes =
+              split_makes (is_event_output system found.0) system found.0 made found.1;
+        }
 
 -- An order of what is run shows that the system has no cycle.
 pub without_cycle : (system : System) → IsRanged system → IsWellFormed system → (order : List ℕ) → IsPlaceOrder (run_of system) order → HasNoCycle system
@@ -224,5 +264,6 @@ without_cycle system ranged kept order is_order = by_version (one_or_two system.
         (order, subst (λ version. IsPlaceOrder (composition_of (cond (version == 2) (plain_of system) system)) order) is is_order))
 
 -- Names of outputs are no names of presence.
-pub name_is_plain : (system : System) → IsRanged system → IsWellFormed system → (port : PortName) → IsIn (outputs_of system) port → (event : List ℕ) → port.port ≡ presence_name event → ⊥
+pub name_is_plain : (system : System) → IsRanged system → IsWellFormed system → (port : PortName) → IsIn (outputs_of system) port → (event : List ℕ)
+    → port.port ≡ presence_name event → ⊥
 name_is_plain system ranged kept port stands = plain_name system ranged kept port stands

@@ -1,5 +1,6 @@
 -- The bytes of canonical lines and texts.
-use Rattle.std.proofs.Common.{◌≡◌, ℕ, ◌+◌, Bool, true, false, not, List, [], ◌∷◌, ◌++◌, map, length, IsTrue, refl, ap, sym, ◌∙◌, arith, append_assoc, length-append}
+use Rattle.std.proofs.Common.{◌≡◌, ℕ, ◌+◌, Bool, true, false, not, List, [], ◌∷◌, ◌++◌, map, length, IsTrue, refl, ap, sym, ◌∙◌, arith, append_assoc}
+use Rattle.std.proofs.Common.{length-append}
 use Rattle.std.specs.List.{AllByRecursion, list_all, filter, flat_map, onto_first, sum_by}
 use Rattle.std.proofs.lemmas.Bool.{and_parts}
 use Rattle.std.proofs.lemmas.List.Sums.{sum_by-cons}
@@ -49,7 +50,8 @@ has_tokens (form.Rows count) = refl
 has_tokens (form.Sample port) = refl
 
 -- A line that spells tokens is not blank.
-pub not_blank : (tokens : List Token) (line : List ℕ) (blank : Bool) → list_all is_blank line ≡ blank → starts_with (λ first. true) tokens ≡ true → Spells tokens line → blank ≡ false
+pub not_blank : (tokens : List Token) (line : List ℕ) (blank : Bool) → list_all is_blank line ≡ blank → starts_with (λ first. true) tokens ≡ true
+    → Spells tokens line → blank ≡ false
 not_blank tokens line false is some spelled = refl
 not_blank tokens line true is some spelled =
     let none : tokens ≡ [] = spells_one tokens [] line spelled is in
@@ -86,7 +88,8 @@ is_spelled some spelled =
 -- ---- All lines
 
 -- All lines are spelled where their names are names and their numbers are in range.
-all_are_spelled : (lines : List LineForm) → AllByRecursion (λ line. AllByRecursion IsName (names_on line)) lines → AllByRecursion IsInRange lines → IsTrue (list_all (λ line. is_writable (tail_of line)) lines) → AllByRecursion IsSpelled lines
+all_are_spelled : (lines : List LineForm) → AllByRecursion (λ line. AllByRecursion IsName (names_on line)) lines → AllByRecursion IsInRange lines
+    → IsTrue (list_all (λ line. is_writable (tail_of line)) lines) → AllByRecursion IsSpelled lines
 all_are_spelled [] names ranged writable = _
 all_are_spelled (first ∷ others) names ranged writable =
     let parts = and_parts (is_writable (tail_of first)) (list_all (λ line. is_writable (tail_of line)) others) writable in
@@ -132,7 +135,13 @@ size_is : (lines : List LineForm) → sum_by (λ line. length line + 1) (map lin
 size_is [] = refl
 size_is (first ∷ others) =
     let step = size_is others in
-    omega (arith, step, sum_by-cons (λ (line : List ℕ). length line + 1) (line_text first) (map line_text others), length-append (line_text first ++ (10 ∷ [])) (ended others), length-append (line_text first) (10 ∷ []))
+    omega (
+      arith,
+      step,
+      sum_by-cons (λ (line : List ℕ). length line + 1) (line_text first) (map line_text others),
+      length-append (line_text first ++ (10 ∷ [])) (ended others),
+      length-append (line_text first) (10 ∷ []),
+    )
 
 -- The code of each spells its tokens.
 spelled_codes : (lines : List LineForm) → AllByRecursion IsSpelled lines → AllByRecursion (λ some. Spells (form_tokens some) (code_of (line_text some))) lines
@@ -148,11 +157,13 @@ canonical_lines system printable =
     ap (map without_return) (lines_are (canonical_forms system) spelled) ∙ no_returns (canonical_forms system) spelled
 
 -- None of them is blank.
-pub none_blank : (system : System) → IsPrintable system → filter (λ line. not (is_blank_line line)) (map line_text (canonical_forms system)) ≡ map line_text (canonical_forms system)
+pub none_blank : (system : System) → IsPrintable system
+    → filter (λ line. not (is_blank_line line)) (map line_text (canonical_forms system)) ≡ map line_text (canonical_forms system)
 none_blank system printable = none_left_out (canonical_forms system) (canonical_spelled system printable)
 
 -- The code of each spells its tokens.
-pub canonical_codes : (system : System) → IsPrintable system → AllByRecursion (λ some. Spells (form_tokens some) (code_of (line_text some))) (canonical_forms system)
+pub canonical_codes : (system : System) → IsPrintable system
+    → AllByRecursion (λ some. Spells (form_tokens some) (code_of (line_text some))) (canonical_forms system)
 canonical_codes system printable = spelled_codes (canonical_forms system) (canonical_spelled system printable)
 
 -- The canonical text has no line that lacks its end, so that its size is its length.

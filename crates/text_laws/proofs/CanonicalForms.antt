@@ -10,7 +10,8 @@ use Rattle.fixed_words.specs.declared.types.Literal.{Literal}
 use Rattle.fixed_words.specs.declared.types.Literal.TheVariants as literal
 use Rattle.fixed_words.specs.declared.types.Ty.TheVariants.{Int64}
 use Rattle.unit_tree.specs.Canonical.{canonical_phrase, expression_tokens, literal_tokens, tail_tokens, form_tokens}
-use Rattle.unit_tree.specs.LineForms.{Tail, Nothing, OfLiteral, OfSeconds, OfExpression, tail_of, WritesNumber, WritesLiteral, WritesSeconds, WritesTail, WritesForm}
+use Rattle.unit_tree.specs.LineForms.{Tail, Nothing, OfLiteral, OfSeconds, OfExpression, tail_of, WritesNumber, WritesLiteral, WritesSeconds, WritesTail}
+use Rattle.unit_tree.specs.LineForms.{WritesForm}
 use Rattle.unit_tree.specs.Phrases.{Whole, stands, nesting, numbers_fit, Writes}
 use Rattle.unit_tree.specs.Printable.{IsInRange, IsTailInRange, is_unsigned, is_word_literal, is_seconds, is_writable}
 use Rattle.unit_tree.specs.declared.expr.Expr.{Expr}
@@ -25,8 +26,10 @@ signed_again (pos n) = grind (arith, nat_tests)
 signed_again (negsuc n) = grind (arith, nat_tests)
 
 -- The tokens of a number that is a word write it.
-number_is_written : (number : ℤ) (decimals : ℕ) → is_word_of Int64 number ≡ true → WritesNumber number decimals (literal_tokens (literal.Number number decimals))
-number_is_written number decimals fits = record { negative = is_negative number; digits = unsigned_abs number; spelled = refl; value = signed_again number; fits = fits }
+number_is_written : (number : ℤ) (decimals : ℕ) → is_word_of Int64 number ≡ true
+    → WritesNumber number decimals (literal_tokens (literal.Number number decimals))
+number_is_written number decimals fits =
+    record { negative = is_negative number; digits = unsigned_abs number; spelled = refl; value = signed_again number; fits = fits }
 
 -- Those of a literal write it.
 literal_is_written : (value : Literal) → is_word_literal value ≡ true → WritesLiteral value (literal_tokens value)
@@ -51,7 +54,9 @@ expression_is_again value ranged writable =
       phrase = canonical_phrase value;
       is_tree = is.is_tree;
       spelled = refl;
-      is_grammatical = and_from (stands Whole (canonical_phrase value)) _ is.stands_so (and_from (nat_le (nesting (canonical_phrase value)) 64) (numbers_fit (canonical_phrase value)) both.1 (canonical_numbers_fit value both.0 ranged));
+      is_grammatical =
+          and_from (stands Whole (canonical_phrase value)) _ is.stands_so
+          (and_from (nat_le (nesting (canonical_phrase value)) 64) (numbers_fit (canonical_phrase value)) both.1 (canonical_numbers_fit value both.0 ranged));
     }
 
 -- Those of a tail write it.

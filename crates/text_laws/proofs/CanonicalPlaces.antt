@@ -1,5 +1,6 @@
 -- Each canonical line may stand where it does.
-use Rattle.std.proofs.Common.{◌≡◌, ℕ, Bool, true, false, cond, not, nat_le, List, [], ◌∷◌, ◌++◌, append_assoc, map, Option, Some, None, IsTrue, refl, ap, sym, subst, ◌∙◌}
+use Rattle.std.proofs.Common.{◌≡◌, ℕ, Bool, true, false, cond, not, nat_le, List, [], ◌∷◌, ◌++◌, append_assoc, map, Option, Some, None, IsTrue, refl, ap, sym}
+use Rattle.std.proofs.Common.{subst, ◌∙◌}
 use Rattle.std.specs.Prelude.{◌||◌}
 use Rattle.std.specs.List.{flat_map, list_any, list_all}
 use Rattle.std.proofs.lemmas.Bool.{and_parts, and_from, or_parts}
@@ -31,22 +32,28 @@ use Rattle.text_laws.proofs.SpelledBytes.{all_joined, all_pass}
 -- ---- Parts behind others
 
 -- Parts may stand one behind the other where the first ones do, and the others behind them.
-may_follow_both : {P : Type 0} (forms : P → List LineForm) (may : Before → P → Bool) (xs ys : List P) (before : Before) → may_follow forms may before xs ≡ true → may_follow forms may (and_lines before (flat_map forms xs)) ys ≡ true → may_follow forms may before (xs ++ ys) ≡ true
+may_follow_both : {P : Type 0} (forms : P → List LineForm) (may : Before → P → Bool) (xs ys : List P) (before : Before)
+    → may_follow forms may before xs ≡ true → may_follow forms may (and_lines before (flat_map forms xs)) ys ≡ true
+    → may_follow forms may before (xs ++ ys) ≡ true
 may_follow_both forms may [] ys before on_xs on_ys = on_ys
 may_follow_both forms may (part ∷ xs) ys before on_xs on_ys =
     let after = and_lines before (forms part) in
     let both = and_parts (may before part) (may_follow forms may after xs) on_xs in
     and_from (may before part) (may_follow forms may after (xs ++ ys)) both.0
-    (may_follow_both forms may xs ys after both.1 (subst (λ now. may_follow forms may now ys ≡ true) (fold-append and_line before (forms part) (flat_map forms xs)) on_ys))
+    (may_follow_both forms may xs ys after both.1
+    (subst (λ now. may_follow forms may now ys ≡ true) (fold-append and_line before (forms part) (flat_map forms xs)) on_ys))
 
 -- Parts that may stand behind whatever is there.
-each_follows : {A P : Type 0} (forms : P → List LineForm) (may : Before → P → Bool) (part : A → P) → ((one : A) (before : Before) → may before (part one) ≡ true) → (all : List A) (before : Before) → may_follow forms may before (map part all) ≡ true
+each_follows : {A P : Type 0} (forms : P → List LineForm) (may : Before → P → Bool) (part : A → P)
+    → ((one : A) (before : Before) → may before (part one) ≡ true) → (all : List A) (before : Before) → may_follow forms may before (map part all) ≡ true
 each_follows forms may part free [] before = refl
 each_follows forms may part free (one ∷ all) before =
-    and_from (may before (part one)) (may_follow forms may (and_lines before (forms (part one))) (map part all)) (free one before) (each_follows forms may part free all (and_lines before (forms (part one))))
+    and_from (may before (part one)) (may_follow forms may (and_lines before (forms (part one))) (map part all)) (free one before)
+    (each_follows forms may part free all (and_lines before (forms (part one))))
 
 -- A part that may stand there, or none.
-optional_follows : {A P : Type 0} (forms : P → List LineForm) (may : Before → P → Bool) (part : A → P) (given : Option A) (before : Before) → ((one : A) → may before (part one) ≡ true) → may_follow forms may before (optional part given) ≡ true
+optional_follows : {A P : Type 0} (forms : P → List LineForm) (may : Before → P → Bool) (part : A → P) (given : Option A) (before : Before)
+    → ((one : A) → may before (part one) ≡ true) → may_follow forms may before (optional part given) ≡ true
 optional_follows forms may part None before free = refl
 optional_follows forms may part (Some one) before free = and_from (may before (part one)) true (free one) refl
 
@@ -57,7 +64,8 @@ abbrev NonePasses : {P : Type 0} → (LineForm → Bool) → (P → List LineFor
 NonePasses test forms all = list_any test (flat_map forms all) ≡ false
 
 -- None does of two lists in a row.
-none_of_both : {P : Type 0} (test : LineForm → Bool) (forms : P → List LineForm) (xs ys : List P) → NonePasses test forms xs → NonePasses test forms ys → NonePasses test forms (xs ++ ys)
+none_of_both : {P : Type 0} (test : LineForm → Bool) (forms : P → List LineForm) (xs ys : List P) → NonePasses test forms xs → NonePasses test forms ys
+    → NonePasses test forms (xs ++ ys)
 none_of_both test forms xs ys on_xs on_ys =
     ap (list_any test) (flat_map-append forms xs ys)
     ∙ list_any-append test (flat_map forms xs) (flat_map forms ys)
@@ -65,7 +73,8 @@ none_of_both test forms xs ys on_xs on_ys =
     ∙ on_ys
 
 -- None does of parts of one kind.
-none_of_each : {A P : Type 0} (test : LineForm → Bool) (forms : P → List LineForm) (part : A → P) → ((one : A) → list_any test (forms (part one)) ≡ false) → (all : List A) → NonePasses test forms (map part all)
+none_of_each : {A P : Type 0} (test : LineForm → Bool) (forms : P → List LineForm) (part : A → P) → ((one : A) → list_any test (forms (part one)) ≡ false)
+    → (all : List A) → NonePasses test forms (map part all)
 none_of_each test forms part none [] = refl
 none_of_each test forms part none (one ∷ all) =
     list_any-append test (forms (part one)) (flat_map forms (map part all))
@@ -73,7 +82,8 @@ none_of_each test forms part none (one ∷ all) =
     ∙ none_of_each test forms part none all
 
 -- None does of a part that may be missing.
-none_of_optional : {A P : Type 0} (test : LineForm → Bool) (forms : P → List LineForm) (part : A → P) → ((one : A) → list_any test (forms (part one)) ≡ false) → (given : Option A) → NonePasses test forms (optional part given)
+none_of_optional : {A P : Type 0} (test : LineForm → Bool) (forms : P → List LineForm) (part : A → P) → ((one : A) → list_any test (forms (part one)) ≡ false)
+    → (given : Option A) → NonePasses test forms (optional part given)
 none_of_optional test forms part none None = refl
 none_of_optional test forms part none (Some one) = ap (list_any test) (append-nil (forms (part one))) ∙ none one
 
@@ -103,50 +113,72 @@ record Declares {A : Type 0} (part : A → UnitPart) : Type 0 where
   no_step : (one : A) → list_any (are_alike form.Step) (unit_part_forms (part one)) ≡ false
 
 -- Declarations of one kind more.
-and_declared : {A : Type 0} (part : A → UnitPart) (all : List A) (start : Before) (front : List UnitPart) → Declares part → IsBare start front → IsBare start (front ++ map part all)
+and_declared : {A : Type 0} (part : A → UnitPart) (all : List A) (start : Before) (front : List UnitPart) → Declares part → IsBare start front
+    → IsBare start (front ++ map part all)
 and_declared part all start front declares bare = record {
-  stands = may_follow_both unit_part_forms unit_part_may_stand front (map part all) start bare.stands (each_follows unit_part_forms unit_part_may_stand part declares.free all (and_lines start (flat_map unit_part_forms front)));
+  stands = may_follow_both unit_part_forms unit_part_may_stand front (map part all) start bare.stands
+      (each_follows unit_part_forms unit_part_may_stand part declares.free all (and_lines start (flat_map unit_part_forms front)));
   no_unit = none_of_both opens_unit unit_part_forms front (map part all) bare.no_unit (none_of_each opens_unit unit_part_forms part declares.no_unit all);
-  no_max = λ value. none_of_both (are_alike (form.Max value)) unit_part_forms front (map part all) (bare.no_max value) (none_of_each (are_alike (form.Max value)) unit_part_forms part (λ one. declares.no_max one value) all);
-  no_step = none_of_both (are_alike form.Step) unit_part_forms front (map part all) bare.no_step (none_of_each (are_alike form.Step) unit_part_forms part declares.no_step all);
+  no_max = λ value.
+      none_of_both (are_alike (form.Max value)) unit_part_forms front (map part all) (bare.no_max value)
+      (none_of_each (are_alike (form.Max value)) unit_part_forms part (λ one. declares.no_max one value) all);
+  no_step =
+      none_of_both (are_alike form.Step) unit_part_forms front (map part all) bare.no_step
+      (none_of_each (are_alike form.Step) unit_part_forms part declares.no_step all);
 }
 
 -- The resolution is the first line of a unit.
 resolution_is_bare : (given : Option ℕ) (start : Before) → start.in_unit ≡ [] → IsBare start (optional parts.Resolution given)
 resolution_is_bare given start first = record {
-  stands = optional_follows unit_part_forms unit_part_may_stand parts.Resolution given start (λ decimals. ap (λ lines. not (list_any (are_alike (form.Resolution decimals)) lines)) first);
+  stands = optional_follows unit_part_forms unit_part_may_stand parts.Resolution given start
+      (λ decimals. ap (λ lines. not (list_any (are_alike (form.Resolution decimals)) lines)) first);
   no_unit = none_of_optional opens_unit unit_part_forms parts.Resolution (λ decimals. refl) given;
   no_max = λ value. none_of_optional (are_alike (form.Max value)) unit_part_forms parts.Resolution (λ decimals. refl) given;
   no_step = none_of_optional (are_alike form.Step) unit_part_forms parts.Resolution (λ decimals. refl) given;
 }
 
 -- No line of the unit so far is like another.
-no_rival_in_unit : (key : LineForm) (start : Before) (front : List UnitPart) → start.in_unit ≡ [] → NonePasses opens_unit unit_part_forms front → NonePasses (are_alike key) unit_part_forms front → not (list_any (are_alike key) (and_lines start (flat_map unit_part_forms front)).in_unit) ≡ true
+no_rival_in_unit : (key : LineForm) (start : Before) (front : List UnitPart) → start.in_unit ≡ [] → NonePasses opens_unit unit_part_forms front
+    → NonePasses (are_alike key) unit_part_forms front → not (list_any (are_alike key) (and_lines start (flat_map unit_part_forms front)).in_unit) ≡ true
 no_rival_in_unit key start front first no_unit lack =
-    ap (λ lines. not (list_any (are_alike key) lines)) (all_in_unit (flat_map unit_part_forms front) start no_unit ∙ ap (λ lines. lines ++ flat_map unit_part_forms front) first) ∙ ap not lack
+    ap (λ lines. not (list_any (are_alike key) lines))
+    (all_in_unit (flat_map unit_part_forms front) start no_unit ∙ ap (λ lines. lines ++ flat_map unit_part_forms front) first)
+    ∙ ap not lack
 
 -- What the declarations of a unit are followed by.
-with_max_and_step : (front : List UnitPart) (start : Before) (limit : Option Expr) (lines : Option (List Line)) → start.in_unit ≡ [] → IsBare start front → nat_le (step_depth lines) 16 ≡ true → inside_may_stand start ((front ++ optional parts.Max limit) ++ optional parts.Step lines) ≡ true
+with_max_and_step : (front : List UnitPart) (start : Before) (limit : Option Expr) (lines : Option (List Line)) → start.in_unit ≡ [] → IsBare start front
+    → nat_le (step_depth lines) 16 ≡ true → inside_may_stand start ((front ++ optional parts.Max limit) ++ optional parts.Step lines) ≡ true
 with_max_and_step front start limit lines first bare shallow =
     let limited = front ++ optional parts.Max limit in
     let stands : inside_may_stand start limited ≡ true =
     may_follow_both unit_part_forms unit_part_may_stand front (optional parts.Max limit) start bare.stands
-    (optional_follows unit_part_forms unit_part_may_stand parts.Max limit (and_lines start (flat_map unit_part_forms front)) (λ value. no_rival_in_unit (form.Max value) start front first bare.no_unit (bare.no_max value))) in
-    let no_unit = none_of_both opens_unit unit_part_forms front (optional parts.Max limit) bare.no_unit (none_of_optional opens_unit unit_part_forms parts.Max (λ value. refl) limit) in
-    let no_step = none_of_both (are_alike form.Step) unit_part_forms front (optional parts.Max limit) bare.no_step (none_of_optional (are_alike form.Step) unit_part_forms parts.Max (λ value. refl) limit) in
+    (optional_follows unit_part_forms unit_part_may_stand parts.Max limit (and_lines start (flat_map unit_part_forms front))
+    (λ value. no_rival_in_unit (form.Max value) start front first bare.no_unit (bare.no_max value))) in
+    let no_unit =
+    none_of_both opens_unit unit_part_forms front (optional parts.Max limit) bare.no_unit
+    (none_of_optional opens_unit unit_part_forms parts.Max (λ value. refl) limit) in
+    let no_step =
+    none_of_both (are_alike form.Step) unit_part_forms front (optional parts.Max limit) bare.no_step
+    (none_of_optional (are_alike form.Step) unit_part_forms parts.Max (λ value. refl) limit) in
     may_follow_both unit_part_forms unit_part_may_stand limited (optional parts.Step lines) start stands
     (step_follows lines (and_lines start (flat_map unit_part_forms limited)) shallow (no_rival_in_unit form.Step start limited first no_unit no_step))
   where
-    step_follows : (lines : Option (List Line)) (before : Before) → nat_le (step_depth lines) 16 ≡ true → not (list_any (are_alike form.Step) before.in_unit) ≡ true → inside_may_stand before (optional parts.Step lines) ≡ true
+    step_follows : (lines : Option (List Line)) (before : Before) → nat_le (step_depth lines) 16 ≡ true
+        → not (list_any (are_alike form.Step) before.in_unit) ≡ true → inside_may_stand before (optional parts.Step lines) ≡ true
     step_follows None before shallow none = refl
-    step_follows (Some all) before shallow none = and_from (unit_part_may_stand before (parts.Step all)) true (and_from (not (has_rival before form.Step)) (is_shallow all) none shallow) refl
+    step_follows (Some all) before shallow none =
+        and_from (unit_part_may_stand before (parts.Step all)) true (and_from (not (has_rival before form.Step)) (is_shallow all) none shallow) refl
 
 -- A part that declares a name may stand everywhere in a unit, and begins with other words than those.
-declares : {A : Type 0} (part : A → UnitPart) → ((one : A) (before : Before) → unit_part_may_stand before (part one) ≡ true) → ((one : A) → list_any opens_unit (unit_part_forms (part one)) ≡ false) → ((one : A) (value : Expr) → list_any (are_alike (form.Max value)) (unit_part_forms (part one)) ≡ false) → ((one : A) → list_any (are_alike form.Step) (unit_part_forms (part one)) ≡ false) → Declares part
+declares : {A : Type 0} (part : A → UnitPart) → ((one : A) (before : Before) → unit_part_may_stand before (part one) ≡ true)
+    → ((one : A) → list_any opens_unit (unit_part_forms (part one)) ≡ false)
+    → ((one : A) (value : Expr) → list_any (are_alike (form.Max value)) (unit_part_forms (part one)) ≡ false)
+    → ((one : A) → list_any (are_alike form.Step) (unit_part_forms (part one)) ≡ false) → Declares part
 declares part free no_unit no_max no_step = record { free = free; no_unit = no_unit; no_max = no_max; no_step = no_step }
 
 -- The canonical parts of a unit may stand in it.
-unit_parts_may_stand : (unit : Unit) (start : Before) → start.in_unit ≡ [] → nat_le (step_depth unit.step) 16 ≡ true → inside_may_stand start (unit_parts unit) ≡ true
+unit_parts_may_stand : (unit : Unit) (start : Before) → start.in_unit ≡ [] → nat_le (step_depth unit.step) 16 ≡ true
+    → inside_may_stand start (unit_parts unit) ≡ true
 unit_parts_may_stand unit start first shallow =
     let zero = optional parts.Resolution unit.resolution in
     let one = zero ++ map parts.HasParam unit.params in
@@ -157,13 +189,22 @@ unit_parts_may_stand unit start first shallow =
     let six = five ++ map parts.HasOutput unit.outputs in
     let seven = six ++ map parts.HasEventOut unit.events_out in
     let bare_zero : IsBare start zero = resolution_is_bare unit.resolution start first in
-    let bare_one : IsBare start one = and_declared parts.HasParam unit.params start zero (declares parts.HasParam (λ x before. refl) (λ x. refl) (λ x value. refl) (λ x. refl)) bare_zero in
-    let bare_two : IsBare start two = and_declared parts.HasState unit.states start one (declares parts.HasState (λ x before. refl) (λ x. refl) (λ x value. refl) (λ x. refl)) bare_one in
-    let bare_three : IsBare start three = and_declared parts.HasLocal unit.locals start two (declares parts.HasLocal (λ x before. refl) (λ x. refl) (λ x value. refl) (λ x. refl)) bare_two in
-    let bare_four : IsBare start four = and_declared parts.HasInput unit.inputs start three (declares parts.HasInput (λ x before. refl) (λ x. refl) (λ x value. refl) (λ x. refl)) bare_three in
-    let bare_five : IsBare start five = and_declared parts.HasEventIn unit.events_in start four (declares parts.HasEventIn (λ x before. refl) (λ x. refl) (λ x value. refl) (λ x. refl)) bare_four in
-    let bare_six : IsBare start six = and_declared parts.HasOutput unit.outputs start five (declares parts.HasOutput (λ x before. refl) (λ x. refl) (λ x value. refl) (λ x. refl)) bare_five in
-    let bare_seven : IsBare start seven = and_declared parts.HasEventOut unit.events_out start six (declares parts.HasEventOut (λ x before. refl) (λ x. refl) (λ x value. refl) (λ x. refl)) bare_six in
+    let bare_one : IsBare start one =
+    and_declared parts.HasParam unit.params start zero (declares parts.HasParam (λ x before. refl) (λ x. refl) (λ x value. refl) (λ x. refl)) bare_zero in
+    let bare_two : IsBare start two =
+    and_declared parts.HasState unit.states start one (declares parts.HasState (λ x before. refl) (λ x. refl) (λ x value. refl) (λ x. refl)) bare_one in
+    let bare_three : IsBare start three =
+    and_declared parts.HasLocal unit.locals start two (declares parts.HasLocal (λ x before. refl) (λ x. refl) (λ x value. refl) (λ x. refl)) bare_two in
+    let bare_four : IsBare start four =
+    and_declared parts.HasInput unit.inputs start three (declares parts.HasInput (λ x before. refl) (λ x. refl) (λ x value. refl) (λ x. refl)) bare_three in
+    let bare_five : IsBare start five =
+    and_declared parts.HasEventIn unit.events_in start four
+    (declares parts.HasEventIn (λ x before. refl) (λ x. refl) (λ x value. refl) (λ x. refl)) bare_four in
+    let bare_six : IsBare start six =
+    and_declared parts.HasOutput unit.outputs start five (declares parts.HasOutput (λ x before. refl) (λ x. refl) (λ x value. refl) (λ x. refl)) bare_five in
+    let bare_seven : IsBare start seven =
+    and_declared parts.HasEventOut unit.events_out start six
+    (declares parts.HasEventOut (λ x before. refl) (λ x. refl) (λ x value. refl) (λ x. refl)) bare_six in
     with_max_and_step seven start unit.max unit.step first bare_seven shallow
 
 -- ---- Lines that stand more than once
@@ -187,14 +228,16 @@ step_line_is_common (form.Rows count) is = absurd (cc)
 step_line_is_common _ is = refl
 
 -- Lines of many are common where those of each are.
-all_common : {A : Type 0} (forms : A → List LineForm) → ((one : A) → list_all is_common (forms one) ≡ true) → (all : List A) → list_all is_common (flat_map forms all) ≡ true
+all_common : {A : Type 0} (forms : A → List LineForm) → ((one : A) → list_all is_common (forms one) ≡ true) → (all : List A)
+    → list_all is_common (flat_map forms all) ≡ true
 all_common forms common [] = refl
 all_common forms common (one ∷ all) = all_joined is_common (forms one) (flat_map forms all) (common one) (all_common forms common all)
 
 -- Lines of a part of a unit are common.
 unit_part_is_common : (part : UnitPart) → list_all is_common (unit_part_forms part) ≡ true
 unit_part_is_common (parts.Step lines) =
-    all_joined is_common (flat_map line_forms lines) (form.End ∷ []) (all_pass is_step_line is_common step_line_is_common (flat_map line_forms lines) (all_step_lines lines)) refl
+    all_joined is_common (flat_map line_forms lines) (form.End ∷ [])
+    (all_pass is_step_line is_common step_line_is_common (flat_map line_forms lines) (all_step_lines lines)) refl
 unit_part_is_common _ = refl
 
 -- So are those of a unit.
@@ -211,19 +254,28 @@ instance_is_common : (instance : Instance) → list_all is_common (part_forms (p
 instance_is_common instance = all_joined is_common (map form.Setting instance.settings) (form.End ∷ []) (settings_are_common instance.settings) refl
 
 -- Lines of parts of one kind are common where those of each are.
-mapped_are_common : {A : Type 0} (part : A → Part) → ((one : A) → list_all is_common (part_forms (part one)) ≡ true) → (all : List A) → list_all is_common (flat_map part_forms (map part all)) ≡ true
+mapped_are_common : {A : Type 0} (part : A → Part) → ((one : A) → list_all is_common (part_forms (part one)) ≡ true) → (all : List A)
+    → list_all is_common (flat_map part_forms (map part all)) ≡ true
 mapped_are_common part common [] = refl
-mapped_are_common part common (one ∷ all) = all_joined is_common (part_forms (part one)) (flat_map part_forms (map part all)) (common one) (mapped_are_common part common all)
+mapped_are_common part common (one ∷ all) =
+    all_joined is_common (part_forms (part one)) (flat_map part_forms (map part all)) (common one) (mapped_are_common part common all)
 
 -- Those of two lists in a row are.
-both_are_common : (xs ys : List Part) → list_all is_common (flat_map part_forms xs) ≡ true → list_all is_common (flat_map part_forms ys) ≡ true → list_all is_common (flat_map part_forms (xs ++ ys)) ≡ true
-both_are_common xs ys on_xs on_ys = ap (list_all is_common) (flat_map-append part_forms xs ys) ∙ all_joined is_common (flat_map part_forms xs) (flat_map part_forms ys) on_xs on_ys
+both_are_common : (xs ys : List Part) → list_all is_common (flat_map part_forms xs) ≡ true → list_all is_common (flat_map part_forms ys) ≡ true
+    → list_all is_common (flat_map part_forms (xs ++ ys)) ≡ true
+both_are_common xs ys on_xs on_ys = ap (list_all is_common) (flat_map-append part_forms xs ys)
+    ∙ all_joined is_common (flat_map part_forms xs) (flat_map part_forms ys) on_xs on_ys
 
 -- Units, instances and wires have common lines alone.
-many_are_common : (units : List Unit) (instances : List Instance) (wires : List Wire) → list_all is_common (flat_map part_forms ((map (λ unit. parts.HasUnit unit.name (unit_parts unit)) units ++ map parts.HasInstance instances) ++ map parts.Connects wires)) ≡ true
+many_are_common : (units : List Unit) (instances : List Instance) (wires : List Wire)
+    → list_all is_common
+    (flat_map part_forms ((map (λ unit. parts.HasUnit unit.name (unit_parts unit)) units ++ map parts.HasInstance instances) ++ map parts.Connects wires))
+    ≡ true
 many_are_common units instances wires =
     both_are_common (map (λ unit. parts.HasUnit unit.name (unit_parts unit)) units ++ map parts.HasInstance instances) (map parts.Connects wires)
-    (both_are_common (map (λ unit. parts.HasUnit unit.name (unit_parts unit)) units) (map parts.HasInstance instances) (mapped_are_common (λ unit. parts.HasUnit unit.name (unit_parts unit)) (λ unit. unit_is_common unit.name (unit_parts unit)) units) (mapped_are_common parts.HasInstance instance_is_common instances))
+    (both_are_common (map (λ unit. parts.HasUnit unit.name (unit_parts unit)) units) (map parts.HasInstance instances)
+    (mapped_are_common (λ unit. parts.HasUnit unit.name (unit_parts unit)) (λ unit. unit_is_common unit.name (unit_parts unit)) units)
+    (mapped_are_common parts.HasInstance instance_is_common instances))
     (mapped_are_common parts.Connects (λ wire. refl) wires)
 
 -- ---- Lines that stand once in a text
@@ -283,7 +335,8 @@ all_in_text [] before = sym (append-nil before.in_text)
 all_in_text (some ∷ lines) before = all_in_text lines (and_line before some) ∙ append_assoc before.in_text (some ∷ []) lines
 
 -- It has no rival behind the header and such parts.
-no_rival : (version : ℕ) (front : List Part) (key : LineForm) → IsRare key → Lack key front → not (has_rival (and_lines (headed version) (flat_map part_forms front)) key) ≡ true
+no_rival : (version : ℕ) (front : List Part) (key : LineForm) → IsRare key → Lack key front
+    → not (has_rival (and_lines (headed version) (flat_map part_forms front)) key) ≡ true
 no_rival version front key rare lack =
     ap not (
     rare.rival (and_lines (headed version) (flat_map part_forms front))
@@ -295,21 +348,27 @@ no_rival version front key rare lack =
 -- ---- A text
 
 -- Units whose steps are shallow may stand one behind the other.
-units_follow : (units : List Unit) (before : Before) → list_all (λ unit. nat_le (step_depth unit.step) 16) units ≡ true → parts_may_stand before (map (λ unit. parts.HasUnit unit.name (unit_parts unit)) units) ≡ true
+units_follow : (units : List Unit) (before : Before) → list_all (λ unit. nat_le (step_depth unit.step) 16) units ≡ true
+    → parts_may_stand before (map (λ unit. parts.HasUnit unit.name (unit_parts unit)) units) ≡ true
 units_follow [] before shallow = refl
 units_follow (unit ∷ units) before shallow =
     let part = parts.HasUnit unit.name (unit_parts unit) in
     let both = and_parts (nat_le (step_depth unit.step) 16) (list_all (λ one. nat_le (step_depth one.step) 16) units) shallow in
     let after = and_lines before (part_forms part) in
-    and_from (part_may_stand before part) (parts_may_stand after (map (λ one. parts.HasUnit one.name (unit_parts one)) units)) (unit_parts_may_stand unit (and_line before (form.Unit unit.name)) refl both.0) (units_follow units after both.1)
+    and_from (part_may_stand before part) (parts_may_stand after (map (λ one. parts.HasUnit one.name (unit_parts one)) units))
+    (unit_parts_may_stand unit (and_line before (form.Unit unit.name)) refl both.0) (units_follow units after both.1)
 
 -- An optional part that stands once, behind parts with no line like its own.
-and_once : {A : Type 0} (version : ℕ) (front : List Part) (part : A → Part) (given : Option A) → parts_may_stand (headed version) front ≡ true → ((one : A) → part_may_stand (and_lines (headed version) (flat_map part_forms front)) (part one) ≡ true) → parts_may_stand (headed version) (front ++ optional part given) ≡ true
+and_once : {A : Type 0} (version : ℕ) (front : List Part) (part : A → Part) (given : Option A) → parts_may_stand (headed version) front ≡ true
+    → ((one : A) → part_may_stand (and_lines (headed version) (flat_map part_forms front)) (part one) ≡ true)
+    → parts_may_stand (headed version) (front ++ optional part given) ≡ true
 and_once version front part given stands may =
-    may_follow_both part_forms part_may_stand front (optional part given) (headed version) stands (optional_follows part_forms part_may_stand part given (and_lines (headed version) (flat_map part_forms front)) may)
+    may_follow_both part_forms part_may_stand front (optional part given) (headed version) stands
+    (optional_follows part_forms part_may_stand part given (and_lines (headed version) (flat_map part_forms front)) may)
 
 -- The canonical parts of a system with such units may stand behind its header.
-canonical_parts_may_stand : (system : System) → list_all (λ unit. nat_le (step_depth unit.step) 16) system.units ≡ true → parts_may_stand (headed system.version) (canonical_parts system) ≡ true
+canonical_parts_may_stand : (system : System) → list_all (λ unit. nat_le (step_depth unit.step) 16) system.units ≡ true
+    → parts_may_stand (headed system.version) (canonical_parts system) ≡ true
 canonical_parts_may_stand system shallow =
     let start = headed system.version in
     let units = map (λ unit. parts.HasUnit unit.name (unit_parts unit)) system.units in
@@ -324,28 +383,40 @@ canonical_parts_may_stand system shallow =
     let lack : (key : LineForm) → IsRare key → Lack key many = λ key rare. common_lack key rare (flat_map part_forms many) common in
     let many_stand : parts_may_stand start many ≡ true =
     may_follow_both part_forms part_may_stand (units ++ instances) wires start
-    (may_follow_both part_forms part_may_stand units instances start (units_follow system.units start shallow) (each_follows part_forms part_may_stand parts.HasInstance (λ one before. refl) system.instances (and_lines start (flat_map part_forms units))))
+    (may_follow_both part_forms part_may_stand units instances start (units_follow system.units start shallow)
+    (each_follows part_forms part_may_stand parts.HasInstance (λ one before. refl) system.instances (and_lines start (flat_map part_forms units))))
     (each_follows part_forms part_may_stand parts.Connects (λ one before. refl) system.wires (and_lines start (flat_map part_forms (units ++ instances)))) in
     let stop_stands : parts_may_stand start (many ++ stop) ≡ true =
-    and_once system.version many parts.Stop system.stop many_stand (λ seconds. no_rival system.version many (form.Stop seconds) (rare-Stop seconds) (lack (form.Stop seconds) (rare-Stop seconds))) in
+    and_once system.version many parts.Stop system.stop many_stand
+    (λ seconds. no_rival system.version many (form.Stop seconds) (rare-Stop seconds) (lack (form.Stop seconds) (rare-Stop seconds))) in
     let no_stop : (key : LineForm) → IsRare key → ((seconds : Literal) → list_any (are_alike key) (form.Stop seconds ∷ []) ≡ false) → Lack key (many ++ stop) =
-    λ key rare none. none_of_both (are_alike key) part_forms many stop (lack key rare) (none_of_optional (are_alike key) part_forms parts.Stop none system.stop) in
+    λ key rare none.
+    none_of_both (are_alike key) part_forms many stop (lack key rare) (none_of_optional (are_alike key) part_forms parts.Stop none system.stop) in
     let longest_stands : parts_may_stand start ((many ++ stop) ++ longest) ≡ true =
-    and_once system.version (many ++ stop) parts.Longest system.longest stop_stands (λ seconds. no_rival system.version (many ++ stop) (form.Longest seconds) (rare-Longest seconds) (no_stop (form.Longest seconds) (rare-Longest seconds) (λ other. refl))) in
+    and_once system.version (many ++ stop) parts.Longest system.longest stop_stands
+    (λ seconds.
+    no_rival system.version (many ++ stop) (form.Longest seconds) (rare-Longest seconds)
+    (no_stop (form.Longest seconds) (rare-Longest seconds) (λ other. refl))) in
     let zero_lacks : (count : ℕ) → Lack (form.Zero count) ((many ++ stop) ++ longest) =
-    λ count. none_of_both (are_alike (form.Zero count)) part_forms (many ++ stop) longest (no_stop (form.Zero count) (rare-Zero count) (λ other. refl)) (none_of_optional (are_alike (form.Zero count)) part_forms parts.Longest (λ other. refl) system.longest) in
+    λ count. none_of_both (are_alike (form.Zero count)) part_forms (many ++ stop) longest (no_stop (form.Zero count) (rare-Zero count) (λ other. refl))
+    (none_of_optional (are_alike (form.Zero count)) part_forms parts.Longest (λ other. refl) system.longest) in
     let zero_stands : parts_may_stand start (((many ++ stop) ++ longest) ++ zero) ≡ true =
-    and_once system.version ((many ++ stop) ++ longest) parts.Zero system.zero longest_stands (λ count. no_rival system.version ((many ++ stop) ++ longest) (form.Zero count) (rare-Zero count) (zero_lacks count)) in
+    and_once system.version ((many ++ stop) ++ longest) parts.Zero system.zero longest_stands
+    (λ count. no_rival system.version ((many ++ stop) ++ longest) (form.Zero count) (rare-Zero count) (zero_lacks count)) in
     let rows_lack : (count : ℕ) → Lack (form.Rows count) (((many ++ stop) ++ longest) ++ zero) =
     λ count.
     none_of_both (are_alike (form.Rows count)) part_forms ((many ++ stop) ++ longest) zero
-    (none_of_both (are_alike (form.Rows count)) part_forms (many ++ stop) longest (no_stop (form.Rows count) (rare-Rows count) (λ other. refl)) (none_of_optional (are_alike (form.Rows count)) part_forms parts.Longest (λ other. refl) system.longest))
+    (none_of_both (are_alike (form.Rows count)) part_forms (many ++ stop) longest (no_stop (form.Rows count) (rare-Rows count) (λ other. refl))
+    (none_of_optional (are_alike (form.Rows count)) part_forms parts.Longest (λ other. refl) system.longest))
     (none_of_optional (are_alike (form.Rows count)) part_forms parts.Zero (λ other. refl) system.zero) in
     let rows_stand : parts_may_stand start ((((many ++ stop) ++ longest) ++ zero) ++ rows) ≡ true =
-    and_once system.version (((many ++ stop) ++ longest) ++ zero) parts.Rows system.rows zero_stands (λ count. no_rival system.version (((many ++ stop) ++ longest) ++ zero) (form.Rows count) (rare-Rows count) (rows_lack count)) in
+    and_once system.version (((many ++ stop) ++ longest) ++ zero) parts.Rows system.rows zero_stands
+    (λ count. no_rival system.version (((many ++ stop) ++ longest) ++ zero) (form.Rows count) (rare-Rows count) (rows_lack count)) in
     may_follow_both part_forms part_may_stand ((((many ++ stop) ++ longest) ++ zero) ++ rows) (map parts.Samples system.samples) start rows_stand
-    (each_follows part_forms part_may_stand parts.Samples (λ one before. refl) system.samples (and_lines start (flat_map part_forms ((((many ++ stop) ++ longest) ++ zero) ++ rows))))
+    (each_follows part_forms part_may_stand parts.Samples (λ one before. refl) system.samples
+    (and_lines start (flat_map part_forms ((((many ++ stop) ++ longest) ++ zero) ++ rows))))
 
 -- The canonical lines of a system whose steps are not too deep are placed.
-pub canonical_is_placed : (system : System) → IsTrue (list_all (λ unit. nat_le (step_depth unit.step) 16) system.units) → IsTrue (are_placed no_lines (canonical_forms system))
+pub canonical_is_placed : (system : System) → IsTrue (list_all (λ unit. nat_le (step_depth unit.step) 16) system.units)
+    → IsTrue (are_placed no_lines (canonical_forms system))
 canonical_is_placed system shallow = parts_placed (canonical_parts system) (headed system.version) refl ∙ canonical_parts_may_stand system shallow

@@ -1,9 +1,11 @@
 -- Lines of a step: they close what they open, and they may stand exactly where their blocks are not too deep.
-use Rattle.std.proofs.Common.{◌≡◌, ℕ, suc, ◌+◌, Bool, true, false, ◌&&◌, not, nat_le, nat_lt, max, cond, List, [], ◌∷◌, ◌++◌, append_assoc, map, drop, Some, None, refl, ap, sym, subst, ◌∙◌, arith}
+use Rattle.std.proofs.Common.{◌≡◌, ℕ, suc, ◌+◌, Bool, true, false, ◌&&◌, not, nat_le, nat_lt, max, cond, List, [], ◌∷◌, ◌++◌, append_assoc, map, drop, Some}
+use Rattle.std.proofs.Common.{None, refl, ap, sym, subst, ◌∙◌, arith}
 use Rattle.std.specs.List.{count_by, fold, flat_map}
 use Rattle.std.proofs.lemmas.Bool.Decides.{nat_tests}
 use Rattle.std.proofs.lemmas.List.Sums.{fold-append, sum_by-cons}
-use Rattle.unit_tree.specs.Blocks.{Block, InIf, InElse, InRepeat, behind, Before, and_line, and_lines, at_top, in_step, lacks_else, is_inner, may_stand, are_placed}
+use Rattle.unit_tree.specs.Blocks.{Block, InIf, InElse, InRepeat, behind, Before, and_line, and_lines, at_top, in_step, lacks_else, is_inner, may_stand}
+use Rattle.unit_tree.specs.Blocks.{are_placed}
 use Rattle.unit_tree.specs.Parts.{block_forms, joined, line_forms}
 use Rattle.unit_tree.specs.Printable.{deepest, block_depth, line_depth}
 use Rattle.unit_tree.specs.declared.expr.Expr.{Expr}
@@ -61,7 +63,8 @@ two_have_room : (around one other : ℕ) → (nat_le (around + one) 16 && nat_le
 two_have_room around one other = grind (arith, nat_tests)
 
 -- The deepest has room where the first and the deepest of the others have.
-room_for_more : (blocks : List Block) (depth : ℕ) (depths : List ℕ) → (have_room blocks depth && have_room blocks (deepest depths)) ≡ have_room blocks (deepest (depth ∷ depths))
+room_for_more : (blocks : List Block) (depth : ℕ) (depths : List ℕ)
+    → (have_room blocks depth && have_room blocks (deepest depths)) ≡ have_room blocks (deepest (depth ∷ depths))
 room_for_more blocks depth depths =
     let more : deepest (depth ∷ depths) ≡ max depth (deepest depths) = omega (arith, deepest_more (max 0 depth) depths) in
     two_have_room (depth_in blocks) depth (deepest depths) ∙ ap (have_room blocks) (sym more)
@@ -92,22 +95,26 @@ depth_of lines = deepest (map line_depth (map line_in lines))
 -- They close what they open.
 all_closed : (lines : List Deep) (blocks : List Block) → fold behind blocks (forms_in lines) ≡ blocks
 all_closed [] blocks = refl
-all_closed (one ∷ lines) blocks = fold-append behind blocks (line_forms one.0) (forms_in lines) ∙ ap (λ all. fold behind all (forms_in lines)) (one.1.closed blocks) ∙ all_closed lines blocks
+all_closed (one ∷ lines) blocks = fold-append behind blocks (line_forms one.0) (forms_in lines)
+    ∙ ap (λ all. fold behind all (forms_in lines)) (one.1.closed blocks) ∙ all_closed lines blocks
 
 -- Behind such lines the same blocks are open.
 left_open : (lines : List Deep) (before : Before) (blocks : List Block) → before.open_blocks ≡ blocks → (and_lines before (forms_in lines)).open_blocks ≡ blocks
 left_open lines before blocks is = blocks_behind before (forms_in lines) ∙ ap (λ all. fold behind all (forms_in lines)) is ∙ all_closed lines blocks
 
 -- The same behind one line.
-line_left_open : (some : Line) (before : Before) (blocks : List Block) → ((all : List Block) → fold behind all (line_forms some) ≡ all) → before.open_blocks ≡ blocks → (and_lines before (line_forms some)).open_blocks ≡ blocks
+line_left_open : (some : Line) (before : Before) (blocks : List Block) → ((all : List Block) → fold behind all (line_forms some) ≡ all)
+    → before.open_blocks ≡ blocks → (and_lines before (line_forms some)).open_blocks ≡ blocks
 line_left_open some before blocks closed is = blocks_behind before (line_forms some) ∙ ap (λ all. fold behind all (line_forms some)) is ∙ closed blocks
 
 -- They may stand in a step exactly where the deepest has room.
-all_placed : (lines : List Deep) (before : Before) (blocks : List Block) → IsStep before blocks → are_placed before (forms_in lines) ≡ have_room blocks (depth_of lines)
+all_placed : (lines : List Deep) (before : Before) (blocks : List Block) → IsStep before blocks
+    → are_placed before (forms_in lines) ≡ have_room blocks (depth_of lines)
 all_placed [] before blocks is = sym is.room
 all_placed (one ∷ lines) before blocks is =
     let after = and_lines before (line_forms one.0) in
-    let after_is : IsStep after blocks = record { blocks_are = line_left_open one.0 before blocks one.1.closed is.blocks_are; step = is.step; room = is.room } in
+    let after_is : IsStep after blocks =
+    record { blocks_are = line_left_open one.0 before blocks one.1.closed is.blocks_are; step = is.step; room = is.room } in
     placed_of_two before (line_forms one.0) (forms_in lines)
     ∙ ap (λ told. told && are_placed after (forms_in lines)) (one.1.placed before blocks is)
     ∙ ap (λ told. have_room blocks (line_depth one.0) && told) (all_placed lines after blocks after_is)
@@ -116,7 +123,9 @@ all_placed (one ∷ lines) before blocks is =
 -- ---- Blocks
 
 -- The lines of a block, and what stands behind them, of which it is known whether it may stand there.
-block_placed : (lines : List Deep) (rest : List LineForm) (before : Before) (blocks : List Block) (told : Bool) → IsStep before blocks → ((after : Before) → after.open_blocks ≡ blocks → are_placed after rest ≡ told) → are_placed before (forms_in lines ++ rest) ≡ (have_room blocks (depth_of lines) && told)
+block_placed : (lines : List Deep) (rest : List LineForm) (before : Before) (blocks : List Block) (told : Bool) → IsStep before blocks
+    → ((after : Before) → after.open_blocks ≡ blocks → are_placed after rest ≡ told)
+    → are_placed before (forms_in lines ++ rest) ≡ (have_room blocks (depth_of lines) && told)
 block_placed lines rest before blocks told is behind_them =
     placed_of_two before (forms_in lines) rest
     ∙ ap (λ first. first && are_placed (and_lines before (forms_in lines)) rest) (all_placed lines before blocks is)
@@ -132,7 +141,8 @@ and_true true = refl
 and_true false = refl
 
 -- The lines of a block with its `end`.
-ended_placed : (lines : List Deep) (before : Before) (block : Block) (blocks : List Block) → IsStep before (block ∷ blocks) → are_placed before (forms_in lines ++ (form.End ∷ [])) ≡ have_room (block ∷ blocks) (depth_of lines)
+ended_placed : (lines : List Deep) (before : Before) (block : Block) (blocks : List Block) → IsStep before (block ∷ blocks)
+    → are_placed before (forms_in lines ++ (form.End ∷ [])) ≡ have_room (block ∷ blocks) (depth_of lines)
 ended_placed lines before block blocks is =
     block_placed lines (form.End ∷ []) before (block ∷ blocks) true is (end_placed block blocks) ∙ and_true (have_room (block ∷ blocks) (depth_of lines))
 
@@ -144,7 +154,8 @@ one_deeper block blocks deep is =
     ∙ ap (λ all. nat_le all 16) (omega arith)
 
 -- A line that opens such a block, and what stands behind it there.
-opened_by_room : (told : Bool) (blocks : List Block) (inside : Bool) (deep : ℕ) → nat_lt (depth_in blocks) 16 ≡ told → (nat_lt (depth_in blocks) 16 ≡ true → inside ≡ have_room blocks (suc deep)) → (told && inside) ≡ have_room blocks (suc deep)
+opened_by_room : (told : Bool) (blocks : List Block) (inside : Bool) (deep : ℕ) → nat_lt (depth_in blocks) 16 ≡ told
+    → (nat_lt (depth_in blocks) 16 ≡ true → inside ≡ have_room blocks (suc deep)) → (told && inside) ≡ have_room blocks (suc deep)
 opened_by_room true blocks inside deep is within = within is
 opened_by_room false blocks inside deep is within = none (depth_in blocks) is
   where
@@ -159,7 +170,9 @@ record Opens (some : LineForm) (block : Block) : Type 0 where
   may_be : (before : Before) → may_stand before some ≡ (in_step before.open_blocks && nat_lt (depth_in before.open_blocks) 16)
 
 -- Such a line may stand with what is inside exactly where there is room for one block more.
-opened_placed : (some : LineForm) (block : Block) (lines : List LineForm) (before : Before) (blocks : List Block) (deep : ℕ) → Opens some block → IsStep before blocks → (IsStep (and_line before some) (block ∷ blocks) → are_placed (and_line before some) lines ≡ have_room (block ∷ blocks) deep) → are_placed before (some ∷ lines) ≡ have_room blocks (suc deep)
+opened_placed : (some : LineForm) (block : Block) (lines : List LineForm) (before : Before) (blocks : List Block) (deep : ℕ) → Opens some block
+    → IsStep before blocks → (IsStep (and_line before some) (block ∷ blocks) → are_placed (and_line before some) lines ≡ have_room (block ∷ blocks) deep)
+    → are_placed before (some ∷ lines) ≡ have_room blocks (suc deep)
 opened_placed some block lines before blocks deep opens is inside =
     ap (λ told. told && are_placed (and_line before some) lines)
     (opens.may_be before ∙ ap (λ all. in_step all && nat_lt (depth_in all) 16) is.blocks_are ∙ ap (λ told. told && nat_lt (depth_in blocks) 16) is.step)
@@ -184,7 +197,8 @@ opens-Repeat count = record { behind_is = λ blocks. refl; inner = refl; step = 
 -- ---- Each line
 
 -- A line with no block.
-simple_placed : (some : Line) (own : LineForm) → line_forms some ≡ own ∷ [] → ((blocks : List Block) → behind blocks own ≡ blocks) → ((before : Before) → may_stand before own ≡ in_step before.open_blocks) → line_depth some ≡ 0 → IsDeep some
+simple_placed : (some : Line) (own : LineForm) → line_forms some ≡ own ∷ [] → ((blocks : List Block) → behind blocks own ≡ blocks)
+    → ((before : Before) → may_stand before own ≡ in_step before.open_blocks) → line_depth some ≡ 0 → IsDeep some
 simple_placed some own are same may_be depth = record {
   closed = λ blocks. ap (fold behind blocks) are ∙ same blocks;
   placed = λ before blocks is.
@@ -196,15 +210,18 @@ simple_placed some own are same may_be depth = record {
 -- An assignment has no block.
 deep-Assign : (target : List ℕ) (value : Expr) → IsDeep (line.Assign target value)
 deep-Assign target value =
-    simple_placed (line.Assign target value) (form.Assign target value) (fold-Assign (List LineForm) block_forms target value) (λ blocks. refl) (λ before. and_true (in_step before.open_blocks)) (fold-Assign ℕ block_depth target value)
+    simple_placed (line.Assign target value) (form.Assign target value) (fold-Assign (List LineForm) block_forms target value) (λ blocks. refl)
+    (λ before. and_true (in_step before.open_blocks)) (fold-Assign ℕ block_depth target value)
 
 -- An `accept` has no block.
 deep-Accept : (value : Expr) → IsDeep (line.Accept value)
 deep-Accept value =
-    simple_placed (line.Accept value) (form.Accept value) (fold-Accept (List LineForm) block_forms value) (λ blocks. refl) (λ before. and_true (in_step before.open_blocks)) (fold-Accept ℕ block_depth value)
+    simple_placed (line.Accept value) (form.Accept value) (fold-Accept (List LineForm) block_forms value) (λ blocks. refl)
+    (λ before. and_true (in_step before.open_blocks)) (fold-Accept ℕ block_depth value)
 
 -- The lines of a block, and what closes it.
-block_closed : (lines : List Deep) (rest : List LineForm) (blocks after : List Block) → fold behind blocks rest ≡ after → fold behind blocks (forms_in lines ++ rest) ≡ after
+block_closed : (lines : List Deep) (rest : List LineForm) (blocks after : List Block) → fold behind blocks rest ≡ after
+    → fold behind blocks (forms_in lines ++ rest) ≡ after
 block_closed lines rest blocks after is = fold-append behind blocks (forms_in lines) rest ∙ ap (λ all. fold behind all rest) (all_closed lines blocks) ∙ is
 
 -- A `repeat` is one deeper than its lines.
@@ -215,7 +232,8 @@ deep-Repeat count body =
       closed = λ blocks. ap (fold behind blocks) are ∙ block_closed body (form.End ∷ []) (InRepeat ∷ blocks) blocks refl;
       placed = λ before blocks is.
           ap (are_placed before) are
-          ∙ opened_placed (form.Repeat count) InRepeat (forms_in body ++ (form.End ∷ [])) before blocks (depth_of body) (opens-Repeat count) is (ended_placed body (and_line before (form.Repeat count)) InRepeat blocks)
+          ∙ opened_placed (form.Repeat count) InRepeat (forms_in body ++ (form.End ∷ [])) before blocks (depth_of body) (opens-Repeat count) is
+          (ended_placed body (and_line before (form.Repeat count)) InRepeat blocks)
           ∙ ap (have_room blocks) (sym (fold-Repeat ℕ block_depth count (map line_in body)));
     }
 
@@ -227,21 +245,25 @@ if_forms condition then_lines rest = form.If condition ∷ forms_in then_lines +
 deep-IfNone : (condition : Expr) (then_lines : List Deep) → IsDeep (line.If condition (map line_in then_lines) None)
 deep-IfNone condition then_lines =
     let are : line_forms (line.If condition (map line_in then_lines) None) ≡ if_forms condition then_lines (form.End ∷ []) =
-    fold-If (List LineForm) block_forms condition (map line_in then_lines) None ∙ ap (λ lines. form.If condition ∷ lines) (append_assoc (forms_in then_lines) [] (form.End ∷ [])) in
+    fold-If (List LineForm) block_forms condition (map line_in then_lines) None
+    ∙ ap (λ lines. form.If condition ∷ lines) (append_assoc (forms_in then_lines) [] (form.End ∷ [])) in
     let depth : line_depth (line.If condition (map line_in then_lines) None) ≡ suc (depth_of then_lines) =
     fold-If ℕ block_depth condition (map line_in then_lines) None ∙ ap suc (omega arith) in
     record {
       closed = λ blocks. ap (fold behind blocks) are ∙ block_closed then_lines (form.End ∷ []) (InIf ∷ blocks) blocks refl;
       placed = λ before blocks is.
           ap (are_placed before) are
-          ∙ opened_placed (form.If condition) InIf (forms_in then_lines ++ (form.End ∷ [])) before blocks (depth_of then_lines) (opens-If condition) is (ended_placed then_lines (and_line before (form.If condition)) InIf blocks)
+          ∙ opened_placed (form.If condition) InIf (forms_in then_lines ++ (form.End ∷ [])) before blocks (depth_of then_lines) (opens-If condition) is
+          (ended_placed then_lines (and_line before (form.If condition)) InIf blocks)
           ∙ ap (have_room blocks) (sym depth);
     }
 
 -- `else` with its lines and the `end`, behind the lines of an `if`.
-else_placed : (else_lines : List Deep) (blocks : List Block) → have_room (InIf ∷ blocks) 0 ≡ true → (after : Before) → after.open_blocks ≡ InIf ∷ blocks → are_placed after (form.Else ∷ forms_in else_lines ++ (form.End ∷ [])) ≡ have_room (InIf ∷ blocks) (depth_of else_lines)
+else_placed : (else_lines : List Deep) (blocks : List Block) → have_room (InIf ∷ blocks) 0 ≡ true → (after : Before) → after.open_blocks ≡ InIf ∷ blocks
+    → are_placed after (form.Else ∷ forms_in else_lines ++ (form.End ∷ [])) ≡ have_room (InIf ∷ blocks) (depth_of else_lines)
 else_placed else_lines blocks room after is =
-    let within : IsStep (and_line after form.Else) (InElse ∷ blocks) = record { blocks_are = ap (λ all. InElse ∷ drop 1 all) is; step = refl; room = as_deep 0 ∙ room } in
+    let within : IsStep (and_line after form.Else) (InElse ∷ blocks) =
+    record { blocks_are = ap (λ all. InElse ∷ drop 1 all) is; step = refl; room = as_deep 0 ∙ room } in
     ap (λ all. (lacks_else all && true) && are_placed (and_line after form.Else) (forms_in else_lines ++ (form.End ∷ []))) is
     ∙ ended_placed else_lines (and_line after form.Else) InElse blocks within
     ∙ as_deep (depth_of else_lines)
@@ -254,16 +276,21 @@ deep-IfElse : (condition : Expr) (then_lines else_lines : List Deep) → IsDeep 
 deep-IfElse condition then_lines else_lines =
     let rest = form.Else ∷ forms_in else_lines ++ (form.End ∷ []) in
     let are : line_forms (line.If condition (map line_in then_lines) (Some (map line_in else_lines))) ≡ if_forms condition then_lines rest =
-    fold-If (List LineForm) block_forms condition (map line_in then_lines) (Some (map line_in else_lines)) ∙ ap (λ lines. form.If condition ∷ lines) (append_assoc (forms_in then_lines) (form.Else ∷ forms_in else_lines) (form.End ∷ [])) in
-    let depth : line_depth (line.If condition (map line_in then_lines) (Some (map line_in else_lines))) ≡ suc (max (depth_of then_lines) (depth_of else_lines)) =
+    fold-If (List LineForm) block_forms condition (map line_in then_lines) (Some (map line_in else_lines))
+    ∙ ap (λ lines. form.If condition ∷ lines) (append_assoc (forms_in then_lines) (form.Else ∷ forms_in else_lines) (form.End ∷ [])) in
+    let depth : line_depth (line.If condition (map line_in then_lines) (Some (map line_in else_lines)))
+    ≡ suc (max (depth_of then_lines) (depth_of else_lines)) =
     fold-If ℕ block_depth condition (map line_in then_lines) (Some (map line_in else_lines)) in
     record {
-      closed = λ blocks. ap (fold behind blocks) are ∙ block_closed then_lines rest (InIf ∷ blocks) blocks (block_closed else_lines (form.End ∷ []) (InElse ∷ blocks) blocks refl);
+      closed = λ blocks. ap (fold behind blocks) are
+          ∙ block_closed then_lines rest (InIf ∷ blocks) blocks (block_closed else_lines (form.End ∷ []) (InElse ∷ blocks) blocks refl);
       placed = λ before blocks is.
           ap (are_placed before) are
-          ∙ opened_placed (form.If condition) InIf (forms_in then_lines ++ rest) before blocks (max (depth_of then_lines) (depth_of else_lines)) (opens-If condition) is
+          ∙ opened_placed (form.If condition) InIf (forms_in then_lines ++ rest) before blocks (max (depth_of then_lines) (depth_of else_lines))
+          (opens-If condition) is
           (λ within.
-          block_placed then_lines rest (and_line before (form.If condition)) (InIf ∷ blocks) (have_room (InIf ∷ blocks) (depth_of else_lines)) within (else_placed else_lines blocks within.room)
+          block_placed then_lines rest (and_line before (form.If condition)) (InIf ∷ blocks) (have_room (InIf ∷ blocks) (depth_of else_lines)) within
+          (else_placed else_lines blocks within.room)
           ∙ two_have_room (depth_in (InIf ∷ blocks)) (depth_of then_lines) (depth_of else_lines))
           ∙ ap (have_room blocks) (sym depth);
     }
@@ -284,7 +311,8 @@ is_deep = ind-Line IsDeep (λ x y is. subst (λ z. IsDeep (roll-Line z)) is (dee
 -- ---- Lines of a step
 
 -- They may stand in a step exactly where the deepest has room.
-pub lines_placed : (lines : List Line) (before : Before) (blocks : List Block) → IsStep before blocks → are_placed before (flat_map line_forms lines) ≡ have_room blocks (deepest (map line_depth lines))
+pub lines_placed : (lines : List Line) (before : Before) (blocks : List Block) → IsStep before blocks
+    → are_placed before (flat_map line_forms lines) ≡ have_room blocks (deepest (map line_depth lines))
 lines_placed [] before blocks is = sym is.room
 lines_placed (some ∷ lines) before blocks is =
     let after = and_lines before (line_forms some) in

@@ -94,7 +94,8 @@ number_first (form.Rows count) digits decimals rest written = absurd (cc written
 number_first (form.Sample port) digits decimals rest written = absurd (cc written.spelled)
 
 -- `cosim` begins the header, `end` the end of a block, and `unit` a unit.
-pub after_cosim : (some : LineForm) (rest : List Token) → WritesForm some (keyword word.Cosim ∷ rest) → (version : ℕ) × ((some ≡ form.Header version) × (rest ≡ whole version ∷ []))
+pub after_cosim : (some : LineForm) (rest : List Token) → WritesForm some (keyword word.Cosim ∷ rest)
+    → (version : ℕ) × ((some ≡ form.Header version) × (rest ≡ whole version ∷ []))
 after_cosim (form.Header version) rest written = (version, (refl, cc (written.spelled, written.tail_is)))
 after_cosim (form.Unit name) rest written = absurd (cc written.spelled)
 after_cosim (form.Resolution decimals) rest written = absurd (cc written.spelled)

@@ -1,5 +1,6 @@
 -- The tokens of canonical lines: their names are names, and their numbers fit.
-use Rattle.std.proofs.Common.{◌≡◌, ℕ, ◌^◌, ◌≤◌, Bool, true, false, not, cond, ◌&&◌, ℤ, pos, negsuc, nat_le, List, [], ◌∷◌, ◌++◌, codes, IsTrue, refl, sym, subst, ◌∙◌, arith, append_assoc}
+use Rattle.std.proofs.Common.{◌≡◌, ℕ, ◌^◌, ◌≤◌, Bool, true, false, not, cond, ◌&&◌, ℤ, pos, negsuc, nat_le, List, [], ◌∷◌, ◌++◌, codes, IsTrue, refl, sym}
+use Rattle.std.proofs.Common.{subst, ◌∙◌, arith, append_assoc}
 use Rattle.std.specs.Int.{is_negative}
 use Rattle.std.specs.List.{AllByRecursion}
 use Rattle.std.specs.Prelude.{⊤, unsigned_abs}
@@ -11,11 +12,14 @@ use Rattle.fixed_words.specs.declared.types.Literal.TheVariants as literal
 use Rattle.fixed_words.specs.declared.types.Ty.{Ty}
 use Rattle.fixed_words.specs.declared.types.Ty.TheVariants as types
 use Rattle.unit_tree.specs.Canonical.{placed, node_phrase, canonical_phrase, expression_tokens, literal_tokens, tail_tokens, form_tokens}
-use Rattle.unit_tree.specs.LineForms.{Tail, Nothing, OfLiteral, OfSeconds, OfExpression, tail_of, AreCountsInRange, type_tokens, declaration, names_tokens, needs_tokens, equals, sign_tokens, front_tokens}
+use Rattle.unit_tree.specs.LineForms.{Tail, Nothing, OfLiteral, OfSeconds, OfExpression, tail_of, AreCountsInRange, type_tokens, declaration, names_tokens}
+use Rattle.unit_tree.specs.LineForms.{needs_tokens, equals, sign_tokens, front_tokens}
 use Rattle.unit_tree.specs.Names.{node_names, names_in, expression_in, expression_on}
 use Rattle.unit_tree.specs.Phrases as phrase
-use Rattle.unit_tree.specs.Phrases.{Phrase, Level, level_of, operand_level, left_level, right_level, unary_level, binary_level, allows, nesting, keyword, symbol, whole, in_parens, unary_tokens, operation, binary_tokens, phrase_tokens}
-use Rattle.unit_tree.specs.Printable.{node_is_unsigned, is_unsigned, is_writable, is_word_literal, is_seconds, IsLiteralInRange, IsTailInRange, IsInRange, names_said, names_on, names_on_expression}
+use Rattle.unit_tree.specs.Phrases.{Phrase, Level, level_of, operand_level, left_level, right_level, unary_level, binary_level, allows, nesting, keyword}
+use Rattle.unit_tree.specs.Phrases.{symbol, whole, in_parens, unary_tokens, operation, binary_tokens, phrase_tokens}
+use Rattle.unit_tree.specs.Printable.{node_is_unsigned, is_unsigned, is_writable, is_word_literal, is_seconds, IsLiteralInRange, IsTailInRange, IsInRange}
+use Rattle.unit_tree.specs.Printable.{names_said, names_on, names_on_expression}
 use Rattle.unit_tree.specs.Tokens.{IsName}
 use Rattle.unit_tree.specs.Values.{node_is_ranged, is_ranged, unary_is_ranged}
 use Rattle.unit_tree.specs.declared.expr.BinOp.{BinOp}
@@ -24,7 +28,8 @@ use Rattle.unit_tree.specs.declared.expr.UnOp.{UnOp}
 use Rattle.unit_tree.specs.declared.expr.UnOp.TheVariants as of
 use Rattle.unit_tree.specs.declared.expr.Expr as expr
 use Rattle.unit_tree.specs.declared.expr.Expr.{Expr, the_lemmas}
-use Rattle.unit_tree.specs.declared.expr.Expr.TheVariants.{rolls-Number, rolls-Truth, rolls-Var, rolls-Time, rolls-Step, rolls-Unary, rolls-Binary, rolls-Clamp, rolls-Choose, rolls-Absent, rolls-Present}
+use Rattle.unit_tree.specs.declared.expr.Expr.TheVariants.{rolls-Number, rolls-Truth, rolls-Var, rolls-Time, rolls-Step, rolls-Unary, rolls-Binary, rolls-Clamp}
+use Rattle.unit_tree.specs.declared.expr.Expr.TheVariants.{rolls-Choose, rolls-Absent, rolls-Present}
 use Rattle.unit_tree.specs.declared.expr.Expr.TheFolds.{ind-Expr, map-Expr}
 use Rattle.unit_tree.specs.declared.expr.Expr.TheViews.{roll-Expr}
 use Rattle.unit_tree.specs.declared.expr.Expr.TheOpen.{Expr-F}
@@ -36,7 +41,8 @@ use Rattle.unit_tree.specs.declared.token.Symbol.TheVariants as sign
 use Rattle.unit_tree.specs.declared.token.Token.{Token}
 use Rattle.unit_tree.specs.declared.token.Token.TheVariants as token
 use Rattle.language_laws.proofs.BlockLaws.{each_append}
-use Rattle.unit_tree.proofs.FoldLemmas.{fold-Number, fold-Truth, fold-Var, fold-Time, fold-Step, fold-Unary, fold-Binary, fold-Clamp, fold-Choose, fold-Absent, fold-Present}
+use Rattle.unit_tree.proofs.FoldLemmas.{fold-Number, fold-Truth, fold-Var, fold-Time, fold-Step, fold-Unary, fold-Binary, fold-Clamp, fold-Choose, fold-Absent}
+use Rattle.unit_tree.proofs.FoldLemmas.{fold-Present}
 use Rattle.text_tokens.specs.Scanning.{keyword_of}
 use Rattle.text_tokens.proofs.TableLemmas.{keyword_of_none}
 
@@ -172,7 +178,8 @@ fit-Number : (number : ℤ) (decimals : ℕ) → Claim (expr.Number number decim
 fit-Number number decimals is =
     let few : nat_le decimals 9 ≡ true = sym (fold-Number Bool node_is_ranged number decimals) ∙ is.ranged in
     let fits = and_parts (not (is_negative number)) (is_word_of types.Int64 number) (sym (fold-Number Bool node_is_unsigned number decimals) ∙ is.unsigned) in
-    subst (λ p. AreFit (phrase_tokens p)) (sym (fold-Number Phrase node_phrase number decimals)) ((magnitude_fits number fits.1, (few_decimals decimals few).1), _)
+    subst (λ p. AreFit (phrase_tokens p)) (sym (fold-Number Phrase node_phrase number decimals))
+    ((magnitude_fits number fits.1, (few_decimals decimals few).1), _)
 
 -- It holds of a name.
 fit-Var : (name : List ℕ) → Claim (expr.Var name)
@@ -191,11 +198,19 @@ fit-Unary : (op : UnOp) (arg : Expr) → Claim arg → Claim (expr.Unary op arg)
 fit-Unary op arg given is =
     let ranged = and_parts (unary_is_ranged op) (is_ranged arg) (sym (fold-Unary Bool node_is_ranged op arg) ∙ is.ranged) in
     let inner = placed (operand_level (unary_level op)) (canonical_phrase arg) in
-    let fit = given (record { names = subst AreNames (fold-Unary (List (List ℕ)) node_names op arg) is.names; ranged = ranged.1; unsigned = sym (fold-Unary Bool node_is_unsigned op arg) ∙ is.unsigned }) in
-    subst (λ p. AreFit (phrase_tokens p)) (sym (fold-Unary Phrase node_phrase op arg)) (unary_fit op (phrase_tokens inner) ranged.0 (placed_fit (operand_level (unary_level op)) (canonical_phrase arg) fit))
+    let fit =
+    given (record {
+      names = subst AreNames (fold-Unary (List (List ℕ)) node_names op arg) is.names;
+      ranged = ranged.1;
+      unsigned = sym (fold-Unary Bool node_is_unsigned op arg)
+          ∙ is.unsigned;
+    }) in
+    subst (λ p. AreFit (phrase_tokens p)) (sym (fold-Unary Phrase node_phrase op arg))
+    (unary_fit op (phrase_tokens inner) ranged.0 (placed_fit (operand_level (unary_level op)) (canonical_phrase arg) fit))
 
 -- The two parts of what is plain are.
-two_plain : (left right : Expr) → AreNames (names_in left ++ names_in right) → (is_ranged left && is_ranged right) ≡ true → (is_unsigned left && is_unsigned right) ≡ true → IsPlain left × IsPlain right
+two_plain : (left right : Expr) → AreNames (names_in left ++ names_in right) → (is_ranged left && is_ranged right) ≡ true
+    → (is_unsigned left && is_unsigned right) ≡ true → IsPlain left × IsPlain right
 two_plain left right names ranged unsigned =
     let n = each_part IsName (names_in left) (names_in right) names in
     let r = and_parts (is_ranged left) (is_ranged right) ranged in
@@ -205,15 +220,22 @@ two_plain left right names ranged unsigned =
 -- It holds of an operation on two operands.
 fit-Binary : (op : BinOp) (left right : Expr) → Claim left → Claim right → Claim (expr.Binary op left right)
 fit-Binary op left right on_left on_right is =
-    let plain = two_plain left right (subst AreNames (fold-Binary (List (List ℕ)) node_names op left right) is.names) (sym (fold-Binary Bool node_is_ranged op left right) ∙ is.ranged) (sym (fold-Binary Bool node_is_unsigned op left right) ∙ is.unsigned) in
+    let plain =
+    two_plain left right (subst AreNames (fold-Binary (List (List ℕ)) node_names op left right) is.names)
+    (sym (fold-Binary Bool node_is_ranged op left right) ∙ is.ranged) (sym (fold-Binary Bool node_is_unsigned op left right) ∙ is.unsigned) in
     let first = placed_fit (left_level (binary_level op)) (canonical_phrase left) (on_left plain.0) in
     let second = placed_fit (right_level (binary_level op)) (canonical_phrase right) (on_right plain.1) in
-    subst (λ p. AreFit (phrase_tokens p)) (sym (fold-Binary Phrase node_phrase op left right)) (binary_fit op (phrase_tokens (placed (left_level (binary_level op)) (canonical_phrase left))) (phrase_tokens (placed (right_level (binary_level op)) (canonical_phrase right))) first second)
+    subst (λ p. AreFit (phrase_tokens p)) (sym (fold-Binary Phrase node_phrase op left right))
+    (binary_fit op (phrase_tokens (placed (left_level (binary_level op)) (canonical_phrase left)))
+    (phrase_tokens (placed (right_level (binary_level op)) (canonical_phrase right))) first second)
 
 -- The three parts of what is plain are.
-three_plain : (one two three : Expr) → AreNames (names_in one ++ names_in two ++ names_in three) → (is_ranged one && (is_ranged two && is_ranged three)) ≡ true → (is_unsigned one && (is_unsigned two && is_unsigned three)) ≡ true → IsPlain one × IsPlain two × IsPlain three
+three_plain : (one two three : Expr) → AreNames (names_in one ++ names_in two ++ names_in three)
+    → (is_ranged one && (is_ranged two && is_ranged three)) ≡ true → (is_unsigned one && (is_unsigned two && is_unsigned three)) ≡ true
+    → IsPlain one × IsPlain two × IsPlain three
 three_plain one two three names ranged unsigned =
-    let n = each_part IsName (names_in one) (names_in two ++ names_in three) (subst AreNames (append_assoc (names_in one) (names_in two) (names_in three)) names) in
+    let n = each_part IsName (names_in one) (names_in two ++ names_in three)
+    (subst AreNames (append_assoc (names_in one) (names_in two) (names_in three)) names) in
     let r = and_parts (is_ranged one) (is_ranged two && is_ranged three) ranged in
     let u = and_parts (is_unsigned one) (is_unsigned two && is_unsigned three) unsigned in
     let others = two_plain two three n.1 r.1 u.1 in
@@ -222,16 +244,26 @@ three_plain one two three names ranged unsigned =
 -- It holds of `clamp`.
 fit-Clamp : (value low high : Expr) → Claim value → Claim low → Claim high → Claim (expr.Clamp value low high)
 fit-Clamp value low high on_value on_low on_high is =
-    let plain = three_plain value low high (subst AreNames (fold-Clamp (List (List ℕ)) node_names value low high) is.names) (sym (fold-Clamp Bool node_is_ranged value low high) ∙ is.ranged) (sym (fold-Clamp Bool node_is_unsigned value low high) ∙ is.unsigned) in
+    let plain =
+    three_plain value low high (subst AreNames (fold-Clamp (List (List ℕ)) node_names value low high) is.names)
+    (sym (fold-Clamp Bool node_is_ranged value low high) ∙ is.ranged) (sym (fold-Clamp Bool node_is_unsigned value low high) ∙ is.unsigned) in
     let bounds = between_fit (expression_tokens low) (expression_tokens high) (symbol sign.Comma) _ (on_low plain.1) (on_high plain.2) in
-    subst (λ p. AreFit (phrase_tokens p)) (sym (fold-Clamp Phrase node_phrase value low high)) (_, call_fit (expression_tokens value) (expression_tokens low ++ (symbol sign.Comma ∷ expression_tokens high)) (on_value plain.0) bounds)
+    subst (λ p. AreFit (phrase_tokens p)) (sym (fold-Clamp Phrase node_phrase value low high))
+    (_, call_fit (expression_tokens value) (expression_tokens low ++ (symbol sign.Comma ∷ expression_tokens high)) (on_value plain.0) bounds)
 
 -- It holds of a choice.
 fit-Choose : (condition chosen other : Expr) → Claim condition → Claim chosen → Claim other → Claim (expr.Choose condition chosen other)
 fit-Choose condition chosen other on_condition on_chosen on_other is =
-    let plain = three_plain condition chosen other (subst AreNames (fold-Choose (List (List ℕ)) node_names condition chosen other) is.names) (sym (fold-Choose Bool node_is_ranged condition chosen other) ∙ is.ranged) (sym (fold-Choose Bool node_is_unsigned condition chosen other) ∙ is.unsigned) in
+    let plain =
+    three_plain condition chosen other (subst AreNames (fold-Choose (List (List ℕ)) node_names condition chosen other) is.names)
+    (sym (fold-Choose Bool node_is_ranged condition chosen other) ∙ is.ranged)
+    (sym (fold-Choose Bool node_is_unsigned condition chosen other) ∙ is.unsigned) in
     let branches = between_fit (expression_tokens chosen) (expression_tokens other) (keyword word.Else) _ (on_chosen plain.1) (on_other plain.2) in
-    subst (λ p. AreFit (phrase_tokens p)) (sym (fold-Choose Phrase node_phrase condition chosen other)) (_, between_fit (expression_tokens condition) (expression_tokens chosen ++ (keyword word.Else ∷ expression_tokens other)) (keyword word.Then) _ (on_condition plain.0) branches)
+    subst (λ p. AreFit (phrase_tokens p)) (sym (fold-Choose Phrase node_phrase condition chosen other)) (
+      _,
+      between_fit (expression_tokens condition) (expression_tokens chosen ++ (keyword word.Else ∷ expression_tokens other)) (keyword word.Then) _
+          (on_condition plain.0) branches,
+    )
 
 -- It holds of each node where it holds of the parts.
 node : (y : Expr-F Proved) → Claim (roll-Expr (map-Expr Proved Expr bare y))
@@ -245,7 +277,8 @@ node (Expr-F.Binary op left right) = subst Claim (sym (rolls-Binary op (bare lef
 node (Expr-F.Clamp value low high) =
     subst Claim (sym (rolls-Clamp (bare value) (bare low) (bare high))) (fit-Clamp (bare value) (bare low) (bare high) value.1 low.1 high.1)
 node (Expr-F.Choose condition then_part else_part) =
-    subst Claim (sym (rolls-Choose (bare condition) (bare then_part) (bare else_part))) (fit-Choose (bare condition) (bare then_part) (bare else_part) condition.1 then_part.1 else_part.1)
+    subst Claim (sym (rolls-Choose (bare condition) (bare then_part) (bare else_part)))
+    (fit-Choose (bare condition) (bare then_part) (bare else_part) condition.1 then_part.1 else_part.1)
 node Expr-F.Absent = subst Claim (sym rolls-Absent) (λ is. subst (λ p. AreFit (phrase_tokens p)) (sym (fold-Absent Phrase node_phrase)) _)
 node (Expr-F.Present name) = subst Claim (sym (rolls-Present name)) (fit-Present name)
 
@@ -288,7 +321,8 @@ needs_fit [] are = _
 needs_fit (name ∷ names) are = (_, names_fit (name ∷ names) are)
 
 -- The tokens of a declaration with what it needs fit.
-needing_fits : (declared : Keyword) (name : List ℕ) (ty : Ty) (needs : List (List ℕ)) → IsName name → AreNames needs → AreDecimals ty → AreFit (declaration declared name ty ++ needs_tokens needs ++ equals)
+needing_fits : (declared : Keyword) (name : List ℕ) (ty : Ty) (needs : List (List ℕ)) → IsName name → AreNames needs → AreDecimals ty
+    → AreFit (declaration declared name ty ++ needs_tokens needs ++ equals)
 needing_fits declared name ty needs is_name are few =
     let front = declaration declared name ty in
     both_fit (front ++ needs_tokens needs) equals (both_fit front (needs_tokens needs) (declaration_fits declared name ty is_name few) (needs_fit needs are)) _

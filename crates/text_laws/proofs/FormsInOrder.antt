@@ -24,7 +24,9 @@ abbrev relisted : {A B : Type 0} → (A → B) → List (ℕ × List A) → List
 relisted f lists = map (λ one. (one.0, map f one.1)) lists
 
 -- With whether the first list has the rank.
-of_rank_by : {A B : Type 0} (f : A → B) (told : Bool) (rank : ℕ) (list : List A) (ours : List (ℕ × List B)) (others : List (ℕ × List A)) → flat_map (λ one. one.1) ours ≡ map f (flat_map (λ one. one.1) others) → flat_map (λ one. one.1) (cond told ((rank, map f list) ∷ ours) ours) ≡ map f (flat_map (λ one. one.1) (cond told ((rank, list) ∷ others) others))
+of_rank_by : {A B : Type 0} (f : A → B) (told : Bool) (rank : ℕ) (list : List A) (ours : List (ℕ × List B)) (others : List (ℕ × List A))
+    → flat_map (λ one. one.1) ours ≡ map f (flat_map (λ one. one.1) others)
+    → flat_map (λ one. one.1) (cond told ((rank, map f list) ∷ ours) ours) ≡ map f (flat_map (λ one. one.1) (cond told ((rank, list) ∷ others) others))
 of_rank_by f true rank list ours others same = ap (λ rest. map f list ++ rest) same ∙ sym (map-append f list (flat_map (λ one. one.1) others))
 of_rank_by f false rank list ours others same = same
 
@@ -32,7 +34,8 @@ of_rank_by f false rank list ours others same = same
 of_rank_map : {A B : Type 0} (f : A → B) (lists : List (ℕ × List A)) (rank : ℕ) → of_rank (relisted f lists) rank ≡ map f (of_rank lists rank)
 of_rank_map f [] rank = refl
 of_rank_map f (first ∷ lists) rank =
-    of_rank_by f (first.0 == rank) first.0 first.1 (filter (λ one. one.0 == rank) (relisted f lists)) (filter (λ one. one.0 == rank) lists) (of_rank_map f lists rank)
+    of_rank_by f (first.0 == rank) first.0 first.1 (filter (λ one. one.0 == rank) (relisted f lists)) (filter (λ one. one.0 == rank) lists)
+    (of_rank_map f lists rank)
 
 -- The entries of all ranks.
 by_rank_map : {A B : Type 0} (f : A → B) (ranks : List ℕ) (lists : List (ℕ × List A)) → by_rank ranks (relisted f lists) ≡ map f (by_rank ranks lists)
@@ -43,7 +46,9 @@ by_rank_map f (rank ∷ ranks) lists =
     ∙ sym (map-append f (of_rank lists rank) (by_rank ranks lists))
 
 -- The lists with their ranks, where each part keeps its own entries in order.
-each_ranked_map : {A B P : Type 0} (f : A → B) (rank size : P → ℕ) (inside : P → List A → List A) (ours : P → List B → List B) → ((part : P) (lines : List A) → ours part (map f lines) ≡ map f (inside part lines)) → (all : List P) (lines : List A) → each_ranked rank size ours all (map f lines) ≡ relisted f (each_ranked rank size inside all lines)
+each_ranked_map : {A B P : Type 0} (f : A → B) (rank size : P → ℕ) (inside : P → List A → List A) (ours : P → List B → List B)
+    → ((part : P) (lines : List A) → ours part (map f lines) ≡ map f (inside part lines)) → (all : List P) (lines : List A)
+    → each_ranked rank size ours all (map f lines) ≡ relisted f (each_ranked rank size inside all lines)
 each_ranked_map f rank size inside ours same [] lines = refl
 each_ranked_map f rank size inside ours same (part ∷ all) lines =
     let here = take (size part) lines in
@@ -54,10 +59,12 @@ each_ranked_map f rank size inside ours same (part ∷ all) lines =
     ∙ ap (λ later. (rank part, map f (inside part here)) ∷ later) (each_ranked_map f rank size inside ours same all rest)
 
 -- The entries of a unit.
-unit_order_map : {A B : Type 0} (f : A → B) (inside : List UnitPart) (lines : List A) → unit_lines_in_order inside (map f lines) ≡ map f (unit_lines_in_order inside lines)
+unit_order_map : {A B : Type 0} (f : A → B) (inside : List UnitPart) (lines : List A)
+    → unit_lines_in_order inside (map f lines) ≡ map f (unit_lines_in_order inside lines)
 unit_order_map f inside lines =
     let ranks = 0 ∷ 1 ∷ 2 ∷ 3 ∷ 4 ∷ 5 ∷ 6 ∷ 7 ∷ 8 ∷ 9 ∷ [] in
-    ap (by_rank ranks) (each_ranked_map f unit_part_rank (λ part. length (unit_part_forms part)) (λ part all. all) (λ part all. all) (λ part all. refl) inside lines)
+    ap (by_rank ranks)
+    (each_ranked_map f unit_part_rank (λ part. length (unit_part_forms part)) (λ part all. all) (λ part all. all) (λ part all. refl) inside lines)
     ∙ by_rank_map f ranks (each_ranked unit_part_rank (λ part. length (unit_part_forms part)) (λ part all. all) inside lines)
 
 -- Three lists in a row.
@@ -81,16 +88,20 @@ order_map : {A B : Type 0} (f : A → B) (all : List Part) (lines : List A) → 
 order_map f all lines =
     let ranks = 0 ∷ 1 ∷ 2 ∷ 3 ∷ 4 ∷ 5 ∷ 6 ∷ 7 ∷ [] in
     let ranked = each_ranked part_rank (λ part. length (part_forms part)) part_lines_in_order all (drop 1 lines) in
-    ap (λ first. first ++ by_rank ranks (each_ranked part_rank (λ part. length (part_forms part)) part_lines_in_order all (drop 1 (map f lines)))) (take-map f 1 lines)
-    ∙ ap (λ later. map f (take 1 lines) ++ by_rank ranks (each_ranked part_rank (λ part. length (part_forms part)) part_lines_in_order all later)) (drop-map f 1 lines)
-    ∙ ap (λ lists. map f (take 1 lines) ++ by_rank ranks lists) (each_ranked_map f part_rank (λ part. length (part_forms part)) part_lines_in_order part_lines_in_order (part_order_map f) all (drop 1 lines))
+    ap (λ first. first ++ by_rank ranks (each_ranked part_rank (λ part. length (part_forms part)) part_lines_in_order all (drop 1 (map f lines))))
+    (take-map f 1 lines)
+    ∙ ap (λ later. map f (take 1 lines) ++ by_rank ranks (each_ranked part_rank (λ part. length (part_forms part)) part_lines_in_order all later))
+    (drop-map f 1 lines)
+    ∙ ap (λ lists. map f (take 1 lines) ++ by_rank ranks lists)
+    (each_ranked_map f part_rank (λ part. length (part_forms part)) part_lines_in_order part_lines_in_order (part_order_map f) all (drop 1 lines))
     ∙ ap (λ rest. map f (take 1 lines) ++ rest) (by_rank_map f ranks ranked)
     ∙ sym (map-append f (take 1 lines) (by_rank ranks ranked))
 
 -- ---- Forms
 
 -- Lines of parts that stand where they may are the canonical lines in another order.
-pub forms_in_order : (version : ℕ) (all : List Part) → IsTrue (are_placed no_lines (text_forms version all)) → IsPermutation (canonical_forms (system_of version all)) (text_forms version all)
+pub forms_in_order : (version : ℕ) (all : List Part) → IsTrue (are_placed no_lines (text_forms version all))
+    → IsPermutation (canonical_forms (system_of version all)) (text_forms version all)
 forms_in_order version all placed =
     let forms = text_forms version all in
     let numbers = range_with_len 0 (length forms) in
@@ -103,8 +114,10 @@ forms_in_order version all placed =
     (IsPermutation-map at (in_canonical_order all numbers) numbers (each_once version all numbers (length-range_with_len 0 (length forms)))))
 
 -- What holds of each line of the parts holds of each canonical line.
-pub each_in_order : (P : LineForm → Type 0) (version : ℕ) (all : List Part) → IsTrue (are_placed no_lines (text_forms version all)) → AllByRecursion P (text_forms version all) → AllByRecursion P (canonical_forms (system_of version all))
+pub each_in_order : (P : LineForm → Type 0) (version : ℕ) (all : List Part) → IsTrue (are_placed no_lines (text_forms version all))
+    → AllByRecursion P (text_forms version all) → AllByRecursion P (canonical_forms (system_of version all))
 each_in_order P version all placed holds =
     let forms = text_forms version all in
     let canonical = canonical_forms (system_of version all) in
-    recursion_from_All P canonical (All-permutation P forms canonical (IsPermutation-sym canonical forms (forms_in_order version all placed)) (All-from_recursion P forms holds))
+    recursion_from_All P canonical
+    (All-permutation P forms canonical (IsPermutation-sym canonical forms (forms_in_order version all placed)) (All-from_recursion P forms holds))

@@ -23,21 +23,26 @@ abbrev HasItsForm : LineForm → Type 0
 HasItsForm some = HasForm some (line_text some)
 
 -- Lines that are spelled have the forms that are in range.
-all_have_forms : (forms : List LineForm) → AllByRecursion (λ some. Spells (form_tokens some) (code_of (line_text some))) forms → AllByRecursion IsInRange forms → IsTrue (list_all (λ some. is_writable (tail_of some)) forms) → AllByRecursion HasItsForm forms
+all_have_forms : (forms : List LineForm) → AllByRecursion (λ some. Spells (form_tokens some) (code_of (line_text some))) forms
+    → AllByRecursion IsInRange forms → IsTrue (list_all (λ some. is_writable (tail_of some)) forms) → AllByRecursion HasItsForm forms
 all_have_forms [] spelled ranged writable = _
 all_have_forms (some ∷ forms) spelled ranged writable =
-    let both = and_parts (is_writable (tail_of some)) (list_all (λ one. is_writable (tail_of one)) forms) writable in
-    (record { tokens = form_tokens some; spelled = spelled.0; written = canonical_is_written some ranged.0 both.0 }, all_have_forms forms spelled.1 ranged.1 both.1)
+    let both = and_parts (is_writable (tail_of some)) (list_all (λ one. is_writable (tail_of one)) forms) writable in (
+      record { tokens = form_tokens some; spelled = spelled.0; written = canonical_is_written some ranged.0 both.0 },
+      all_have_forms forms spelled.1 ranged.1 both.1,
+    )
 
 -- ---- Versions
 
 -- A text of version 2 begins so.
-of_version_2 : (text : List (List ℕ)) (forms : List LineForm) → AllByRecursion HasItsForm forms → BeginsVersion2 text → AllByRecursion (λ some. HasFormIn text some (line_text some)) forms
+of_version_2 : (text : List (List ℕ)) (forms : List LineForm) → AllByRecursion HasItsForm forms → BeginsVersion2 text
+    → AllByRecursion (λ some. HasFormIn text some (line_text some)) forms
 of_version_2 text [] have begins = _
 of_version_2 text (some ∷ forms) have begins = (record { has_form = have.0; of_version = λ is. begins }, of_version_2 text forms have.1 begins)
 
 -- In a text of version 1 there are no forms of version 2.
-of_version_1 : (text : List (List ℕ)) (forms : List LineForm) → AllByRecursion HasItsForm forms → IsFalse (list_any is_of_version_2 forms) → AllByRecursion (λ some. HasFormIn text some (line_text some)) forms
+of_version_1 : (text : List (List ℕ)) (forms : List LineForm) → AllByRecursion HasItsForm forms → IsFalse (list_any is_of_version_2 forms)
+    → AllByRecursion (λ some. HasFormIn text some (line_text some)) forms
 of_version_1 text [] have none = _
 of_version_1 text (some ∷ forms) have none =
     let both = or_parts (is_of_version_2 some) (list_any is_of_version_2 forms) none in
@@ -48,7 +53,8 @@ one_or_two : (version : ℕ) → 1 ≤ version → version ≤ 2 → (version �
 one_or_two version least most = grind (arith, least, most)
 
 -- Canonical lines of version 2 begin with its header.
-begins_so : (system : System) → system.version ≡ 2 → AllByRecursion HasItsForm (canonical_forms system) → BeginsVersion2 (map line_text (canonical_forms system))
+begins_so : (system : System) → system.version ≡ 2 → AllByRecursion HasItsForm (canonical_forms system)
+    → BeginsVersion2 (map line_text (canonical_forms system))
 begins_so system is have = record {
   before = [];
   line = line_text (form.Header system.version);
@@ -59,7 +65,8 @@ begins_so system is have = record {
 }
 
 -- Each has it in the canonical text.
-all_have_forms_in : (system : System) → IsPrintable system → AllByRecursion HasItsForm (canonical_forms system) → AllByRecursion (λ some. HasFormIn (map line_text (canonical_forms system)) some (line_text some)) (canonical_forms system)
+all_have_forms_in : (system : System) → IsPrintable system → AllByRecursion HasItsForm (canonical_forms system)
+    → AllByRecursion (λ some. HasFormIn (map line_text (canonical_forms system)) some (line_text some)) (canonical_forms system)
 all_have_forms_in system printable have =
     let lines = map line_text (canonical_forms system) in
     elim (one_or_two system.version printable.ranged.version.0 printable.ranged.version.1) [
@@ -70,7 +77,8 @@ all_have_forms_in system printable have =
 -- ---- The text
 
 -- The lines have the forms, one for one.
-texts_have_forms : (text : List (List ℕ)) (forms : List LineForm) → AllByRecursion (λ some. HasFormIn text some (line_text some)) forms → AllZip (HasFormIn text) forms (map line_text forms)
+texts_have_forms : (text : List (List ℕ)) (forms : List LineForm) → AllByRecursion (λ some. HasFormIn text some (line_text some)) forms
+    → AllZip (HasFormIn text) forms (map line_text forms)
 texts_have_forms text [] have = _
 texts_have_forms text (some ∷ forms) have = (have.0, texts_have_forms text forms have.1)
 
@@ -83,8 +91,11 @@ read_back system printable =
     record {
       parts = canonical_parts system;
       says = system_is system;
-      lines = subst (λ all. HaveForms all forms all) (sym lines) (subst (AllZip (HasFormIn (map line_text forms)) forms) (sym (none_blank system printable)) (texts_have_forms (map line_text forms) forms (all_have_forms_in system printable have)));
+      lines = subst (λ all. HaveForms all forms all) (sym lines)
+          (subst (AllZip (HasFormIn (map line_text forms)) forms) (sym (none_blank system printable))
+          (texts_have_forms (map line_text forms) forms (all_have_forms_in system printable have)));
       placed = canonical_is_placed system printable.blocks;
       short = let size = canonical_size system printable in let within = printable.text in omega (arith, size, within);
-      lines_short = ap (list_all (λ line. nat_le (length line) line_limit)) lines ∙ list_all-map (λ line. nat_le (length line) line_limit) line_text forms ∙ printable.lines;
+      lines_short = ap (list_all (λ line. nat_le (length line) line_limit)) lines ∙ list_all-map (λ line. nat_le (length line) line_limit) line_text forms
+          ∙ printable.lines;
     }

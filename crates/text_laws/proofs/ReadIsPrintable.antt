@@ -1,5 +1,6 @@
 -- What a text says has a canonical text, and is in range.
-use Rattle.std.proofs.Common.{◌≡◌, ℕ, ◌+◌, ◌≤◌, Bool, true, false, cond, not, nat_le, ◌==◌, List, [], ◌∷◌, ◌++◌, map, length, length-append, IsTrue, refl, ap, sym, subst, ◌∙◌, arith}
+use Rattle.std.proofs.Common.{◌≡◌, ℕ, ◌+◌, ◌≤◌, Bool, true, false, cond, not, nat_le, ◌==◌, List, [], ◌∷◌, ◌++◌, map, length, length-append, IsTrue, refl, ap}
+use Rattle.std.proofs.Common.{sym, subst, ◌∙◌, arith}
 use Rattle.std.specs.Prelude.{◌||◌}
 use Rattle.std.specs.List.{AllByRecursion, AllZip, filter, flat_map, list_all, list_any, sum_by}
 use Rattle.std.proofs.lemmas.Bool.{and_parts, and_from, false_from_ne_true}
@@ -45,7 +46,8 @@ none_tells test [] all = refl
 none_tells test (x ∷ xs) all = ap (λ told. told || list_any test xs) all.0 ∙ none_tells test xs all.1
 
 -- With whether the first line is kept.
-kept_by : (told : Bool) (test : List ℕ → Bool) (line : List ℕ) (kept : List (List ℕ)) → test line ≡ true → list_all test kept ≡ true → list_all test (cond told (line ∷ kept) kept) ≡ true
+kept_by : (told : Bool) (test : List ℕ → Bool) (line : List ℕ) (kept : List (List ℕ)) → test line ≡ true → list_all test kept ≡ true
+    → list_all test (cond told (line ∷ kept) kept) ≡ true
 kept_by true test line kept here rest = and_from (test line) (list_all test kept) here rest
 kept_by false test line kept here rest = rest
 
@@ -85,13 +87,15 @@ first_written text begins =
     ∙ ap (λ here. cond here (begins.line ∷ filter is_written begins.later) (filter is_written begins.later)) (header_is_written begins.line 2 begins.is_header)
 
 -- A text with a header of one version begins no other.
-begins_its_version : (text : List (List ℕ)) (version : ℕ) (rest : List LineForm) → AllZip (HasFormIn text) (form.Header version ∷ rest) (filter is_written text) → BeginsVersion2 text → version ≡ 2
+begins_its_version : (text : List (List ℕ)) (version : ℕ) (rest : List LineForm)
+    → AllZip (HasFormIn text) (form.Header version ∷ rest) (filter is_written text) → BeginsVersion2 text → version ≡ 2
 begins_its_version text version rest have begins =
     let first = subst (AllZip (HasFormIn text) (form.Header version ∷ rest)) (first_written text begins) have in
     headers_are_same begins.line version 2 first.0.has_form begins.is_header
 
 -- Its version is 1 or 2.
-version_in_range : (text written : List (List ℕ)) (version : ℕ) (rest : List LineForm) → AllZip (HasFormIn text) (form.Header version ∷ rest) written → (1 ≤ version) × (version ≤ 2)
+version_in_range : (text written : List (List ℕ)) (version : ℕ) (rest : List LineForm) → AllZip (HasFormIn text) (form.Header version ∷ rest) written
+    → (1 ≤ version) × (version ≤ 2)
 version_in_range text [] version rest have = absurd have
 version_in_range text (line ∷ written) version rest have = have.0.has_form.written.counts
 
@@ -111,7 +115,8 @@ short_too some line has short = within (length (line_text some)) (length line) (
     within canonical written less short = grind (arith, nat_tests)
 
 -- Each form of a text is so.
-all_are_good : (text : List (List ℕ)) (version : ℕ) → (BeginsVersion2 text → version ≡ 2) → (forms : List LineForm) (written : List (List ℕ)) → AllZip (HasFormIn text) forms written → list_all (λ line. nat_le (length line) line_limit) written ≡ true → AllByRecursion (IsGood version) forms
+all_are_good : (text : List (List ℕ)) (version : ℕ) → (BeginsVersion2 text → version ≡ 2) → (forms : List LineForm) (written : List (List ℕ))
+    → AllZip (HasFormIn text) forms written → list_all (λ line. nat_le (length line) line_limit) written ≡ true → AllByRecursion (IsGood version) forms
 all_are_good text version begins [] written have short = _
 all_are_good text version begins (some ∷ forms) [] have short = absurd have
 all_are_good text version begins (some ∷ forms) (line ∷ written) have short =
@@ -135,7 +140,8 @@ abbrev size : List ℕ → ℕ
 size line = length line + 1
 
 -- Canonical lines take no more than the lines that they came from.
-forms_within : (text : List (List ℕ)) (forms : List LineForm) (written : List (List ℕ)) → AllZip (HasFormIn text) forms written → sum_by (λ some. length (ended some)) forms ≤ sum_by size written
+forms_within : (text : List (List ℕ)) (forms : List LineForm) (written : List (List ℕ)) → AllZip (HasFormIn text) forms written
+    → sum_by (λ some. length (ended some)) forms ≤ sum_by size written
 forms_within text [] [] have = omega arith
 forms_within text [] (line ∷ written) have = absurd have
 forms_within text (some ∷ forms) [] have = absurd have
@@ -145,7 +151,8 @@ forms_within text (some ∷ forms) (line ∷ written) have =
     omega (arith, rest, here, length-append (line_text some) (10 ∷ []), sum_by-cons (λ one. length (ended one)) some forms, sum_by-cons size line written)
 
 -- With whether the first line is kept.
-kept_within_by : (told : Bool) (line : List ℕ) (kept lines : List (List ℕ)) → sum_by size kept ≤ sum_by size lines → sum_by size (cond told (line ∷ kept) kept) ≤ sum_by size (line ∷ lines)
+kept_within_by : (told : Bool) (line : List ℕ) (kept lines : List (List ℕ)) → sum_by size kept ≤ sum_by size lines
+    → sum_by size (cond told (line ∷ kept) kept) ≤ sum_by size (line ∷ lines)
 kept_within_by true line kept lines less = omega (arith, less, sum_by-cons size line kept, sum_by-cons size line lines)
 kept_within_by false line kept lines less = omega (arith, less, sum_by-cons size line lines)
 
@@ -175,7 +182,8 @@ returns_within (line ∷ lines) =
 -- ---- A text
 
 -- The canonical text of what a text says is no longer than this text.
-text_within : (text : List ℕ) (version : ℕ) (all : List Part) → HaveForms (source_lines text) (text_forms version all) (source_lines text) → IsTrue (are_placed no_lines (text_forms version all)) → length (canonical_text (system_of version all)) ≤ size_of text
+text_within : (text : List ℕ) (version : ℕ) (all : List Part) → HaveForms (source_lines text) (text_forms version all) (source_lines text)
+    → IsTrue (are_placed no_lines (text_forms version all)) → length (canonical_text (system_of version all)) ≤ size_of text
 text_within text version all have placed =
     let canonical = canonical_forms (system_of version all) in
     let forms = text_forms version all in
@@ -199,22 +207,32 @@ read_is_printable text system reads =
     let version = system.version in
     let forms = text_forms version reads.parts in
     let good_forms : AllByRecursion (IsGood version) forms =
-    all_are_good lines version (begins_its_version lines version (flat_map part_forms reads.parts) reads.lines) forms (filter is_written lines) reads.lines (all_kept (λ line. nat_le (length line) line_limit) is_written lines reads.lines_short) in
+    all_are_good lines version (begins_its_version lines version (flat_map part_forms reads.parts) reads.lines) forms (filter is_written lines) reads.lines
+    (all_kept (λ line. nat_le (length line) line_limit) is_written lines reads.lines_short) in
     let good : AllByRecursion (IsGood version) (canonical_forms system) =
-    subst (λ said. AllByRecursion (IsGood version) (canonical_forms said)) reads.says (each_in_order (IsGood version) version reads.parts reads.placed good_forms) in
+    subst (λ said. AllByRecursion (IsGood version) (canonical_forms said)) reads.says
+    (each_in_order (IsGood version) version reads.parts reads.placed good_forms) in
     let within : length (canonical_text system) ≤ size_of text =
     subst (λ said. length (canonical_text said) ≤ size_of text) reads.says (text_within text version reads.parts reads.lines reads.placed) in
     record {
       ranged = record {
         version = version_in_range lines (filter is_written lines) version (flat_map part_forms reads.parts) reads.lines;
-        events = λ is. none_tells is_event_port (canonical_forms system) (each_so (IsGood version) (λ some. is_event_port some ≡ false) (λ some one. no_event_port some (one.of_version is)) (canonical_forms system) good);
-        names = each_so (IsGood version) (λ some. AllByRecursion IsWord (names_on some)) (λ some one. each_so IsName IsWord (λ name is. is.0) (names_on some) one.printable.names) (canonical_forms system) good;
+        events = λ is.
+            none_tells is_event_port (canonical_forms system)
+            (each_so (IsGood version) (λ some. is_event_port some ≡ false) (λ some one. no_event_port some (one.of_version is)) (canonical_forms system) good);
+        names = each_so (IsGood version) (λ some. AllByRecursion IsWord (names_on some))
+            (λ some one. each_so IsName IsWord (λ name is. is.0) (names_on some) one.printable.names) (canonical_forms system) good;
         numbers = each_so (IsGood version) IsInRange (λ some one. one.printable.in_range) (canonical_forms system) good;
       };
-      of_version = λ is. none_tells is_of_version_2 (canonical_forms system) (each_so (IsGood version) (λ some. is_of_version_2 some ≡ false) (λ some one. one.of_version is) (canonical_forms system) good);
+      of_version =
+          λ is. none_tells is_of_version_2 (canonical_forms system)
+          (each_so (IsGood version) (λ some. is_of_version_2 some ≡ false) (λ some one. one.of_version is) (canonical_forms system) good);
       names = each_so (IsGood version) (λ some. AllByRecursion IsName (names_on some)) (λ some one. one.printable.names) (canonical_forms system) good;
-      tails = all_tell (λ some. is_writable (tail_of some)) (canonical_forms system) (each_so (IsGood version) (λ some. is_writable (tail_of some) ≡ true) (λ some one. one.printable.writable) (canonical_forms system) good);
-      blocks = subst (λ said. list_all (λ unit. nat_le (step_depth unit.step) 16) said.units ≡ true) reads.says (parts_keep_depth version reads.parts reads.placed);
-      lines = all_tell (λ some. nat_le (length (line_text some)) line_limit) (canonical_forms system) (each_so (IsGood version) (λ some. nat_le (length (line_text some)) line_limit ≡ true) (λ some one. one.short) (canonical_forms system) good);
+      tails = all_tell (λ some. is_writable (tail_of some)) (canonical_forms system)
+          (each_so (IsGood version) (λ some. is_writable (tail_of some) ≡ true) (λ some one. one.printable.writable) (canonical_forms system) good);
+      blocks = subst (λ said. list_all (λ unit. nat_le (step_depth unit.step) 16) said.units ≡ true) reads.says
+          (parts_keep_depth version reads.parts reads.placed);
+      lines = all_tell (λ some. nat_le (length (line_text some)) line_limit) (canonical_forms system)
+          (each_so (IsGood version) (λ some. nat_le (length (line_text some)) line_limit ≡ true) (λ some one. one.short) (canonical_forms system) good);
       text = let short = reads.short in omega (arith, within, short);
     }

@@ -8,7 +8,9 @@ use Rattle.unit_tree.specs.Lines.{is_blank_line, has_forbidden_byte}
 use Rattle.unit_tree.specs.Texts.{line_limit, HasNoForm, IsMisplaced, LacksHeader, LineBreaks, Breaks, IsFirstBroken}
 
 -- A line that breaks a rule breaks one of five.
-by_rule : {P : Type 0} (text : List (List ℕ)) (rule : ℕ) (before : List (List ℕ)) (line : List ℕ) → LineBreaks text rule before line → (rule ≡ 1 → IsTrue (has_forbidden_byte line) → P) → (rule ≡ 3 → line_limit < length line → P) → (rule ≡ 4 → HasNoForm text line → P) → (rule ≡ 5 → IsMisplaced text before line → P) → (rule ≡ 7 → LacksHeader before line → P) → P
+by_rule : {P : Type 0} (text : List (List ℕ)) (rule : ℕ) (before : List (List ℕ)) (line : List ℕ) → LineBreaks text rule before line
+    → (rule ≡ 1 → IsTrue (has_forbidden_byte line) → P) → (rule ≡ 3 → line_limit < length line → P) → (rule ≡ 4 → HasNoForm text line → P)
+    → (rule ≡ 5 → IsMisplaced text before line → P) → (rule ≡ 7 → LacksHeader before line → P) → P
 by_rule text rule before line (inl broken) on_byte on_length on_form on_place on_header = on_byte broken.0 broken.1
 by_rule text rule before line (inr (inl broken)) on_byte on_length on_form on_place on_header = on_length broken.0 broken.1
 by_rule text rule before line (inr (inr (inl broken))) on_byte on_length on_form on_place on_header = on_form broken.0 broken.1
@@ -28,12 +30,16 @@ abbrev pub IsLeast : List (List ℕ) → ℕ → List (List ℕ) → List ℕ �
 IsLeast text rule before line = (other : ℕ) → LineBreaks text other before line → rule ≤ other
 
 -- A line that keeps the rules.
-pub unbroken : (text before : List (List ℕ)) (line : List ℕ) → has_forbidden_byte line ≡ false → length line ≤ line_limit → (HasNoForm text line → ⊥) → (IsMisplaced text before line → ⊥) → (LacksHeader before line → ⊥) → IsUnbroken text before line
+pub unbroken : (text before : List (List ℕ)) (line : List ℕ) → has_forbidden_byte line ≡ false → length line ≤ line_limit → (HasNoForm text line → ⊥)
+    → (IsMisplaced text before line → ⊥) → (LacksHeader before line → ⊥) → IsUnbroken text before line
 unbroken text before line byte short formed placed headed rule broken =
-    by_rule text rule before line broken (λ is told. absurd (cc told)) (λ is long. omega (arith, short, long)) (λ is none. formed none) (λ is off. placed off) (λ is lacks. headed lacks)
+    by_rule text rule before line broken (λ is told. absurd (cc told)) (λ is long. omega (arith, short, long)) (λ is none. formed none) (λ is off. placed off)
+    (λ is lacks. headed lacks)
 
 -- A line that keeps all rules below this one.
-pub least : (text : List (List ℕ)) (rule : ℕ) (before : List (List ℕ)) (line : List ℕ) → rule ≤ 7 → (1 < rule → has_forbidden_byte line ≡ false) → (3 < rule → length line ≤ line_limit) → (4 < rule → HasNoForm text line → ⊥) → (5 < rule → IsMisplaced text before line → ⊥) → IsLeast text rule before line
+pub least : (text : List (List ℕ)) (rule : ℕ) (before : List (List ℕ)) (line : List ℕ) → rule ≤ 7 → (1 < rule → has_forbidden_byte line ≡ false)
+    → (3 < rule → length line ≤ line_limit) → (4 < rule → HasNoForm text line → ⊥) → (5 < rule → IsMisplaced text before line → ⊥)
+    → IsLeast text rule before line
 least text rule before line known byte short formed placed other broken =
     elim (cases_lt other rule) [
       | inr within ↦ within
@@ -48,7 +54,9 @@ least text rule before line known byte short formed placed other broken =
 -- ---- The first broken line
 
 -- Where a line breaks a rule, and the lines before another one are unbroken, it is not before that one.
-not_before : (text : List (List ℕ)) (rule by : ℕ) (done before before' : List (List ℕ)) (line line' : List ℕ) (later later' : List (List ℕ)) → before ++ (line ∷ later) ≡ before' ++ (line' ∷ later') → AreUnbroken text done before → IsLeast text rule (done ++ before) line → LineBreaks text by (done ++ before') line' → (length before < length before') ⊎ ((length before ≡ length before') × (rule ≤ by))
+not_before : (text : List (List ℕ)) (rule by : ℕ) (done before before' : List (List ℕ)) (line line' : List ℕ) (later later' : List (List ℕ))
+    → before ++ (line ∷ later) ≡ before' ++ (line' ∷ later') → AreUnbroken text done before → IsLeast text rule (done ++ before) line
+    → LineBreaks text by (done ++ before') line' → (length before < length before') ⊎ ((length before ≡ length before') × (rule ≤ by))
 not_before text rule by done [] [] line line' later later' same kept is_least broken =
     let here : line' ≡ line = cc in
     inr (refl, is_least by (subst (λ l. LineBreaks text by (done ++ []) l) here broken))
@@ -59,15 +67,19 @@ not_before text rule by done (y ∷ before) [] line line' later later' same kept
 not_before text rule by done (y ∷ before) (x ∷ before') line line' later later' same kept is_least broken =
     let here : x ∷ [] ≡ y ∷ [] = cc in
     let rest : before ++ (line ∷ later) ≡ before' ++ (line' ∷ later') = cc in
-    let least_here : IsLeast text rule ((done ++ (y ∷ [])) ++ before) line = subst (λ d. IsLeast text rule d line) (sym (append_assoc done (y ∷ []) before)) is_least in
+    let least_here : IsLeast text rule ((done ++ (y ∷ [])) ++ before) line =
+    subst (λ d. IsLeast text rule d line) (sym (append_assoc done (y ∷ []) before)) is_least in
     let broken_here : LineBreaks text by ((done ++ (y ∷ [])) ++ before') line' =
-    subst (λ d. LineBreaks text by d line') (sym (append_assoc done (y ∷ []) before')) (subst (λ d. LineBreaks text by (done ++ (d ++ before')) line') here broken) in
+    subst (λ d. LineBreaks text by d line') (sym (append_assoc done (y ∷ []) before'))
+    (subst (λ d. LineBreaks text by (done ++ (d ++ before')) line') here broken) in
     elim (not_before text rule by (done ++ (y ∷ [])) before before' line line' later later' rest kept.1 least_here broken_here) [
       | inl less ↦ inl (omega arith)
       | inr same_place ↦ inr (ap suc same_place.0, same_place.1)
     ]
 
-pub first_broken : (before : List (List ℕ)) (line : List ℕ) (later : List (List ℕ)) (rule : ℕ) → AreUnbroken (before ++ (line ∷ later)) [] before → LineBreaks (before ++ (line ∷ later)) rule before line → IsLeast (before ++ (line ∷ later)) rule before line → list_all is_blank_line (before ++ (line ∷ later)) ≡ false → IsFirstBroken (before ++ (line ∷ later)) (suc (length before)) rule
+pub first_broken : (before : List (List ℕ)) (line : List ℕ) (later : List (List ℕ)) (rule : ℕ) → AreUnbroken (before ++ (line ∷ later)) [] before
+    → LineBreaks (before ++ (line ∷ later)) rule before line → IsLeast (before ++ (line ∷ later)) rule before line
+    → list_all is_blank_line (before ++ (line ∷ later)) ≡ false → IsFirstBroken (before ++ (line ∷ later)) (suc (length before)) rule
 first_broken before line later rule kept broken is_least not_blank = record {
   breaks = inl (record { before = before; line = line; later = later; cut = refl; is_number = refl; breaks = broken });
   first = λ other by found. elim found [
@@ -80,7 +92,8 @@ first_broken before line later rule kept broken is_least not_blank = record {
 }
 
 -- The last line, where no line is broken.
-not_broken : (text : List (List ℕ)) (by : ℕ) (done before before' : List (List ℕ)) (line' : List ℕ) (later' : List (List ℕ)) → before ≡ before' ++ (line' ∷ later') → AreUnbroken text done before → LineBreaks text by (done ++ before') line' → ⊥
+not_broken : (text : List (List ℕ)) (by : ℕ) (done before before' : List (List ℕ)) (line' : List ℕ) (later' : List (List ℕ))
+    → before ≡ before' ++ (line' ∷ later') → AreUnbroken text done before → LineBreaks text by (done ++ before') line' → ⊥
 not_broken text by done [] [] line' later' same kept broken = absurd (cc)
 not_broken text by done [] (x ∷ before') line' later' same kept broken = absurd (cc)
 not_broken text by done (y ∷ before) [] line' later' same kept broken =
@@ -90,7 +103,8 @@ not_broken text by done (y ∷ before) (x ∷ before') line' later' same kept br
     let here : x ∷ [] ≡ y ∷ [] = cc in
     let rest : before ≡ before' ++ (line' ∷ later') = cc in
     not_broken text by (done ++ (y ∷ [])) before before' line' later' rest kept.1
-    (subst (λ d. LineBreaks text by d line') (sym (append_assoc done (y ∷ []) before')) (subst (λ d. LineBreaks text by (done ++ (d ++ before')) line') here broken))
+    (subst (λ d. LineBreaks text by d line') (sym (append_assoc done (y ∷ []) before'))
+    (subst (λ d. LineBreaks text by (done ++ (d ++ before')) line') here broken))
 
 pub no_break : (lines : List (List ℕ)) → AreUnbroken lines [] lines → list_all is_blank_line lines ≡ false → (other by : ℕ) → Breaks lines other by → ⊥
 no_break lines kept not_blank other by (inl at) = not_broken lines by [] lines at.before at.line at.later at.cut kept at.breaks

@@ -1,5 +1,6 @@
 -- A canonical line is never longer than a line that it came from.
-use Rattle.std.proofs.Common.{◌≡◌, ◌≤◌, ℕ, zero, suc, Bool, true, false, ℤ, pos, unsigned_abs, List, [], ◌∷◌, ◌++◌, length, refl, sym, ap, subst, ◌∙◌, arith, ◌==◌}
+use Rattle.std.proofs.Common.{◌≡◌, ◌≤◌, ℕ, zero, suc, Bool, true, false, ℤ, pos, unsigned_abs, List, [], ◌∷◌, ◌++◌, length, refl, sym, ap, subst, ◌∙◌, arith}
+use Rattle.std.proofs.Common.{◌==◌}
 use Rattle.std.specs.Int.{is_negative}
 use Rattle.std.specs.List.{position_or_len}
 use Rattle.std.proofs.lemmas.Bool.Decides.{nat_tests}
@@ -11,7 +12,8 @@ use Rattle.text_laws.specs.Laws.{CanonicalLinesAreShortest}
 use Rattle.text_laws.proofs.ShortestPhrases.{TakeNoMore, as_much, take_after, expression_takes_no_more}
 use Rattle.text_laws.proofs.TokenWidths.{width, width_bound, line_is_no_shorter, tokens_within}
 use Rattle.unit_tree.specs.Canonical.{literal_tokens, tail_tokens, form_tokens}
-use Rattle.unit_tree.specs.LineForms.{Tail, Nothing, OfLiteral, OfSeconds, OfExpression, front_tokens, tail_of, sign_tokens, WritesNumber, WritesLiteral, WritesSeconds, WritesTail, WritesForm}
+use Rattle.unit_tree.specs.LineForms.{Tail, Nothing, OfLiteral, OfSeconds, OfExpression, front_tokens, tail_of, sign_tokens, WritesNumber, WritesLiteral}
+use Rattle.unit_tree.specs.LineForms.{WritesSeconds, WritesTail, WritesForm}
 use Rattle.unit_tree.specs.Lines.{code_of}
 use Rattle.unit_tree.specs.Phrases.{keyword, truth_word}
 use Rattle.unit_tree.specs.declared.line_form.LineForm.{LineForm}
@@ -31,16 +33,21 @@ unsigned_tokens digits decimals =
     rw (not_negative digits, magnitude) refl
 
 -- A sign in front of 0 is left out, and stands in front of every other negative number.
-signed_number : (negative : Bool) (digits decimals : ℕ) → TakeNoMore (literal_tokens (literal.Number (with_sign negative digits) decimals)) (sign_tokens negative ++ (token.Number digits decimals ∷ []))
-signed_number false digits decimals = as_much (literal_tokens (literal.Number (pos digits) decimals)) (token.Number digits decimals ∷ []) (unsigned_tokens digits decimals)
+signed_number : (negative : Bool) (digits decimals : ℕ)
+    → TakeNoMore (literal_tokens (literal.Number (with_sign negative digits) decimals)) (sign_tokens negative ++ (token.Number digits decimals ∷ []))
+signed_number false digits decimals =
+    as_much (literal_tokens (literal.Number (pos digits) decimals)) (token.Number digits decimals ∷ []) (unsigned_tokens digits decimals)
 signed_number true zero decimals = record { within = λ behind rest. omega (arith, width_bound behind false (token.Number 0 decimals ∷ rest)) }
-signed_number true (suc digits) decimals = as_much (literal_tokens (literal.Number (with_sign true (suc digits)) decimals)) (sign_tokens true ++ (token.Number (suc digits) decimals ∷ [])) refl
+signed_number true (suc digits) decimals =
+    as_much (literal_tokens (literal.Number (with_sign true (suc digits)) decimals)) (sign_tokens true ++ (token.Number (suc digits) decimals ∷ [])) refl
 
 -- A number of a line, perhaps with a sign.
-number_takes_no_more : (number : ℤ) (decimals : ℕ) (tokens : List Token) → WritesNumber number decimals tokens → TakeNoMore (literal_tokens (literal.Number number decimals)) tokens
+number_takes_no_more : (number : ℤ) (decimals : ℕ) (tokens : List Token) → WritesNumber number decimals tokens
+    → TakeNoMore (literal_tokens (literal.Number number decimals)) tokens
 number_takes_no_more number decimals tokens written =
     subst (λ n. TakeNoMore (literal_tokens (literal.Number n decimals)) tokens) written.value
-    (subst (TakeNoMore (literal_tokens (literal.Number (with_sign written.negative written.digits) decimals))) (sym written.spelled) (signed_number written.negative written.digits decimals))
+    (subst (TakeNoMore (literal_tokens (literal.Number (with_sign written.negative written.digits) decimals))) (sym written.spelled)
+    (signed_number written.negative written.digits decimals))
 
 -- A literal.
 literal_takes_no_more : (value : Literal) (tokens : List Token) → WritesLiteral value tokens → TakeNoMore (literal_tokens value) tokens
@@ -51,7 +58,8 @@ literal_takes_no_more (literal.Number number decimals) tokens written = number_t
 seconds_take_no_more : (seconds : Literal) (tokens : List Token) → WritesSeconds seconds tokens → TakeNoMore (literal_tokens seconds) tokens
 seconds_take_no_more (literal.Truth told) tokens written = absurd written
 seconds_take_no_more (literal.Number number decimals) tokens written =
-    as_much (literal_tokens (literal.Number number decimals)) tokens (ap (λ n. literal_tokens (literal.Number n decimals)) written.2 ∙ unsigned_tokens written.0 decimals ∙ sym written.3)
+    as_much (literal_tokens (literal.Number number decimals)) tokens
+    (ap (λ n. literal_tokens (literal.Number n decimals)) written.2 ∙ unsigned_tokens written.0 decimals ∙ sym written.3)
 
 -- What a form ends with.
 tail_takes_no_more : (tail : Tail) (tokens : List Token) → WritesTail tail tokens → TakeNoMore (tail_tokens tail) tokens

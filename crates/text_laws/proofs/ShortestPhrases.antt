@@ -5,7 +5,9 @@ use Rattle.std.proofs.lemmas.List.{append_assoc}
 use Rattle.text_laws.proofs.TokenWidths.{is_worded, width, width_bound}
 use Rattle.unit_tree.specs.Canonical.{placed, node_phrase, canonical_phrase, expression_tokens}
 use Rattle.unit_tree.specs.Phrases as phrase
-use Rattle.unit_tree.specs.Phrases.{Phrase, Level, Whole, Or, And, Not, Comparison, Sum, Product, Negation, Primary, level_of, operand_level, left_level, right_level, unary_level, binary_level, allows, stands, tree_of, Writes, keyword, symbol, whole, truth_word, in_parens, unary_tokens, operation, call_of_two, binary_tokens, phrase_tokens}
+use Rattle.unit_tree.specs.Phrases.{Phrase, Level, Whole, Or, And, Not, Comparison, Sum, Product, Negation, Primary, level_of, operand_level, left_level}
+use Rattle.unit_tree.specs.Phrases.{right_level, unary_level, binary_level, allows, stands, tree_of, Writes, keyword, symbol, whole, truth_word, in_parens}
+use Rattle.unit_tree.specs.Phrases.{unary_tokens, operation, call_of_two, binary_tokens, phrase_tokens}
 use Rattle.unit_tree.specs.declared.expr.BinOp.{BinOp}
 use Rattle.unit_tree.specs.declared.expr.BinOp.TheVariants as by
 use Rattle.unit_tree.specs.declared.expr.Expr.{Expr}
@@ -14,7 +16,8 @@ use Rattle.unit_tree.specs.declared.expr.UnOp.TheVariants as of
 use Rattle.unit_tree.specs.declared.token.Keyword.TheVariants as word
 use Rattle.unit_tree.specs.declared.token.Symbol.TheVariants as sign
 use Rattle.unit_tree.specs.declared.token.Token.{Token}
-use Rattle.unit_tree.proofs.FoldLemmas.{fold-Number, fold-Truth, fold-Var, fold-Time, fold-Step, fold-Unary, fold-Binary, fold-Clamp, fold-Choose, fold-Absent, fold-Present}
+use Rattle.unit_tree.proofs.FoldLemmas.{fold-Number, fold-Truth, fold-Var, fold-Time, fold-Step, fold-Unary, fold-Binary, fold-Clamp, fold-Choose, fold-Absent}
+use Rattle.unit_tree.proofs.FoldLemmas.{fold-Present}
 
 -- ---- Tokens that take no more than others
 
@@ -45,12 +48,14 @@ take_before back canonical written less =
     record { within = λ behind rest. rw (append_assoc canonical back rest, append_assoc written back rest) (less.within behind (back ++ rest)) }
 
 -- Two parts in a row.
-take_both : {left left_written right right_written : List Token} → TakeNoMore left left_written → TakeNoMore right right_written → TakeNoMore (left ++ right) (left_written ++ right_written)
+take_both : {left left_written right right_written : List Token} → TakeNoMore left left_written → TakeNoMore right right_written
+    → TakeNoMore (left ++ right) (left_written ++ right_written)
 take_both {left} {left_written} {right} {right_written} on_left on_right =
     through (take_before right left left_written on_left) (take_after left_written on_right)
 
 -- Two parts with a token between them.
-take_between : (middle : Token) {left left_written right right_written : List Token} → TakeNoMore left left_written → TakeNoMore right right_written → TakeNoMore (left ++ (middle ∷ right)) (left_written ++ (middle ∷ right_written))
+take_between : (middle : Token) {left left_written right right_written : List Token} → TakeNoMore left left_written → TakeNoMore right right_written
+    → TakeNoMore (left ++ (middle ∷ right)) (left_written ++ (middle ∷ right_written))
 take_between middle on_left on_right = take_both on_left (take_behind middle on_right)
 
 -- Both in parentheses.
@@ -66,7 +71,11 @@ close_takes behind (first ∷ tokens) rest = omega (arith, close_takes (is_worde
 -- Parentheses that are taken away save two bytes, and bring two spaces at most.
 without_parens : (tokens : List Token) → TakeNoMore tokens (in_parens tokens)
 without_parens tokens =
-    record { within = λ behind rest. rw (append_assoc tokens (symbol sign.Close ∷ []) rest) (omega (arith, width_bound behind false (tokens ++ rest), close_takes false tokens rest)) }
+    record {
+      within =
+          λ behind rest.
+          rw (append_assoc tokens (symbol sign.Close ∷ []) rest) (omega (arith, width_bound behind false (tokens ++ rest), close_takes false tokens rest));
+    }
 
 -- ---- Operations
 
@@ -79,11 +88,13 @@ take_unary of.ToInt less = take_behind (keyword word.Int) (take_inside less)
 take_unary (of.ToFix decimals) less = take_after (keyword word.Fix ∷ whole decimals ∷ []) (take_inside less)
 
 -- A call of two operands.
-take_call : (called : Token) {left left_written right right_written : List Token} → TakeNoMore left left_written → TakeNoMore right right_written → TakeNoMore (call_of_two called left right) (call_of_two called left_written right_written)
+take_call : (called : Token) {left left_written right right_written : List Token} → TakeNoMore left left_written → TakeNoMore right right_written
+    → TakeNoMore (call_of_two called left right) (call_of_two called left_written right_written)
 take_call called on_left on_right = take_behind called (take_inside (take_between (symbol sign.Comma) on_left on_right))
 
 -- An operation on two operands.
-take_binary : (op : BinOp) {left left_written right right_written : List Token} → TakeNoMore left left_written → TakeNoMore right right_written → TakeNoMore (binary_tokens op left right) (binary_tokens op left_written right_written)
+take_binary : (op : BinOp) {left left_written right right_written : List Token} → TakeNoMore left left_written → TakeNoMore right right_written
+    → TakeNoMore (binary_tokens op left right) (binary_tokens op left_written right_written)
 take_binary by.Min on_left on_right = take_call (operation by.Min) on_left on_right
 take_binary by.Max on_left on_right = take_call (operation by.Max) on_left on_right
 take_binary by.Add on_left on_right = take_between (operation by.Add) on_left on_right
@@ -102,7 +113,9 @@ take_binary by.And on_left on_right = take_between (operation by.And) on_left on
 take_binary by.Or on_left on_right = take_between (operation by.Or) on_left on_right
 
 -- Three parts with a token between any two.
-take_three : (first second : Token) {one one_written two two_written three three_written : List Token} → TakeNoMore one one_written → TakeNoMore two two_written → TakeNoMore three three_written → TakeNoMore (one ++ (first ∷ two ++ (second ∷ three))) (one_written ++ (first ∷ two_written ++ (second ∷ three_written)))
+take_three : (first second : Token) {one one_written two two_written three three_written : List Token} → TakeNoMore one one_written
+    → TakeNoMore two two_written → TakeNoMore three three_written
+    → TakeNoMore (one ++ (first ∷ two ++ (second ∷ three))) (one_written ++ (first ∷ two_written ++ (second ∷ three_written)))
 take_three first second on_one on_two on_three = take_between first on_one (take_between second on_two on_three)
 
 -- ---- Phrases in their places
@@ -120,7 +133,8 @@ abbrev IsNoLonger : Phrase → Phrase → Type 0
 IsNoLonger canonical written = TakeNoMore (phrase_tokens canonical) (phrase_tokens written)
 
 -- A phrase is placed as it is where its level is allowed.
-placed_bare : (asked : Level) (canonical written : Phrase) → allows asked (level_of canonical) ≡ true → IsNoLonger canonical written → IsNoLonger (placed asked canonical) written
+placed_bare : (asked : Level) (canonical written : Phrase) → allows asked (level_of canonical) ≡ true → IsNoLonger canonical written
+    → IsNoLonger (placed asked canonical) written
 placed_bare asked canonical written allowed less = rw allowed less
 
 -- The weakest level allows every phrase as it is.
@@ -128,7 +142,8 @@ pub placed_whole : (canonical : Phrase) → placed Whole canonical ≡ canonical
 placed_whole canonical = ap (λ allowed. cond allowed canonical (phrase.Parens canonical)) (all_in_whole (level_of canonical))
 
 -- What was written in parentheses has them again at most.
-placed_parens : (allowed : Bool) (canonical inner : Phrase) → IsNoLonger canonical inner → IsNoLonger (cond allowed canonical (phrase.Parens canonical)) (phrase.Parens inner)
+placed_parens : (allowed : Bool) (canonical inner : Phrase) → IsNoLonger canonical inner
+    → IsNoLonger (cond allowed canonical (phrase.Parens canonical)) (phrase.Parens inner)
 placed_parens true canonical inner less = through less (without_parens (phrase_tokens inner))
 placed_parens false canonical inner less = take_inside less
 
@@ -184,7 +199,8 @@ on_clamp : (value low high : Phrase) → Claim value → Claim low → Claim hig
 on_clamp value low high on_value on_low on_high asked so =
     let parts = and_parts (stands Whole value) (stands Whole low && stands Whole high) so in
     let limits = and_parts (stands Whole low) (stands Whole high) parts.1 in
-    let inside = take_three (symbol sign.Comma) (symbol sign.Comma) (on_whole value on_value parts.0) (on_whole low on_low limits.0) (on_whole high on_high limits.1) in
+    let inside =
+    take_three (symbol sign.Comma) (symbol sign.Comma) (on_whole value on_value parts.0) (on_whole low on_low limits.0) (on_whole high on_high limits.1) in
     rw (fold-Clamp Phrase node_phrase (tree_of value) (tree_of low) (tree_of high))
     (placed_bare asked (phrase.Clamp (again value) (again low) (again high)) (phrase.Clamp value low high) (primary_stands asked)
     (take_behind (keyword word.Clamp) (take_inside inside)))
@@ -195,7 +211,9 @@ on_choose condition then_part else_part on_condition on_then on_else asked so =
     let parts = and_parts (allows asked Whole) (stands Whole condition && (stands Whole then_part && stands Whole else_part)) so in
     let three = and_parts (stands Whole condition) (stands Whole then_part && stands Whole else_part) parts.1 in
     let branches = and_parts (stands Whole then_part) (stands Whole else_part) three.1 in
-    let inside = take_three (keyword word.Then) (keyword word.Else) (on_whole condition on_condition three.0) (on_whole then_part on_then branches.0) (on_whole else_part on_else branches.1) in
+    let inside =
+    take_three (keyword word.Then) (keyword word.Else) (on_whole condition on_condition three.0) (on_whole then_part on_then branches.0)
+    (on_whole else_part on_else branches.1) in
     rw (fold-Choose Phrase node_phrase (tree_of condition) (tree_of then_part) (tree_of else_part))
     (placed_bare asked (phrase.Choose (again condition) (again then_part) (again else_part)) (phrase.Choose condition then_part else_part) parts.0
     (take_behind (keyword word.If) inside))
@@ -210,7 +228,8 @@ canonical_takes_no_more phrase.Step = leaf phrase.Step (fold-Step Phrase node_ph
 canonical_takes_no_more (phrase.Parens inner) = on_parens inner (canonical_takes_no_more inner)
 canonical_takes_no_more (phrase.Unary op arg) = on_unary op arg (canonical_takes_no_more arg)
 canonical_takes_no_more (phrase.Binary op left right) = on_binary op left right (canonical_takes_no_more left) (canonical_takes_no_more right)
-canonical_takes_no_more (phrase.Clamp value low high) = on_clamp value low high (canonical_takes_no_more value) (canonical_takes_no_more low) (canonical_takes_no_more high)
+canonical_takes_no_more (phrase.Clamp value low high) =
+    on_clamp value low high (canonical_takes_no_more value) (canonical_takes_no_more low) (canonical_takes_no_more high)
 canonical_takes_no_more (phrase.Choose condition then_part else_part) =
     on_choose condition then_part else_part (canonical_takes_no_more condition) (canonical_takes_no_more then_part) (canonical_takes_no_more else_part)
 canonical_takes_no_more phrase.Absent = leaf phrase.Absent (fold-Absent Phrase node_phrase) refl
@@ -221,4 +240,5 @@ pub expression_takes_no_more : (value : Expr) (tokens : List Token) → Writes v
 expression_takes_no_more value tokens written =
     let whole_stands = (and_parts (stands Whole written.phrase) _ written.is_grammatical).0 in
     subst (λ tree. TakeNoMore (expression_tokens tree) tokens) written.is_tree
-    (subst (TakeNoMore (expression_tokens (tree_of written.phrase))) written.spelled (on_whole written.phrase (canonical_takes_no_more written.phrase) whole_stands))
+    (subst (TakeNoMore (expression_tokens (tree_of written.phrase))) written.spelled
+    (on_whole written.phrase (canonical_takes_no_more written.phrase) whole_stands))

@@ -21,7 +21,8 @@ is_spelled_byte byte = is_code_byte byte && not (byte == 35)
 -- ---- Lists whose elements pass a test
 
 -- What passes the one test passes the other.
-pub all_pass : {A : Type 0} (one other : A → Bool) → ((x : A) → one x ≡ true → other x ≡ true) → (xs : List A) → list_all one xs ≡ true → list_all other xs ≡ true
+pub all_pass : {A : Type 0} (one other : A → Bool) → ((x : A) → one x ≡ true → other x ≡ true) → (xs : List A) → list_all one xs ≡ true
+    → list_all other xs ≡ true
 all_pass one other passes [] all = refl
 all_pass one other passes (x ∷ xs) all =
     let parts = and_parts (one x) (list_all one xs) all in
@@ -75,7 +76,8 @@ pointed_spelled (digit ∷ others) digits = all_pass is_digit is_spelled_byte di
 number_spelled : (digits decimals : ℕ) (text : List ℕ) → IsNumber digits decimals text → list_all is_spelled_byte text ≡ true
 number_spelled digits decimals text is =
     ap (list_all is_spelled_byte) is.spelled
-    ∙ all_joined is_spelled_byte is.whole (pointed is.fraction) (all_pass is_digit is_spelled_byte digit_spelled is.whole is.is_whole.0) (pointed_spelled is.fraction is.is_fraction.0)
+    ∙ all_joined is_spelled_byte is.whole (pointed is.fraction) (all_pass is_digit is_spelled_byte digit_spelled is.whole is.is_whole.0)
+    (pointed_spelled is.fraction is.is_fraction.0)
 
 -- A word is made of bytes of words.
 pub word_bytes : (text : List ℕ) → IsWord text → list_all is_word_byte text ≡ true
@@ -100,7 +102,8 @@ pub spelled_bytes : (tokens : List Token) (line : List ℕ) → Spells tokens li
 spelled_bytes [] line blank = all_pass is_blank is_spelled_byte blank_spelled line blank
 spelled_bytes (first ∷ others) line (rest, begins, more) =
     ap (list_all is_spelled_byte) (begins.cut ∙ append_assoc begins.blanks begins.text rest)
-    ∙ all_joined is_spelled_byte begins.blanks (begins.text ++ rest) (all_pass is_blank is_spelled_byte blank_spelled begins.blanks begins.are_blank) (all_joined is_spelled_byte begins.text rest (token_spelled first begins.text begins.spelling) (spelled_bytes others rest more))
+    ∙ all_joined is_spelled_byte begins.blanks (begins.text ++ rest) (all_pass is_blank is_spelled_byte blank_spelled begins.blanks begins.are_blank)
+    (all_joined is_spelled_byte begins.text rest (token_spelled first begins.text begins.spelling) (spelled_bytes others rest more))
 
 -- ---- Lines of such bytes
 

@@ -1,5 +1,6 @@
 -- The texts of tokens, and of tokens that stand apart: they spell these tokens.
-use Rattle.std.proofs.Common.{◌≡◌, ℕ, zero, suc, ◌+◌, ◌-◌, ◌^◌, ◌<◌, ◌≤◌, Bool, true, false, not, cond, ◌&&◌, ◌||◌, ◌==◌, Option, Some, None, List, [], ◌∷◌, ◌++◌, length, take, drop, replicate, IsTrue, refl, ap, sym, subst, ◌∙◌, arith, append_assoc}
+use Rattle.std.proofs.Common.{◌≡◌, ℕ, zero, suc, ◌+◌, ◌-◌, ◌^◌, ◌<◌, ◌≤◌, Bool, true, false, not, cond, ◌&&◌, ◌||◌, ◌==◌, Option, Some, None, List, [], ◌∷◌}
+use Rattle.std.proofs.Common.{◌++◌, length, take, drop, replicate, IsTrue, refl, ap, sym, subst, ◌∙◌, arith, append_assoc}
 use Rattle.std.specs.Fmt.{decimal}
 use Rattle.std.specs.List.{AllByRecursion, list_all, last_or}
 use Rattle.std.proofs.lemmas.Bool.{and_parts}
@@ -11,7 +12,8 @@ use Rattle.fixed_words.proofs.Numbers.{IsDecimal, decimal_is, zeros_before, all_
 use Rattle.unit_tree.specs.Canonical.{token_text, ends_in_word, spaced, tokens_text, form_tokens, line_text}
 use Rattle.unit_tree.specs.LineForms.{tail_of}
 use Rattle.unit_tree.specs.Printable.{names_on, IsInRange, is_writable}
-use Rattle.unit_tree.specs.Tokens.{is_letter, is_word_byte, keyword_text, symbol_text, begins_with, begins_with_fraction, IsName, IsWord, IsSpelling, IsLongest, Ends, Spells}
+use Rattle.unit_tree.specs.Tokens.{is_letter, is_word_byte, keyword_text, symbol_text, begins_with, begins_with_fraction, IsName, IsWord, IsSpelling, IsLongest}
+use Rattle.unit_tree.specs.Tokens.{Ends, Spells}
 use Rattle.unit_tree.specs.declared.line_form.LineForm.{LineForm}
 use Rattle.unit_tree.specs.declared.token.Keyword.{Keyword}
 use Rattle.unit_tree.specs.declared.token.Symbol.{Symbol}
@@ -99,10 +101,13 @@ at_most_one (suc zero) small = omega arith
 at_most_one (suc (suc size)) small = absurd (small (omega arith))
 
 -- A symbol of one byte is the longest where the next byte makes no longer one.
-single_longest : (some : Symbol) (byte : ℕ) (rest : List ℕ) → symbol_text some ≡ byte ∷ [] → (begins_with grows rest && starts_pair byte) ≡ false → IsLongest some rest
+single_longest : (some : Symbol) (byte : ℕ) (rest : List ℕ) → symbol_text some ≡ byte ∷ [] → (begins_with grows rest && starts_pair byte) ≡ false
+    → IsLongest some rest
 single_longest some byte rest spelled single other after same =
     let bytes : symbol_text other ++ after ≡ byte ∷ rest = sym same ∙ ap (λ text. text ++ rest) spelled in
-    let short : length (symbol_text other) ≤ 1 = at_most_one (length (symbol_text other)) (λ two. (let pair : begins_pair (byte ∷ rest) ≡ true = ap begins_pair (sym bytes) ∙ pair_begins other after two in cc)) in
+    let short : length (symbol_text other) ≤ 1 =
+    at_most_one (length (symbol_text other))
+    (λ two. (let pair : begins_pair (byte ∷ rest) ≡ true = ap begins_pair (sym bytes) ∙ pair_begins other after two in cc)) in
     omega (arith, short, ap length spelled)
 
 -- A symbol of two bytes is always the longest.
@@ -168,7 +173,8 @@ number_begins digits decimals text is = subst BeginsAsWord (sym is.spelled) (dig
 -- A keyword does.
 keyword_begins : (spelled : Keyword) → BeginsAsWord (keyword_text spelled)
 keyword_begins spelled =
-    word_begins (keyword_text spelled) (and_parts (begins_with is_letter (keyword_text spelled)) (list_all is_word_byte (keyword_text spelled)) (keyword_is_word spelled)).0
+    word_begins (keyword_text spelled)
+    (and_parts (begins_with is_letter (keyword_text spelled)) (list_all is_word_byte (keyword_text spelled)) (keyword_is_word spelled)).0
 
 -- No token's text is empty.
 pub token_some : (some : Token) → IsFit some → 0 < length (token_text some)
@@ -191,7 +197,8 @@ token_first : (test : ℕ → Bool) (seen : Token → Bool) → SeesFirst test s
 token_first test seen sees (token.Keyword spelled) fits = (keyword_begins spelled).fails test sees.words ∙ sym (sees.keywords spelled)
 token_first test seen sees (token.Name name) fits = (name_begins name fits.0).fails test sees.words ∙ sym (sees.names name)
 token_first test seen sees (token.Number digits decimals) fits =
-    (number_begins digits decimals (fixed_text decimals digits) (fixed_number digits decimals fits.0 fits.1)).fails test sees.words ∙ sym (sees.numbers digits decimals)
+    (number_begins digits decimals (fixed_text decimals digits) (fixed_number digits decimals fits.0 fits.1)).fails test sees.words
+    ∙ sym (sees.numbers digits decimals)
 token_first test seen sees (token.Symbol spelled) fits = sees.symbols spelled
 
 -- What a text begins with is what its front begins with.
@@ -202,10 +209,13 @@ begins_front test (byte ∷ bytes) others some = refl
 -- So it is where a space may stand behind the front.
 spaced_begins : (test : ℕ → Bool) (text others : List ℕ) → 0 < length text → begins_with test (spaced text others) ≡ begins_with test text
 spaced_begins test text others some =
-    elim (ends_in_word text && begins_with is_word_byte others) as (λ meet. begins_with test (cond meet (text ++ (32 ∷ others)) (text ++ others)) ≡ begins_with test text) [ true ↦ begins_front test text (32 ∷ others) some | false ↦ begins_front test text others some ]
+    elim (ends_in_word text && begins_with is_word_byte others) as
+    (λ meet. begins_with test (cond meet (text ++ (32 ∷ others)) (text ++ others))
+    ≡ begins_with test text) [ true ↦ begins_front test text (32 ∷ others) some | false ↦ begins_front test text others some ]
 
 -- The two tests agree on tokens that fit.
-tokens_first : (test : ℕ → Bool) (seen : Token → Bool) → SeesFirst test seen → (tokens : List Token) → AreFit tokens → begins_with test (tokens_text tokens) ≡ starts_with seen tokens
+tokens_first : (test : ℕ → Bool) (seen : Token → Bool) → SeesFirst test seen → (tokens : List Token) → AreFit tokens
+    → begins_with test (tokens_text tokens) ≡ starts_with seen tokens
 tokens_first test seen sees [] fit = refl
 tokens_first test seen sees (first ∷ others) fit =
     spaced_begins test (token_text first) (tokens_text others) (token_some first fit.0) ∙ token_first test seen sees first fit.0
@@ -271,7 +281,8 @@ point_seen = record { words = word_no_point; keywords = λ spelled. refl; names 
 -- ---- Last bytes
 
 -- The last of bytes of words is one.
-last_of : (first : ℕ) (others : List ℕ) → is_word_byte first ≡ true → list_all is_word_byte others ≡ true → (last : ℕ) × (last_or (Some first) others ≡ Some last) × (is_word_byte last ≡ true)
+last_of : (first : ℕ) (others : List ℕ) → is_word_byte first ≡ true → list_all is_word_byte others ≡ true
+    → (last : ℕ) × (last_or (Some first) others ≡ Some last) × (is_word_byte last ≡ true)
 last_of first [] is all = (first, refl, is)
 last_of first (next ∷ others) is all =
     let parts = and_parts (is_word_byte next) (list_all is_word_byte others) all in
@@ -299,7 +310,8 @@ digits_of_word : (digits : List ℕ) → list_all is_digit digits ≡ true → l
 digits_of_word digits all = all_pass is_digit is_word_byte digit_of_word digits all
 
 -- Digits with a fraction end in a word.
-parts_end : (whole fraction : List ℕ) → list_all is_digit whole ≡ true → 0 < length whole → list_all is_digit fraction ≡ true → ends_in_word (whole ++ pointed fraction) ≡ true
+parts_end : (whole fraction : List ℕ) → list_all is_digit whole ≡ true → 0 < length whole → list_all is_digit fraction ≡ true
+    → ends_in_word (whole ++ pointed fraction) ≡ true
 parts_end whole [] digits some behind = ap ends_in_word (append-nil whole) ∙ all_of_word whole some (digits_of_word whole digits)
 parts_end whole (first ∷ others) digits some behind =
     ap ends_in_word (sym (append_assoc whole (46 ∷ []) (first ∷ others))) ∙ word_ends (whole ++ (46 ∷ [])) first others (digits_of_word (first ∷ others) behind)
@@ -326,8 +338,10 @@ no_fraction (byte ∷ bytes) none = rw none refl
 token_ends : (some : Token) (rest : List ℕ) → IsFit some → StandsBefore some rest → Ends some rest
 token_ends (token.Keyword spelled) rest fits before = before.apart (all_of_word (keyword_text spelled) (keyword_begins spelled).some (keyword_bytes spelled))
 token_ends (token.Name name) rest fits before = before.apart (all_of_word name (name_begins name fits.0).some (word_bytes name fits.0))
-token_ends (token.Number digits decimals) rest fits before =
-    (before.apart (number_ends digits decimals (fixed_text decimals digits) (fixed_number digits decimals fits.0 fits.1)), λ none. no_fraction rest (before.no_point digits decimals refl))
+token_ends (token.Number digits decimals) rest fits before = (
+  before.apart (number_ends digits decimals (fixed_text decimals digits) (fixed_number digits decimals fits.0 fits.1)),
+  λ none. no_fraction rest (before.no_point digits decimals refl),
+)
 token_ends (token.Symbol spelled) rest fits before = symbol_longest spelled rest (before.no_growth spelled refl)
 
 -- A blank ends every token.
@@ -345,13 +359,15 @@ other_false true other both is = both
 other_false false other both is = absurd (cc)
 
 -- The text of tokens that stand apart from the one before them ends it.
-before_tokens : (some : Token) (others : List Token) → AreFit others → not (reads_on some others) ≡ true → (ends_in_word (token_text some) && begins_with is_word_byte (tokens_text others)) ≡ false → StandsBefore some (tokens_text others)
+before_tokens : (some : Token) (others : List Token) → AreFit others → not (reads_on some others) ≡ true
+    → (ends_in_word (token_text some) && begins_with is_word_byte (tokens_text others)) ≡ false → StandsBefore some (tokens_text others)
 before_tokens some others fit apart no_meeting =
     let alone : reads_on some others ≡ false = not_false (reads_on some others) apart in
     record {
       apart = other_false (ends_in_word (token_text some)) (begins_with is_word_byte (tokens_text others)) no_meeting;
       no_point = λ digits decimals is. tokens_first (λ byte. byte == 46) is_point point_seen others fit ∙ ap (λ t. reads_on t others) (sym is) ∙ alone;
-      no_growth = λ spelled is. ap (λ first. first && can_grow spelled) (tokens_first grows is_growth growth_seen others fit) ∙ ap (λ t. reads_on t others) (sym is) ∙ alone;
+      no_growth = λ spelled is. ap (λ first. first && can_grow spelled) (tokens_first grows is_growth growth_seen others fit)
+          ∙ ap (λ t. reads_on t others) (sym is) ∙ alone;
     }
 
 -- ---- Lines
@@ -359,16 +375,42 @@ before_tokens some others fit apart no_meeting =
 -- A line spells the same behind a space.
 behind_blank : (tokens : List Token) (line : List ℕ) → Spells tokens line → Spells tokens (32 ∷ line)
 behind_blank [] line spelled = spelled
-behind_blank (first ∷ others) line (rest, begins, more) =
-    (rest, record { blanks = 32 ∷ begins.blanks; text = begins.text; cut = ap (λ bytes. 32 ∷ bytes) begins.cut; are_blank = begins.are_blank; spelling = begins.spelling; ends = begins.ends }, more)
+behind_blank (first ∷ others) line (rest, begins, more) = (
+  rest,
+  record {
+    blanks = 32 ∷ begins.blanks;
+    text = begins.text;
+    cut = ap (λ bytes. 32 ∷ bytes) begins.cut;
+    are_blank = begins.are_blank;
+    spelling =
+        begins.spelling;
+    ends = begins.ends;
+  },
+  more,
+)
 
 -- A token in front of what ends it is spelled, and what is behind it too.
-first_spelled : (first : Token) (others : List Token) (rest : List ℕ) → IsFit first → StandsBefore first rest → Spells others rest → Spells (first ∷ others) (token_text first ++ rest)
-first_spelled first others rest fits before more =
-    (rest, record { blanks = []; text = token_text first; cut = refl; are_blank = refl; spelling = token_is_spelled first fits; ends = token_ends first rest fits before }, more)
+first_spelled : (first : Token) (others : List Token) (rest : List ℕ) → IsFit first → StandsBefore first rest → Spells others rest
+    → Spells (first ∷ others) (token_text first ++ rest)
+first_spelled first others rest fits before more = (
+  rest,
+  record {
+    blanks = [];
+    text = token_text first;
+    cut = refl;
+    are_blank = refl;
+    spelling = token_is_spelled first fits;
+    ends =
+        token_ends first rest fits before;
+  },
+  more,
+)
 
 -- So it is with the space where words would meet, and without it where they would not.
-meeting_or_not : (first : Token) (others : List Token) (meet : Bool) → (ends_in_word (token_text first) && begins_with is_word_byte (tokens_text others)) ≡ meet → IsFit first → AreFit others → not (reads_on first others) ≡ true → Spells others (tokens_text others) → Spells (first ∷ others) (cond meet (token_text first ++ (32 ∷ tokens_text others)) (token_text first ++ tokens_text others))
+meeting_or_not : (first : Token) (others : List Token) (meet : Bool)
+    → (ends_in_word (token_text first) && begins_with is_word_byte (tokens_text others)) ≡ meet → IsFit first → AreFit others
+    → not (reads_on first others) ≡ true → Spells others (tokens_text others)
+    → Spells (first ∷ others) (cond meet (token_text first ++ (32 ∷ tokens_text others)) (token_text first ++ tokens_text others))
 meeting_or_not first others true is fits fit apart more =
     first_spelled first others (32 ∷ tokens_text others) fits (before_blank first (tokens_text others)) (behind_blank others (tokens_text others) more)
 meeting_or_not first others false is fits fit apart more = first_spelled first others (tokens_text others) fits (before_tokens first others fit apart is) more
@@ -378,8 +420,10 @@ pub tokens_are_spelled : (tokens : List Token) → AreFit tokens → are_apart t
 tokens_are_spelled [] fit apart = refl
 tokens_are_spelled (first ∷ others) fit apart =
     let parts = and_parts (not (reads_on first others)) (are_apart others) apart in
-    meeting_or_not first others (ends_in_word (token_text first) && begins_with is_word_byte (tokens_text others)) refl fit.0 fit.1 parts.0 (tokens_are_spelled others fit.1 parts.1)
+    meeting_or_not first others (ends_in_word (token_text first) && begins_with is_word_byte (tokens_text others)) refl fit.0 fit.1 parts.0
+    (tokens_are_spelled others fit.1 parts.1)
 
 -- A canonical line spells its tokens, where its names are names and its numbers are in range.
-pub line_is_spelled : (some : LineForm) → AllByRecursion IsName (names_on some) → IsInRange some → IsTrue (is_writable (tail_of some)) → Spells (form_tokens some) (line_text some)
+pub line_is_spelled : (some : LineForm) → AllByRecursion IsName (names_on some) → IsInRange some → IsTrue (is_writable (tail_of some))
+    → Spells (form_tokens some) (line_text some)
 line_is_spelled some names ranged writable = tokens_are_spelled (form_tokens some) (form_fits some names ranged writable) (form_is_apart some)

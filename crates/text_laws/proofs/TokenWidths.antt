@@ -1,5 +1,6 @@
 -- How many bytes tokens take, and that a line is no shorter than the canonical text of the tokens that it spells.
-use Rattle.std.proofs.Common.{◌≡◌, ℕ, suc, ◌+◌, ◌-◌, ◌*◌, ◌^◌, ◌<◌, ◌≤◌, Bool, true, false, ◌&&◌, List, [], ◌∷◌, ◌++◌, length, take, drop, replicate, IsTrue, if◌then◌else◌, refl, sym, ap, subst, ◌∙◌, arith, rules}
+use Rattle.std.proofs.Common.{◌≡◌, ℕ, suc, ◌+◌, ◌-◌, ◌*◌, ◌^◌, ◌<◌, ◌≤◌, Bool, true, false, ◌&&◌, List, [], ◌∷◌, ◌++◌, length, take, drop, replicate, IsTrue}
+use Rattle.std.proofs.Common.{if◌then◌else◌, refl, sym, ap, subst, ◌∙◌, arith, rules}
 use Rattle.std.specs.Fmt.{decimal}
 use Rattle.std.specs.List.{list_all}
 use Rattle.std.proofs.lemmas.Bool.{and_from, and_parts, or_left, or_right}
@@ -10,7 +11,8 @@ use Rattle.std.proofs.lemmas.List.Folds.{list_all-append}
 use Rattle.std.proofs.Math.Nat.{mul_assoc, mul_comm, pow-succ'}
 use Rattle.fixed_words.specs.Texts.{padded, fixed_text}
 use Rattle.unit_tree.specs.Canonical.{token_text, tokens_text, spaced, ends_in_word}
-use Rattle.unit_tree.specs.Tokens.{is_digit, is_letter, is_word_byte, begins_with, keyword_text, symbol_text, number_from, pointed, IsNumber, IsName, IsSpelling, Ends, BeginsWith, Spells}
+use Rattle.unit_tree.specs.Tokens.{is_digit, is_letter, is_word_byte, begins_with, keyword_text, symbol_text, number_from, pointed, IsNumber, IsName}
+use Rattle.unit_tree.specs.Tokens.{IsSpelling, Ends, BeginsWith, Spells}
 use Rattle.unit_tree.specs.declared.token.Symbol.{Symbol}
 use Rattle.unit_tree.specs.declared.token.Token.{Token}
 use Rattle.unit_tree.specs.declared.token.Token.TheVariants as token
@@ -54,7 +56,8 @@ width_most false (first ∷ others) = omega arith
 -- ---- The canonical text
 
 -- Two texts with a space between them or not.
-joined_length : (both : Bool) (text others : List ℕ) → length (if both then text ++ (32 ∷ others) else text ++ others) ≡ gap both true + (length text + length others)
+joined_length : (both : Bool) (text others : List ℕ)
+    → length (if both then text ++ (32 ∷ others) else text ++ others) ≡ gap both true + (length text + length others)
 joined_length true text others = omega (arith, length-append text (32 ∷ others))
 joined_length false text others = omega (arith, length-append text others)
 
@@ -84,7 +87,8 @@ no_gap true = refl
 no_gap false = refl
 
 -- What a token's text begins with asks for no space that the token does not.
-gap_before : (ends : Bool) (first : Token) (others : List ℕ) → gap (ends && begins_with is_word_byte (spaced (token_text first) others)) true ≤ gap ends (is_worded first)
+gap_before : (ends : Bool) (first : Token) (others : List ℕ)
+    → gap (ends && begins_with is_word_byte (spaced (token_text first) others)) true ≤ gap ends (is_worded first)
 gap_before ends (token.Keyword keyword) others = gap_most ends _
 gap_before ends (token.Name name) others = gap_most ends _
 gap_before ends (token.Number digits decimals) others = gap_most ends _
@@ -96,7 +100,12 @@ text_within text [] = omega (arith, joined_length (ends_in_word text && false) t
 text_within text (first ∷ others) =
     let behind = spaced (token_text first) (tokens_text others) in
     let more = text_within (token_text first) others in
-    omega (arith, joined_length (ends_in_word text && begins_with is_word_byte behind) text behind, gap_before (ends_in_word text) first (tokens_text others), width_behind first others)
+    omega (
+      arith,
+      joined_length (ends_in_word text && begins_with is_word_byte behind) text behind,
+      gap_before (ends_in_word text) first (tokens_text others),
+      width_behind first others,
+    )
 
 -- The canonical text of tokens is no longer than what they take.
 pub tokens_within : (tokens : List Token) → length (tokens_text tokens) ≤ width false tokens
@@ -132,17 +141,29 @@ number_within : (digits decimals : ℕ) (text : List ℕ) → IsNumber digits de
 number_within digits decimals text number =
     let whole = number.whole in
     let fraction = number.fraction in
-    let all = list_all-append is_digit whole fraction ∙ and_from (list_all is_digit whole) (list_all is_digit fraction) number.is_whole.0 number.is_fraction.0 in
+    let all = list_all-append is_digit whole fraction
+    ∙ and_from (list_all is_digit whole) (list_all is_digit fraction) number.is_whole.0 number.is_fraction.0 in
     let below = number_below 0 1 (whole ++ fraction) all (omega arith) in
     let few : digits < 10 ^ length (whole ++ fraction) = omega (arith, number.value) in
     let sum = length-append whole fraction in
-    let short : length (decimal digits) ≤ length (whole ++ fraction) = length-decimal-le (length (whole ++ fraction)) digits (omega (arith, number.is_whole.1)) few (omega (arith, number.bounded)) in
+    let short : length (decimal digits) ≤ length (whole ++ fraction) =
+    length-decimal-le (length (whole ++ fraction)) digits (omega (arith, number.is_whole.1)) few (omega (arith, number.bounded)) in
     let all_digits = padded decimals (decimal digits) in
     let zeros = decimals + 1 - length (decimal digits) in
-    let long : length all_digits ≡ zeros + length (decimal digits) = omega (arith, length-append (replicate {A = ℕ} zeros 48) (decimal digits), length-replicate {A = ℕ} zeros 48) in
+    let long : length all_digits ≡ zeros + length (decimal digits) =
+    omega (arith, length-append (replicate {A = ℕ} zeros 48) (decimal digits), length-replicate {A = ℕ} zeros 48) in
     let place = length all_digits - decimals in
     let behind : length (drop place all_digits) ≡ length fraction = omega (arith, length-drop place all_digits, number.is_fraction.1) in
-    omega (arith, length-append (take place all_digits) (pointed (drop place all_digits)), length-take-le place all_digits (omega arith), pointed_length (drop place all_digits) fraction behind, ap length number.spelled, length-append whole (pointed fraction), number.is_whole.1, number.is_fraction.1)
+    omega (
+      arith,
+      length-append (take place all_digits) (pointed (drop place all_digits)),
+      length-take-le place all_digits (omega arith),
+      pointed_length (drop place all_digits) fraction behind,
+      ap length number.spelled,
+      length-append whole (pointed fraction),
+      number.is_whole.1,
+      number.is_fraction.1,
+    )
 
 -- ---- Spelled tokens
 
@@ -187,12 +208,14 @@ record Fits (tokens : List Token) (line : List ℕ) : Type 0 where
   apart : begins_with is_word_byte line ≡ false → width true tokens ≤ length line
 
 -- What comes behind a token has room for the others.
-others_within : (worded : Bool) (others : List Token) (rest : List ℕ) → (worded ≡ true → begins_with is_word_byte rest ≡ false) → Fits others rest → width worded others ≤ length rest
+others_within : (worded : Bool) (others : List Token) (rest : List ℕ) → (worded ≡ true → begins_with is_word_byte rest ≡ false) → Fits others rest
+    → width worded others ≤ length rest
 others_within true others rest apart fits = fits.apart (apart refl)
 others_within false others rest apart fits = fits.bare
 
 -- Where a space has to stand in front of a token, the line has a blank.
-gap_within : (worded : Bool) (blanks text rest : List ℕ) → (worded ≡ true → begins_with is_word_byte (text ++ rest) ≡ true) → begins_with is_word_byte (blanks ++ text ++ rest) ≡ false → gap true worded ≤ length blanks
+gap_within : (worded : Bool) (blanks text rest : List ℕ) → (worded ≡ true → begins_with is_word_byte (text ++ rest) ≡ true)
+    → begins_with is_word_byte (blanks ++ text ++ rest) ≡ false → gap true worded ≤ length blanks
 gap_within false blanks text rest begins apart = omega arith
 gap_within true [] text rest begins apart = absurd (cc (begins refl))
 gap_within true (blank ∷ blanks) text rest begins apart = omega arith
@@ -202,10 +225,16 @@ fits_more : (first : Token) (others : List Token) (line rest : List ℕ) → Beg
 fits_more first others line rest is fits =
     let text = spelling_within first is.text is.spelling in
     let behind = others_within (is_worded first) others rest (ends_apart first rest is.ends) fits in
-    let sizes : length line ≡ length is.blanks + length is.text + length rest = omega (arith, ap length is.cut, length-append (is.blanks ++ is.text) rest, length-append is.blanks is.text) in
+    let sizes : length line ≡ length is.blanks + length is.text + length rest =
+    omega (arith, ap length is.cut, length-append (is.blanks ++ is.text) rest, length-append is.blanks is.text) in
     record {
       bare = omega arith;
-      apart = λ apart. omega (arith, gap_within (is_worded first) is.blanks is.text rest (spelling_begins first is.text rest is.spelling) (ap (begins_with is_word_byte) (sym is.cut) ∙ apart));
+      apart = λ apart.
+          omega (
+            arith,
+            gap_within (is_worded first) is.blanks is.text rest (spelling_begins first is.text rest is.spelling)
+                (ap (begins_with is_word_byte) (sym is.cut) ∙ apart),
+          );
     }
 
 -- Tokens that a line spells fit it.

@@ -69,7 +69,8 @@ are_apart (first ∷ others) = not (reads_on first others) && are_apart others
 -- ---- One token in front
 
 -- A symbol stands apart from what it cannot grow by.
-before_other : (spelled : Symbol) (behind : List Token) → starts_with is_growth behind ≡ false → are_apart behind ≡ true → are_apart (symbol spelled ∷ behind) ≡ true
+before_other : (spelled : Symbol) (behind : List Token) → starts_with is_growth behind ≡ false → are_apart behind ≡ true
+    → are_apart (symbol spelled ∷ behind) ≡ true
 before_other spelled behind other apart = rw other apart
 
 -- A symbol that no other begins with stands apart from everything.
@@ -147,7 +148,9 @@ behind_first first tokens separates no_growth operand =
 both_operands : (left right : List Token) (between : Token) → Separates between → IsOperand left → IsOperand right → IsOperand (left ++ (between ∷ right))
 both_operands left right between separates first second =
     record {
-      apart = λ behind apart no_point. ap are_apart (append_assoc left (between ∷ right) behind) ∙ first.apart (between ∷ right ++ behind) (separates.apart (right ++ behind) (second.other behind) (second.apart behind apart no_point)) separates.no_point;
+      apart = λ behind apart no_point. ap are_apart (append_assoc left (between ∷ right) behind)
+          ∙ first.apart (between ∷ right ++ behind)
+          (separates.apart (right ++ behind) (second.other behind) (second.apart behind apart no_point)) separates.no_point;
       other = λ behind. ap (starts_with is_growth) (append_assoc left (between ∷ right) behind) ∙ first.other (between ∷ right ++ behind);
     }
 
@@ -155,7 +158,8 @@ both_operands left right between separates first second =
 closed : (inner : List Token) → IsOperand inner → IsOperand (inner ++ (symbol sign.Close ∷ []))
 closed inner operand =
     record {
-      apart = λ behind apart no_point. ap are_apart (append_assoc inner (symbol sign.Close ∷ []) behind) ∙ operand.apart (symbol sign.Close ∷ behind) (before_any sign.Close behind refl apart) refl;
+      apart = λ behind apart no_point. ap are_apart (append_assoc inner (symbol sign.Close ∷ []) behind)
+          ∙ operand.apart (symbol sign.Close ∷ behind) (before_any sign.Close behind refl apart) refl;
       other = λ behind. ap (starts_with is_growth) (append_assoc inner (symbol sign.Close ∷ []) behind) ∙ operand.other (symbol sign.Close ∷ behind);
     }
 
@@ -216,17 +220,23 @@ phrase_operand (phrase.Unary op arg) = unary_operand op (phrase_tokens arg) (phr
 phrase_operand (phrase.Binary op left right) = binary_operand op (phrase_tokens left) (phrase_tokens right) (phrase_operand left) (phrase_operand right)
 phrase_operand (phrase.Clamp value low high) =
     let bounds = comma_operands (phrase_tokens low) (phrase_tokens high) (phrase_operand low) (phrase_operand high) in
-    call_operand word.Clamp (phrase_tokens value ++ (symbol sign.Comma ∷ phrase_tokens low ++ (symbol sign.Comma ∷ phrase_tokens high))) (comma_operands (phrase_tokens value) (phrase_tokens low ++ (symbol sign.Comma ∷ phrase_tokens high)) (phrase_operand value) bounds)
+    call_operand word.Clamp (phrase_tokens value ++ (symbol sign.Comma ∷ phrase_tokens low ++ (symbol sign.Comma ∷ phrase_tokens high)))
+    (comma_operands (phrase_tokens value) (phrase_tokens low ++ (symbol sign.Comma ∷ phrase_tokens high)) (phrase_operand value) bounds)
 phrase_operand (phrase.Choose condition then_part else_part) =
-    let branches = both_operands (phrase_tokens then_part) (phrase_tokens else_part) (keyword word.Else) (keyword_separates word.Else) (phrase_operand then_part) (phrase_operand else_part) in
+    let branches =
+    both_operands (phrase_tokens then_part) (phrase_tokens else_part) (keyword word.Else) (keyword_separates word.Else) (phrase_operand then_part)
+    (phrase_operand else_part) in
     let tokens = phrase_tokens condition ++ (keyword word.Then ∷ phrase_tokens then_part ++ (keyword word.Else ∷ phrase_tokens else_part)) in
-    behind_first (keyword word.If) tokens (keyword_separates word.If) refl (both_operands (phrase_tokens condition) (phrase_tokens then_part ++ (keyword word.Else ∷ phrase_tokens else_part)) (keyword word.Then) (keyword_separates word.Then) (phrase_operand condition) branches)
+    behind_first (keyword word.If) tokens (keyword_separates word.If) refl
+    (both_operands (phrase_tokens condition) (phrase_tokens then_part ++ (keyword word.Else ∷ phrase_tokens else_part)) (keyword word.Then)
+    (keyword_separates word.Then) (phrase_operand condition) branches)
 phrase_operand phrase.Absent = keyword_operand word.Absent
 phrase_operand (phrase.Present name) = call_operand word.Present (token.Name name ∷ []) (name_operand name)
 
 -- A number with its sign is an operand.
 signed_operand : (negative : Bool) (digits decimals : ℕ) → IsOperand (sign_tokens negative ++ (token.Number digits decimals ∷ []))
-signed_operand true digits decimals = behind_first (symbol sign.Minus) (token.Number digits decimals ∷ []) (symbol_separates sign.Minus refl) refl (number_operand digits decimals)
+signed_operand true digits decimals =
+    behind_first (symbol sign.Minus) (token.Number digits decimals ∷ []) (symbol_separates sign.Minus refl) refl (number_operand digits decimals)
 signed_operand false digits decimals = number_operand digits decimals
 
 -- A literal is one.
@@ -253,7 +263,8 @@ type_operand (types.Fixed decimals) = record { apart = λ behind apart no_point.
 -- ---- Lines
 
 -- A declaration stands apart from everything behind it but a point.
-declaration_apart : (declared : Keyword) (name : List ℕ) (ty : Ty) (behind : List Token) → are_apart behind ≡ true → starts_with is_point behind ≡ false → are_apart (declaration declared name ty ++ behind) ≡ true
+declaration_apart : (declared : Keyword) (name : List ℕ) (ty : Ty) (behind : List Token) → are_apart behind ≡ true → starts_with is_point behind ≡ false
+    → are_apart (declaration declared name ty ++ behind) ≡ true
 declaration_apart declared name ty behind apart no_point =
     let operand = type_operand ty in
     before_other sign.Colon (type_tokens ty ++ behind) (operand.other behind) (operand.apart behind apart no_point)
@@ -270,7 +281,8 @@ needs_apart [] behind apart = apart
 needs_apart (name ∷ names) behind apart = names_apart (name ∷ names) behind apart
 
 -- What is needed begins with no point.
-needs_no_point : (names : List (List ℕ)) (behind : List Token) → starts_with is_point behind ≡ false → starts_with is_point (needs_tokens names ++ behind) ≡ false
+needs_no_point : (names : List (List ℕ)) (behind : List Token) → starts_with is_point behind ≡ false
+    → starts_with is_point (needs_tokens names ++ behind) ≡ false
 needs_no_point [] behind no_point = no_point
 needs_no_point (name ∷ names) behind no_point = refl
 
@@ -279,16 +291,20 @@ given_apart : (tokens : List Token) → IsOperand tokens → are_apart (equals +
 given_apart tokens operand = before_other sign.Is tokens (operand_other tokens operand) (operand_apart tokens operand)
 
 -- A declaration with its value stands apart.
-declared_with : (declared : Keyword) (name : List ℕ) (ty : Ty) (value : List Token) → IsOperand value → are_apart (declaration declared name ty ++ equals ++ value) ≡ true
+declared_with : (declared : Keyword) (name : List ℕ) (ty : Ty) (value : List Token) → IsOperand value
+    → are_apart (declaration declared name ty ++ equals ++ value) ≡ true
 declared_with declared name ty value operand =
-    ap are_apart (append_assoc (declaration declared name ty) equals value) ∙ declaration_apart declared name ty (equals ++ value) (given_apart value operand) refl
+    ap are_apart (append_assoc (declaration declared name ty) equals value)
+    ∙ declaration_apart declared name ty (equals ++ value) (given_apart value operand) refl
 
 -- So does one with what it needs.
-declared_needing : (declared : Keyword) (name : List ℕ) (ty : Ty) (needs : List (List ℕ)) (value : List Token) → IsOperand value → are_apart (declaration declared name ty ++ needs_tokens needs ++ equals ++ value) ≡ true
+declared_needing : (declared : Keyword) (name : List ℕ) (ty : Ty) (needs : List (List ℕ)) (value : List Token) → IsOperand value
+    → are_apart (declaration declared name ty ++ needs_tokens needs ++ equals ++ value) ≡ true
 declared_needing declared name ty needs value operand =
     let front = declaration declared name ty in
     ap are_apart (append_assoc (front ++ needs_tokens needs) equals value ∙ append_assoc front (needs_tokens needs) (equals ++ value))
-    ∙ declaration_apart declared name ty (needs_tokens needs ++ (equals ++ value)) (needs_apart needs (equals ++ value) (given_apart value operand)) (needs_no_point needs (equals ++ value) refl)
+    ∙ declaration_apart declared name ty (needs_tokens needs ++ (equals ++ value)) (needs_apart needs (equals ++ value) (given_apart value operand))
+    (needs_no_point needs (equals ++ value) refl)
 
 -- The tokens of every canonical line stand apart.
 pub form_is_apart : (some : LineForm) → are_apart (form_tokens some) ≡ true
@@ -300,12 +316,15 @@ form_is_apart (form.State state) = declared_with word.State state.name state.ty 
 form_is_apart (form.Local local) = declaration_apart word.Local local.name local.ty [] refl refl
 form_is_apart (form.Input input) = declared_with word.Input input.name input.ty (literal_tokens input.start) (literal_operand input.start)
 form_is_apart (form.EventInput event) = declaration_apart word.Input event.name event.ty [] refl refl
-form_is_apart (form.Output output) = declared_needing word.Output output.name output.ty output.needs (expression_tokens output.value) (expression_operand output.value)
-form_is_apart (form.EventOutput event) = declared_needing word.Output event.name event.ty event.needs (expression_tokens event.value) (expression_operand event.value)
+form_is_apart (form.Output output) =
+    declared_needing word.Output output.name output.ty output.needs (expression_tokens output.value) (expression_operand output.value)
+form_is_apart (form.EventOutput event) =
+    declared_needing word.Output event.name event.ty event.needs (expression_tokens event.value) (expression_operand event.value)
 form_is_apart (form.Max value) = operand_apart (expression_tokens value) (expression_operand value)
 form_is_apart form.Step = refl
 form_is_apart form.End = refl
-form_is_apart (form.Assign target value) = before_any sign.Assign (expression_tokens value) refl (operand_apart (expression_tokens value) (expression_operand value))
+form_is_apart (form.Assign target value) =
+    before_any sign.Assign (expression_tokens value) refl (operand_apart (expression_tokens value) (expression_operand value))
 form_is_apart (form.If condition) = operand_apart (expression_tokens condition) (expression_operand condition)
 form_is_apart form.Else = refl
 form_is_apart (form.Repeat count) = refl

@@ -5,7 +5,8 @@ use Rattle.std.proofs.lemmas.Bool.Decides.{nat_tests}
 use Rattle.fixed_words.specs.declared.types.Literal.{Literal}
 use Rattle.fixed_words.specs.declared.types.Literal.TheVariants as literal
 use Rattle.fixed_words.specs.declared.types.Ty.{Ty}
-use Rattle.unit_tree.specs.LineForms.{Tail, Nothing, OfLiteral, OfSeconds, OfExpression, front_tokens, tail_of, declaration, names_tokens, needs_tokens, equals, sign_tokens, WritesLiteral, WritesSeconds, WritesTail, WritesForm, HasForm}
+use Rattle.unit_tree.specs.LineForms.{Tail, Nothing, OfLiteral, OfSeconds, OfExpression, front_tokens, tail_of, declaration, names_tokens, needs_tokens, equals}
+use Rattle.unit_tree.specs.LineForms.{sign_tokens, WritesLiteral, WritesSeconds, WritesTail, WritesForm, HasForm}
 use Rattle.unit_tree.specs.Lines.{code_of}
 use Rattle.unit_tree.specs.Names.{node_names, names_in, expression_in, expression_on}
 use Rattle.unit_tree.specs.Phrases as phrase
@@ -25,7 +26,8 @@ use Rattle.unit_tree.specs.declared.token.Symbol.TheVariants as sign
 use Rattle.unit_tree.specs.declared.token.Token.{Token}
 use Rattle.unit_tree.specs.declared.token.Token.TheVariants as token
 use Rattle.language_laws.proofs.BlockLaws.{each_append}
-use Rattle.unit_tree.proofs.FoldLemmas.{fold-Number, fold-Truth, fold-Var, fold-Time, fold-Step, fold-Unary, fold-Binary, fold-Clamp, fold-Choose, fold-Absent, fold-Present}
+use Rattle.unit_tree.proofs.FoldLemmas.{fold-Number, fold-Truth, fold-Var, fold-Time, fold-Step, fold-Unary, fold-Binary, fold-Clamp, fold-Choose, fold-Absent}
+use Rattle.unit_tree.proofs.FoldLemmas.{fold-Present}
 use Rattle.text_laws.proofs.FitTokens.{IsFit, AreFit, AreNames, each_part}
 use Rattle.text_laws.proofs.NestingOfPhrases.{expression_is_written}
 
@@ -98,21 +100,25 @@ tree_names (phrase.Var name) fit = subst AreNames (sym (fold-Var (List (List ℕ
 tree_names phrase.Time fit = subst AreNames (sym (fold-Time (List (List ℕ)) node_names)) _
 tree_names phrase.Step fit = subst AreNames (sym (fold-Step (List (List ℕ)) node_names)) _
 tree_names (phrase.Parens inner) fit = tree_names inner (inside_parens (phrase_tokens inner) fit)
-tree_names (phrase.Unary op arg) fit = subst AreNames (sym (fold-Unary (List (List ℕ)) node_names op (tree_of arg))) (tree_names arg (unary_part op (phrase_tokens arg) fit))
+tree_names (phrase.Unary op arg) fit =
+    subst AreNames (sym (fold-Unary (List (List ℕ)) node_names op (tree_of arg))) (tree_names arg (unary_part op (phrase_tokens arg) fit))
 tree_names (phrase.Binary op left right) fit =
     let both = binary_parts op (phrase_tokens left) (phrase_tokens right) fit in
-    subst AreNames (sym (fold-Binary (List (List ℕ)) node_names op (tree_of left) (tree_of right))) (each_append IsName (names_in (tree_of left)) (names_in (tree_of right)) (tree_names left both.0) (tree_names right both.1))
+    subst AreNames (sym (fold-Binary (List (List ℕ)) node_names op (tree_of left) (tree_of right)))
+    (each_append IsName (names_in (tree_of left)) (names_in (tree_of right)) (tree_names left both.0) (tree_names right both.1))
 tree_names (phrase.Clamp value low high) fit =
     let inside = inside_parens (phrase_tokens value ++ (symbol sign.Comma ∷ phrase_tokens low ++ (symbol sign.Comma ∷ phrase_tokens high))) fit.1 in
     let first = around_one (phrase_tokens value) (phrase_tokens low ++ (symbol sign.Comma ∷ phrase_tokens high)) (symbol sign.Comma) inside in
     let bounds = around_one (phrase_tokens low) (phrase_tokens high) (symbol sign.Comma) first.1 in
     subst AreNames (sym (fold-Clamp (List (List ℕ)) node_names (tree_of value) (tree_of low) (tree_of high)))
-    (three_names (names_in (tree_of value)) (names_in (tree_of low)) (names_in (tree_of high)) (tree_names value first.0) (tree_names low bounds.0) (tree_names high bounds.1))
+    (three_names (names_in (tree_of value)) (names_in (tree_of low)) (names_in (tree_of high)) (tree_names value first.0) (tree_names low bounds.0)
+    (tree_names high bounds.1))
 tree_names (phrase.Choose condition then_part else_part) fit =
     let first = around_one (phrase_tokens condition) (phrase_tokens then_part ++ (keyword word.Else ∷ phrase_tokens else_part)) (keyword word.Then) fit.1 in
     let branches = around_one (phrase_tokens then_part) (phrase_tokens else_part) (keyword word.Else) first.1 in
     subst AreNames (sym (fold-Choose (List (List ℕ)) node_names (tree_of condition) (tree_of then_part) (tree_of else_part)))
-    (three_names (names_in (tree_of condition)) (names_in (tree_of then_part)) (names_in (tree_of else_part)) (tree_names condition first.0) (tree_names then_part branches.0) (tree_names else_part branches.1))
+    (three_names (names_in (tree_of condition)) (names_in (tree_of then_part)) (names_in (tree_of else_part)) (tree_names condition first.0)
+    (tree_names then_part branches.0) (tree_names else_part branches.1))
 tree_names phrase.Absent fit = subst AreNames (sym (fold-Absent (List (List ℕ)) node_names)) _
 tree_names (phrase.Present name) fit = subst AreNames (sym (fold-Present (List (List ℕ)) node_names name)) ((inside_parens (token.Name name ∷ []) fit.1).0, _)
 
@@ -135,7 +141,8 @@ needed_names [] fit = _
 needed_names (name ∷ names) fit = names_listed (name ∷ names) fit.1
 
 -- The name of a declaration, and those of what it needs.
-declared_names : (declared : Keyword) (name : List ℕ) (ty : Ty) (needs : List (List ℕ)) → AreFit (declaration declared name ty ++ needs_tokens needs ++ equals) → AreNames (name ∷ needs)
+declared_names : (declared : Keyword) (name : List ℕ) (ty : Ty) (needs : List (List ℕ))
+    → AreFit (declaration declared name ty ++ needs_tokens needs ++ equals) → AreNames (name ∷ needs)
 declared_names declared name ty needs fit =
     let front = each_part IsFit (declaration declared name ty ++ needs_tokens needs) equals fit in
     let parts = each_part IsFit (declaration declared name ty) (needs_tokens needs) front.0 in

@@ -4,7 +4,8 @@ use Rattle.std.specs.List.{list_all, prefix_len}
 use Rattle.std.proofs.lemmas.Bool.{and_parts, and_from}
 use Rattle.unit_tree.specs.Tokens.{begins_with}
 
-front_passes_case : (p : ℕ → Bool) (x : ℕ) (xs : List ℕ) (b : Bool) → p x ≡ b → list_all p (take (prefix_len p xs) xs) ≡ true → list_all p (take (cond b (1 + prefix_len p xs) 0) (x ∷ xs)) ≡ true
+front_passes_case : (p : ℕ → Bool) (x : ℕ) (xs : List ℕ) (b : Bool) → p x ≡ b → list_all p (take (prefix_len p xs) xs) ≡ true
+    → list_all p (take (cond b (1 + prefix_len p xs) 0) (x ∷ xs)) ≡ true
 front_passes_case p x xs true passes later = rw (one-add (prefix_len p xs)) (and_from (p x) _ passes later)
 front_passes_case p x xs false fails later = refl
 
@@ -12,7 +13,8 @@ pub front_passes : (p : ℕ → Bool) (xs : List ℕ) → list_all p (take (pref
 front_passes p [] = refl
 front_passes p (x ∷ xs) = front_passes_case p x xs (p x) refl (front_passes p xs)
 
-front_stops_case : (p : ℕ → Bool) (x : ℕ) (xs : List ℕ) (b : Bool) → p x ≡ b → begins_with p (drop (prefix_len p xs) xs) ≡ false → begins_with p (drop (cond b (1 + prefix_len p xs) 0) (x ∷ xs)) ≡ false
+front_stops_case : (p : ℕ → Bool) (x : ℕ) (xs : List ℕ) (b : Bool) → p x ≡ b → begins_with p (drop (prefix_len p xs) xs) ≡ false
+    → begins_with p (drop (cond b (1 + prefix_len p xs) 0) (x ∷ xs)) ≡ false
 front_stops_case p x xs true passes later = rw (one-add (prefix_len p xs)) later
 front_stops_case p x xs false fails later = fails
 

@@ -1,5 +1,6 @@
 -- Lemmas on numbers as digits.
-use Rattle.std.proofs.Common.{◌≡◌, ℕ, ◌+◌, ◌-◌, ◌*◌, ◌^◌, ◌<◌, ◌≤◌, Bool, true, false, cond, List, [], ◌∷◌, ◌++◌, length, refl, sym, ◌∙◌, arith, nat_le, drop, get_or, Some, None}
+use Rattle.std.proofs.Common.{◌≡◌, ℕ, ◌+◌, ◌-◌, ◌*◌, ◌^◌, ◌<◌, ◌≤◌, Bool, true, false, cond, List, [], ◌∷◌, ◌++◌, length, refl, sym, ◌∙◌, arith, nat_le, drop}
+use Rattle.std.proofs.Common.{get_or, Some, None}
 use Rattle.std.proofs.lemmas.List.{at_drop_more}
 use Rattle.std.proofs.lemmas.Bool.{cond-true, cond-false}
 use Rattle.std.proofs.lemmas.Bool.Decides.{nat_tests}
@@ -16,7 +17,8 @@ pub number_from-append : (before : ℕ) (xs ys : List ℕ) → number_from befor
 number_from-append before [] ys = refl
 number_from-append before (x ∷ xs) ys = number_from-append (10 * before + (x - 48)) xs ys
 
-pub bounded_number_past : (before : ℕ) (digits : List ℕ) (now : ℕ) (rest : List ℕ) → number_from now rest ≡ number_from before digits → 2 ^ 63 < now → bounded_number before digits ≡ None
+pub bounded_number_past : (before : ℕ) (digits : List ℕ) (now : ℕ) (rest : List ℕ) → number_from now rest ≡ number_from before digits → 2 ^ 63 < now
+    → bounded_number before digits ≡ None
 unfolding bounded_number
 bounded_number_past before digits now rest same past =
     let grows = number_from_grows now rest in
@@ -24,11 +26,14 @@ bounded_number_past before digits now rest same past =
     cond-false (nat_le (number_from before digits) (2 ^ 63)) (Some (number_from before digits)) None (grind (arith, nat_tests))
 
 -- a number that has grown past the limit before the digits end
-pub bounded_number_at : (before : ℕ) (digits : List ℕ) (number i : ℕ) → i < length digits → number_from number (drop i digits) ≡ number_from before digits → 2 ^ 63 < 10 * number + (get_or digits i 0 - 48) → bounded_number before digits ≡ None
+pub bounded_number_at : (before : ℕ) (digits : List ℕ) (number i : ℕ) → i < length digits → number_from number (drop i digits) ≡ number_from before digits
+    → 2 ^ 63 < 10 * number + (get_or digits i 0 - 48) → bounded_number before digits ≡ None
 bounded_number_at before digits number i more same past =
-    bounded_number_past before digits (10 * number + (get_or digits i 0 - 48)) (drop (i + 1) digits) (sym (at_drop_more (number_from number) digits i 0 more) ∙ same) past
+    bounded_number_past before digits (10 * number + (get_or digits i 0 - 48)) (drop (i + 1) digits)
+    (sym (at_drop_more (number_from number) digits i 0 more) ∙ same) past
 
-pub bounded_number_within : (before : ℕ) (digits : List ℕ) → number_from before digits ≤ 2 ^ 63 → bounded_number before digits ≡ Some (number_from before digits)
+pub bounded_number_within : (before : ℕ) (digits : List ℕ) → number_from before digits ≤ 2 ^ 63
+    → bounded_number before digits ≡ Some (number_from before digits)
 unfolding bounded_number
 bounded_number_within before digits within =
     cond-true (nat_le (number_from before digits) (2 ^ 63)) (Some (number_from before digits)) None (grind (arith, nat_tests))
@@ -37,6 +42,7 @@ bounded_case : (n : ℕ) (found : ℕ) (b : Bool) → nat_le n (2 ^ 63) ≡ b �
 bounded_case n found true within e = (cc, grind (arith, nat_tests))
 bounded_case n found false past e = absurd cc
 
-pub bounded_number_is : (before : ℕ) (digits : List ℕ) (found : ℕ) → bounded_number before digits ≡ Some found → (number_from before digits ≡ found) × (number_from before digits ≤ 2 ^ 63)
+pub bounded_number_is : (before : ℕ) (digits : List ℕ) (found : ℕ) → bounded_number before digits ≡ Some found
+    → (number_from before digits ≡ found) × (number_from before digits ≤ 2 ^ 63)
 unfolding bounded_number
 bounded_number_is before digits found e = bounded_case (number_from before digits) found (nat_le (number_from before digits) (2 ^ 63)) refl e

@@ -19,17 +19,22 @@ unfoldable pub tokens_in : ℕ → List ℕ → Option (List Token)
 tokens_in zero line = None
 tokens_in (suc most) line = from_front (tokens_in most) (behind_blanks line)
 
-some_more : (first : Token) (found : Option (List Token)) (tokens : List Token) → option_map (λ others. first ∷ others) found ≡ Some tokens → (others : List Token) × (found ≡ Some others) × (first ∷ others ≡ tokens)
+some_more : (first : Token) (found : Option (List Token)) (tokens : List Token) → option_map (λ others. first ∷ others) found ≡ Some tokens
+    → (others : List Token) × (found ≡ Some others) × (first ∷ others ≡ tokens)
 some_more first None tokens is = absurd (cc)
 some_more first (Some others) tokens is = (others, refl, cc)
 
-spells_more : (most : ℕ) (line : List ℕ) (found : Option (Token × List ℕ)) (tokens : List Token) → ((rest : List ℕ) (others : List Token) → tokens_in most rest ≡ Some others → Spells others rest) → token_at (behind_blanks line) ≡ found → then_more (tokens_in most) found ≡ Some tokens → Spells tokens line
+spells_more : (most : ℕ) (line : List ℕ) (found : Option (Token × List ℕ)) (tokens : List Token)
+    → ((rest : List ℕ) (others : List Token) → tokens_in most rest ≡ Some others → Spells others rest) → token_at (behind_blanks line) ≡ found
+    → then_more (tokens_in most) found ≡ Some tokens → Spells tokens line
 spells_more most line None tokens later at is = absurd (cc)
 spells_more most line (Some (first, rest)) tokens later at is =
     let more = some_more first (tokens_in most rest) tokens is in
     subst (λ all. Spells all line) more.2 (rest, begins_with_first line first rest at, later rest more.0 more.1)
 
-spells_front : (most : ℕ) (line front : List ℕ) (tokens : List Token) → ((rest : List ℕ) (others : List Token) → tokens_in most rest ≡ Some others → Spells others rest) → behind_blanks line ≡ front → from_front (tokens_in most) front ≡ Some tokens → Spells tokens line
+spells_front : (most : ℕ) (line front : List ℕ) (tokens : List Token)
+    → ((rest : List ℕ) (others : List Token) → tokens_in most rest ≡ Some others → Spells others rest) → behind_blanks line ≡ front
+    → from_front (tokens_in most) front ≡ Some tokens → Spells tokens line
 spells_front most line [] tokens later at is =
     let none : [] ≡ tokens = cc in
     subst (λ all. Spells all line) none (line_blank line at)

@@ -12,7 +12,8 @@ use Rattle.unit_tree.specs.declared.token.Symbol.TheVariants as sign
 use Rattle.text_tokens.specs.Scanning.{keywords_like, symbols_like, keyword_of, symbol_of}
 
 -- what is found passes the test, and what each element passes
-find_passes_case : {X : Type 0} (test : X → Bool) (y : X) (ys : List X) (x : X) (b : Bool) → test y ≡ b → (find test ys ≡ Some x → test x ≡ true) → cond b (Some y) (find test ys) ≡ Some x → test x ≡ true
+find_passes_case : {X : Type 0} (test : X → Bool) (y : X) (ys : List X) (x : X) (b : Bool) → test y ≡ b → (find test ys ≡ Some x → test x ≡ true)
+    → cond b (Some y) (find test ys) ≡ Some x → test x ≡ true
 find_passes_case test y ys x true passes later found = let same : y ≡ x = cc in rw (← same) passes
 find_passes_case test y ys x false fails later found = later found
 

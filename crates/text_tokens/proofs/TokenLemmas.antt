@@ -1,39 +1,48 @@
 -- The token at the front of bytes is the one token that they begin with.
-use Rattle.std.proofs.Common.{◌≡◌, ℕ, suc, zero, ◌^◌, ◌<◌, ◌≤◌, Bool, true, false, not, cond, ◌&&◌, List, [], ◌∷◌, ◌++◌, length, take, drop, refl, ap, sym, ◌∙◌, arith, ◌==◌, nat_lt, Option, Some, None, append_assoc, option_and_then, IsTrue}
+use Rattle.std.proofs.Common.{◌≡◌, ℕ, suc, zero, ◌^◌, ◌<◌, ◌≤◌, Bool, true, false, not, cond, ◌&&◌, List, [], ◌∷◌, ◌++◌, length, take, drop, refl, ap, sym, ◌∙◌}
+use Rattle.std.proofs.Common.{arith, ◌==◌, nat_lt, Option, Some, None, append_assoc, option_and_then, IsTrue}
 use Rattle.std.specs.List.{list_all, prefix_len}
 use Rattle.std.specs.Option.{option_map}
 use Rattle.std.proofs.lemmas.Bool.{and_parts, and_from, and_left, and_right, or_parts, or_left, cond-true, cond-false}
 use Rattle.std.proofs.lemmas.Bool.Decides.{nat_tests}
 use Rattle.std.proofs.lemmas.List.{drop_all, take_at, drop_at, take-append-drop, length-append, length-take, length-drop, nil_from_length, append-nil}
 use Rattle.std.proofs.lemmas.List.Folds.{length-prefix_len}
-use Rattle.unit_tree.specs.Tokens.{is_blank, is_digit, is_letter, is_word_byte, keyword_text, symbol_text, number_from, pointed, begins_with, begins_with_fraction, IsWord, IsReserved, IsNumber, IsSpelling, IsLongest, Ends, BeginsWith, Spells}
+use Rattle.unit_tree.specs.Tokens.{is_blank, is_digit, is_letter, is_word_byte, keyword_text, symbol_text, number_from, pointed, begins_with}
+use Rattle.unit_tree.specs.Tokens.{begins_with_fraction, IsWord, IsReserved, IsNumber, IsSpelling, IsLongest, Ends, BeginsWith, Spells}
 use Rattle.unit_tree.specs.declared.token.Keyword.{Keyword}
 use Rattle.unit_tree.specs.declared.token.Symbol.{Symbol}
 use Rattle.unit_tree.specs.declared.token.Token.{Token}
 use Rattle.unit_tree.specs.declared.token.Token.TheVariants as token
-use Rattle.text_tokens.specs.Scanning.{keyword_of, symbol_of, named, word_token, word_at, bounded_number, fraction_of, number_token, number_at, symbol_token, or_else, symbol_at, token_at, with_rest, TokensAre}
+use Rattle.text_tokens.specs.Scanning.{keyword_of, symbol_of, named, word_token, word_at, bounded_number, fraction_of, number_token, number_at, symbol_token}
+use Rattle.text_tokens.specs.Scanning.{or_else, symbol_at, token_at, with_rest, TokensAre}
 use Rattle.text_tokens.proofs.FrontLemmas.{front_passes, front_stops, prefix_len-none, prefix_len-front, prefix_len-some}
 use Rattle.text_tokens.proofs.NumberLemmas.{number_from_grows, number_from-append, bounded_number_within, bounded_number_is}
-use Rattle.text_tokens.proofs.TableLemmas.{keyword_of-keyword_text, keyword_of_is, keyword_of_none, is_word_text, keyword_is_word, symbol_of-symbol_text, symbol_of_is, is_symbol_text, symbol_is_text}
+use Rattle.text_tokens.proofs.TableLemmas.{keyword_of-keyword_text, keyword_of_is, keyword_of_none, is_word_text, keyword_is_word, symbol_of-symbol_text}
+use Rattle.text_tokens.proofs.TableLemmas.{symbol_of_is, is_symbol_text, symbol_is_text}
 
 -- ---- what is spelled is read
 
-word_front : (text rest : List ℕ) → list_all is_word_byte text ≡ true → begins_with is_word_byte rest ≡ false → word_at (text ++ rest) ≡ with_rest (word_token text) rest
+word_front : (text rest : List ℕ) → list_all is_word_byte text ≡ true → begins_with is_word_byte rest ≡ false
+    → word_at (text ++ rest) ≡ with_rest (word_token text) rest
 unfolding word_at
 word_front text rest passes stops =
     let n = prefix_len-front is_word_byte text rest passes stops in
     rw (n, take_at text rest (length text) refl, drop_at text rest (length text) refl) refl
 
-token_at-word : (text rest : List ℕ) → is_word_text text ≡ true → begins_with is_word_byte rest ≡ false → token_at (text ++ rest) ≡ with_rest (word_token text) rest
+token_at-word : (text rest : List ℕ) → is_word_text text ≡ true → begins_with is_word_byte rest ≡ false
+    → token_at (text ++ rest) ≡ with_rest (word_token text) rest
 unfolding token_at
 token_at-word [] rest passes stops = absurd cc
 token_at-word (x ∷ xs) rest passes stops =
     let parts = and_parts (is_letter x) (list_all is_word_byte (x ∷ xs)) passes in
-    cond-true (is_letter x) (word_at (x ∷ xs ++ rest)) (cond (is_digit x) (number_at (x ∷ xs ++ rest)) (symbol_at (x ∷ xs ++ rest))) parts.0 ∙ word_front (x ∷ xs) rest parts.1 stops
+    cond-true (is_letter x) (word_at (x ∷ xs ++ rest)) (cond (is_digit x) (number_at (x ∷ xs ++ rest)) (symbol_at (x ∷ xs ++ rest))) parts.0
+    ∙ word_front (x ∷ xs) rest parts.1 stops
 
-keyword_again : (keyword : Keyword) (rest : List ℕ) → begins_with is_word_byte rest ≡ false → token_at (keyword_text keyword ++ rest) ≡ Some (token.Keyword keyword, rest)
+keyword_again : (keyword : Keyword) (rest : List ℕ) → begins_with is_word_byte rest ≡ false
+    → token_at (keyword_text keyword ++ rest) ≡ Some (token.Keyword keyword, rest)
 keyword_again keyword rest stops =
-    token_at-word (keyword_text keyword) rest (keyword_is_word keyword) stops ∙ ap (λ k. with_rest (named (keyword_text keyword) k) rest) (keyword_of-keyword_text keyword)
+    token_at-word (keyword_text keyword) rest (keyword_is_word keyword) stops
+    ∙ ap (λ k. with_rest (named (keyword_text keyword) k) rest) (keyword_of-keyword_text keyword)
 
 not_reserved : (text : List ℕ) (found : Option Keyword) → keyword_of text ≡ found → (IsReserved text → ⊥) → keyword_of text ≡ None
 not_reserved text None e free = e
@@ -44,12 +53,14 @@ IsWord-text [] word = absurd word
 IsWord-text (x ∷ xs) word =
     (and_from (is_letter x) _ word.0 (and_from (is_word_byte x) _ (or_left (is_letter x) (is_digit x) word.0) word.1), omega (arith, word.2))
 
-name_again : (name rest : List ℕ) → IsWord name → (IsReserved name → ⊥) → begins_with is_word_byte rest ≡ false → token_at (name ++ rest) ≡ Some (token.Name name, rest)
+name_again : (name rest : List ℕ) → IsWord name → (IsReserved name → ⊥) → begins_with is_word_byte rest ≡ false
+    → token_at (name ++ rest) ≡ Some (token.Name name, rest)
 name_again name rest word free stops =
     let is = IsWord-text name word in
     let short : length name ≤ 32 = is.1 in
     let test : nat_lt 32 (length name) ≡ false = grind (arith, nat_tests) in
-    token_at-word name rest is.0 stops ∙ ap (λ k. with_rest (named name k) rest) (not_reserved name (keyword_of name) refl free) ∙ ap (λ t. with_rest t rest) (cond-false (nat_lt 32 (length name)) None (Some (token.Name name)) test)
+    token_at-word name rest is.0 stops ∙ ap (λ k. with_rest (named name k) rest) (not_reserved name (keyword_of name) refl free)
+    ∙ ap (λ t. with_rest t rest) (cond-false (nat_lt 32 (length name)) None (Some (token.Name name)) test)
 
 -- no digit begins where no byte of a word does
 no_digit : (bytes : List ℕ) → begins_with is_word_byte bytes ≡ false → begins_with is_digit bytes ≡ false
@@ -60,7 +71,10 @@ no_digit_pointed : (fraction rest : List ℕ) → begins_with is_word_byte rest 
 no_digit_pointed [] rest stops = no_digit rest stops
 no_digit_pointed (x ∷ xs) rest stops = refl
 
-fraction_of-none_case : (x : ℕ) (xs : List ℕ) (b : Bool) → (x == 46) ≡ b → ((x == 46) && begins_with is_digit xs) ≡ false → ◌≡◌ {A = List ℕ × List ℕ} (cond b (cond (prefix_len is_digit xs == 0) ([], x ∷ xs) (take (prefix_len is_digit xs) xs, drop (prefix_len is_digit xs) xs)) ([], x ∷ xs)) ([], x ∷ xs)
+fraction_of-none_case : (x : ℕ) (xs : List ℕ) (b : Bool) → (x == 46) ≡ b → ((x == 46) && begins_with is_digit xs) ≡ false
+    → ◌≡◌ {A = List ℕ × List ℕ}
+    (cond b (cond (prefix_len is_digit xs == 0) ([], x ∷ xs) (take (prefix_len is_digit xs) xs, drop (prefix_len is_digit xs) xs)) ([], x ∷ xs))
+    ([], x ∷ xs)
 fraction_of-none_case x xs true point none =
     let stops : begins_with is_digit xs ≡ false = rw point at none in
     rw (prefix_len-none is_digit xs stops) refl
@@ -73,13 +87,15 @@ fraction_of-none (x ∷ xs) none = fraction_of-none_case x xs (x == 46) refl non
 nonzero : (n : ℕ) → (suc n == 0) ≡ false
 nonzero n = grind (arith, nat_tests)
 
-fraction_again : (fraction rest : List ℕ) → list_all is_digit fraction ≡ true → begins_with is_word_byte rest ≡ false → (length fraction ≡ 0 → begins_with_fraction rest ≡ false) → fraction_of (pointed fraction ++ rest) ≡ (fraction, rest)
+fraction_again : (fraction rest : List ℕ) → list_all is_digit fraction ≡ true → begins_with is_word_byte rest ≡ false
+    → (length fraction ≡ 0 → begins_with_fraction rest ≡ false) → fraction_of (pointed fraction ++ rest) ≡ (fraction, rest)
 fraction_again [] rest digits stops none = fraction_of-none rest (none refl)
 fraction_again (x ∷ xs) rest digits stops none =
     let n = prefix_len-front is_digit (x ∷ xs) rest digits (no_digit rest stops) in
     rw (n, take_at (x ∷ xs) rest (length (x ∷ xs)) refl, drop_at (x ∷ xs) rest (length (x ∷ xs)) refl, nonzero (length xs)) refl
 
-number_token_again : (whole fraction : List ℕ) (digits : ℕ) → length fraction ≤ 9 → number_from 0 (whole ++ fraction) ≡ digits → digits ≤ 2 ^ 63 → number_token whole fraction ≡ Some (token.Number digits (length fraction))
+number_token_again : (whole fraction : List ℕ) (digits : ℕ) → length fraction ≤ 9 → number_from 0 (whole ++ fraction) ≡ digits → digits ≤ 2 ^ 63
+    → number_token whole fraction ≡ Some (token.Number digits (length fraction))
 unfolding number_token
 number_token_again whole fraction digits short value bounded =
     let both : number_from (number_from 0 whole) fraction ≡ digits = sym (number_from-append 0 whole fraction) ∙ value in
@@ -89,7 +105,9 @@ number_token_again whole fraction digits short value bounded =
     let test : nat_lt 9 (length fraction) ≡ false = grind (arith, nat_tests) in
     rw (test, first, second, both) refl
 
-number_at_again : (whole fraction rest : List ℕ) (found : Option Token) → list_all is_digit whole ≡ true → list_all is_digit fraction ≡ true → begins_with is_word_byte rest ≡ false → (length fraction ≡ 0 → begins_with_fraction rest ≡ false) → number_token whole fraction ≡ found → number_at (whole ++ (pointed fraction ++ rest)) ≡ with_rest found rest
+number_at_again : (whole fraction rest : List ℕ) (found : Option Token) → list_all is_digit whole ≡ true → list_all is_digit fraction ≡ true
+    → begins_with is_word_byte rest ≡ false → (length fraction ≡ 0 → begins_with_fraction rest ≡ false) → number_token whole fraction ≡ found
+    → number_at (whole ++ (pointed fraction ++ rest)) ≡ with_rest found rest
 unfolding number_at
 number_at_again whole fraction rest found digits decimals stops none e =
     let behind = pointed fraction ++ rest in
@@ -108,11 +126,15 @@ begins_digit : (whole rest : List ℕ) → list_all is_digit whole ≡ true → 
 begins_digit [] rest digits some = absurd (omega arith)
 begins_digit (x ∷ xs) rest digits some = (and_parts (is_digit x) (list_all is_digit xs) digits).0
 
-number_again : (digits decimals : ℕ) (text rest : List ℕ) → IsNumber digits decimals text → begins_with is_word_byte rest ≡ false → (decimals ≡ 0 → begins_with_fraction rest ≡ false) → token_at (text ++ rest) ≡ Some (token.Number digits decimals, rest)
+number_again : (digits decimals : ℕ) (text rest : List ℕ) → IsNumber digits decimals text → begins_with is_word_byte rest ≡ false
+    → (decimals ≡ 0 → begins_with_fraction rest ≡ false) → token_at (text ++ rest) ≡ Some (token.Number digits decimals, rest)
 number_again digits decimals text rest is stops none =
     let bytes : text ++ rest ≡ is.whole ++ (pointed is.fraction ++ rest) = ap (λ t. t ++ rest) is.spelled ∙ append_assoc is.whole (pointed is.fraction) rest in
     let read = number_token_again is.whole is.fraction digits (omega (arith, is.is_fraction.1, is.is_fraction.2)) is.value is.bounded in
-    rw (bytes, token_at-digit (is.whole ++ (pointed is.fraction ++ rest)) (begins_digit is.whole (pointed is.fraction ++ rest) is.is_whole.0 is.is_whole.1)) (number_at_again is.whole is.fraction rest (Some (token.Number digits (length is.fraction))) is.is_whole.0 is.is_fraction.0 stops (λ e. none (sym is.is_fraction.1 ∙ e)) read ∙ ap (λ d. Some (token.Number digits d, rest)) is.is_fraction.1)
+    rw (bytes, token_at-digit (is.whole ++ (pointed is.fraction ++ rest)) (begins_digit is.whole (pointed is.fraction ++ rest) is.is_whole.0 is.is_whole.1))
+    (number_at_again is.whole is.fraction rest (Some (token.Number digits (length is.fraction))) is.is_whole.0 is.is_fraction.0 stops
+    (λ e. none (sym is.is_fraction.1 ∙ e)) read
+    ∙ ap (λ d. Some (token.Number digits d, rest)) is.is_fraction.1)
 
 -- ---- symbols
 
@@ -139,14 +161,16 @@ IsSign-from x sign =
     let fronts = and_parts (not (is_blank x)) (not (is_letter x)) parts.0 in
     record { blank = not_true (is_blank x) fronts.0; letter = not_true (is_letter x) fronts.1; digit = not_true (is_digit x) parts.1 }
 
-symbol_short : (symbol other : Symbol) (x y : ℕ) (ys : List ℕ) (found : Option Symbol) → x ∷ [] ≡ symbol_text symbol → IsLongest symbol (y ∷ ys) → symbol_of (x ∷ y ∷ []) ≡ found → found ≡ None
+symbol_short : (symbol other : Symbol) (x y : ℕ) (ys : List ℕ) (found : Option Symbol) → x ∷ [] ≡ symbol_text symbol → IsLongest symbol (y ∷ ys)
+    → symbol_of (x ∷ y ∷ []) ≡ found → found ≡ None
 symbol_short symbol other x y ys None text longest e = refl
 symbol_short symbol other x y ys (Some longer) text longest e =
     let spelled : x ∷ y ∷ [] ≡ symbol_text longer = symbol_of_is (x ∷ y ∷ []) longer e in
     let same : symbol_text symbol ++ (y ∷ ys) ≡ symbol_text longer ++ ys = rw (← text, ← spelled) refl in
     absurd (omega (arith, longest longer ys same, ap length text, ap length spelled))
 
-symbol_again_as : (symbol : Symbol) (text rest : List ℕ) → text ≡ symbol_text symbol → is_symbol_text text ≡ true → symbol_of text ≡ Some symbol → IsLongest symbol rest → token_at (text ++ rest) ≡ Some (token.Symbol symbol, rest)
+symbol_again_as : (symbol : Symbol) (text rest : List ℕ) → text ≡ symbol_text symbol → is_symbol_text text ≡ true → symbol_of text ≡ Some symbol
+    → IsLongest symbol rest → token_at (text ++ rest) ≡ Some (token.Symbol symbol, rest)
 unfolding symbol_at
 symbol_again_as symbol [] rest spelled is read longest = absurd cc
 symbol_again_as symbol (x ∷ []) [] spelled is read longest =
@@ -174,7 +198,8 @@ token_again (token.Number digits decimals) text rest spelled ends = number_again
 token_again (token.Symbol symbol) text rest spelled ends = rw spelled (symbol_again symbol rest ends)
 
 -- a token's first byte is no blank
-starts_apart : (test : ℕ → Bool) (text : List ℕ) → ((x : ℕ) → test x ≡ true → is_blank x ≡ false) → begins_with test text ≡ true → (rest : List ℕ) → begins_with is_blank (text ++ rest) ≡ false
+starts_apart : (test : ℕ → Bool) (text : List ℕ) → ((x : ℕ) → test x ≡ true → is_blank x ≡ false) → begins_with test text ≡ true → (rest : List ℕ)
+    → begins_with is_blank (text ++ rest) ≡ false
 starts_apart test [] apart begins rest = absurd cc
 starts_apart test (x ∷ xs) apart begins rest = apart x begins
 
@@ -196,7 +221,8 @@ word_apart text rest is =
 
 number_apart : (digits decimals : ℕ) (text rest : List ℕ) → IsNumber digits decimals text → begins_with is_blank (text ++ rest) ≡ false
 number_apart digits decimals text rest is =
-    rw is.spelled (starts_apart is_digit (is.whole ++ pointed is.fraction) digit_apart (begins_digit is.whole (pointed is.fraction) is.is_whole.0 is.is_whole.1) rest)
+    rw is.spelled
+    (starts_apart is_digit (is.whole ++ pointed is.fraction) digit_apart (begins_digit is.whole (pointed is.fraction) is.is_whole.0 is.is_whole.1) rest)
 
 token_apart : (first : Token) (text rest : List ℕ) → IsSpelling first text → begins_with is_blank (text ++ rest) ≡ false
 token_apart (token.Keyword keyword) text rest spelled = rw spelled (word_apart (keyword_text keyword) rest (keyword_is_word keyword))
@@ -232,7 +258,9 @@ with_rest_is {X} {Y} (Some y) behind x rest e =
     (ap (λ (p : X × Y). Some (p.0)) pairs, ap (λ (p : X × Y). p.1) pairs)
 
 -- a word is its token's text
-name_case : (text : List ℕ) (first : Token) (rest : List ℕ) (long : Bool) → nat_lt 32 (length text) ≡ long → IsTrue (is_word_text text) → (IsReserved text → ⊥) → begins_with is_word_byte rest ≡ false → cond long None (Some (token.Name text)) ≡ Some first → IsSpelling first text × Ends first rest
+name_case : (text : List ℕ) (first : Token) (rest : List ℕ) (long : Bool) → nat_lt 32 (length text) ≡ long → IsTrue (is_word_text text)
+    → (IsReserved text → ⊥) → begins_with is_word_byte rest ≡ false → cond long None (Some (token.Name text)) ≡ Some first
+    → IsSpelling first text × Ends first rest
 name_case text first rest true long word free stops e = absurd cc
 name_case text first rest false short word free stops e =
     let same : token.Name text ≡ first = cc in
@@ -245,7 +273,8 @@ name_case text first rest false short word free stops e =
         let parts = and_parts (is_letter x) (list_all is_word_byte (x ∷ xs)) word in
         (parts.0, (and_parts (is_word_byte x) (list_all is_word_byte xs) parts.1).1, omega arith)
 
-named_is : (text : List ℕ) (first : Token) (rest : List ℕ) (found : Option Keyword) → keyword_of text ≡ found → IsTrue (is_word_text text) → begins_with is_word_byte rest ≡ false → named text found ≡ Some first → IsSpelling first text × Ends first rest
+named_is : (text : List ℕ) (first : Token) (rest : List ℕ) (found : Option Keyword) → keyword_of text ≡ found → IsTrue (is_word_text text)
+    → begins_with is_word_byte rest ≡ false → named text found ≡ Some first → IsSpelling first text × Ends first rest
 named_is text first rest (Some keyword) read word stops e =
     let same : token.Keyword keyword ≡ first = cc in
     rw (← same) (keyword_of_is text keyword read, stops)
@@ -259,7 +288,8 @@ word_at_is x xs first rest letter e =
     let size = prefix_len-some is_word_byte x xs (or_left (is_letter x) (is_digit x) letter) in
     let text : take n (x ∷ xs) ≡ x ∷ take (prefix_len is_word_byte xs) xs = rw size refl in
     let parts = with_rest_is (word_token (take n (x ∷ xs))) (drop n (x ∷ xs)) first rest e in
-    let word : is_word_text (take n (x ∷ xs)) ≡ true = and_from (begins_with is_letter (take n (x ∷ xs))) (list_all is_word_byte (take n (x ∷ xs))) (rw text letter) (front_passes is_word_byte (x ∷ xs)) in
+    let word : is_word_text (take n (x ∷ xs)) ≡ true =
+    and_from (begins_with is_letter (take n (x ∷ xs))) (list_all is_word_byte (take n (x ∷ xs))) (rw text letter) (front_passes is_word_byte (x ∷ xs)) in
     let stops : begins_with is_word_byte rest ≡ false = rw (← parts.1) (front_stops is_word_byte (x ∷ xs)) in
     let is = named_is (take n (x ∷ xs)) first rest (keyword_of (take n (x ∷ xs))) refl word stops parts.0 in
     record { text = take n (x ∷ xs); cut = rw (← parts.1) (sym (take-append-drop n (x ∷ xs))); spelling = is.0; ends = is.1; some = rw text (omega arith) }
@@ -274,7 +304,8 @@ pointed_some : (digits : List ℕ) → 0 < length digits → pointed digits ≡ 
 pointed_some [] some = absurd (omega arith)
 pointed_some (x ∷ xs) some = refl
 
-fraction_digits_case : (x : ℕ) (xs : List ℕ) (b : Bool) → x ≡ 46 → (prefix_len is_digit xs == 0) ≡ b → let cut : List ℕ × List ℕ = cond b ([], x ∷ xs) (take (prefix_len is_digit xs) xs, drop (prefix_len is_digit xs) xs) in FractionIs (x ∷ xs) cut.0 cut.1
+fraction_digits_case : (x : ℕ) (xs : List ℕ) (b : Bool) → x ≡ 46 → (prefix_len is_digit xs == 0) ≡ b
+    → let cut : List ℕ × List ℕ = cond b ([], x ∷ xs) (take (prefix_len is_digit xs) xs, drop (prefix_len is_digit xs) xs) in FractionIs (x ∷ xs) cut.0 cut.1
 fraction_digits_case x xs true point e =
     let n : prefix_len is_digit xs ≡ 0 = grind (arith, nat_tests) in
     let stops : begins_with is_digit (drop (prefix_len is_digit xs) xs) ≡ false = front_stops is_digit xs in
@@ -284,9 +315,17 @@ fraction_digits_case x xs false point e =
     let n : 0 < prefix_len is_digit xs = grind (arith, nat_tests) in
     let size = length-prefix_len is_digit xs in
     let text = pointed_some (take (prefix_len is_digit xs) xs) (omega arith) in
-    record { cut = rw (text, point) (ap (λ (t : List ℕ). 46 ∷ t) (sym (take-append-drop (prefix_len is_digit xs) xs))); are_digits = front_passes is_digit xs; none = λ z. absurd (omega arith) }
+    record {
+      cut = rw (text, point) (ap (λ (t : List ℕ). 46 ∷ t) (sym (take-append-drop (prefix_len is_digit xs) xs)));
+      are_digits =
+          front_passes is_digit xs;
+      none = λ z. absurd (omega arith);
+    }
 
-fraction_is_case : (x : ℕ) (xs : List ℕ) (b : Bool) → (x == 46) ≡ b → let cut : List ℕ × List ℕ = cond b (cond (prefix_len is_digit xs == 0) ([], x ∷ xs) (take (prefix_len is_digit xs) xs, drop (prefix_len is_digit xs) xs)) ([], x ∷ xs) in FractionIs (x ∷ xs) cut.0 cut.1
+fraction_is_case : (x : ℕ) (xs : List ℕ) (b : Bool) → (x == 46) ≡ b
+    → let cut : List ℕ × List ℕ =
+    cond b (cond (prefix_len is_digit xs == 0) ([], x ∷ xs) (take (prefix_len is_digit xs) xs, drop (prefix_len is_digit xs) xs)) ([], x ∷ xs) in
+    FractionIs (x ∷ xs) cut.0 cut.1
 fraction_is_case x xs true e = fraction_digits_case x xs (prefix_len is_digit xs == 0) (grind (arith, nat_tests)) refl
 fraction_is_case x xs false e = record { cut = refl; are_digits = refl; none = λ _. and_left (x == 46) (begins_with is_digit xs) e }
 
@@ -302,20 +341,29 @@ record NumberIs (whole fraction : List ℕ) (first : Token) : Type 0 where
   bounded : digits ≤ 2 ^ 63
   short : length fraction ≤ 9
 
-number_token_second : (whole fraction : List ℕ) (first : Token) (found : Option ℕ) → bounded_number (number_from 0 whole) fraction ≡ found → length fraction ≤ 9 → option_and_then (λ digits. Some (token.Number digits (length fraction))) found ≡ Some first → NumberIs whole fraction first
+number_token_second : (whole fraction : List ℕ) (first : Token) (found : Option ℕ) → bounded_number (number_from 0 whole) fraction ≡ found
+    → length fraction ≤ 9 → option_and_then (λ digits. Some (token.Number digits (length fraction))) found ≡ Some first → NumberIs whole fraction first
 number_token_second whole fraction first None read short e = absurd cc
 number_token_second whole fraction first (Some digits) read short e =
     let is = bounded_number_is (number_from 0 whole) fraction digits read in
     record { digits = digits; is = cc; value = number_from-append 0 whole fraction ∙ is.0; bounded = omega (arith, is.0, is.1); short = short }
 
-number_token_first : (whole fraction : List ℕ) (first : Token) (found : Option ℕ) → bounded_number 0 whole ≡ found → length fraction ≤ 9 → option_and_then (λ before. option_and_then (λ digits. Some (token.Number digits (length fraction))) (bounded_number before fraction)) found ≡ Some first → NumberIs whole fraction first
+number_token_first : (whole fraction : List ℕ) (first : Token) (found : Option ℕ) → bounded_number 0 whole ≡ found → length fraction ≤ 9
+    → option_and_then (λ before. option_and_then (λ digits. Some (token.Number digits (length fraction))) (bounded_number before fraction)) found ≡ Some first
+    → NumberIs whole fraction first
 number_token_first whole fraction first None read short e = absurd cc
 number_token_first whole fraction first (Some before) read short e =
     let is : before ≡ number_from 0 whole = sym (bounded_number_is 0 whole before read).0 in
-    let again : option_and_then (λ digits. Some (token.Number digits (length fraction))) (bounded_number (number_from 0 whole) fraction) ≡ Some first = rw (← is) e in
+    let again : option_and_then (λ digits. Some (token.Number digits (length fraction))) (bounded_number (number_from 0 whole) fraction) ≡ Some first =
+    rw (← is) e in
     number_token_second whole fraction first (bounded_number (number_from 0 whole) fraction) refl short again
 
-number_token_case : (whole fraction : List ℕ) (first : Token) (long : Bool) → nat_lt 9 (length fraction) ≡ long → cond long None (option_and_then (λ before. option_and_then (λ digits. Some (token.Number digits (length fraction))) (bounded_number before fraction)) (bounded_number 0 whole)) ≡ Some first → NumberIs whole fraction first
+number_token_case : (whole fraction : List ℕ) (first : Token) (long : Bool) → nat_lt 9 (length fraction) ≡ long
+    → cond long None
+    (option_and_then (λ before. option_and_then (λ digits. Some (token.Number digits (length fraction))) (bounded_number before fraction))
+    (bounded_number 0 whole))
+    ≡ Some first
+    → NumberIs whole fraction first
 number_token_case whole fraction first true long e = absurd cc
 number_token_case whole fraction first false short e = number_token_first whole fraction first (bounded_number 0 whole) refl (grind (arith, nat_tests)) e
 
@@ -323,16 +371,36 @@ number_token_is : (whole fraction : List ℕ) (first : Token) → number_token w
 unfolding number_token
 number_token_is whole fraction first e = number_token_case whole fraction first (nat_lt 9 (length fraction)) refl e
 
-number_at_case : (x : ℕ) (xs whole behind fraction after : List ℕ) (first : Token) (rest : List ℕ) (stops : Bool) → x ∷ xs ≡ whole ++ behind → list_all is_digit whole ≡ true → 0 < length whole → FractionIs behind fraction after → begins_with is_word_byte after ≡ stops → cond stops None (with_rest (number_token whole fraction) after) ≡ Some (first, rest) → Front (x ∷ xs) first rest
+number_at_case : (x : ℕ) (xs whole behind fraction after : List ℕ) (first : Token) (rest : List ℕ) (stops : Bool) → x ∷ xs ≡ whole ++ behind
+    → list_all is_digit whole ≡ true → 0 < length whole → FractionIs behind fraction after → begins_with is_word_byte after ≡ stops
+    → cond stops None (with_rest (number_token whole fraction) after) ≡ Some (first, rest) → Front (x ∷ xs) first rest
 number_at_case x xs whole behind fraction after first rest true cut digits some is stops e = absurd cc
 number_at_case x xs whole behind fraction after first rest false cut digits some is stops e =
     let parts = with_rest_is (number_token whole fraction) after first rest e in
     let number = number_token_is whole fraction first parts.0 in
-    let joined : x ∷ xs ≡ (whole ++ pointed fraction) ++ rest = cut ∙ ap (λ (t : List ℕ). whole ++ t) is.cut ∙ sym (append_assoc whole (pointed fraction) after) ∙ ap (λ (t : List ℕ). (whole ++ pointed fraction) ++ t) parts.1 in
-    let as_number : IsNumber number.digits (length fraction) (whole ++ pointed fraction) = record { whole = whole; fraction = fraction; spelled = refl; is_whole = (digits, some); is_fraction = (is.are_digits, refl, number.short); value = number.value; bounded = number.bounded } in
+    let joined : x ∷ xs ≡ (whole ++ pointed fraction) ++ rest = cut ∙ ap (λ (t : List ℕ). whole ++ t) is.cut
+    ∙ sym (append_assoc whole (pointed fraction) after) ∙ ap (λ (t : List ℕ). (whole ++ pointed fraction) ++ t) parts.1 in
+    let as_number : IsNumber number.digits (length fraction) (whole ++ pointed fraction) =
+    record {
+      whole = whole;
+      fraction = fraction;
+      spelled = refl;
+      is_whole = (digits, some);
+      is_fraction = (is.are_digits, refl, number.short);
+      value =
+          number.value;
+      bounded = number.bounded;
+    } in
     let last : begins_with is_word_byte rest ≡ false = rw (← parts.1) stops in
     let none : length fraction ≡ 0 → begins_with_fraction rest ≡ false = rw (← parts.1) is.none in
-    record { text = whole ++ pointed fraction; cut = joined; spelling = rw (← number.is) as_number; ends = rw (← number.is) (last, none); some = omega (arith, length-append whole (pointed fraction)) }
+    record {
+      text = whole ++ pointed fraction;
+      cut = joined;
+      spelling = rw (← number.is) as_number;
+      ends = rw (← number.is) (last, none);
+      some =
+          omega (arith, length-append whole (pointed fraction));
+    }
 
 number_at_is : (x : ℕ) (xs : List ℕ) (first : Token) (rest : List ℕ) → is_digit x ≡ true → number_at (x ∷ xs) ≡ Some (first, rest) → Front (x ∷ xs) first rest
 unfolding number_at
@@ -340,7 +408,9 @@ number_at_is x xs first rest digit e =
     let n = prefix_len is_digit (x ∷ xs) in
     let size = prefix_len-some is_digit x xs digit in
     let behind = fraction_of (drop n (x ∷ xs)) in
-    number_at_case x xs (take n (x ∷ xs)) (drop n (x ∷ xs)) behind.0 behind.1 first rest (begins_with is_word_byte behind.1) (sym (take-append-drop n (x ∷ xs))) (front_passes is_digit (x ∷ xs)) (omega (arith, length-prefix_len is_digit (x ∷ xs), size)) (fraction_is (drop n (x ∷ xs))) refl e
+    number_at_case x xs (take n (x ∷ xs)) (drop n (x ∷ xs)) behind.0 behind.1 first rest (begins_with is_word_byte behind.1)
+    (sym (take-append-drop n (x ∷ xs))) (front_passes is_digit (x ∷ xs)) (omega (arith, length-prefix_len is_digit (x ∷ xs), size))
+    (fraction_is (drop n (x ∷ xs))) refl e
 
 pub symbol_length : (text : List ℕ) → is_symbol_text text ≡ true → (0 < length text) × (length text ≤ 2)
 symbol_length [] is = absurd cc
@@ -351,9 +421,20 @@ symbol_length (x ∷ y ∷ z ∷ others) is = absurd cc
 longest_pair : (symbol : Symbol) (bytes rest : List ℕ) → 0 < length bytes → take 2 bytes ≡ symbol_text symbol → drop 2 bytes ≡ rest → IsLongest symbol rest
 longest_pair symbol bytes rest some text behind other after same =
     let short = symbol_length (symbol_text other) (symbol_is_text other) in
-    omega (arith, short.1, ap length text, ap length behind, ap length same, length-take 2 bytes, length-drop 2 bytes, length-append (symbol_text symbol) rest, length-append (symbol_text other) after)
+    omega (
+      arith,
+      short.1,
+      ap length text,
+      ap length behind,
+      ap length same,
+      length-take 2 bytes,
+      length-drop 2 bytes,
+      length-append (symbol_text symbol) rest,
+      length-append (symbol_text other) after,
+    )
 
-longest_single_case : (x : ℕ) (xs : List ℕ) (other : Symbol) (after text : List ℕ) → text ≡ symbol_text other → is_symbol_text text ≡ true → symbol_of (take 2 (x ∷ xs)) ≡ None → x ∷ xs ≡ text ++ after → length text ≤ 1
+longest_single_case : (x : ℕ) (xs : List ℕ) (other : Symbol) (after text : List ℕ) → text ≡ symbol_text other → is_symbol_text text ≡ true
+    → symbol_of (take 2 (x ∷ xs)) ≡ None → x ∷ xs ≡ text ++ after → length text ≤ 1
 longest_single_case x xs other after [] spelled is none same = omega arith
 longest_single_case x xs other after (a ∷ []) spelled is none same = omega arith
 longest_single_case x xs other after (a ∷ b ∷ []) spelled is none same =
@@ -368,27 +449,45 @@ longest_single symbol x xs text none other after same =
     let short = longest_single_case x xs other after (symbol_text other) refl (symbol_is_text other) none line in
     omega (arith, short, ap length text)
 
-symbol_at_second : (x : ℕ) (xs : List ℕ) (first : Token) (rest : List ℕ) (single : Option Symbol) → symbol_of (take 2 (x ∷ xs)) ≡ None → symbol_of (x ∷ []) ≡ single → with_rest (symbol_token single) xs ≡ Some (first, rest) → Front (x ∷ xs) first rest
+symbol_at_second : (x : ℕ) (xs : List ℕ) (first : Token) (rest : List ℕ) (single : Option Symbol) → symbol_of (take 2 (x ∷ xs)) ≡ None
+    → symbol_of (x ∷ []) ≡ single → with_rest (symbol_token single) xs ≡ Some (first, rest) → Front (x ∷ xs) first rest
 symbol_at_second x xs first rest None none read e = absurd cc
 symbol_at_second x xs first rest (Some symbol) none read e =
     let parts = with_rest_is (Some (token.Symbol symbol)) xs first rest e in
     let is : token.Symbol symbol ≡ first = cc in
     let text = symbol_of_is (x ∷ []) symbol read in
-    record { text = x ∷ []; cut = ap (λ (t : List ℕ). x ∷ t) parts.1; spelling = rw (← is) text; ends = rw (← is, ← parts.1) (longest_single symbol x xs text none); some = omega arith }
+    record {
+      text = x ∷ [];
+      cut = ap (λ (t : List ℕ). x ∷ t) parts.1;
+      spelling = rw (← is) text;
+      ends =
+          rw (← is, ← parts.1) (longest_single symbol x xs text none);
+      some = omega arith;
+    }
 
-symbol_at_case : (x : ℕ) (xs : List ℕ) (first : Token) (rest : List ℕ) (pair : Option Symbol) → symbol_of (take 2 (x ∷ xs)) ≡ pair → or_else (with_rest (symbol_token pair) (drop 2 (x ∷ xs))) (with_rest (symbol_token (symbol_of (x ∷ []))) xs) ≡ Some (first, rest) → Front (x ∷ xs) first rest
+symbol_at_case : (x : ℕ) (xs : List ℕ) (first : Token) (rest : List ℕ) (pair : Option Symbol) → symbol_of (take 2 (x ∷ xs)) ≡ pair
+    → or_else (with_rest (symbol_token pair) (drop 2 (x ∷ xs))) (with_rest (symbol_token (symbol_of (x ∷ []))) xs) ≡ Some (first, rest)
+    → Front (x ∷ xs) first rest
 symbol_at_case x xs first rest None read e = symbol_at_second x xs first rest (symbol_of (x ∷ [])) read refl e
 symbol_at_case x xs first rest (Some symbol) read e =
     let parts = with_rest_is (Some (token.Symbol symbol)) (drop 2 (x ∷ xs)) first rest e in
     let is : token.Symbol symbol ≡ first = cc in
     let text = symbol_of_is (take 2 (x ∷ xs)) symbol read in
-    record { text = take 2 (x ∷ xs); cut = sym (take-append-drop 2 (x ∷ xs)) ∙ ap (λ (t : List ℕ). take 2 (x ∷ xs) ++ t) parts.1; spelling = rw (← is) text; ends = rw (← is) (longest_pair symbol (x ∷ xs) rest (omega arith) text parts.1); some = omega (arith, length-take 2 (x ∷ xs)) }
+    record {
+      text = take 2 (x ∷ xs);
+      cut = sym (take-append-drop 2 (x ∷ xs))
+          ∙ ap (λ (t : List ℕ). take 2 (x ∷ xs) ++ t) parts.1;
+      spelling = rw (← is) text;
+      ends = rw (← is) (longest_pair symbol (x ∷ xs) rest (omega arith) text parts.1);
+      some = omega (arith, length-take 2 (x ∷ xs));
+    }
 
 symbol_at_is : (x : ℕ) (xs : List ℕ) (first : Token) (rest : List ℕ) → symbol_at (x ∷ xs) ≡ Some (first, rest) → Front (x ∷ xs) first rest
 unfolding symbol_at
 symbol_at_is x xs first rest e = symbol_at_case x xs first rest (symbol_of (take 2 (x ∷ xs))) refl e
 
-token_at_case : (x : ℕ) (xs : List ℕ) (first : Token) (rest : List ℕ) (letter digit : Bool) → is_letter x ≡ letter → is_digit x ≡ digit → cond letter (word_at (x ∷ xs)) (cond digit (number_at (x ∷ xs)) (symbol_at (x ∷ xs))) ≡ Some (first, rest) → Front (x ∷ xs) first rest
+token_at_case : (x : ℕ) (xs : List ℕ) (first : Token) (rest : List ℕ) (letter digit : Bool) → is_letter x ≡ letter → is_digit x ≡ digit
+    → cond letter (word_at (x ∷ xs)) (cond digit (number_at (x ∷ xs)) (symbol_at (x ∷ xs))) ≡ Some (first, rest) → Front (x ∷ xs) first rest
 token_at_case x xs first rest true digit a b e = word_at_is x xs first rest a e
 token_at_case x xs first rest false true a b e = number_at_is x xs first rest b e
 token_at_case x xs first rest false false a b e = symbol_at_is x xs first rest e
@@ -436,7 +535,8 @@ no_token : token_at [] ≡ None
 unfolding token_at
 no_token = refl
 
-spells_some : (tokens : List Token) (line : List ℕ) (first : Token) (rest : List ℕ) → token_at (behind_blanks line) ≡ Some (first, rest) → Spells tokens line → (others : List Token) × (tokens ≡ first ∷ others) × Spells others rest
+spells_some : (tokens : List Token) (line : List ℕ) (first : Token) (rest : List ℕ) → token_at (behind_blanks line) ≡ Some (first, rest) → Spells tokens line
+    → (others : List Token) × (tokens ≡ first ∷ others) × Spells others rest
 spells_some [] line first rest e spelled =
     let none = blank_line line spelled in
     let read : token_at (behind_blanks line) ≡ None = rw none no_token in
@@ -448,7 +548,8 @@ spells_some (token ∷ others) line first rest e (after, begins, more) =
     let behind : after ≡ rest = ap (λ (p : Token × List ℕ). p.1) pairs in
     (others, ap (λ (t : Token). t ∷ others) is, rw (← behind) more)
 
-tokens_step : (line : List ℕ) (first : Token) (rest : List ℕ) (found : Option (List Token)) → token_at (behind_blanks line) ≡ Some (first, rest) → TokensAre rest found → TokensAre line (option_map (λ others. first ∷ others) found)
+tokens_step : (line : List ℕ) (first : Token) (rest : List ℕ) (found : Option (List Token)) → token_at (behind_blanks line) ≡ Some (first, rest)
+    → TokensAre rest found → TokensAre line (option_map (λ others. first ∷ others) found)
 tokens_step line first rest (Some others) e are = (rest, begins_with_first line first rest e, are)
 tokens_step line first rest None e are = λ tokens spelled. (let parts = spells_some tokens line first rest e spelled in are parts.0 parts.2)
 
@@ -469,22 +570,31 @@ completes_start line (Some tokens) are = are
 pub completes_none : (line : List ℕ) → Completes line [] line
 completes_none line = record { by = completes_start line }
 
-completes_step : (line : List ℕ) (tokens : List Token) (first : Token) (found : Option (List Token)) → TokensAre line (option_map (λ others. tokens ++ others) (option_map (λ others. first ∷ others) found)) → TokensAre line (option_map (λ others. (tokens ++ first ∷ []) ++ others) found)
+completes_step : (line : List ℕ) (tokens : List Token) (first : Token) (found : Option (List Token))
+    → TokensAre line (option_map (λ others. tokens ++ others) (option_map (λ others. first ∷ others) found))
+    → TokensAre line (option_map (λ others. (tokens ++ first ∷ []) ++ others) found)
 completes_step line tokens first None are = are
 completes_step line tokens first (Some others) are = rw (append_assoc tokens (first ∷ []) others) are
 
-pub completes_more : (line : List ℕ) (tokens : List Token) (rest behind : List ℕ) (first : Token) (after : List ℕ) → Completes line tokens rest → behind ≡ drop (prefix_len is_blank rest) rest → token_at behind ≡ Some (first, after) → Completes line (tokens ++ first ∷ []) after
+pub completes_more : (line : List ℕ) (tokens : List Token) (rest behind : List ℕ) (first : Token) (after : List ℕ) → Completes line tokens rest
+    → behind ≡ drop (prefix_len is_blank rest) rest → token_at behind ≡ Some (first, after) → Completes line (tokens ++ first ∷ []) after
 completes_more line tokens rest behind first after so_far at e =
     let read : token_at (behind_blanks rest) ≡ Some (first, after) = rw (← at) e in
-    record { by = λ found are. completes_step line tokens first found (so_far.by (option_map (λ others. first ∷ others) found) (tokens_step rest first after found read are)) }
+    record {
+      by =
+          λ found are.
+          completes_step line tokens first found (so_far.by (option_map (λ others. first ∷ others) found) (tokens_step rest first after found read are));
+    }
 
-pub completes_end : (line : List ℕ) (tokens : List Token) (rest behind : List ℕ) → Completes line tokens rest → behind ≡ drop (prefix_len is_blank rest) rest → length behind ≡ 0 → Spells tokens line
+pub completes_end : (line : List ℕ) (tokens : List Token) (rest behind : List ℕ) → Completes line tokens rest → behind ≡ drop (prefix_len is_blank rest) rest
+    → length behind ≡ 0 → Spells tokens line
 completes_end line tokens rest behind so_far at none =
     let empty : behind_blanks rest ≡ [] = nil_from_length (behind_blanks rest) (rw (← at) none) in
     let whole : Spells (tokens ++ []) line = so_far.by (Some []) (tokens_end rest empty) in
     rw (append-nil tokens) at whole
 
-pub completes_fail : (line : List ℕ) (tokens : List Token) (rest behind : List ℕ) → Completes line tokens rest → behind ≡ drop (prefix_len is_blank rest) rest → 0 < length behind → token_at behind ≡ None → (others : List Token) → Spells others line → ⊥
+pub completes_fail : (line : List ℕ) (tokens : List Token) (rest behind : List ℕ) → Completes line tokens rest → behind ≡ drop (prefix_len is_blank rest) rest
+    → 0 < length behind → token_at behind ≡ None → (others : List Token) → Spells others line → ⊥
 completes_fail line tokens rest behind so_far at some e =
     so_far.by None (tokens_none rest (rw (← at) some) (rw (← at) e))
 
@@ -507,7 +617,8 @@ tokens_at_none : (line behind : List ℕ) → behind_blanks line ≡ behind → 
 tokens_at_none line [] at e = (Some [], tokens_end line at)
 tokens_at_none line (x ∷ xs) at e = (None, tokens_none line (omega (arith, ap length at)) e)
 
-tokens_case : (line : List ℕ) (found : Option (Token × List ℕ)) → ((rest : List ℕ) → length rest < length line → Tokenized rest) → token_at (behind_blanks line) ≡ found → Tokenized line
+tokens_case : (line : List ℕ) (found : Option (Token × List ℕ)) → ((rest : List ℕ) → length rest < length line → Tokenized rest)
+    → token_at (behind_blanks line) ≡ found → Tokenized line
 tokens_case line None shorter e = tokens_at_none line (behind_blanks line) refl e
 tokens_case line (Some (first, rest)) shorter e =
     let less = token_at_shorter (behind_blanks line) first rest e in

@@ -1,5 +1,6 @@
 -- Reading of bytes as tokens, and what a reading may answer.
-use Rattle.std.specs.Prelude.{◌≡◌, ℕ, ◌^◌, List, [], ◌∷◌, length, take, drop, find, Option, Some, None, Result, Ok, Err, ⊤, if◌then◌else◌, nat_le, nat_lt, ◌==◌, option_and_then}
+use Rattle.std.specs.Prelude.{◌≡◌, ℕ, ◌^◌, List, [], ◌∷◌, length, take, drop, find, Option, Some, None, Result, Ok, Err, ⊤, if◌then◌else◌, nat_le, nat_lt, ◌==◌}
+use Rattle.std.specs.Prelude.{option_and_then}
 use Rattle.std.specs.Borrow.{Bor}
 use Rattle.std.specs.List.{prefix_len}
 use Rattle.std.specs.Str.{bytes_eq}
@@ -112,12 +113,15 @@ bounded_number before digits =
 abbrev pub fraction_of : List ℕ → List ℕ × List ℕ
 fraction_of [] = ([], [])
 fraction_of (byte ∷ bytes) =
-    if byte == 46 then (if prefix_len is_digit bytes == 0 then ([], byte ∷ bytes) else (take (prefix_len is_digit bytes) bytes, drop (prefix_len is_digit bytes) bytes)) else ([], byte ∷ bytes)
+    if byte == 46 then
+    (if prefix_len is_digit bytes == 0 then ([], byte ∷ bytes) else (take (prefix_len is_digit bytes) bytes, drop (prefix_len is_digit bytes) bytes)) else
+    ([], byte ∷ bytes)
 
 -- The number with these digits before and behind its point.
 unfoldable pub number_token : List ℕ → List ℕ → Option Token
 number_token whole fraction =
-    if nat_lt 9 (length fraction) then None else option_and_then (λ before. option_and_then (λ digits. Some (token.Number digits (length fraction))) (bounded_number before fraction)) (bounded_number 0 whole)
+    if nat_lt 9 (length fraction) then None else option_and_then
+    (λ before. option_and_then (λ digits. Some (token.Number digits (length fraction))) (bounded_number before fraction)) (bounded_number 0 whole)
 
 -- The number at the front, as far as it goes.
 unfoldable pub number_at : List ℕ → Option (Token × List ℕ)

@@ -1,9 +1,11 @@
 -- What the rule comes to: each item once, and each place with one taker.
-use Rattle.std.proofs.Common.{◌≡◌, ◌≢◌, ◌==◌, ℕ, zero, suc, ◌+◌, ◌<◌, cond, true, false, List, [], ◌∷◌, ◌++◌, map, take, sym, refl, ap, ◌∙◌, subst, ⊎_elim, arith}
+use Rattle.std.proofs.Common.{◌≡◌, ◌≢◌, ◌==◌, ℕ, zero, suc, ◌+◌, ◌<◌, cond, true, false, List, [], ◌∷◌, ◌++◌, map, take, sym, refl, ap, ◌∙◌, subst, ⊎_elim}
+use Rattle.std.proofs.Common.{arith}
 use Rattle.std.specs.Prelude.{All, slice_get, Some, IsPermutation}
 use Rattle.std.proofs.lemmas.List.{take-append-drop}
 use Rattle.std.proofs.lemmas.List.Elements.{All-nil, All-cons, All-head, All-tail}
-use Rattle.std.proofs.lemmas.List.Sorted.{All-permutation, sum_by-IsPermutation, IsPermutation-refl, IsPermutation-sym, IsPermutation-trans, IsPermutation-middle, IsPermutation-append, IsPermutation-map, IsPermutation-cons, IsPermutation-to_front}
+use Rattle.std.proofs.lemmas.List.Sorted.{All-permutation, sum_by-IsPermutation, IsPermutation-refl, IsPermutation-sym, IsPermutation-trans}
+use Rattle.std.proofs.lemmas.List.Sorted.{IsPermutation-middle, IsPermutation-append, IsPermutation-map, IsPermutation-cons, IsPermutation-to_front}
 use Rattle.std.proofs.lemmas.List.Sums.{sum_by-cons, sum_by-append}
 use Rattle.std.proofs.lemmas.Bool.Decides.{eqb_tells}
 use native.Mathlib.Decide.{ℕ_discrete}
@@ -30,7 +32,8 @@ module _ {T : Type 0} where
 
   brings : (place : ℕ) (es : List (ℕ × T)) → 0 < times place es → Brought place es
   brings place [] some_there = absurd (omega arith)
-  brings place (e ∷ es) some_there = ⊎_elim (λ (h : (e.0 == place ≡ true) × (e.0 ≡ place)). record { entry = e; rest = es; place_is = h.1; moved = IsPermutation-refl (e ∷ es) })
+  brings place (e ∷ es) some_there =
+      ⊎_elim (λ (h : (e.0 == place ≡ true) × (e.0 ≡ place)). record { entry = e; rest = es; place_is = h.1; moved = IsPermutation-refl (e ∷ es) })
       (λ (h : (e.0 == place ≡ false) × (e.0 ≢ place)).
       let no : IsAt place e ≡ 0 = ap (λ b. cond {A = ℕ} b 1 0) h.0 in
       let behind : 0 < times place es = omega (arith, times-cons place e es) in
@@ -38,7 +41,8 @@ module _ {T : Type 0} where
         entry = b.entry;
         rest = e ∷ b.rest;
         place_is = b.place_is;
-        moved = IsPermutation-trans _ (e ∷ b.entry ∷ b.rest) _ (IsPermutation-cons e es (b.entry ∷ b.rest) b.moved) (IsPermutation-middle (e ∷ []) b.entry b.rest);
+        moved = IsPermutation-trans _ (e ∷ b.entry ∷ b.rest) _ (IsPermutation-cons e es (b.entry ∷ b.rest) b.moved)
+            (IsPermutation-middle (e ∷ []) b.entry b.rest);
       }) (eqb_tells e.0 place)
 
   abbrev Matches : List T → ℕ × T → Type 0
@@ -62,10 +66,14 @@ module _ {T : Type 0} where
   take_one (y ∷ ys) (suc k) x is = ap (λ l. y ∷ l) (take_one ys k x is)
 
   at_one : (k : ℕ) (e : ℕ × T) → e.0 ≡ k → IsAt k e ≡ 1
-  at_one k e is = ⊎_elim (λ (h : (e.0 == k ≡ true) × (e.0 ≡ k)). ap (λ b. cond {A = ℕ} b 1 0) h.0) (λ (h : (e.0 == k ≡ false) × (e.0 ≢ k)). absurd (h.1 is)) (eqb_tells e.0 k)
+  at_one k e is =
+      ⊎_elim (λ (h : (e.0 == k ≡ true) × (e.0 ≡ k)). ap (λ b. cond {A = ℕ} b 1 0) h.0) (λ (h : (e.0 == k ≡ false) × (e.0 ≢ k)). absurd (h.1 is))
+      (eqb_tells e.0 k)
 
   at_none : (k : ℕ) (e : ℕ × T) → e.0 ≢ k → IsAt k e ≡ 0
-  at_none k e other = ⊎_elim (λ (h : (e.0 == k ≡ true) × (e.0 ≡ k)). absurd (other h.1)) (λ (h : (e.0 == k ≡ false) × (e.0 ≢ k)). ap (λ b. cond {A = ℕ} b 1 0) h.0) (eqb_tells e.0 k)
+  at_none k e other =
+      ⊎_elim (λ (h : (e.0 == k ≡ true) × (e.0 ≡ k)). absurd (other h.1)) (λ (h : (e.0 == k ≡ false) × (e.0 ≢ k)). ap (λ b. cond {A = ℕ} b 1 0) h.0)
+      (eqb_tells e.0 k)
 
   -- what was taken is the puts below front
   taken_once : (puts : List T) (k : ℕ) (es : List (ℕ × T)) → All (Before k) es → ((place : ℕ) → place < k → times place es ≡ 1) → All (Matches puts) es
@@ -81,16 +89,19 @@ module _ {T : Type 0} where
       let below' = All-permutation (Before (suc k)) es (e ∷ rest) b.moved below in
       let matching' = All-permutation (Matches puts) es (e ∷ rest) b.moved matching in
       let none : times k rest ≡ 0 = omega (arith, split k, at_one k e b.place_is, one) in
-      let once' = λ (place : ℕ) (less : place < k). let other : e.0 ≢ place = omega (arith, b.place_is) in let p : times place rest ≡ 1 = omega (arith, split place, at_none place e other, once place (omega arith)) in p in
+      let once' = λ (place : ℕ) (less : place < k). let other : e.0 ≢ place = omega (arith, b.place_is) in
+      let p : times place rest ≡ 1 = omega (arith, split place, at_none place e other, once place (omega arith)) in p in
       let behind = taken_once puts k rest (narrower k rest (All-tail (Before (suc k)) e rest below') none) once' (All-tail (Matches puts) e rest matching') in
       let here : slice_get puts k ≡ Some e.1 = ap (slice_get puts) (sym b.place_is) ∙ All-head (Matches puts) e rest matching' in
       subst (λ l. IsPermutation (map (λ (x : ℕ × T). x.1) es) l) (sym (take_one puts k e.1 here))
       (IsPermutation-trans _ (e.1 ∷ map (λ (x : ℕ × T). x.1) rest) _ (IsPermutation-map (λ (x : ℕ × T). x.1) es (e ∷ rest) b.moved)
       (IsPermutation-trans _ (e.1 ∷ take k puts) _ (IsPermutation-cons e.1 _ _ behind) (IsPermutation-sym _ _ (IsPermutation-to_front (take k puts) e.1))))
 
-  none_of : (views : List (View T)) (port : ℕ) (v : View T) (place : ℕ) → times place (all_taken views) ≡ 0 → get_elem? views port ≡ some v → times place (taken v) ≡ 0
+  none_of : (views : List (View T)) (port : ℕ) (v : View T) (place : ℕ) → times place (all_taken views) ≡ 0 → get_elem? views port ≡ some v
+      → times place (taken v) ≡ 0
   none_of [] port v place none at = absurd (some-ne-none v (sym at))
-  none_of (u ∷ us) zero v place none at = ap (λ (y : View T). times place (taken y)) (sym (some-injective u v at)) ∙ omega (arith, times-append place (taken u) (all_taken us), none)
+  none_of (u ∷ us) zero v place none at = ap (λ (y : View T). times place (taken y)) (sym (some-injective u v at))
+      ∙ omega (arith, times-append place (taken u) (all_taken us), none)
   none_of (u ∷ us) (suc port) v place none at = none_of us port v place (omega (arith, times-append place (taken u) (all_taken us), none)) at
 
   later_alone : (u : View T) (us : List (View T)) (place : ℕ) → times place (taken u) ≡ 0 → (r : HasOneTaker us place)
@@ -98,7 +109,8 @@ module _ {T : Type 0} where
   later_alone u us place none r zero v apart at = ap (λ (y : View T). times place (taken y)) (sym (some-injective u v at)) ∙ none
   later_alone u us place none r (suc n) v apart at = r.alone n v (λ e. apart (ap suc e)) at
 
-  first_alone : (u : View T) (us : List (View T)) (place : ℕ) → times place (all_taken us) ≡ 0 → (other : ℕ) (v : View T) → other ≢ 0 → get_elem? (u ∷ us) other ≡ some v → times place (taken v) ≡ 0
+  first_alone : (u : View T) (us : List (View T)) (place : ℕ) → times place (all_taken us) ≡ 0 → (other : ℕ) (v : View T) → other ≢ 0
+      → get_elem? (u ∷ us) other ≡ some v → times place (taken v) ≡ 0
   first_alone u us place none zero v apart at = absurd (apart refl)
   first_alone u us place none (suc n) v apart at = none_of us n v place none at
 
@@ -118,7 +130,11 @@ module _ {T : Type 0} where
   one_taker [] place one = absurd (omega arith)
   one_taker (u ∷ us) place one =
       let sum : times place (taken u) + times place (all_taken us) ≡ 1 = sym (times-append place (taken u) (all_taken us)) ∙ one in
-      elim (ℕ_discrete (times place (taken u)) 0) [ yes none ↦ later_taker u us place none (one_taker us place (omega (arith, none, sum))) | no some_here ↦ first_taker u us place (omega (arith, some_here, sum)) (omega (arith, some_here, sum)) ]
+      elim (ℕ_discrete (times place (taken u)) 0) [
+        | yes none ↦ later_taker u us place none (one_taker us place (omega (arith, none, sum)))
+        | no some_here ↦
+            first_taker u us place (omega (arith, some_here, sum)) (omega (arith, some_here, sum))
+      ]
 
 pub each_item_once : (T : Type 0) → IsEachItemOnce T
 each_item_once T queue views state =

@@ -1,9 +1,11 @@
 -- Each step keeps the rule of a deque.
-use Rattle.std.proofs.Common.{◌≡◌, ◌==◌, ℕ, zero, suc, ◌+◌, ◌<◌, cond, List, [], ◌∷◌, ◌++◌, length, drop, set, sym, refl, ap, ◌∙◌, subst, arith, append_assoc, length-append, zero-add, rules}
+use Rattle.std.proofs.Common.{◌≡◌, ◌==◌, ℕ, zero, suc, ◌+◌, ◌<◌, cond, List, [], ◌∷◌, ◌++◌, length, drop, set, sym, refl, ap, ◌∙◌, subst, arith, append_assoc}
+use Rattle.std.proofs.Common.{length-append, zero-add, rules}
 use Rattle.std.specs.Prelude.{All, count_by, slice_get, Option, Some, None, MatchOption, IfSome, IsPermutation}
 use Rattle.std.proofs.lemmas.List.{drop-append-le}
 use Rattle.std.proofs.lemmas.List.Elements.{All-nil, All-cons, All-head, All-tail, All-set, All-push, All-weaker, All-take, All-drop}
-use Rattle.std.proofs.lemmas.List.Sorted.{All-permutation, sum_by-IsPermutation, IsPermutation-refl, IsPermutation-sym, IsPermutation-trans, IsPermutation-middle, IsPermutation-append}
+use Rattle.std.proofs.lemmas.List.Sorted.{All-permutation, sum_by-IsPermutation, IsPermutation-refl, IsPermutation-sym, IsPermutation-trans}
+use Rattle.std.proofs.lemmas.List.Sorted.{IsPermutation-middle, IsPermutation-append}
 use Rattle.std.proofs.lemmas.List.Sums.{sum_by-cons}
 use Rattle.std.proofs.lemmas.Bool.Decides.{nat_tests}
 use native.Mathlib.Decide.{ℕ_discrete}
@@ -25,14 +27,25 @@ module _ {T : Type 0} where
 
   -- a deque that was just made
   pub begins : IsInOrder {T = T} [] (Owner [] [] ∷ [])
-  begins = record { puts = []; front = 0; owner = ([], [], refl, All-nil _); queued = (search rules, refl); below = All-nil _; once = λ place h. absurd (omega arith); matching = All-nil _ }
+  begins = record {
+    puts = [];
+    front = 0;
+    owner = ([], [], refl, All-nil _);
+    queued = (search rules, refl);
+    below = All-nil _;
+    once =
+        λ place h. absurd (omega arith);
+    matching = All-nil _;
+  }
 
   -- an end that takes one more adds one to what all took
-  grows : (views : List (View T)) (port : ℕ) (v w : View T) (e : ℕ × T) → get_elem? views port ≡ some v → taken w ≡ taken v ++ e ∷ [] → IsPermutation (e ∷ all_taken views) (all_taken (set views port w))
+  grows : (views : List (View T)) (port : ℕ) (v w : View T) (e : ℕ × T) → get_elem? views port ≡ some v → taken w ≡ taken v ++ e ∷ []
+      → IsPermutation (e ∷ all_taken views) (all_taken (set views port w))
   grows [] port v w e at add = absurd (some-ne-none v (sym at))
   grows (u ∷ us) zero v w e at add =
       let is : u ≡ v = some-injective u v at in
-      let all : taken w ++ all_taken us ≡ taken u ++ e ∷ all_taken us = ap (λ l. l ++ all_taken us) (add ∙ ap (λ (y : View T). taken y ++ e ∷ []) (sym is)) ∙ append_assoc (taken u) (e ∷ []) (all_taken us) in
+      let all : taken w ++ all_taken us ≡ taken u ++ e ∷ all_taken us = ap (λ l. l ++ all_taken us) (add ∙ ap (λ (y : View T). taken y ++ e ∷ []) (sym is))
+      ∙ append_assoc (taken u) (e ∷ []) (all_taken us) in
       subst (λ l. IsPermutation (e ∷ (taken u ++ all_taken us)) l) (sym all) (IsPermutation-sym _ _ (IsPermutation-middle (taken u) e (all_taken us)))
   grows (u ∷ us) (suc port) v w e at add =
       IsPermutation-trans _ (taken u ++ e ∷ all_taken us) _ (IsPermutation-sym _ _ (IsPermutation-middle (taken u) e (all_taken us)))
@@ -52,7 +65,8 @@ module _ {T : Type 0} where
   mine : (P : ℕ × T → Type 0) (views : List (View T)) (port : ℕ) (v : View T) → All P (all_taken views) → get_elem? views port ≡ some v → All P (taken v)
   mine P [] port v all at = absurd (some-ne-none v (sym at))
   mine P (u ∷ us) zero v all at =
-      subst (λ (y : View T). All P (taken y)) (some-injective u v at) (subst (All P) (take-append_seam (taken u) (all_taken us)) (All-take P (length (taken u)) _ all))
+      subst (λ (y : View T). All P (taken y)) (some-injective u v at)
+      (subst (All P) (take-append_seam (taken u) (all_taken us)) (All-take P (length (taken u)) _ all))
   mine P (u ∷ us) (suc port) v all at = mine P us port v (subst (All P) (drop-append_seam (taken u) (all_taken us)) (All-drop P (length (taken u)) _ all)) at
 
   all_at : (P : View T → Type 0) (views : List (View T)) (port : ℕ) (v : View T) → All P views → get_elem? views port ≡ some v → P v
@@ -61,7 +75,8 @@ module _ {T : Type 0} where
   all_at P (u ∷ us) (suc port) v all at = all_at P us port v (All-tail P u us all) at
 
   -- the first of what is left is the put of its place
-  first_of : (puts : List T) (k : ℕ) (x : T) (items : List T) → x ∷ items ≡ drop k puts → (k < length puts) × (items ≡ drop (suc k) puts) × (slice_get puts k ≡ Some x)
+  first_of : (puts : List T) (k : ℕ) (x : T) (items : List T) → x ∷ items ≡ drop k puts
+      → (k < length puts) × (items ≡ drop (suc k) puts) × (slice_get puts k ≡ Some x)
   first_of [] zero x items e = cc
   first_of [] (suc k) x items e = cc
   first_of (y ∷ ys) zero x items e = (omega arith, cc, cc)
@@ -119,25 +134,34 @@ module _ {T : Type 0} where
       let w : View T = after_take v h.front x in
       let on : suc h.front ≡ h.front + 1 = omega arith in
       let next = first_of h.puts h.front x items h.queued.1 in
-      let more : IsPermutation ((h.front, x) ∷ all_taken views) (all_taken (set views port w)) = grows views port v w (h.front, x) at (taken-after_take v h.front x) in record {
+      let more : IsPermutation ((h.front, x) ∷ all_taken views) (all_taken (set views port w)) =
+      grows views port v w (h.front, x) at (taken-after_take v h.front x) in
+      record {
         puts = h.puts;
         front = h.front + 1;
         owner = owned;
         queued = (omega (arith, next.0), next.1 ∙ ap (λ (k : ℕ). drop k h.puts) on);
-        below = All-permutation (Before (h.front + 1)) _ _ more (All-cons (Before (h.front + 1)) (h.front, x) (all_taken views) (omega arith) (All-weaker (Before h.front) (Before (h.front + 1)) (λ e less. omega arith) _ h.below));
+        below = All-permutation (Before (h.front + 1)) _ _ more
+            (All-cons (Before (h.front + 1)) (h.front, x) (all_taken views) (omega arith)
+            (All-weaker (Before h.front) (Before (h.front + 1)) (λ e less. omega arith) _ h.below));
         once = λ place less. sum_by-IsPermutation (IsAt place) _ _ more ∙ counted (all_taken views) h.front x h.below h.once place less;
-        matching = All-permutation (λ (e : ℕ × T). slice_get h.puts e.0 ≡ Some e.1) _ _ more (All-cons (λ (e : ℕ × T). slice_get h.puts e.0 ≡ Some e.1) (h.front, x) (all_taken views) next.2 h.matching);
+        matching =
+            All-permutation (λ (e : ℕ × T). slice_get h.puts e.0 ≡ Some e.1) _ _ more
+            (All-cons (λ (e : ℕ × T). slice_get h.puts e.0 ≡ Some e.1) (h.front, x) (all_taken views) next.2 h.matching);
       }
 
-  owned_take : (puts : List T) (got : List (ℕ × T)) (others : List (View T)) (port : ℕ) (v : View T) (place : ℕ) (x : T) → All IsThief others → slice_get puts place ≡ Some x
+  owned_take : (puts : List T) (got : List (ℕ × T)) (others : List (View T)) (port : ℕ) (v : View T) (place : ℕ) (x : T) → All IsThief others
+      → slice_get puts place ≡ Some x
       → get_elem? (Owner puts got ∷ others) port ≡ some v → Owned puts (set (Owner puts got ∷ others) port (after_take v place x)) × IsPut v place x
   owned_take puts got others zero v place x thieves is at =
       let same : Owner puts got ≡ v = some-injective (Owner puts got) v at in
       let P : View T → Type 0 = λ y. Owned puts (after_take y place x ∷ others) × IsPut y place x in
       subst P same ((got ++ (place, x) ∷ [], others, refl, thieves), is)
   owned_take puts got others (suc n) v place x thieves is at =
-      let thief : IsThief v = all_at IsThief others n v thieves at in
-      ((got, set others n (after_take v place x), refl, All-set IsThief others n (after_take v place x) (thief_after v place x thief) thieves), thief_put v place x thief)
+      let thief : IsThief v = all_at IsThief others n v thieves at in (
+        (got, set others n (after_take v place x), refl, All-set IsThief others n (after_take v place x) (thief_after v place x thief) thieves),
+        thief_put v place x thief,
+      )
 
   -- taking the first item keeps the rule, at any end
   pub takes : (port : ℕ) (v : View T) → Takes IsInOrder port v 1 (steps.Takes v)
@@ -160,7 +184,8 @@ module _ {T : Type 0} where
       )
 
   -- a put by the first end keeps the rule
-  puts_first : (xs items : List T) (views : List (View T)) (h : IsInOrder items views) (v : View T) → get_elem? views 0 ≡ some v → IsInOrder (items ++ xs) (set views 0 (after_put v xs))
+  puts_first : (xs items : List T) (views : List (View T)) (h : IsInOrder items views) (v : View T) → get_elem? views 0 ≡ some v
+      → IsInOrder (items ++ xs) (set views 0 (after_put v xs))
   puts_first xs items views h v at =
       let P : List (View T) → Type 0 = λ vs. get_elem? vs 0 ≡ some v → Owned (h.puts ++ xs) (set vs 0 (after_put v xs)) × (taken (after_put v xs) ≡ taken v) in
       let owned = λ (e : get_elem? (Owner h.puts h.owner.0 ∷ h.owner.1) 0 ≡ some v).
@@ -174,7 +199,10 @@ module _ {T : Type 0} where
         queued = (omega (arith, h.queued.0, length-append h.puts xs), ap (λ l. l ++ xs) h.queued.1 ∙ sym (drop-append-le h.front h.puts xs h.queued.0));
         below = subst (All (Before h.front)) (sym same) h.below;
         once = λ place less. ap (λ (l : List (ℕ × T)). count_by (λ e. e.0 == place) l) same ∙ h.once place less;
-        matching = subst (All (λ (e : ℕ × T). slice_get (h.puts ++ xs) e.0 ≡ Some e.1)) (sym same) (All-weaker (λ (e : ℕ × T). slice_get h.puts e.0 ≡ Some e.1) (λ (e : ℕ × T). slice_get (h.puts ++ xs) e.0 ≡ Some e.1) (λ e is. get_longer h.puts xs e.0 e.1 is) _ h.matching);
+        matching =
+            subst (All (λ (e : ℕ × T). slice_get (h.puts ++ xs) e.0 ≡ Some e.1)) (sym same)
+            (All-weaker (λ (e : ℕ × T). slice_get h.puts e.0 ≡ Some e.1) (λ (e : ℕ × T). slice_get (h.puts ++ xs) e.0 ≡ Some e.1)
+            (λ e is. get_longer h.puts xs e.0 e.1 is) _ h.matching);
       }
 
   pub puts : (port : ℕ) (v : View T) (xs : List T) → port ≡ 0 → Pushes IsInOrder port v xs (λ w. w ≡ after_put v xs)
@@ -204,7 +232,8 @@ module _ {T : Type 0} where
   finds_few most port v none (x ∷ items) views few h at = absurd (omega arith)
 
   -- what a take of an owner's end tells of the hand
-  pub hand_takes : (deque deque' : ℕ × ℕ) (v w : View T) (puts : List T) (got : List (ℕ × T)) (x : T) → deque' ≡ deque → v ≡ Owner puts got → TakesFirst v x w → HandTakes (owner_state deque v) (owner_state deque' w) x
+  pub hand_takes : (deque deque' : ℕ × ℕ) (v w : View T) (puts : List T) (got : List (ℕ × T)) (x : T) → deque' ≡ deque → v ≡ Owner puts got → TakesFirst v x w
+      → HandTakes (owner_state deque v) (owner_state deque' w) x
   hand_takes deque deque' v w puts got x same is t =
       let P : View T → Type 0 = λ y. TakesFirst y x w → HandTakes (owner_state deque y) (owner_state deque' w) x in
       subst P (sym is) (λ (s : TakesFirst (Owner puts got) x w). record {
@@ -216,7 +245,8 @@ module _ {T : Type 0} where
       }) t
 
   pub hand_next : (r : Option T) (E : Type 0) (deque deque' : ℕ × ℕ) (v w : View T) (puts : List T) (got : List (ℕ × T)) (old : HandState T)
-      → owner_state deque v ≡ old → deque' ≡ deque → v ≡ Owner puts got → MatchOption r E (λ x. TakesFirst v x w) → IfSome r (HandTakes old (owner_state deque' w))
+      → owner_state deque v ≡ old → deque' ≡ deque → v ≡ Owner puts got → MatchOption r E (λ x. TakesFirst v x w)
+      → IfSome r (HandTakes old (owner_state deque' w))
   hand_next None E deque deque' v w puts got old seen same is m = tt
   hand_next (Some x) E deque deque' v w puts got old seen same is m =
       subst (λ (s : HandState T). HandTakes s (owner_state deque' w) x) seen (hand_takes deque deque' v w puts got x same is m)

@@ -7,7 +7,8 @@ use Rattle.ticket_deque.specs.declared.view.View.{View}
 
 -- the items that all ends took, together with those in the queue, are the puts, each once
 abbrev pub IsEachItemOnce : Type 0 → Type 0
-IsEachItemOnce T = (queue : List T) (views : List (View T)) (state : IsInOrder queue views) → IsPermutation (map (λ e. e.1) (all_taken views) ++ queue) state.puts
+IsEachItemOnce T = (queue : List T) (views : List (View T)) (state : IsInOrder queue views)
+    → IsPermutation (map (λ e. e.1) (all_taken views) ++ queue) state.puts
 
 module _ {T : Type 0} where
   -- one end took this place, once, and no other did

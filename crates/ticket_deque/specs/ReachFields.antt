@@ -9,7 +9,13 @@ use Rattle.ticket_deque.specs.declared.reach.Reach.TheInside.{Inside}
 
 module _ {T : Type 0} where
   abbrev pub reach_state : Inside T → ReachState T
-  reach_state r = record { deque = (stealer_deque r.stealer).0; taken = taken (view (out-Passes T r.passes.value).own); joined = entries_below (out-Passes T r.passes.value).joined }
+  reach_state r =
+      record {
+        deque = (stealer_deque r.stealer).0;
+        taken = taken (view (out-Passes T r.passes.value).own);
+        joined =
+            entries_below (out-Passes T r.passes.value).joined;
+      }
 
   -- it steals at the front, by a pass that is no owner's, and all its passes are of that deque
   pub record IsReach (r : Inside T) : Type 0 where

@@ -1,6 +1,7 @@
 -- The texts of words call for no quotes: all their bytes are the minus sign or come behind it, and the bytes that do call
 -- for quotes come before it.
-use Rattle.std.proofs.Common.{◌≡◌, ◌≤◌, ◌<◌, ◌^◌, ◌++◌, ◌∷◌, [], ℕ, ℤ, zero, suc, List, Bool, true, false, take, drop, replicate, refl, ap, cond, arith, pos, negsuc, unsigned_abs}
+use Rattle.std.proofs.Common.{◌≡◌, ◌≤◌, ◌<◌, ◌^◌, ◌++◌, ◌∷◌, [], ℕ, ℤ, zero, suc, List, Bool, true, false, take, drop, replicate, refl, ap, cond, arith, pos}
+use Rattle.std.proofs.Common.{negsuc, unsigned_abs}
 use Rattle.std.proofs.lemmas.Bool.{ne_eqb, and_parts}
 use Rattle.std.specs.Fmt.{decimal, signed_decimal}
 use Rattle.std.specs.Int.{is_negative}
@@ -21,7 +22,12 @@ AreHigh bytes = AllByRecursion (λ byte. 45 ≤ byte) bytes
 
 byte_bare : (byte : ℕ) → 45 ≤ byte → needs_byte (quoting_in style.Necessary) byte ≡ false
 byte_bare byte high =
-    rw (ne_eqb byte 44 (λ e. omega (arith, e)), ne_eqb byte 34 (λ e. omega (arith, e)), ne_eqb byte 13 (λ e. omega (arith, e)), ne_eqb byte 10 (λ e. omega (arith, e))) refl
+    rw (
+      ne_eqb byte 44 (λ e. omega (arith, e)),
+      ne_eqb byte 34 (λ e. omega (arith, e)),
+      ne_eqb byte 13 (λ e. omega (arith, e)),
+      ne_eqb byte 10 (λ e. omega (arith, e)),
+    ) refl
 
 all_bare : (bytes : List ℕ) → AreHigh bytes → needs_quotes (quoting_in style.Necessary) bytes ≡ false
 all_bare [] high = refl
@@ -88,7 +94,9 @@ high_word : (ty : Ty) (word : ℤ) → unsigned_abs word < 2 ^ 64 → AreHigh (t
 high_word types.Bool (pos zero) fits = high_truth false
 high_word types.Bool (pos (suc n)) fits = high_truth true
 high_word types.Bool (negsuc n) fits = high_truth true
-high_word (types.Fixed decimals) word fits = high_append (sign_text (is_negative word)) (fixed_text decimals (unsigned_abs word)) (high_sign (is_negative word)) (high_fixed decimals (unsigned_abs word) fits)
+high_word (types.Fixed decimals) word fits =
+    high_append (sign_text (is_negative word)) (fixed_text decimals (unsigned_abs word)) (high_sign (is_negative word))
+    (high_fixed decimals (unsigned_abs word) fits)
 high_word types.Int8 word fits = high_signed word fits
 high_word types.UInt8 word fits = high_signed word fits
 high_word types.Int16 word fits = high_signed word fits

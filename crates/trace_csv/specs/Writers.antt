@@ -17,7 +17,8 @@ IsBare quoting field = field_text (quoting_in quoting) field ≡ field
 
 -- The writer, which quotes in the style, has written some text, and behind it these fields of a line that it has not ended,
 -- joined by commas.
-pub record HasFields {W : Type 0} (contents : W → Option (List ℕ)) (quoting : QuoteStyle) (before : List ℕ) (writer : Writer W) (fields : List (List ℕ)) : Type 0 where
+pub record HasFields {W : Type 0} (contents : W → Option (List ℕ)) (quoting : QuoteStyle) (before : List ℕ) (writer : Writer W)
+    (fields : List (List ℕ)) : Type 0 where
   pub setup : writer_setup writer ≡ quoting_in quoting
   pub quotes : quoting ≢ style.NonNumeric
   pub count : fields_written writer ≡ min (length fields) (2 ^ 64 - 1)

@@ -33,21 +33,35 @@ each_at P (first ∷ xs) (suc number) x all is = each_at P xs number x all.1 is
 
 plain_units : (system : System) → system.version ≡ 2 → (plain_form system).units ≡ map plain_unit system.units
 plain_units system is =
-    ap (λ version. (cond (version == 2) (record system { units = map plain_unit system.units; wires = flat_map (plain_wires system) system.wires; samples = samples_or_all system }) system).units) is
+    ap
+    (λ version. (cond (version == 2)
+    (record system {
+      units = map plain_unit system.units;
+      wires = flat_map (plain_wires system) system.wires;
+      samples =
+          samples_or_all system;
+    }) system).units) is
 
 module _ (system : System) (ranged : IsRanged system) (well : IsWellFormed system) where
   declared : (number : ℕ) (unit : Unit) → slice_get system.units number ≡ Some unit → Declares (Passes system) unit
   declared number unit is = declares (Passes system) unit (unit_passes system ranged well number unit is)
 
   -- The same of the unit of a number, in what is run of it.
-  compiles : (number : ℕ) (unit : Unit) → slice_get system.units number ≡ Some unit → (params : List ℤ) → length params ≡ length unit.params → IsCompilable (plain_unit unit) params
+  compiles : (number : ℕ) (unit : Unit) → slice_get system.units number ≡ Some unit → (params : List ℤ) → length params ≡ length unit.params
+      → IsCompilable (plain_unit unit) params
   compiles number unit is params each = compilable system unit (declared number unit is) params each
 
-  by_version : (system.version ≡ 1) ⊎ (system.version ≡ 2) → (number : ℕ) (unit : Unit) → slice_get (plain_form system).units number ≡ Some unit → (params : List ℤ) → length params ≡ length unit.params → IsCompilable unit params
+  by_version : (system.version ≡ 1) ⊎ (system.version ≡ 2) → (number : ℕ) (unit : Unit) → slice_get (plain_form system).units number ≡ Some unit
+      → (params : List ℤ) → length params ≡ length unit.params → IsCompilable unit params
   by_version (inl first) number unit is params each =
       let here : slice_get system.units number ≡ Some unit = ap (λ (s : System). slice_get s.units number) (sym (plain_form_1 system first)) ∙ is in
-      let none = each_at (λ (u : Unit). (u.events_in ≡ []) × (u.events_out ≡ [])) system.units number unit (version_1_without_events system ranged first) here in
-      let same = unit_stays system first unit (declared number unit here) none.0 none.1 (λ output has. passes_at system unit (declared number unit here) params each (OfOutput output) (output_has system unit (declared number unit here) params each output has)) in
+      let none =
+      each_at (λ (u : Unit). (u.events_in ≡ []) × (u.events_out ≡ [])) system.units number unit (version_1_without_events system ranged first) here in
+      let same =
+      unit_stays system first unit (declared number unit here) none.0 none.1
+      (λ output has.
+      passes_at system unit (declared number unit here) params each (OfOutput output)
+      (output_has system unit (declared number unit here) params each output has)) in
       subst (λ (u : Unit). IsCompilable u params) same (compiles number unit here params each)
   by_version (inr second) number unit is params each =
       let made = mapped_at plain_unit system.units number unit (ap (λ (units : List Unit). slice_get units number) (sym (plain_units system second)) ∙ is) in
@@ -55,4 +69,6 @@ module _ (system : System) (ranged : IsRanged system) (well : IsWellFormed syste
       subst (λ (u : Unit). IsCompilable u params) made.is (compiles number made.one made.at params same_count)
 
 pub checked_units : CheckedUnitsAreCompilable
-checked_units = λ system ranged well number unit is params each. by_version system ranged well (one_or_two system.version ranged.version.0 ranged.version.1) number unit is params each
+checked_units =
+    λ system ranged well number unit is params each.
+    by_version system ranged well (one_or_two system.version ranged.version.0 ranged.version.1) number unit is params each

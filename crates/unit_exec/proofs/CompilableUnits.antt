@@ -1,5 +1,6 @@
 -- What is run of a unit of a system in range that is well-formed may be compiled.
-use Rattle.std.proofs.Common.{◌≡◌, ◌⊎◌, ℕ, ◌≤◌, Bool, true, false, ℤ, List, [], ◌∷◌, ◌++◌, map, length, Option, Some, None, inl, inr, refl, sym, ap, ◌∙◌, subst, arith}
+use Rattle.std.proofs.Common.{◌≡◌, ◌⊎◌, ℕ, ◌≤◌, Bool, true, false, ℤ, List, [], ◌∷◌, ◌++◌, map, length, Option, Some, None, inl, inr, refl, sym, ap, ◌∙◌, subst}
+use Rattle.std.proofs.Common.{arith}
 use Rattle.std.specs.Prelude.{◌||◌, not, nat_lt, is_none}
 use Rattle.std.specs.List.{AllByRecursion, flat_map}
 use Rattle.std.specs.Option.{option_map, IfSome}
@@ -19,7 +20,8 @@ use Rattle.unit_tree.specs.Canonical.{optional}
 use Rattle.unit_tree.specs.Components.{variables_of}
 use Rattle.unit_tree.specs.Costs.{expression_call_cost, step_call_cost}
 use Rattle.unit_tree.specs.Kinds.{is_of_kind, has_kind, kind_of_expression}
-use Rattle.unit_tree.specs.Names.{names_in, events_asked_in, depth_of, is_among, are_among, event_input_names, output_uses, max_uses, step_uses, keeps_to, Uses, kinds_in, type_in}
+use Rattle.unit_tree.specs.Names.{names_in, events_asked_in, depth_of, is_among, are_among, event_input_names, output_uses, max_uses, step_uses, keeps_to, Uses}
+use Rattle.unit_tree.specs.Names.{kinds_in, type_in}
 use Rattle.unit_tree.specs.Parts as parts
 use Rattle.unit_tree.specs.Parts.{UnitPart, line_forms}
 use Rattle.unit_tree.specs.Plain.{plain_expression, presence_of, word_expression_of, plain_line, plain_output, plain_outputs, plain_unit}
@@ -37,12 +39,14 @@ use Rattle.unit_tree.specs.declared.unit.Output.{Output}
 use Rattle.unit_tree.specs.declared.unit.Unit.{Unit}
 use Rattle.language_laws.proofs.NameLaws.{Hold}
 use Rattle.language_laws.proofs.PlainNames.{map_has, flat_has}
-use Rattle.unit_exec.proofs.Declarations.{Declared, OfParam, OfState, OfLocal, OfInput, OfEventIn, OfOutput, OfEventOut, line_of, variable_of, Declares, AtLine, unit_limited}
+use Rattle.unit_exec.proofs.Declarations.{Declared, OfParam, OfState, OfLocal, OfInput, OfEventIn, OfOutput, OfEventOut, line_of, variable_of, Declares, AtLine}
+use Rattle.unit_exec.proofs.Declarations.{unit_limited}
 use Rattle.unit_exec.proofs.EventChoices.{word_names, word_events, presence_names, presence_events, word_ranged, presence_ranged, plain_ranged, presence_kinded}
 use Rattle.unit_exec.proofs.KindsOfRuns.{IsOf, kinded}
 use Rattle.unit_exec.proofs.KindsOfRuns as kind_laws
 use Rattle.unit_exec.proofs.LinesOfRuns.{FormRight, lines_right}
-use Rattle.unit_exec.proofs.NamesOfUnits.{passes_at, Comes, Tells, from_run, Usable, usable_shared, usable_step, name_kind, presence_kind, output_has, event_out_has}
+use Rattle.unit_exec.proofs.NamesOfUnits.{passes_at, Comes, Tells, from_run, Usable, usable_shared, usable_step, name_kind, presence_kind, output_has}
+use Rattle.unit_exec.proofs.NamesOfUnits.{event_out_has}
 use Rattle.unit_exec.proofs.TargetsOfUnits.{target_right}
 use Rattle.unit_exec.proofs.UnitSites.{Passes}
 use Rattle.list_laws.proofs.Members.{Has, has_either, all_has}
@@ -81,9 +85,12 @@ module _ (system : System) (unit : Unit) (declared : Declares (Passes system) un
 
   -- An expression uses what it may.
   abbrev Keeps : Expr → Type 0
-  Keeps value = kind_laws.Uses scope (kinds_in unit) Use Event (name_kind system unit declared params each_word) (presence_kind system unit declared params each_word) value
+  Keeps value =
+      kind_laws.Uses scope (kinds_in unit) Use Event (name_kind system unit declared params each_word)
+      (presence_kind system unit declared params each_word) value
 
-  keeps : (uses : Uses) (usable : (name : List ℕ) → is_among uses.names name ≡ true → Use name) → uses.events ≡ event_input_names unit → (value : Expr) → keeps_to uses value ≡ true → Keeps value
+  keeps : (uses : Uses) (usable : (name : List ℕ) → is_among uses.names name ≡ true → Use name) → uses.events ≡ event_input_names unit → (value : Expr)
+      → keeps_to uses value ≡ true → Keeps value
   keeps uses usable events value kept =
       let one = and_parts (are_among uses.names (names_in value)) _ kept in
       let other = and_parts (are_among uses.events (events_asked_in value)) _ one.1 in record {
@@ -93,12 +100,18 @@ module _ (system : System) (unit : Unit) (declared : Declares (Passes system) un
 
   -- ---- An expression's code is right
 
-  right : (value : Expr) (kind : Kind) → kind_of_expression value (kinds_in unit) ≡ Some kind → Keeps value → is_ranged value ≡ true → nat_lt 32 (depth_of (plain_expression value)) ≡ false → is_right_in scope (plain_expression value) ≡ true
+  right : (value : Expr) (kind : Kind) → kind_of_expression value (kinds_in unit) ≡ Some kind → Keeps value → is_ranged value ≡ true
+      → nat_lt 32 (depth_of (plain_expression value)) ≡ false → is_right_in scope (plain_expression value) ≡ true
   right value kind is uses ranged low =
-      let code = kinded scope (kinds_in unit) Use Event (name_kind system unit declared params each_word) (presence_kind system unit declared params each_word) value kind is uses in
-      both _ _ code.agrees (both _ _ (plain_ranged value ∙ ranged) (le_test (depth_of (plain_expression value)) 32 (lt_not_told 32 (depth_of (plain_expression value)) low)))
+      let code =
+      kinded scope (kinds_in unit) Use Event (name_kind system unit declared params each_word)
+      (presence_kind system unit declared params each_word) value kind is uses in
+      both _ _ code.agrees
+      (both _ _ (plain_ranged value ∙ ranged) (le_test (depth_of (plain_expression value)) 32 (lt_not_told 32 (depth_of (plain_expression value)) low)))
 
-  callable : (value : Expr) (kind : Kind) → kind_of_expression value (kinds_in unit) ≡ Some kind → Keeps value → is_ranged value ≡ true → nat_lt 32 (depth_of (plain_expression value)) ≡ false → nat_lt 100000 (expression_call_cost (plain_expression value)) ≡ false → IsCallable scope (plain_expression value)
+  callable : (value : Expr) (kind : Kind) → kind_of_expression value (kinds_in unit) ≡ Some kind → Keeps value → is_ranged value ≡ true
+      → nat_lt 32 (depth_of (plain_expression value)) ≡ false → nat_lt 100000 (expression_call_cost (plain_expression value)) ≡ false
+      → IsCallable scope (plain_expression value)
   callable value kind is uses ranged low cheap =
       record { right = right value kind is uses ranged low; cheap = lt_not_told 100000 (expression_call_cost (plain_expression value)) cheap }
 
@@ -121,7 +134,9 @@ module _ (system : System) (unit : Unit) (declared : Declares (Passes system) un
       let names = not_broken (not (keeps_to (output_uses unit) output.value)) _ at.named in
       let wrong = not_broken (not (has_kind (Some (kind_of output.ty)) output.value (kinds_in unit))) _ at.kinded in
       let there = kind_there (kind_of_expression output.value (kinds_in unit)) (Some (kind_of output.ty)) (not_false _ wrong.0) in record {
-        callable = callable output.value there.one there.is (shared_keeps output.value (not_false _ names.0)) at.in_range.1 (not_broken _ _ at.low).0 (not_broken _ _ at.cheap).0;
+        callable =
+            callable output.value there.one there.is (shared_keeps output.value (not_false _ names.0)) at.in_range.1 (not_broken _ _ at.low).0
+            (not_broken _ _ at.cheap).0;
         typed = at.in_range.0;
       }
 
@@ -137,13 +152,26 @@ module _ (system : System) (unit : Unit) (declared : Declares (Passes system) un
       let low_two = not_broken _ _ low_one.1 in
       let cheap_one = not_broken _ _ at.cheap in
       let cheap_two = not_broken _ _ cheap_one.1 in
-      let presence_uses : Keeps (presence_of event.value) = record { names_used = λ name h. uses.names_used name (presence_names event.value name h); events_asked = λ name h. uses.events_asked name (presence_events event.value name h) } in
-      let word_uses : Keeps word = record { names_used = λ name h. uses.names_used name (word_names event.ty event.value name h); events_asked = λ name h. uses.events_asked name (word_events event.ty event.value name h) } in
-      let presence = callable (presence_of event.value) kinds.Bool (presence_kinded (kinds_in unit) event.ty event.value there.one there.is) presence_uses (presence_ranged event.value at.in_range.1) low_one.0 cheap_one.0 in
+      let presence_uses : Keeps (presence_of event.value) =
+      record {
+        names_used = λ name h. uses.names_used name (presence_names event.value name h);
+        events_asked =
+            λ name h. uses.events_asked name (presence_events event.value name h);
+      } in
+      let word_uses : Keeps word =
+      record {
+        names_used = λ name h. uses.names_used name (word_names event.ty event.value name h);
+        events_asked =
+            λ name h. uses.events_asked name (word_events event.ty event.value name h);
+      } in
+      let presence =
+      callable (presence_of event.value) kinds.Bool (presence_kinded (kinds_in unit) event.ty event.value there.one there.is) presence_uses
+      (presence_ranged event.value at.in_range.1) low_one.0 cheap_one.0 in
       let told = callable word there.one there.is word_uses (word_ranged event.ty event.value at.in_range.0 at.in_range.1) low_two.0 cheap_two.0 in
       of_two output has presence told at.in_range.0
     where
-      of_two : (output : Output) → Has (plain_outputs unit event) output → IsCallable scope (plain_expression (presence_of event.value)) → IsCallable scope (plain_expression (word_expression_of event.ty event.value)) → AreDecimals event.ty → Runs output
+      of_two : (output : Output) → Has (plain_outputs unit event) output → IsCallable scope (plain_expression (presence_of event.value))
+          → IsCallable scope (plain_expression (word_expression_of event.ty event.value)) → AreDecimals event.ty → Runs output
       of_two output (inl is) presence told typed = subst Runs is (record { callable = presence; typed = tt })
       of_two output (inr (inl is)) presence told typed = subst Runs is (record { callable = told; typed = typed })
       of_two output (inr (inr none)) presence told typed = absurd none
@@ -152,10 +180,14 @@ module _ (system : System) (unit : Unit) (declared : Declares (Passes system) un
   outputs_run output has = elim (has_either (map (plain_output unit) unit.outputs) (flat_map (plain_outputs unit) unit.events_out) output has) [
     | inl here ↦
         let from = map_has (plain_output unit) unit.outputs output here in
-        subst Runs from.is (output_runs from.one (passes_at system unit declared params each_word (OfOutput from.one) (output_has system unit declared params each_word from.one from.has)))
+        subst Runs from.is
+        (output_runs from.one
+        (passes_at system unit declared params each_word (OfOutput from.one) (output_has system unit declared params each_word from.one from.has)))
     | inr here ↦
         let from = flat_has (plain_outputs unit) unit.events_out output here in
-        event_runs from.one (passes_at system unit declared params each_word (OfEventOut from.one) (event_out_has system unit declared params each_word from.one from.has)) output from.inside
+        event_runs from.one
+        (passes_at system unit declared params each_word (OfEventOut from.one)
+        (event_out_has system unit declared params each_word from.one from.has)) output from.inside
   ]
 
   -- ---- Types
@@ -173,7 +205,8 @@ module _ (system : System) (unit : Unit) (declared : Declares (Passes system) un
   typed w has = by_source (from_run system unit declared params each_word w (subst (λ xs. Has xs w) (variables_are run) has))
     where
       by_source : Comes system unit declared params each_word w ⊎ Tells system unit declared params each_word w → AreDecimals w.ty
-      by_source (inl comes) = subst (λ (v : Variable). AreDecimals v.ty) comes.is (typed_one comes.one (passes_at system unit declared params each_word comes.one comes.has))
+      by_source (inl comes) =
+          subst (λ (v : Variable). AreDecimals v.ty) comes.is (typed_one comes.one (passes_at system unit declared params each_word comes.one comes.has))
       by_source (inr tells) = subst (λ (v : Variable). AreDecimals v.ty) tells.is tt
 
   -- ---- Step lines
@@ -184,7 +217,8 @@ module _ (system : System) (unit : Unit) (declared : Declares (Passes system) un
   step_keeps : (value : Expr) → keeps_to (step_uses unit) value ≡ true → Keeps value
   step_keeps value kept = keeps (step_uses unit) (usable_step system unit declared params each_word) refl value kept
 
-  step_right : (value : Expr) (asked : Option Kind) → keeps_to (step_uses unit) value ≡ true → has_kind asked value (kinds_in unit) ≡ true → is_ranged value ≡ true → nat_lt 32 (depth_of (plain_expression value)) ≡ false → is_right_in scope (plain_expression value) ≡ true
+  step_right : (value : Expr) (asked : Option Kind) → keeps_to (step_uses unit) value ≡ true → has_kind asked value (kinds_in unit) ≡ true
+      → is_ranged value ≡ true → nat_lt 32 (depth_of (plain_expression value)) ≡ false → is_right_in scope (plain_expression value) ≡ true
   step_right value asked kept has ranged low =
       let there = kind_there (kind_of_expression value (kinds_in unit)) asked has in
       right value there.one there.is (step_keeps value kept) ranged low
@@ -199,10 +233,12 @@ module _ (system : System) (unit : Unit) (declared : Declares (Passes system) un
       )
   form_right (form.If cond) at =
       let passes = at.1 in
-      step_right cond (Some kinds.Bool) (not_false _ passes.named) (not_false _ (not_broken _ _ passes.kinded).0) passes.in_range.1 (not_broken _ _ passes.low).0
+      step_right cond (Some kinds.Bool) (not_false _ passes.named) (not_false _ (not_broken _ _ passes.kinded).0) passes.in_range.1
+      (not_broken _ _ passes.low).0
   form_right (form.Accept value) at =
       let passes = at.1 in
-      step_right value (Some kinds.Int) (not_false _ passes.named) (not_false _ (not_broken _ _ passes.kinded).0) passes.in_range.1 (not_broken _ _ passes.low).0
+      step_right value (Some kinds.Int) (not_false _ passes.named) (not_false _ (not_broken _ _ passes.kinded).0) passes.in_range.1
+      (not_broken _ _ passes.low).0
   form_right (form.Repeat count) at = at.1.in_range.0
   form_right (form.Header version) at = tt
   form_right (form.Unit name) at = tt
@@ -227,7 +263,8 @@ module _ (system : System) (unit : Unit) (declared : Declares (Passes system) un
   form_right (form.Rows count) at = tt
   form_right (form.Sample port) at = tt
 
-  forms_right : (earlier forms : List LineForm) → AllByRecursion (Passes system) (sites (StepScope unit) earlier (map alone forms)) → AllByRecursion (FormRight scope) forms
+  forms_right : (earlier forms : List LineForm) → AllByRecursion (Passes system) (sites (StepScope unit) earlier (map alone forms))
+      → AllByRecursion (FormRight scope) forms
   forms_right earlier [] all = tt
   forms_right earlier (line ∷ forms) all = (form_right line (earlier, all.0), forms_right (earlier ++ (line ∷ [])) forms all.1)
 
@@ -244,7 +281,9 @@ module _ (system : System) (unit : Unit) (declared : Declares (Passes system) un
   max_keeps : (value : Expr) → keeps_to (max_uses unit) value ≡ true → Keeps value
   max_keeps value kept = keeps (max_uses unit) (usable_shared system unit declared params each_word) refl value kept
 
-  max_runs : (earlier : List LineForm) (given : Option Expr) (rest : List Headed) → Tail earlier (flat_map (headed_unit_part unit) (optional parts.Max given) ++ rest) → IfSome (option_map plain_expression given) (λ value. IsCallable scope value) × Behind rest
+  max_runs : (earlier : List LineForm) (given : Option Expr) (rest : List Headed)
+      → Tail earlier (flat_map (headed_unit_part unit) (optional parts.Max given) ++ rest)
+      → IfSome (option_map plain_expression given) (λ value. IsCallable scope value) × Behind rest
   max_runs earlier None rest hold = (tt, record { earlier = earlier; hold = hold })
   max_runs earlier (Some value) rest hold =
       let at = hold.0 in
@@ -253,7 +292,9 @@ module _ (system : System) (unit : Unit) (declared : Declares (Passes system) un
         record { earlier = earlier ++ (form.Max value ∷ []); hold = hold.2 },
       )
 
-  step_runs : (earlier : List LineForm) (given : Option (List Line)) → run.step ≡ option_map (map plain_line) given → Tail earlier (flat_map (headed_unit_part unit) (optional parts.Step given)) → IfSome (option_map (map plain_line) given) (λ lines. IsRunnable scope lines)
+  step_runs : (earlier : List LineForm) (given : Option (List Line)) → run.step ≡ option_map (map plain_line) given
+      → Tail earlier (flat_map (headed_unit_part unit) (optional parts.Step given))
+      → IfSome (option_map (map plain_line) given) (λ lines. IsRunnable scope lines)
   step_runs earlier None is hold = tt
   step_runs earlier (Some lines) is hold =
       let cheap = (not_broken _ _ hold.0.cheap).0 in
@@ -266,7 +307,10 @@ module _ (system : System) (unit : Unit) (declared : Declares (Passes system) un
   compilable =
       let limits = unit_limited system unit declared in
       let headed : UnitPart → List Headed = headed_unit_part unit in
-      let tail = max_runs declared.before_tail unit.max (flat_map headed (optional parts.Step unit.step)) (subst (Tail declared.before_tail) (flat_map-append headed (optional parts.Max unit.max) (optional parts.Step unit.step)) declared.tail) in record {
+      let tail =
+      max_runs declared.before_tail unit.max (flat_map headed (optional parts.Step unit.step))
+      (subst (Tail declared.before_tail) (flat_map-append headed (optional parts.Max unit.max) (optional parts.Step unit.step)) declared.tail) in
+      record {
         one_each = each_word;
         outputs = limits.outputs;
         states = limits.states;

@@ -1,5 +1,6 @@
 -- What a unit declares, as one list in the order of its lines: the names differ, and there are not too many of a kind.
-use Rattle.std.proofs.Common.{◌≡◌, ℕ, suc, ◌+◌, ◌*◌, ◌≤◌, ◌⊎◌, false, List, [], ◌∷◌, ◌++◌, append_assoc, map, length, Option, Some, None, inl, inr, refl, sym, ap, ◌∙◌, subst, arith}
+use Rattle.std.proofs.Common.{◌≡◌, ℕ, suc, ◌+◌, ◌*◌, ◌≤◌, ◌⊎◌, false, List, [], ◌∷◌, ◌++◌, append_assoc, map, length, Option, Some, None, inl, inr, refl, sym}
+use Rattle.std.proofs.Common.{ap, ◌∙◌, subst, arith}
 use Rattle.std.specs.Prelude.{cond, nat_lt, count_by}
 use Rattle.std.specs.List.{flat_map, filter_map, cons_option, list_any}
 use Rattle.std.proofs.lemmas.List.Elements.{filter_map-append}
@@ -109,10 +110,12 @@ mapped : {A : Type 0} (of : A → Declared) (part : A → UnitPart) → ((x : A)
 mapped of part is [] = refl
 mapped of part is (x ∷ xs) = ap (λ y. y ∷ map part_of (map of xs)) (is x) ∙ ap (λ ys. part x ∷ ys) (mapped of part is xs)
 
-nine : {A : Type 0} (r a b c d e f g m s : List A) → (((((((((r ++ a) ++ b) ++ c) ++ d) ++ e) ++ f) ++ g) ++ m) ++ s) ≡ r ++ ((a ++ (b ++ (c ++ (d ++ (e ++ (f ++ g)))))) ++ (m ++ s))
+nine : {A : Type 0} (r a b c d e f g m s : List A)
+    → (((((((((r ++ a) ++ b) ++ c) ++ d) ++ e) ++ f) ++ g) ++ m) ++ s) ≡ r ++ ((a ++ (b ++ (c ++ (d ++ (e ++ (f ++ g)))))) ++ (m ++ s))
 nine r a b c d e f g m s = simp append_assoc refl
 
-seven : {A B : Type 0} (f : A → B) (a b c d e g h : List A) → map f (a ++ (b ++ (c ++ (d ++ (e ++ (g ++ h)))))) ≡ map f a ++ (map f b ++ (map f c ++ (map f d ++ (map f e ++ (map f g ++ map f h)))))
+seven : {A B : Type 0} (f : A → B) (a b c d e g h : List A)
+    → map f (a ++ (b ++ (c ++ (d ++ (e ++ (g ++ h)))))) ≡ map f a ++ (map f b ++ (map f c ++ (map f d ++ (map f e ++ (map f g ++ map f h)))))
 seven f a b c d e g h = simp map-append refl
 
 -- The parts of a unit: perhaps its resolution, what it declares, perhaps `max`, perhaps its step.
@@ -121,9 +124,21 @@ tail_parts unit = optional parts.Max unit.max ++ optional parts.Step unit.step
 
 parts_are : (unit : Unit) → unit_parts unit ≡ optional parts.Resolution unit.resolution ++ (map part_of (declarations unit) ++ tail_parts unit)
 parts_are unit =
-    nine (optional parts.Resolution unit.resolution) (map parts.HasParam unit.params) (map parts.HasState unit.states) (map parts.HasLocal unit.locals) (map parts.HasInput unit.inputs) (map parts.HasEventIn unit.events_in) (map parts.HasOutput unit.outputs) (map parts.HasEventOut unit.events_out) (optional parts.Max unit.max) (optional parts.Step unit.step)
-    ∙ ap (λ all. optional parts.Resolution unit.resolution ++ (all ++ tail_parts unit)) (sym (seven part_of (map OfParam unit.params) (map OfState unit.states) (map OfLocal unit.locals) (map OfInput unit.inputs) (map OfEventIn unit.events_in) (map OfOutput unit.outputs) (map OfEventOut unit.events_out)
-    ∙ rw (mapped OfParam parts.HasParam (λ x. refl) unit.params, mapped OfState parts.HasState (λ x. refl) unit.states, mapped OfLocal parts.HasLocal (λ x. refl) unit.locals, mapped OfInput parts.HasInput (λ x. refl) unit.inputs, mapped OfEventIn parts.HasEventIn (λ x. refl) unit.events_in, mapped OfOutput parts.HasOutput (λ x. refl) unit.outputs, mapped OfEventOut parts.HasEventOut (λ x. refl) unit.events_out) refl))
+    nine (optional parts.Resolution unit.resolution) (map parts.HasParam unit.params) (map parts.HasState unit.states) (map parts.HasLocal unit.locals)
+    (map parts.HasInput unit.inputs) (map parts.HasEventIn unit.events_in) (map parts.HasOutput unit.outputs) (map parts.HasEventOut unit.events_out)
+    (optional parts.Max unit.max) (optional parts.Step unit.step)
+    ∙ ap (λ all. optional parts.Resolution unit.resolution ++ (all ++ tail_parts unit))
+    (sym (seven part_of (map OfParam unit.params) (map OfState unit.states) (map OfLocal unit.locals) (map OfInput unit.inputs) (map OfEventIn unit.events_in)
+    (map OfOutput unit.outputs) (map OfEventOut unit.events_out)
+    ∙ rw (
+      mapped OfParam parts.HasParam (λ x. refl) unit.params,
+      mapped OfState parts.HasState (λ x. refl) unit.states,
+      mapped OfLocal parts.HasLocal (λ x. refl) unit.locals,
+      mapped OfInput parts.HasInput (λ x. refl) unit.inputs,
+      mapped OfEventIn parts.HasEventIn (λ x. refl) unit.events_in,
+      mapped OfOutput parts.HasOutput (λ x. refl) unit.outputs,
+      mapped OfEventOut parts.HasEventOut (λ x. refl) unit.events_out,
+    ) refl))
 
 -- ---- What holds of their lines
 
@@ -133,7 +148,8 @@ front_lines None = []
 front_lines (Some decimals) = form.Resolution decimals ∷ []
 
 module _ (P : Site → Type 0) where
-  behind_resolution : (scope : Scope) (given : Option ℕ) (rest : List Headed) (unit : Unit) → Hold P scope [] (flat_map (headed_unit_part unit) (optional parts.Resolution given) ++ rest) → Hold P scope (front_lines given) rest
+  behind_resolution : (scope : Scope) (given : Option ℕ) (rest : List Headed) (unit : Unit)
+      → Hold P scope [] (flat_map (headed_unit_part unit) (optional parts.Resolution given) ++ rest) → Hold P scope (front_lines given) rest
   behind_resolution scope None rest unit hold = hold
   behind_resolution scope (Some decimals) rest unit hold = hold.2
 
@@ -147,12 +163,16 @@ module _ (P : Site → Type 0) where
       let headed : UnitPart → List Headed = headed_unit_part unit in
       let scope : Scope = UnitScope unit in
       let all = subst (λ xs. Hold P scope [] (flat_map headed xs)) (parts_are unit) hold in
-      let parted = subst (Hold P scope []) (flat_map-append headed (optional parts.Resolution unit.resolution) (map part_of (declarations unit) ++ tail_parts unit)) all in
+      let parted =
+      subst (Hold P scope []) (flat_map-append headed (optional parts.Resolution unit.resolution) (map part_of (declarations unit) ++ tail_parts unit)) all in
       let here = behind_resolution scope unit.resolution (flat_map headed (map part_of (declarations unit) ++ tail_parts unit)) unit parted in
       let split = subst (Hold P scope (front_lines unit.resolution)) (flat_map-append headed (map part_of (declarations unit)) (tail_parts unit)) here in
-      let last = hold_behind P scope (front_lines unit.resolution) (flat_map headed (map part_of (declarations unit))) (flat_map headed (tail_parts unit)) split in
+      let last =
+      hold_behind P scope (front_lines unit.resolution) (flat_map headed (map part_of (declarations unit))) (flat_map headed (tail_parts unit)) split in
       record {
-        declared = subst (Hold P scope (front_lines unit.resolution)) (heads unit (declarations unit)) (hold_front P scope (front_lines unit.resolution) (flat_map headed (map part_of (declarations unit))) (flat_map headed (tail_parts unit)) split);
+        declared =
+            subst (Hold P scope (front_lines unit.resolution)) (heads unit (declarations unit))
+            (hold_front P scope (front_lines unit.resolution) (flat_map headed (map part_of (declarations unit))) (flat_map headed (tail_parts unit)) split);
         before_tail = last.0;
         tail = last.1;
       }
@@ -161,7 +181,8 @@ module _ (P : Site → Type 0) where
   abbrev pub AtLine : Unit → LineForm → Type 0
   AtLine unit line = (earlier : List LineForm) × P (record { scope = UnitScope unit; earlier = earlier; line = line })
 
-  pub each_line : (unit : Unit) (earlier : List LineForm) (all : List Declared) → Hold P (UnitScope unit) earlier (map head_of all) → (one : Declared) → Has all one → AtLine unit (line_of one)
+  pub each_line : (unit : Unit) (earlier : List LineForm) (all : List Declared) → Hold P (UnitScope unit) earlier (map head_of all) → (one : Declared)
+      → Has all one → AtLine unit (line_of one)
   each_line unit earlier [] hold one has = absurd has
   each_line unit earlier (first ∷ all) hold one (inl is) = subst (λ (d : Declared). AtLine unit (line_of d)) is (earlier, hold.0)
   each_line unit earlier (first ∷ all) hold one (inr has) = each_line unit (earlier ++ (line_of first ∷ [])) all hold.2 one has
@@ -170,7 +191,8 @@ module _ (P : Site → Type 0) where
 
 module _ (system : System) where
   -- Things that are declared one after the other have different names, and none of an earlier line's.
-  apart : (scope : Scope) (earlier : List LineForm) (all : List Declared) → Hold (Passes system) scope earlier (map head_of all) → Distinct (map name_of all) × ((name : List ℕ) → Has (map name_of all) name → Has (filter_map name_declared earlier) name → ⊥)
+  apart : (scope : Scope) (earlier : List LineForm) (all : List Declared) → Hold (Passes system) scope earlier (map head_of all)
+      → Distinct (map name_of all) × ((name : List ℕ) → Has (map name_of all) name → Has (filter_map name_declared earlier) name → ⊥)
   apart scope earlier [] hold = (tt, λ name has before. has)
   apart scope earlier (one ∷ all) hold =
       let rest = apart scope (earlier ++ (line_of one ∷ [])) all hold.2 in
@@ -179,7 +201,8 @@ module _ (system : System) where
       let others : (name : List ℕ) → Has (map name_of all) name → Has (filter_map name_declared earlier ++ (name_of one ∷ [])) name → ⊥ =
       λ name has before. rest.1 name has (subst (λ names. Has names name) (sym longer) before) in
       let here : Has (filter_map name_declared earlier) (name_of one) → ⊥ =
-      not_among bytes_eq bytes_of (name_of one) (filter_map name_declared earlier) (sym (ap (is_said bytes_eq (filter_map name_declared earlier)) (asks one)) ∙ name_unsaid system (record { scope = scope; earlier = earlier; line = line_of one }) hold.0.fresh) in (
+      not_among bytes_eq bytes_of (name_of one) (filter_map name_declared earlier)
+      (sym (ap (is_said bytes_eq (filter_map name_declared earlier)) (asks one)) ∙ name_unsaid system (record { scope = scope; earlier = earlier; line = line_of one }) hold.0.fresh) in (
         (λ has. others (name_of one) has (has_behind (filter_map name_declared earlier) (name_of one ∷ []) (name_of one) (inl refl)), rest.0),
         λ name has before. elim has [
           | inl is ↦ here (subst (Has (filter_map name_declared earlier)) (sym is) before)
@@ -209,33 +232,47 @@ module _ (system : System) (unit : Unit) (like : LineForm) (limit : ℕ) where
   -- What a line becomes does not pass the limit, or does not count.
   abbrev Counts : Declared → Type 0
   Counts one =
-      ((earlier : List LineForm) → list_any (is_one_too_many (UnitScope unit) (flat_map becomes (earlier ++ (line_of one ∷ [])))) (becomes (line_of one)) ≡ false → tally like (flat_map becomes (earlier ++ (line_of one ∷ []))) ≤ limit)
+      ((earlier : List LineForm)
+      → list_any (is_one_too_many (UnitScope unit) (flat_map becomes (earlier ++ (line_of one ∷ [])))) (becomes (line_of one)) ≡ false
+      → tally like (flat_map becomes (earlier ++ (line_of one ∷ []))) ≤ limit)
       ⊎ (tally like (becomes (line_of one)) ≡ 0)
 
   flat_one : (line : LineForm) → flat_map becomes (line ∷ []) ≡ becomes line
   flat_one line = append-nil (becomes line)
 
-  further : (earlier : List LineForm) (one : Declared) → Counts one → tally like (flat_map becomes earlier) ≤ limit → list_any (is_one_too_many (UnitScope unit) (flat_map becomes (earlier ++ (line_of one ∷ [])))) (becomes (line_of one)) ≡ false → tally like (flat_map becomes (earlier ++ (line_of one ∷ []))) ≤ limit
+  further : (earlier : List LineForm) (one : Declared) → Counts one → tally like (flat_map becomes earlier) ≤ limit
+      → list_any (is_one_too_many (UnitScope unit) (flat_map becomes (earlier ++ (line_of one ∷ [])))) (becomes (line_of one)) ≡ false
+      → tally like (flat_map becomes (earlier ++ (line_of one ∷ []))) ≤ limit
   further earlier one (inl counted) low passes = counted earlier passes
   further earlier one (inr none) low passes =
-      let same : tally like (flat_map becomes (earlier ++ (line_of one ∷ []))) ≡ tally like (flat_map becomes earlier) + tally like (flat_map becomes (line_of one ∷ [])) =
+      let same : tally like (flat_map becomes (earlier ++ (line_of one ∷ [])))
+      ≡ tally like (flat_map becomes earlier) + tally like (flat_map becomes (line_of one ∷ [])) =
       ap (tally like) (flat_map-append becomes earlier (line_of one ∷ [])) ∙ tally_both like (flat_map becomes earlier) (flat_map becomes (line_of one ∷ [])) in
       let alone_none : tally like (flat_map becomes (line_of one ∷ [])) ≡ 0 = ap (tally like) (flat_one (line_of one)) ∙ none in
       omega arith
 
-  within : (counts : (one : Declared) → Counts one) (earlier : List LineForm) (all : List Declared) → tally like (flat_map becomes earlier) ≤ limit → Hold (Passes system) (UnitScope unit) earlier (map head_of all) → tally like (flat_map becomes (earlier ++ map line_of all)) ≤ limit
+  within : (counts : (one : Declared) → Counts one) (earlier : List LineForm) (all : List Declared) → tally like (flat_map becomes earlier) ≤ limit
+      → Hold (Passes system) (UnitScope unit) earlier (map head_of all) → tally like (flat_map becomes (earlier ++ map line_of all)) ≤ limit
   within counts earlier [] low hold = subst (λ xs. tally like (flat_map becomes xs) ≤ limit) (sym (append-nil earlier)) low
   within counts earlier (one ∷ all) low hold =
       subst (λ xs. tally like (flat_map becomes xs) ≤ limit) (append_assoc earlier (line_of one ∷ []) (map line_of all))
       (within counts (earlier ++ (line_of one ∷ [])) all (further earlier one (counts one) low hold.0.few) hold.2)
 
-  tallied_both : (one other : List Declared) → tally like (flat_map becomes (map line_of (one ++ other))) ≡ tally like (flat_map becomes (map line_of one)) + tally like (flat_map becomes (map line_of other))
+  tallied_both : (one other : List Declared)
+      → tally like (flat_map becomes (map line_of (one ++ other)))
+      ≡ tally like (flat_map becomes (map line_of one)) + tally like (flat_map becomes (map line_of other))
   tallied_both one other =
       ap (λ xs. tally like (flat_map becomes xs)) (map-append line_of one other)
       ∙ ap (tally like) (flat_map-append becomes (map line_of one) (map line_of other))
       ∙ tally_both like (flat_map becomes (map line_of one)) (flat_map becomes (map line_of other))
 
-  all_parted : (a b c d e f g : List Declared) → tally like (flat_map becomes (map line_of (a ++ (b ++ (c ++ (d ++ (e ++ (f ++ g)))))))) ≡ tally like (flat_map becomes (map line_of a)) + (tally like (flat_map becomes (map line_of b)) + (tally like (flat_map becomes (map line_of c)) + (tally like (flat_map becomes (map line_of d)) + (tally like (flat_map becomes (map line_of e)) + (tally like (flat_map becomes (map line_of f)) + tally like (flat_map becomes (map line_of g)))))))
+  all_parted : (a b c d e f g : List Declared)
+      → tally like (flat_map becomes (map line_of (a ++ (b ++ (c ++ (d ++ (e ++ (f ++ g))))))))
+      ≡ tally like (flat_map becomes (map line_of a))
+      + (tally like (flat_map becomes (map line_of b))
+      + (tally like (flat_map becomes (map line_of c))
+      + (tally like (flat_map becomes (map line_of d))
+      + (tally like (flat_map becomes (map line_of e)) + (tally like (flat_map becomes (map line_of f)) + tally like (flat_map becomes (map line_of g)))))))
   all_parted a b c d e f g =
       let one = tallied_both a (b ++ (c ++ (d ++ (e ++ (f ++ g))))) in
       let two = tallied_both b (c ++ (d ++ (e ++ (f ++ g)))) in
@@ -245,7 +282,8 @@ module _ (system : System) (unit : Unit) (like : LineForm) (limit : ℕ) where
       let six = tallied_both f g in
       omega arith
 
-  each_once : {A : Type 0} (of : A → Declared) → ((x : A) → tally like (becomes (line_of (of x))) ≡ 1) → (xs : List A) → tally like (flat_map becomes (map line_of (map of xs))) ≡ length xs
+  each_once : {A : Type 0} (of : A → Declared) → ((x : A) → tally like (becomes (line_of (of x))) ≡ 1) → (xs : List A)
+      → tally like (flat_map becomes (map line_of (map of xs))) ≡ length xs
   each_once of one [] = refl
   each_once of one (x ∷ xs) =
       let rest = each_once of one xs in
@@ -253,7 +291,8 @@ module _ (system : System) (unit : Unit) (like : LineForm) (limit : ℕ) where
       let both = tally_both like (becomes (line_of (of x))) (flat_map becomes (map line_of (map of xs))) in
       omega arith
 
-  each_twice : {A : Type 0} (of : A → Declared) → ((x : A) → tally like (becomes (line_of (of x))) ≡ 2) → (xs : List A) → tally like (flat_map becomes (map line_of (map of xs))) ≡ 2 * length xs
+  each_twice : {A : Type 0} (of : A → Declared) → ((x : A) → tally like (becomes (line_of (of x))) ≡ 2) → (xs : List A)
+      → tally like (flat_map becomes (map line_of (map of xs))) ≡ 2 * length xs
   each_twice of two [] = refl
   each_twice of two (x ∷ xs) =
       let rest = each_twice of two xs in
@@ -263,12 +302,15 @@ module _ (system : System) (unit : Unit) (like : LineForm) (limit : ℕ) where
       omega arith
 
   -- All declarations of the unit together.
-  pub limited : (counts : (one : Declared) → Counts one) → tally like (front_lines unit.resolution) ≤ limit → Declares (Passes system) unit → tally like (flat_map becomes (map line_of (declarations unit))) ≤ limit
+  pub limited : (counts : (one : Declared) → Counts one) → tally like (front_lines unit.resolution) ≤ limit → Declares (Passes system) unit
+      → tally like (flat_map becomes (map line_of (declarations unit))) ≤ limit
   limited counts low declared =
       let start : tally like (flat_map becomes (front_lines unit.resolution)) ≤ limit = front_low unit.resolution low in
       let all = within counts (front_lines unit.resolution) (declarations unit) start declared.declared in
-      let parted : tally like (flat_map becomes (front_lines unit.resolution ++ map line_of (declarations unit))) ≡ tally like (flat_map becomes (front_lines unit.resolution)) + tally like (flat_map becomes (map line_of (declarations unit))) =
-      ap (tally like) (flat_map-append becomes (front_lines unit.resolution) (map line_of (declarations unit))) ∙ tally_both like (flat_map becomes (front_lines unit.resolution)) (flat_map becomes (map line_of (declarations unit))) in
+      let parted : tally like (flat_map becomes (front_lines unit.resolution ++ map line_of (declarations unit)))
+      ≡ tally like (flat_map becomes (front_lines unit.resolution)) + tally like (flat_map becomes (map line_of (declarations unit))) =
+      ap (tally like) (flat_map-append becomes (front_lines unit.resolution) (map line_of (declarations unit)))
+      ∙ tally_both like (flat_map becomes (front_lines unit.resolution)) (flat_map becomes (map line_of (declarations unit))) in
       omega arith
     where
       front_low : (given : Option ℕ) → tally like (front_lines given) ≤ limit → tally like (flat_map becomes (front_lines given)) ≤ limit

@@ -14,7 +14,8 @@ use Rattle.unit_tree.specs.Plain.{plain_expression, node_plain_line, plain_line,
 use Rattle.unit_tree.specs.Sites.{UnitScope, StepScope, Site, Headed, alone, sites, headed_unit_part}
 use Rattle.unit_tree.specs.declared.expr.Expr as expr
 use Rattle.unit_tree.specs.declared.expr.Expr.{Expr}
-use Rattle.unit_tree.specs.declared.expr.Expr.TheVariants.{rolls-Number, rolls-Truth, rolls-Var, rolls-Time, rolls-Step, rolls-Unary, rolls-Binary, rolls-Clamp, rolls-Choose, rolls-Absent, rolls-Present}
+use Rattle.unit_tree.specs.declared.expr.Expr.TheVariants.{rolls-Number, rolls-Truth, rolls-Var, rolls-Time, rolls-Step, rolls-Unary, rolls-Binary, rolls-Clamp}
+use Rattle.unit_tree.specs.declared.expr.Expr.TheVariants.{rolls-Choose, rolls-Absent, rolls-Present}
 use Rattle.unit_tree.specs.declared.expr.Expr.TheFolds.{ind-Expr, map-Expr}
 use Rattle.unit_tree.specs.declared.expr.Expr.TheViews.{roll-Expr}
 use Rattle.unit_tree.specs.declared.expr.Expr.TheOpen.{Expr-F}
@@ -29,7 +30,8 @@ use Rattle.unit_tree.specs.declared.line_form.LineForm.TheVariants as form
 use Rattle.unit_tree.specs.declared.system.System.{System}
 use Rattle.unit_tree.specs.declared.unit.Output.{Output}
 use Rattle.unit_tree.specs.declared.unit.Unit.{Unit}
-use Rattle.unit_tree.proofs.FoldLemmas.{fold-Unary, fold-Binary, fold-Clamp, fold-Choose, fold-Absent, fold-Present, fold-Assign, fold-If, fold-Repeat, fold-Accept}
+use Rattle.unit_tree.proofs.FoldLemmas.{fold-Unary, fold-Binary, fold-Clamp, fold-Choose, fold-Absent, fold-Present, fold-Assign, fold-If, fold-Repeat}
+use Rattle.unit_tree.proofs.FoldLemmas.{fold-Accept}
 use Rattle.language_laws.proofs.NameLaws.{Hold}
 use Rattle.language_laws.proofs.PlainLemmas.{plain-Number, plain-Truth, plain-Var, plain-Time, plain-Step, plain-Unary, plain-Binary, plain-Clamp, plain-Choose}
 use Rattle.unit_exec.proofs.Declarations.{Declares, AtLine}
@@ -63,16 +65,19 @@ node (Expr-F.Binary op a b) = subst Stays (sym (rolls-Binary op (bare a) (bare b
 node (Expr-F.Clamp a b c) = subst Stays (sym (rolls-Clamp (bare a) (bare b) (bare c))) (λ silent.
     let parts = or_false _ _ (sym (fold-Clamp Bool node_speaks_of_events (bare a) (bare b) (bare c)) ∙ silent) in
     let rest = or_false _ _ parts.1 in
-    plain-Clamp (bare a) (bare b) (bare c) ∙ ap (λ x. expr.Clamp x (plain_expression (bare b)) (plain_expression (bare c))) (a.1 parts.0) ∙ ap (λ x. expr.Clamp (bare a) x (plain_expression (bare c))) (b.1 rest.0) ∙ ap (expr.Clamp (bare a) (bare b)) (c.1 rest.1))
+    plain-Clamp (bare a) (bare b) (bare c) ∙ ap (λ x. expr.Clamp x (plain_expression (bare b)) (plain_expression (bare c))) (a.1 parts.0)
+    ∙ ap (λ x. expr.Clamp (bare a) x (plain_expression (bare c))) (b.1 rest.0) ∙ ap (expr.Clamp (bare a) (bare b)) (c.1 rest.1))
 node (Expr-F.Choose c a b) = subst Stays (sym (rolls-Choose (bare c) (bare a) (bare b))) (λ silent.
     let parts = or_false _ _ (sym (fold-Choose Bool node_speaks_of_events (bare c) (bare a) (bare b)) ∙ silent) in
     let rest = or_false _ _ parts.1 in
-    plain-Choose (bare c) (bare a) (bare b) ∙ ap (λ x. expr.Choose x (plain_expression (bare a)) (plain_expression (bare b))) (c.1 parts.0) ∙ ap (λ x. expr.Choose (bare c) x (plain_expression (bare b))) (a.1 rest.0) ∙ ap (expr.Choose (bare c) (bare a)) (b.1 rest.1))
+    plain-Choose (bare c) (bare a) (bare b) ∙ ap (λ x. expr.Choose x (plain_expression (bare a)) (plain_expression (bare b))) (c.1 parts.0)
+    ∙ ap (λ x. expr.Choose (bare c) x (plain_expression (bare b))) (a.1 rest.0) ∙ ap (expr.Choose (bare c) (bare a)) (b.1 rest.1))
 node Expr-F.Absent = subst Stays (sym rolls-Absent) (λ silent. absurd (true_false (sym (fold-Absent Bool node_speaks_of_events) ∙ silent)))
   where
     true_false : true ≡ false → ⊥
     true_false is = cc
-node (Expr-F.Present name) = subst Stays (sym (rolls-Present name)) (λ silent. absurd (true_false (sym (fold-Present Bool node_speaks_of_events name) ∙ silent)))
+node (Expr-F.Present name) =
+    subst Stays (sym (rolls-Present name)) (λ silent. absurd (true_false (sym (fold-Present Bool node_speaks_of_events name) ∙ silent)))
   where
     true_false : true ≡ false → ⊥
     true_false is = cc
@@ -94,7 +99,8 @@ ProvedLine = (some : Line) × LineStays some
 abbrev bare_line : ProvedLine → Line
 bare_line p = p.0
 
-all_stay : (lines : List ProvedLine) → AllByRecursion Silent (joined (map line_forms (map bare_line lines))) → map plain_line (map bare_line lines) ≡ map bare_line lines
+all_stay : (lines : List ProvedLine) → AllByRecursion Silent (joined (map line_forms (map bare_line lines)))
+    → map plain_line (map bare_line lines) ≡ map bare_line lines
 all_stay [] all = refl
 all_stay (first ∷ others) all =
     let parts = all_parts Silent (line_forms (bare_line first)) (joined (map line_forms (map bare_line others))) all in
@@ -111,10 +117,14 @@ line_node (Line-F.If cond then_lines None) = subst LineStays (sym (rolls-If cond
     fold-If Line node_plain_line cond (map bare_line then_lines) None
     ∙ ap (λ c. line.If c (map plain_line (map bare_line then_lines)) None) (expression_stays cond here.0)
     ∙ ap (λ xs. line.If cond xs None) (all_stay then_lines then_all.0))
-line_node (Line-F.If cond then_lines (Some else_lines)) = subst LineStays (sym (rolls-If cond (map bare_line then_lines) (Some (map bare_line else_lines)))) (λ all.
+line_node (Line-F.If cond then_lines (Some else_lines)) =
+    subst LineStays (sym (rolls-If cond (map bare_line then_lines) (Some (map bare_line else_lines)))) (λ all.
     let here = subst (AllByRecursion Silent) (fold-If (List LineForm) block_forms cond (map bare_line then_lines) (Some (map bare_line else_lines))) all in
-    let inside = all_parts Silent (joined (map line_forms (map bare_line then_lines)) ++ (form.Else ∷ joined (map line_forms (map bare_line else_lines)))) (form.End ∷ []) here.1 in
-    let branches = all_parts Silent (joined (map line_forms (map bare_line then_lines))) (form.Else ∷ joined (map line_forms (map bare_line else_lines))) inside.0 in
+    let inside =
+    all_parts Silent (joined (map line_forms (map bare_line then_lines)) ++ (form.Else ∷ joined (map line_forms (map bare_line else_lines))))
+    (form.End ∷ []) here.1 in
+    let branches =
+    all_parts Silent (joined (map line_forms (map bare_line then_lines))) (form.Else ∷ joined (map line_forms (map bare_line else_lines))) inside.0 in
     fold-If Line node_plain_line cond (map bare_line then_lines) (Some (map bare_line else_lines))
     ∙ ap (λ c. line.If c (map plain_line (map bare_line then_lines)) (Some (map plain_line (map bare_line else_lines)))) (expression_stays cond here.0)
     ∙ ap (λ xs. line.If cond xs (Some (map plain_line (map bare_line else_lines)))) (all_stay then_lines branches.0)
@@ -163,32 +173,42 @@ module _ (system : System) (first : system.version ≡ 1) (unit : Unit) (declare
   mapped_stays f [] each = refl
   mapped_stays f (x ∷ xs) each = ap (λ y. y ∷ map f xs) (each x (inl refl)) ∙ ap (λ ys. x ∷ ys) (mapped_stays f xs (λ y has. each y (inr has)))
 
-  outputs_stay : unit.events_in ≡ [] → ((output : Output) → Has unit.outputs output → AtLine (Passes system) unit (form.Output output)) → map (plain_output unit) unit.outputs ≡ unit.outputs
+  outputs_stay : unit.events_in ≡ [] → ((output : Output) → Has unit.outputs output → AtLine (Passes system) unit (form.Output output))
+      → map (plain_output unit) unit.outputs ≡ unit.outputs
   outputs_stay none at = mapped_stays (plain_output unit) unit.outputs (λ output has. output_stays none output (at output has))
 
-  forms_silent : (earlier forms : List LineForm) → AllByRecursion (Passes system) (sites (StepScope unit) earlier (map alone forms)) → AllByRecursion Silent forms
+  forms_silent : (earlier forms : List LineForm) → AllByRecursion (Passes system) (sites (StepScope unit) earlier (map alone forms))
+      → AllByRecursion Silent forms
   forms_silent earlier [] all = tt
   forms_silent earlier (line ∷ forms) all = (silent _ all.0, forms_silent (earlier ++ (line ∷ [])) forms all.1)
 
   abbrev Tail : List LineForm → List Headed → Type 0
   Tail earlier headed = Hold (Passes system) (UnitScope unit) earlier headed
 
-  max_stays : (earlier : List LineForm) (given : Option Expr) (rest : List Headed) → Tail earlier (flat_map (headed_unit_part unit) (optional parts.Max given) ++ rest) → (option_map plain_expression given ≡ given) × ((before : List LineForm) × Tail before rest)
+  max_stays : (earlier : List LineForm) (given : Option Expr) (rest : List Headed)
+      → Tail earlier (flat_map (headed_unit_part unit) (optional parts.Max given) ++ rest)
+      → (option_map plain_expression given ≡ given) × ((before : List LineForm) × Tail before rest)
   max_stays earlier None rest hold = (refl, (earlier, hold))
   max_stays earlier (Some value) rest hold = (ap Some (expression_stays value (silent _ hold.0)), (earlier ++ (form.Max value ∷ []), hold.2))
 
-  step_stays : (earlier : List LineForm) (given : Option (List Line)) → Tail earlier (flat_map (headed_unit_part unit) (optional parts.Step given)) → option_map (map plain_line) given ≡ given
+  step_stays : (earlier : List LineForm) (given : Option (List Line)) → Tail earlier (flat_map (headed_unit_part unit) (optional parts.Step given))
+      → option_map (map plain_line) given ≡ given
   step_stays earlier None hold = refl
   step_stays earlier (Some lines) hold = ap Some (lines_stay lines (forms_silent [] (flat_map line_forms lines) hold.1))
 
-  pub unit_stays : unit.events_in ≡ [] → unit.events_out ≡ [] → ((output : Output) → Has unit.outputs output → AtLine (Passes system) unit (form.Output output)) → plain_unit unit ≡ unit
+  pub unit_stays : unit.events_in ≡ [] → unit.events_out ≡ []
+      → ((output : Output) → Has unit.outputs output → AtLine (Passes system) unit (form.Output output)) → plain_unit unit ≡ unit
   unit_stays none_in none_out at =
       let headed : UnitPart → List Headed = headed_unit_part unit in
-      let tail = max_stays declared.before_tail unit.max (flat_map headed (optional parts.Step unit.step)) (subst (Tail declared.before_tail) (flat_map-append headed (optional parts.Max unit.max) (optional parts.Step unit.step)) declared.tail) in
+      let tail =
+      max_stays declared.before_tail unit.max (flat_map headed (optional parts.Step unit.step))
+      (subst (Tail declared.before_tail) (flat_map-append headed (optional parts.Max unit.max) (optional parts.Step unit.step)) declared.tail) in
       let step = step_stays tail.1.0 unit.step tail.1.1 in
-      let inputs : unit.inputs ++ flat_map plain_inputs unit.events_in ≡ unit.inputs = ap (λ events. unit.inputs ++ flat_map plain_inputs events) none_in ∙ append-nil unit.inputs in
+      let inputs : unit.inputs ++ flat_map plain_inputs unit.events_in ≡ unit.inputs = ap (λ events. unit.inputs ++ flat_map plain_inputs events) none_in
+      ∙ append-nil unit.inputs in
       let outputs : map (plain_output unit) unit.outputs ++ flat_map (plain_outputs unit) unit.events_out ≡ unit.outputs =
-      ap (λ events. map (plain_output unit) unit.outputs ++ flat_map (plain_outputs unit) events) none_out ∙ append-nil (map (plain_output unit) unit.outputs) ∙ outputs_stay none_in at in
+      ap (λ events. map (plain_output unit) unit.outputs ++ flat_map (plain_outputs unit) events) none_out ∙ append-nil (map (plain_output unit) unit.outputs)
+      ∙ outputs_stay none_in at in
       ap (λ x. record (plain_unit unit) { inputs = x }) inputs
       ∙ ap (λ x. record (plain_unit unit) { inputs = unit.inputs; outputs = x }) outputs
       ∙ ap (λ x. record (plain_unit unit) { inputs = unit.inputs; outputs = unit.outputs; max = x }) tail.0

@@ -25,7 +25,8 @@ all_parts P (one ∷ front) others all = let rest = all_parts P front others all
 module _ (scope : Scope) where
   -- What the code of a line asks of its form.
   abbrev pub FormRight : LineForm → Type 0
-  FormRight (form.Assign target value) = (is_right_in scope (plain_expression value) ≡ true) × ((target_coded scope.sizes (named scope.names target)).is_right ≡ true)
+  FormRight (form.Assign target value) =
+      (is_right_in scope (plain_expression value) ≡ true) × ((target_coded scope.sizes (named scope.names target)).is_right ≡ true)
   FormRight (form.If cond) = is_right_in scope (plain_expression cond) ≡ true
   FormRight (form.Repeat count) = (1 ≤ count) × (count ≤ 1000)
   FormRight (form.Accept value) = is_right_in scope (plain_expression value) ≡ true
@@ -40,13 +41,15 @@ module _ (scope : Scope) where
   abbrev bare : Proved → Line
   bare p = p.0
 
-  all_right : (lines : List Proved) → AllByRecursion FormRight (joined (map line_forms (map bare lines))) → (all_coded scope (map line_code (map plain_line (map bare lines)))).is_right ≡ true
+  all_right : (lines : List Proved) → AllByRecursion FormRight (joined (map line_forms (map bare lines)))
+      → (all_coded scope (map line_code (map plain_line (map bare lines)))).is_right ≡ true
   all_right [] all = refl
   all_right (first ∷ others) all =
       let parts = all_parts FormRight (line_forms (bare first)) (joined (map line_forms (map bare others))) all in
       both _ _ (first.1 parts.0) (all_right others parts.1)
 
-  by_code : (some plain : Line) (coded : LineCoding) → plain_line some ≡ plain → line_code plain ≡ coded → (coded scope).is_right ≡ true → (line_code (plain_line some) scope).is_right ≡ true
+  by_code : (some plain : Line) (coded : LineCoding) → plain_line some ≡ plain → line_code plain ≡ coded → (coded scope).is_right ≡ true
+      → (line_code (plain_line some) scope).is_right ≡ true
   by_code some plain coded is code right = ap (λ (l : Line). (line_code l scope).is_right) is ∙ ap (λ (c : LineCoding). (c scope).is_right) code ∙ right
 
   forms_of : (some : Line) (forms : List LineForm) → line_forms some ≡ forms → AllByRecursion FormRight (line_forms some) → AllByRecursion FormRight forms
@@ -55,28 +58,40 @@ module _ (scope : Scope) where
   node : (y : Line-F Proved) → Right (roll-Line (map-Line Proved Line bare y))
   node (Line-F.Assign target value) = subst Right (sym (rolls-Assign target value)) (λ all.
       let here = forms_of (line.Assign target value) _ (fold-Assign (List LineForm) block_forms target value) all in
-      by_code (line.Assign target value) (line.Assign target (plain_expression value)) _ (fold-Assign Line node_plain_line target value) (fold-Assign LineCoding node_line_code target (plain_expression value))
+      by_code (line.Assign target value) (line.Assign target (plain_expression value)) _ (fold-Assign Line node_plain_line target value)
+      (fold-Assign LineCoding node_line_code target (plain_expression value))
       (both _ _ here.0.0 here.0.1))
   node (Line-F.If cond then_lines None) = subst Right (sym (rolls-If cond (map bare then_lines) None)) (λ all.
       let here = forms_of (line.If cond (map bare then_lines) None) _ (fold-If (List LineForm) block_forms cond (map bare then_lines) None) all in
       let inside = all_parts FormRight (joined (map line_forms (map bare then_lines)) ++ []) (form.End ∷ []) here.1 in
       let then_all = all_parts FormRight (joined (map line_forms (map bare then_lines))) [] inside.0 in
-      by_code (line.If cond (map bare then_lines) None) (line.If (plain_expression cond) (map plain_line (map bare then_lines)) None) _ (fold-If Line node_plain_line cond (map bare then_lines) None) (fold-If LineCoding node_line_code (plain_expression cond) (map plain_line (map bare then_lines)) None)
+      by_code (line.If cond (map bare then_lines) None) (line.If (plain_expression cond) (map plain_line (map bare then_lines)) None) _
+      (fold-If Line node_plain_line cond (map bare then_lines) None)
+      (fold-If LineCoding node_line_code (plain_expression cond) (map plain_line (map bare then_lines)) None)
       (both _ _ here.0 (all_right then_lines then_all.0)))
   node (Line-F.If cond then_lines (Some else_lines)) = subst Right (sym (rolls-If cond (map bare then_lines) (Some (map bare else_lines)))) (λ all.
-      let here = forms_of (line.If cond (map bare then_lines) (Some (map bare else_lines))) _ (fold-If (List LineForm) block_forms cond (map bare then_lines) (Some (map bare else_lines))) all in
-      let inside = all_parts FormRight (joined (map line_forms (map bare then_lines)) ++ (form.Else ∷ joined (map line_forms (map bare else_lines)))) (form.End ∷ []) here.1 in
+      let here =
+      forms_of (line.If cond (map bare then_lines) (Some (map bare else_lines))) _
+      (fold-If (List LineForm) block_forms cond (map bare then_lines) (Some (map bare else_lines))) all in
+      let inside =
+      all_parts FormRight (joined (map line_forms (map bare then_lines)) ++ (form.Else ∷ joined (map line_forms (map bare else_lines))))
+      (form.End ∷ []) here.1 in
       let branches = all_parts FormRight (joined (map line_forms (map bare then_lines))) (form.Else ∷ joined (map line_forms (map bare else_lines))) inside.0 in
-      by_code (line.If cond (map bare then_lines) (Some (map bare else_lines))) (line.If (plain_expression cond) (map plain_line (map bare then_lines)) (Some (map plain_line (map bare else_lines)))) _ (fold-If Line node_plain_line cond (map bare then_lines) (Some (map bare else_lines))) (fold-If LineCoding node_line_code (plain_expression cond) (map plain_line (map bare then_lines)) (Some (map plain_line (map bare else_lines))))
+      by_code (line.If cond (map bare then_lines) (Some (map bare else_lines)))
+      (line.If (plain_expression cond) (map plain_line (map bare then_lines)) (Some (map plain_line (map bare else_lines)))) _
+      (fold-If Line node_plain_line cond (map bare then_lines) (Some (map bare else_lines)))
+      (fold-If LineCoding node_line_code (plain_expression cond) (map plain_line (map bare then_lines)) (Some (map plain_line (map bare else_lines))))
       (both _ _ here.0 (both _ _ (all_right then_lines branches.0) (all_right else_lines branches.1.1))))
   node (Line-F.Repeat count body) = subst Right (sym (rolls-Repeat count (map bare body))) (λ all.
       let here = forms_of (line.Repeat count (map bare body)) _ (fold-Repeat (List LineForm) block_forms count (map bare body)) all in
       let inside = all_parts FormRight (joined (map line_forms (map bare body))) (form.End ∷ []) here.1 in
-      by_code (line.Repeat count (map bare body)) (line.Repeat count (map plain_line (map bare body))) _ (fold-Repeat Line node_plain_line count (map bare body)) (fold-Repeat LineCoding node_line_code count (map plain_line (map bare body)))
+      by_code (line.Repeat count (map bare body)) (line.Repeat count (map plain_line (map bare body))) _
+      (fold-Repeat Line node_plain_line count (map bare body)) (fold-Repeat LineCoding node_line_code count (map plain_line (map bare body)))
       (both _ _ (both _ _ (le_test 1 count here.0.0) (le_test count 1000 here.0.1)) (all_right body inside.0)))
   node (Line-F.Accept value) = subst Right (sym (rolls-Accept value)) (λ all.
       let here = forms_of (line.Accept value) _ (fold-Accept (List LineForm) block_forms value) all in
-      by_code (line.Accept value) (line.Accept (plain_expression value)) _ (fold-Accept Line node_plain_line value) (fold-Accept LineCoding node_line_code (plain_expression value))
+      by_code (line.Accept value) (line.Accept (plain_expression value)) _ (fold-Accept Line node_plain_line value)
+      (fold-Accept LineCoding node_line_code (plain_expression value))
       (both _ _ here.0 refl))
 
   line_right : (some : Line) → Right some

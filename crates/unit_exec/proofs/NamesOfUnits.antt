@@ -1,6 +1,7 @@
 -- Names in what is run of a unit: each that an expression may use has the kind there that it is declared with, and targets have
 -- slots that may be written.
-use Rattle.std.proofs.Common.{◌≡◌, ◌⊎◌, ℕ, suc, Bool, true, false, ℤ, List, [], ◌∷◌, ◌++◌, map, length, Option, Some, None, inl, inr, refl, sym, ap, ◌∙◌, subst, arith}
+use Rattle.std.proofs.Common.{◌≡◌, ◌⊎◌, ℕ, suc, Bool, true, false, ℤ, List, [], ◌∷◌, ◌++◌, map, length, Option, Some, None, inl, inr, refl, sym, ap, ◌∙◌, subst}
+use Rattle.std.proofs.Common.{arith}
 use Rattle.std.specs.Prelude.{◌||◌, cond}
 use Rattle.std.specs.List.{AllByRecursion, flat_map, find}
 use Rattle.std.specs.Option.{option_map}
@@ -15,7 +16,8 @@ use Rattle.code_units.specs.Scopes.{constants, slots_from, slot_variables, scope
 use Rattle.code_units.specs.declared.scope.Named.{Named}
 use Rattle.code_units.proofs.NamesInSlots.{param_variables}
 use Rattle.unit_tree.specs.Components.{variable, variables_of}
-use Rattle.unit_tree.specs.Names.{is_among, param_names, input_names, event_input_names, shared_names, step_uses, declared_in, kinds_in, Port, output_ports, input_ports}
+use Rattle.unit_tree.specs.Names.{is_among, param_names, input_names, event_input_names, shared_names, step_uses, declared_in, kinds_in, Port, output_ports}
+use Rattle.unit_tree.specs.Names.{input_ports}
 use Rattle.unit_tree.specs.Plain.{presence_name, plain_inputs, plain_unit}
 use Rattle.unit_tree.specs.Printable.{names_on}
 use Rattle.unit_tree.specs.Tokens.{IsWord}
@@ -31,7 +33,8 @@ use Rattle.unit_tree.specs.declared.unit.State.{State}
 use Rattle.unit_tree.specs.declared.unit.Unit.{Unit}
 use Rattle.language_laws.proofs.NameLaws.{same_bytes, bytes_of, found}
 use Rattle.language_laws.proofs.PlainNames.{IsPlain, word_is_plain, map_has, flat_has, has_flat}
-use Rattle.unit_exec.proofs.Declarations.{Declared, OfParam, OfState, OfLocal, OfInput, OfEventIn, OfOutput, OfEventOut, line_of, variable_of, name_of, declarations, ports, front_lines, Declares, AtLine, each_line, names_apart}
+use Rattle.unit_exec.proofs.Declarations.{Declared, OfParam, OfState, OfLocal, OfInput, OfEventIn, OfOutput, OfEventOut, line_of, variable_of, name_of}
+use Rattle.unit_exec.proofs.Declarations.{declarations, ports, front_lines, Declares, AtLine, each_line, names_apart}
 use Rattle.unit_exec.proofs.UnitSites.{Passes}
 use Rattle.list_laws.proofs.Members.{Has, Distinct, has_front, has_behind, has_either, has_map}
 use Rattle.list_laws.proofs.Truths.{true_is_false}
@@ -48,37 +51,53 @@ pub record Found (xs : List Variable) (name : List ℕ) (ty : Ty) : Type 0 where
   pub is : find (λ (x : Variable). bytes_eq x.name name) xs ≡ Some one
   pub typed : one.ty ≡ ty
 
-find_typed : (xs : List Variable) (name : List ℕ) (ty : Ty) (v : Variable) → Has xs v → v.name ≡ name → ((w : Variable) → Has xs w → w.name ≡ name → w.ty ≡ ty) → Found xs name ty
+find_typed : (xs : List Variable) (name : List ℕ) (ty : Ty) (v : Variable) → Has xs v → v.name ≡ name
+    → ((w : Variable) → Has xs w → w.name ≡ name → w.ty ≡ ty) → Found xs name ty
 find_typed [] name ty v has is all = absurd has
 find_typed (x ∷ xs) name ty v has is all = by_test (bytes_eq x.name name) refl has (λ later. find_typed xs name ty v later is (λ w there. all w (inr there)))
   where
     by_test : (told : Bool) → bytes_eq x.name name ≡ told → (x ≡ v) ⊎ Has xs v → (Has xs v → Found xs name ty) → Found (x ∷ xs) name ty
     by_test true same here later =
-        record { one = x; is = ap (λ (b : Bool). cond b (Some x) (find (λ (y : Variable). bytes_eq y.name name) xs)) same; typed = all x (inl refl) (same_bytes x.name name same) }
+        record {
+          one = x;
+          is = ap (λ (b : Bool). cond b (Some x) (find (λ (y : Variable). bytes_eq y.name name) xs)) same;
+          typed =
+              all x (inl refl) (same_bytes x.name name same);
+        }
     by_test false other (inl first) later = true_is_false (bytes_eq x.name name) (bytes_of x.name name (ap (λ (y : Variable). y.name) first ∙ is)) other
     by_test false other (inr there) later =
         let rest = later there in
-        record { one = rest.one; is = ap (λ (b : Bool). cond b (Some x) (find (λ (y : Variable). bytes_eq y.name name) xs)) other ∙ rest.is; typed = rest.typed }
+        record {
+          one = rest.one;
+          is = ap (λ (b : Bool). cond b (Some x) (find (λ (y : Variable). bytes_eq y.name name) xs)) other
+              ∙ rest.is;
+          typed = rest.typed;
+        }
 
 -- The kind of the first variable of a name, as code tells it.
 abbrev kind_told : Option Variable → Kind
 kind_told None = kinds.Int
 kind_told (Some one) = kind_of one.ty
 
-told_by : (told : Bool) (known : Named) (others : Option Named) (one : Variable) (rest : Option Variable) → known.ty ≡ one.ty → (name_code others).kind ≡ kind_told rest → (name_code (cond told (Some known) others)).kind ≡ kind_told (cond told (Some one) rest)
+told_by : (told : Bool) (known : Named) (others : Option Named) (one : Variable) (rest : Option Variable) → known.ty ≡ one.ty
+    → (name_code others).kind ≡ kind_told rest → (name_code (cond told (Some known) others)).kind ≡ kind_told (cond told (Some one) rest)
 told_by true known others one rest same later = ap kind_of same
 told_by false known others one rest same later = later
 
-slots_told : (slot : ℕ) (xs : List Variable) (name : List ℕ) → (name_code (named (slots_from slot xs) name)).kind ≡ kind_told (find (λ (x : Variable). bytes_eq x.name name) xs)
+slots_told : (slot : ℕ) (xs : List Variable) (name : List ℕ)
+    → (name_code (named (slots_from slot xs) name)).kind ≡ kind_told (find (λ (x : Variable). bytes_eq x.name name) xs)
 slots_told slot [] name = refl
 slots_told slot (x ∷ xs) name = told_by (bytes_eq x.name name) _ (named (slots_from (suc slot) xs) name) x _ refl (slots_told (suc slot) xs name)
 
-constants_told : (params : List Param) (words : List ℤ) (known : List Named) (xs : List Variable) (name : List ℕ) → length words ≡ length params → (name_code (named known name)).kind ≡ kind_told (find (λ (x : Variable). bytes_eq x.name name) xs) → (name_code (named (constants params words ++ known) name)).kind ≡ kind_told (find (λ (x : Variable). bytes_eq x.name name) (param_variables params ++ xs))
+constants_told : (params : List Param) (words : List ℤ) (known : List Named) (xs : List Variable) (name : List ℕ) → length words ≡ length params
+    → (name_code (named known name)).kind ≡ kind_told (find (λ (x : Variable). bytes_eq x.name name) xs)
+    → (name_code (named (constants params words ++ known) name)).kind ≡ kind_told (find (λ (x : Variable). bytes_eq x.name name) (param_variables params ++ xs))
 constants_told [] words known xs name each is = is
 constants_told (param ∷ params) [] known xs name each is = absurd (cc)
 constants_told (param ∷ params) (word ∷ words) known xs name each is =
     let others : length words ≡ length params = omega arith in
-    told_by (bytes_eq param.name name) _ (named (constants params words ++ known) name) (variable param.name param.ty) _ refl (constants_told params words known xs name others is)
+    told_by (bytes_eq param.name name) _ (named (constants params words ++ known) name) (variable param.name param.ty) _ refl
+    (constants_told params words known xs name others is)
 
 distinct_same : (all : List Declared) (a b : Declared) → Distinct (map name_of all) → Has all a → Has all b → name_of a ≡ name_of b → a ≡ b
 distinct_same all a b apart has_a has_b same =
@@ -152,10 +171,13 @@ module _ (system : System) (unit : Unit) (declared : Declares (Passes system) un
   param_has param has = has_front P (S ++ (L ++ ports unit)) (OfParam param) (has_map OfParam unit.params param has)
 
   state_has : (state : State) → Has unit.states state → Has (declarations unit) (OfState state)
-  state_has state has = has_behind P (S ++ (L ++ ports unit)) (OfState state) (has_front S (L ++ ports unit) (OfState state) (has_map OfState unit.states state has))
+  state_has state has =
+      has_behind P (S ++ (L ++ ports unit)) (OfState state) (has_front S (L ++ ports unit) (OfState state) (has_map OfState unit.states state has))
 
   local_has : (local : Local) → Has unit.locals local → Has (declarations unit) (OfLocal local)
-  local_has local has = has_behind P (S ++ (L ++ ports unit)) (OfLocal local) (has_behind S (L ++ ports unit) (OfLocal local) (has_front L (ports unit) (OfLocal local) (has_map OfLocal unit.locals local has)))
+  local_has local has =
+      has_behind P (S ++ (L ++ ports unit)) (OfLocal local)
+      (has_behind S (L ++ ports unit) (OfLocal local) (has_front L (ports unit) (OfLocal local) (has_map OfLocal unit.locals local has)))
 
   port_has : (one : Declared) → Has (ports unit) one → Has (declarations unit) one
   port_has one has = has_behind P (S ++ (L ++ ports unit)) one (has_behind S (L ++ ports unit) one (has_behind L (ports unit) one has))
@@ -164,13 +186,21 @@ module _ (system : System) (unit : Unit) (declared : Declares (Passes system) un
   input_has input has = port_has (OfInput input) (has_front I (E ++ (O ++ F)) (OfInput input) (has_map OfInput unit.inputs input has))
 
   event_has : (event : EventIn) → Has unit.events_in event → Has (declarations unit) (OfEventIn event)
-  event_has event has = port_has (OfEventIn event) (has_behind I (E ++ (O ++ F)) (OfEventIn event) (has_front E (O ++ F) (OfEventIn event) (has_map OfEventIn unit.events_in event has)))
+  event_has event has =
+      port_has (OfEventIn event)
+      (has_behind I (E ++ (O ++ F)) (OfEventIn event) (has_front E (O ++ F) (OfEventIn event) (has_map OfEventIn unit.events_in event has)))
 
   pub output_has : (output : Output) → Has unit.outputs output → Has (declarations unit) (OfOutput output)
-  output_has output has = port_has (OfOutput output) (has_behind I (E ++ (O ++ F)) (OfOutput output) (has_behind E (O ++ F) (OfOutput output) (has_front O F (OfOutput output) (has_map OfOutput unit.outputs output has))))
+  output_has output has =
+      port_has (OfOutput output)
+      (has_behind I (E ++ (O ++ F)) (OfOutput output)
+      (has_behind E (O ++ F) (OfOutput output) (has_front O F (OfOutput output) (has_map OfOutput unit.outputs output has))))
 
   pub event_out_has : (event : EventOut) → Has unit.events_out event → Has (declarations unit) (OfEventOut event)
-  event_out_has event has = port_has (OfEventOut event) (has_behind I (E ++ (O ++ F)) (OfEventOut event) (has_behind E (O ++ F) (OfEventOut event) (has_behind O F (OfEventOut event) (has_map OfEventOut unit.events_out event has))))
+  event_out_has event has =
+      port_has (OfEventOut event)
+      (has_behind I (E ++ (O ++ F)) (OfEventOut event)
+      (has_behind E (O ++ F) (OfEventOut event) (has_behind O F (OfEventOut event) (has_map OfEventOut unit.events_out event has))))
 
   -- A variable is one that is declared.
   pub record Comes (w : Variable) : Type 0 where
@@ -192,7 +222,9 @@ module _ (system : System) (unit : Unit) (declared : Declares (Passes system) un
       let input = map_has input_variable run.inputs w has in
       elim (has_either unit.inputs (flat_map plain_inputs unit.events_in) input.one input.has) [
         | inl plain ↦ inl (record { one = OfInput input.one; has = input_has input.one plain; is = input.is })
-        | inr event ↦ of_event input.one input.is (flat_has plain_inputs unit.events_in input.one event).one (flat_has plain_inputs unit.events_in input.one event).has (flat_has plain_inputs unit.events_in input.one event).inside
+        | inr event ↦
+            of_event input.one input.is (flat_has plain_inputs unit.events_in input.one event).one (flat_has plain_inputs unit.events_in input.one event).has
+            (flat_has plain_inputs unit.events_in input.one event).inside
       ]
     where
       of_event : (input : Input) → input_variable input ≡ w → (event : EventIn) → Has unit.events_in event → Has (plain_inputs event) input → Comes w ⊎ Tells w
@@ -202,12 +234,15 @@ module _ (system : System) (unit : Unit) (declared : Declares (Passes system) un
 
   pub from_run : (w : Variable) → Has run_variables w → Comes w ⊎ Tells w
   from_run w has = elim (has_either (param_variables unit.params) (slot_variables run) w has) [
-    | inl here ↦ let one = map_has (λ (param : Param). variable param.name param.ty) unit.params w here in inl (record { one = OfParam one.one; has = param_has one.one one.has; is = one.is })
+    | inl here ↦ let one = map_has (λ (param : Param). variable param.name param.ty) unit.params w here in
+        inl (record { one = OfParam one.one; has = param_has one.one one.has; is = one.is })
     | inr behind ↦ elim (has_either states_of (inputs_of ++ locals_of) w behind) [
-      | inl here ↦ let one = map_has (λ (state : State). variable state.name state.ty) unit.states w here in inl (record { one = OfState one.one; has = state_has one.one one.has; is = one.is })
+      | inl here ↦ let one = map_has (λ (state : State). variable state.name state.ty) unit.states w here in
+          inl (record { one = OfState one.one; has = state_has one.one one.has; is = one.is })
       | inr later ↦ elim (has_either inputs_of locals_of w later) [
         | inl here ↦ from_inputs w here
-        | inr here ↦ let one = map_has (λ (local : Local). variable local.name local.ty) unit.locals w here in inl (record { one = OfLocal one.one; has = local_has one.one one.has; is = one.is })
+        | inr here ↦ let one = map_has (λ (local : Local). variable local.name local.ty) unit.locals w here in
+            inl (record { one = OfLocal one.one; has = local_has one.one one.has; is = one.is })
       ]
     ]
   ]
@@ -225,8 +260,10 @@ module _ (system : System) (unit : Unit) (declared : Declares (Passes system) un
   from_ports w has =
       let port = map_has port_variable (output_ports unit) w has in
       elim (has_either (map output_port unit.outputs) (map event_port unit.events_out) port.one port.has) [
-        | inl here ↦ let one = map_has output_port unit.outputs port.one here in record { one = OfOutput one.one; has = output_has one.one one.has; is = ap port_variable one.is ∙ port.is }
-        | inr here ↦ let one = map_has event_port unit.events_out port.one here in record { one = OfEventOut one.one; has = event_out_has one.one one.has; is = ap port_variable one.is ∙ port.is }
+        | inl here ↦ let one = map_has output_port unit.outputs port.one here in
+            record { one = OfOutput one.one; has = output_has one.one one.has; is = ap port_variable one.is ∙ port.is }
+        | inr here ↦ let one = map_has event_port unit.events_out port.one here in
+            record { one = OfEventOut one.one; has = event_out_has one.one one.has; is = ap port_variable one.is ∙ port.is }
       ]
 
   abbrev plain_inputs_of : List Variable
@@ -239,14 +276,19 @@ module _ (system : System) (unit : Unit) (declared : Declares (Passes system) un
   from_declared w has = elim (has_either (variables_of unit ++ events_of) (map port_variable (output_ports unit)) w has) [
     | inr here ↦ from_ports w here
     | inl front ↦ elim (has_either (variables_of unit) events_of w front) [
-      | inr here ↦ let one = map_has (λ (event : EventIn). variable event.name event.ty) unit.events_in w here in record { one = OfEventIn one.one; has = event_has one.one one.has; is = one.is }
+      | inr here ↦ let one = map_has (λ (event : EventIn). variable event.name event.ty) unit.events_in w here in
+          record { one = OfEventIn one.one; has = event_has one.one one.has; is = one.is }
       | inl a ↦ elim (has_either ((param_variables unit.params ++ states_of) ++ plain_inputs_of) locals_of w a) [
-        | inr here ↦ let one = map_has (λ (local : Local). variable local.name local.ty) unit.locals w here in record { one = OfLocal one.one; has = local_has one.one one.has; is = one.is }
+        | inr here ↦ let one = map_has (λ (local : Local). variable local.name local.ty) unit.locals w here in
+            record { one = OfLocal one.one; has = local_has one.one one.has; is = one.is }
         | inl b ↦ elim (has_either (param_variables unit.params ++ states_of) plain_inputs_of w b) [
-          | inr here ↦ let one = map_has (λ (input : Input). variable input.name input.ty) unit.inputs w here in record { one = OfInput one.one; has = input_has one.one one.has; is = one.is }
+          | inr here ↦ let one = map_has (λ (input : Input). variable input.name input.ty) unit.inputs w here in
+              record { one = OfInput one.one; has = input_has one.one one.has; is = one.is }
           | inl c ↦ elim (has_either (param_variables unit.params) states_of w c) [
-            | inl here ↦ let one = map_has (λ (param : Param). variable param.name param.ty) unit.params w here in record { one = OfParam one.one; has = param_has one.one one.has; is = one.is }
-            | inr here ↦ let one = map_has (λ (state : State). variable state.name state.ty) unit.states w here in record { one = OfState one.one; has = state_has one.one one.has; is = one.is }
+            | inl here ↦ let one = map_has (λ (param : Param). variable param.name param.ty) unit.params w here in
+                record { one = OfParam one.one; has = param_has one.one one.has; is = one.is }
+            | inr here ↦ let one = map_has (λ (state : State). variable state.name state.ty) unit.states w here in
+                record { one = OfState one.one; has = state_has one.one one.has; is = one.is }
           ]
         ]
       ]
@@ -263,10 +305,14 @@ module _ (system : System) (unit : Unit) (declared : Declares (Passes system) un
 
   in_declared_a : (w : Variable) → Has (param_variables unit.params ++ states_of) w → Has (declared_in unit) w
   in_declared_a w has =
-      has_front (variables_of unit ++ events_of) (map port_variable (output_ports unit)) w (has_front (variables_of unit) events_of w (has_front ((param_variables unit.params ++ states_of) ++ plain_inputs_of) locals_of w (has_front (param_variables unit.params ++ states_of) plain_inputs_of w has)))
+      has_front (variables_of unit ++ events_of) (map port_variable (output_ports unit)) w
+      (has_front (variables_of unit) events_of w
+      (has_front ((param_variables unit.params ++ states_of) ++ plain_inputs_of) locals_of w
+      (has_front (param_variables unit.params ++ states_of) plain_inputs_of w has)))
 
   in_run_inputs : (w : Variable) → Has inputs_of w → Has run_variables w
-  in_run_inputs w has = has_behind (param_variables unit.params) (slot_variables run) w (has_behind states_of (inputs_of ++ locals_of) w (has_front inputs_of locals_of w has))
+  in_run_inputs w has =
+      has_behind (param_variables unit.params) (slot_variables run) w (has_behind states_of (inputs_of ++ locals_of) w (has_front inputs_of locals_of w has))
 
   use_param : (param : Param) → Has unit.params param → Usable param.name
   use_param param has =
@@ -296,8 +342,12 @@ module _ (system : System) (unit : Unit) (declared : Declares (Passes system) un
         one = OfLocal local;
         has = local_has local has;
         named_so = refl;
-        among_declared = has_front (variables_of unit ++ events_of) (map port_variable (output_ports unit)) w (has_front (variables_of unit) events_of w (has_behind ((param_variables unit.params ++ states_of) ++ plain_inputs_of) locals_of w here));
-        among_run = has_behind (param_variables unit.params) (slot_variables run) w (has_behind states_of (inputs_of ++ locals_of) w (has_behind inputs_of locals_of w here));
+        among_declared =
+            has_front (variables_of unit ++ events_of) (map port_variable (output_ports unit)) w
+            (has_front (variables_of unit) events_of w (has_behind ((param_variables unit.params ++ states_of) ++ plain_inputs_of) locals_of w here));
+        among_run =
+            has_behind (param_variables unit.params) (slot_variables run) w
+            (has_behind states_of (inputs_of ++ locals_of) w (has_behind inputs_of locals_of w here));
       }
 
   use_input : (input : Input) → Has unit.inputs input → Usable input.name
@@ -307,7 +357,11 @@ module _ (system : System) (unit : Unit) (declared : Declares (Passes system) un
         one = OfInput input;
         has = input_has input has;
         named_so = refl;
-        among_declared = has_front (variables_of unit ++ events_of) (map port_variable (output_ports unit)) w (has_front (variables_of unit) events_of w (has_front ((param_variables unit.params ++ states_of) ++ plain_inputs_of) locals_of w (has_behind (param_variables unit.params ++ states_of) plain_inputs_of w here)));
+        among_declared =
+            has_front (variables_of unit ++ events_of) (map port_variable (output_ports unit)) w
+            (has_front (variables_of unit) events_of w
+            (has_front ((param_variables unit.params ++ states_of) ++ plain_inputs_of) locals_of w
+            (has_behind (param_variables unit.params ++ states_of) plain_inputs_of w here)));
         among_run = in_run_inputs w (has_map input_variable run.inputs input (has_front unit.inputs (flat_map plain_inputs unit.events_in) input has));
       }
 
@@ -364,7 +418,8 @@ module _ (system : System) (unit : Unit) (declared : Declares (Passes system) un
   run_names = (scope_of run params).names
 
   run_told : (name : List ℕ) → (name_code (named run_names name)).kind ≡ kind_told (find (λ (x : Variable). bytes_eq x.name name) run_variables)
-  run_told name = constants_told unit.params params (slots_from 0 (slot_variables run)) (slot_variables run) name each_word (slots_told 0 (slot_variables run) name)
+  run_told name =
+      constants_told unit.params params (slots_from 0 (slot_variables run)) (slot_variables run) name each_word (slots_told 0 (slot_variables run) name)
 
   one_type : (one : Declared) → Has (declarations unit) one → (w : Variable) → Comes w → w.name ≡ name_of one → w.ty ≡ (variable_of one).ty
   one_type one has w comes same =
@@ -379,7 +434,9 @@ module _ (system : System) (unit : Unit) (declared : Declares (Passes system) un
       (λ w has same. one_type usable.one usable.has w (from_declared w has) (same ∙ sym usable.named_so)) in
       let here = find_typed run_variables name ty (variable_of usable.one) usable.among_run usable.named_so
       (λ w has same. run_type usable w (from_run w has) (same ∙ sym usable.named_so)) in
-      let declared_kind : Some (kind_of there.one.ty) ≡ Some kind = sym (ap (λ (o : Option Variable). option_map kind_of (option_map (λ (v : Variable). v.ty) o)) there.is) ∙ is in
+      let declared_kind : Some (kind_of there.one.ty) ≡ Some kind =
+      sym (ap (λ (o : Option Variable). option_map kind_of (option_map (λ (v : Variable). v.ty) o)) there.is)
+      ∙ is in
       let same_kind : kind_of there.one.ty ≡ kind = cc in
       run_told name ∙ ap kind_told here.is ∙ ap kind_of (here.typed ∙ sym there.typed) ∙ same_kind
     where
@@ -392,8 +449,12 @@ module _ (system : System) (unit : Unit) (declared : Declares (Passes system) un
   presence_kind name is =
       let event = map_has (λ (e : EventIn). e.name) unit.events_in name (among (event_input_names unit) name is) in
       let inside = has_flat plain_inputs unit.events_in event.one _ event.has (inl refl) in
-      let stands : Has run_variables (presence_variable event.one) = in_run_inputs (presence_variable event.one) (has_map input_variable run.inputs _ (has_behind unit.inputs (flat_map plain_inputs unit.events_in) _ inside)) in
-      let here = find_typed run_variables (presence_name name) types.Bool (presence_variable event.one) stands (ap presence_name event.is) (λ w has same. bool_type w (from_run w has) same) in
+      let stands : Has run_variables (presence_variable event.one) =
+      in_run_inputs (presence_variable event.one)
+      (has_map input_variable run.inputs _ (has_behind unit.inputs (flat_map plain_inputs unit.events_in) _ inside)) in
+      let here =
+      find_typed run_variables (presence_name name) types.Bool (presence_variable event.one) stands (ap presence_name event.is)
+      (λ w has same. bool_type w (from_run w has) same) in
       run_told (presence_name name) ∙ ap kind_told here.is ∙ ap kind_of here.typed
     where
       bool_type : (w : Variable) → Comes w ⊎ Tells w → w.name ≡ presence_name name → w.ty ≡ types.Bool

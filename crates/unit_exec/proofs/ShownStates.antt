@@ -1,5 +1,6 @@
 -- An output that shows a word of the state as it is.
-use Rattle.std.proofs.Common.{◌≡◌, ℕ, zero, suc, arith, ◌+◌, ◌<◌, Bool, true, false, ℤ, pos, List, [], ◌∷◌, ◌++◌, length, length-append, subst, take, replicate, Some, slice_get, Ok, Err, refl, sym, ap, ◌∙◌}
+use Rattle.std.proofs.Common.{◌≡◌, ℕ, zero, suc, arith, ◌+◌, ◌<◌, Bool, true, false, ℤ, pos, List, [], ◌∷◌, ◌++◌, length, length-append, subst, take, replicate}
+use Rattle.std.proofs.Common.{Some, slice_get, Ok, Err, refl, sym, ap, ◌∙◌}
 use Rattle.std.specs.Prelude.{if◌then◌else◌}
 use Rattle.std.proofs.lemmas.Option.{slice_get_within}
 use Rattle.std.specs.Option.{IfSome}
@@ -19,7 +20,8 @@ use Rattle.unit_vm.specs.declared.instruction.Instruction.{Instruction}
 use Rattle.unit_vm.specs.declared.instruction.Instruction.TheVariants.{Load, Give}
 use Rattle.unit_vm.specs.declared.program.Sizes.{Sizes}
 
-tested : (fitting : Bool) (work : Work) (word : ℤ) (next : State → Course) → word_given (then_goes (if fitting then Ends work (Some word) else Faults fault.Range) next) ≡ Some (if fitting then Ok word else Err fault.Range)
+tested : (fitting : Bool) (work : Work) (word : ℤ) (next : State → Course)
+    → word_given (then_goes (if fitting then Ends work (Some word) else Faults fault.Range) next) ≡ Some (if fitting then Ok word else Err fault.Range)
 tested true work word next = refl
 tested false work word next = refl
 
@@ -47,7 +49,8 @@ shows sizes slot ty state rest word each is =
     ∙ tested (is_word_of ty word) _ word _
 
 -- An output of which this is noted is there, and gives the state's word.
-module _ (program : Program) (state inputs : List ℤ) (output : ℕ) (shown : ℕ × Ty) (there : output < length program.outputs) (each : length state ≡ program.sizes.states) (shows_state : Shows program output shown) where
+module _ (program : Program) (state inputs : List ℤ) (output : ℕ) (shown : ℕ × Ty) (there : output < length program.outputs)
+    (each : length state ≡ program.sizes.states) (shows_state : Shows program output shown) where
   found : (part : List Instruction) × (slice_get program.outputs output ≡ Some part)
   found = exists_at program.outputs output there
 
@@ -60,7 +63,8 @@ module _ (program : Program) (state inputs : List ℤ) (output : ℕ) (shown : �
   pub shown_word : (word : ℤ) → slice_get state shown.0 ≡ Some word → output_by program state inputs output ≡ Some (given_word shown.1 word)
   shown_word word is =
       let rest : List ℤ = inputs ++ (replicate program.sizes.locals (pos 0) ++ (pos 0 ∷ pos 0 ∷ [])) in
-      ap (λ part. word_given (run_part program.sizes part (state ++ rest))) (found.1 ∙ ap Some by.is) ∙ shows program.sizes shown.0 shown.1 state rest word each is
+      ap (λ part. word_given (run_part program.sizes part (state ++ rest))) (found.1 ∙ ap Some by.is)
+      ∙ shows program.sizes shown.0 shown.1 state rest word each is
 
 pub has_output : (program : Program) (output : ℕ) → output < length program.outputs → IsSome (slice_get program.outputs output)
 has_output program output there = let one = exists_at program.outputs output there in subst IsSome (sym one.1) refl
@@ -70,14 +74,17 @@ pub record ShowSoFar (program : Program) (count : ℕ) (all : List (Option (ℕ 
   pub as_many : length all ≡ count
   pub each : ShowStates program all
 
-pub show_more : (program : Program) (count : ℕ) (all : List (Option (ℕ × Ty))) (one : Option (ℕ × Ty)) → ShowSoFar program count all → ((shown : ℕ × Ty) → one ≡ Some shown → Shows program count shown) → ShowSoFar program (count + 1) (all ++ one ∷ [])
+pub show_more : (program : Program) (count : ℕ) (all : List (Option (ℕ × Ty))) (one : Option (ℕ × Ty)) → ShowSoFar program count all
+    → ((shown : ℕ × Ty) → one ≡ Some shown → Shows program count shown) → ShowSoFar program (count + 1) (all ++ one ∷ [])
 show_more program count all one so_far shows_one = record {
   as_many = length-append all (one ∷ []) ∙ ap (λ n. n + 1) so_far.as_many;
   each = λ output shown at.
-      each_more (λ output one. (shown : ℕ × Ty) → one ≡ Some shown → Shows program output shown) all one (λ output one at shown is. so_far.each output shown (at ∙ ap Some is))
+      each_more (λ output one. (shown : ℕ × Ty) → one ≡ Some shown → Shows program output shown) all one
+      (λ output one at shown is. so_far.each output shown (at ∙ ap Some is))
       (subst (λ n. (shown : ℕ × Ty) → one ≡ Some shown → Shows program n shown) (sym so_far.as_many) shows_one) output (Some shown) at shown refl;
 }
 
-pub noted_shows : (program : Program) (all : List (Option (ℕ × Ty))) → ShowStates program all → (output : ℕ) (noted : Option (ℕ × Ty)) → slice_get all output ≡ Some noted → IfSome noted (Shows program output)
+pub noted_shows : (program : Program) (all : List (Option (ℕ × Ty))) → ShowStates program all → (output : ℕ) (noted : Option (ℕ × Ty))
+    → slice_get all output ≡ Some noted → IfSome noted (Shows program output)
 noted_shows program all each output None at = tt
 noted_shows program all each output (Some shown) at = each output shown at

@@ -1,5 +1,6 @@
 -- Runs of a valid program give answers.
-use Rattle.std.proofs.Common.{◌≡◌, ℕ, ◌+◌, ◌<◌, ℤ, pos, List, [], ◌∷◌, ◌++◌, length, replicate, Option, Some, None, Result, Ok, Err, refl, sym, ◌∙◌, get_or, arith}
+use Rattle.std.proofs.Common.{◌≡◌, ℕ, ◌+◌, ◌<◌, ℤ, pos, List, [], ◌∷◌, ◌++◌, length, replicate, Option, Some, None, Result, Ok, Err, refl, sym, ◌∙◌, get_or}
+use Rattle.std.proofs.Common.{arith}
 use Rattle.std.proofs.lemmas.List.{length-append}
 use Rattle.std.proofs.lemmas.Option.{slice_get-get_or}
 use Rattle.fixed_words.specs.Operations.{Outcome}
@@ -42,21 +43,27 @@ module _ (program : Program) (facts : CodeFacts) (has : HasFacts program facts) 
   slots_count : (time step : ℕ) → length (slots_with program.sizes state inputs time step) ≡ facts.slots
   slots_count time step =
       let locals : List ℤ = replicate program.sizes.locals (pos 0) in
-      let a : length (state ++ (inputs ++ (locals ++ (pos time ∷ pos step ∷ [])))) ≡ length state + length (inputs ++ (locals ++ (pos time ∷ pos step ∷ []))) = length-append state (inputs ++ (locals ++ (pos time ∷ pos step ∷ []))) in
-      let b : length (inputs ++ (locals ++ (pos time ∷ pos step ∷ []))) ≡ length inputs + length (locals ++ (pos time ∷ pos step ∷ [])) = length-append inputs (locals ++ (pos time ∷ pos step ∷ [])) in
+      let a : length (state ++ (inputs ++ (locals ++ (pos time ∷ pos step ∷ [])))) ≡ length state + length (inputs ++ (locals ++ (pos time ∷ pos step ∷ []))) =
+      length-append state (inputs ++ (locals ++ (pos time ∷ pos step ∷ []))) in
+      let b : length (inputs ++ (locals ++ (pos time ∷ pos step ∷ []))) ≡ length inputs + length (locals ++ (pos time ∷ pos step ∷ [])) =
+      length-append inputs (locals ++ (pos time ∷ pos step ∷ [])) in
       let c : length (locals ++ (pos time ∷ pos step ∷ [])) ≡ length locals + 2 = length-append locals (pos time ∷ pos step ∷ []) in
       let d : length locals ≡ program.sizes.locals = zeros_count program.sizes.locals in
       let e : length state ≡ program.sizes.states = words.each_state in
       let f : length inputs ≡ program.sizes.inputs = words.each_input in
-      let all : length (state ++ (inputs ++ (locals ++ (pos time ∷ pos step ∷ [])))) ≡ program.sizes.states + program.sizes.inputs + program.sizes.locals + 2 = omega arith in
+      let all : length (state ++ (inputs ++ (locals ++ (pos time ∷ pos step ∷ [])))) ≡ program.sizes.states + program.sizes.inputs + program.sizes.locals + 2 =
+      omega arith in
       all ∙ sym has.slots
 
   output_answer : (number : ℕ) → number < length program.outputs → (outcome : Outcome) × (output_by program state inputs number ≡ Some outcome)
   output_answer number within =
-      word_there _ (valid_runs_end_lem program facts has (entry.Output number) (get_or program.outputs number []) (slice_get-get_or program.outputs number [] within) (slots_with program.sizes state inputs 0 0) (slots_count 0 0)).over
+      word_there _
+      (valid_runs_end_lem program facts has (entry.Output number) (get_or program.outputs number []) (slice_get-get_or program.outputs number [] within)
+      (slots_with program.sizes state inputs 0 0) (slots_count 0 0)).over
       (output_well program facts has number (slots_with program.sizes state inputs 0 0))
 
-  limit_answer : (given : Option (List Instruction)) → program.limit ≡ given → (time : ℕ) → (told : Result (Option ℕ) Fault) × (greatest_step_with given program state inputs time ≡ Some told)
+  limit_answer : (given : Option (List Instruction)) → program.limit ≡ given → (time : ℕ)
+      → (told : Result (Option ℕ) Fault) × (greatest_step_with given program state inputs time ≡ Some told)
   limit_answer None is time = (Ok None, refl)
   limit_answer (Some code) is time =
       limit_there _ (valid_runs_end_lem program facts has entry.Limit code is (slots_with program.sizes state inputs time 0) (slots_count time 0)).over
@@ -64,7 +71,8 @@ module _ (program : Program) (facts : CodeFacts) (has : HasFacts program facts) 
 
   step_answer : (time step : ℕ) → (moved : Result Moved Fault) × (meaning_of program state inputs time step ≡ Some moved)
   step_answer time step =
-      moved_there program.sizes.states _ (valid_runs_end_lem program facts has entry.Step program.step refl (slots_with program.sizes state inputs time step) (slots_count time step)).over
+      moved_there program.sizes.states _
+      (valid_runs_end_lem program facts has entry.Step program.step refl (slots_with program.sizes state inputs time step) (slots_count time step)).over
 
 pub valid_answers : ValidProgramsAnswer
 valid_answers = λ program valid state inputs words. record {

@@ -16,7 +16,8 @@ use Rattle.unit_vm.specs.declared.program.Program.{Program}
 -- The units of what is run of a system in range that is well-formed may be compiled, with one word for each parameter.
 abbrev pub CheckedUnitsAreCompilable : Type 0
 CheckedUnitsAreCompilable =
-    (system : System) → IsRanged system → IsWellFormed system → (number : ℕ) (unit : Unit) → slice_get (plain_form system).units number ≡ Some unit → (params : List ℤ) → length params ≡ length unit.params
+    (system : System) → IsRanged system → IsWellFormed system → (number : ℕ) (unit : Unit) → slice_get (plain_form system).units number ≡ Some unit
+    → (params : List ℤ) → length params ≡ length unit.params
     → IsCompilable unit params
 
 -- What runs of a program give of a state and of words of inputs: each of its entries an answer.

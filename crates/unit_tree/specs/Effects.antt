@@ -1,5 +1,6 @@
 -- Effect of step lines: the environment after them with the accepted length, or the first fault.
-use Rattle.std.specs.Prelude.{◌≡◌, ℕ, zero, suc, Bool, true, ◌&&◌, ℤ, pos, unsigned_abs, List, [], ◌∷◌, map, if◌then◌else◌, Option, Some, None, Result, Ok, Err, OnOk, IfErr}
+use Rattle.std.specs.Prelude.{◌≡◌, ℕ, zero, suc, Bool, true, ◌&&◌, ℤ, pos, unsigned_abs, List, [], ◌∷◌, map, if◌then◌else◌, Option, Some, None, Result, Ok, Err}
+use Rattle.std.specs.Prelude.{OnOk, IfErr}
 use Rattle.std.specs.Str.{bytes_eq}
 use Rattle.std.specs.List.{list_all}
 use Rattle.fixed_words.specs.Types.{is_word_of, is_between}

@@ -75,9 +75,13 @@ node_kind (Expr-F.Unary op arg) names = option_and_then (unary_kind op) (arg nam
 node_kind (Expr-F.Binary op left right) names =
     option_and_then (λ x. option_and_then (binary_kind op x) (right names)) (left names)
 node_kind (Expr-F.Clamp value low high) names =
-    option_and_then (λ x. option_and_then (λ l. option_and_then (λ h. where_holds (same_kind x l && (same_kind x h && is_number x)) x) (high names)) (low names)) (value names)
+    option_and_then
+    (λ x. option_and_then (λ l. option_and_then (λ h. where_holds (same_kind x l && (same_kind x h && is_number x)) x) (high names)) (low names))
+    (value names)
 node_kind (Expr-F.Choose cond then_part else_part) names =
-    option_and_then (λ c. option_and_then (λ x. option_and_then (λ y. where_holds (same_kind c Truth && same_kind x y) x) (else_part names)) (then_part names)) (cond names)
+    option_and_then
+    (λ c. option_and_then (λ x. option_and_then (λ y. where_holds (same_kind c Truth && same_kind x y) x) (else_part names)) (then_part names))
+    (cond names)
 node_kind Expr-F.Absent names = None
 node_kind (Expr-F.Present name) names = Some Truth
 

@@ -58,7 +58,8 @@ limit_at t ports (member, state) = limit_told member.factor t (max_at t ports (m
 -- What a member makes of a step of h: nothing where it is held, and else what its doStep gives for its local step.
 abbrev pub step_at : ℕ → ℕ → Ports → Standing → Option (Result Moved Fault)
 step_at t h ports (member, state) =
-    if is_held member.factor t h then None else Some (step_of member.component state (inputs_at ports member) (local_time member.factor t) (local_step member.factor t h))
+    if is_held member.factor t h then None else Some
+    (step_of member.component state (inputs_at ports member) (local_time member.factor t) (local_step member.factor t h))
 
 -- A member's reply to a step of h, from what it makes of it: a held one replies h. So does one that faults, whose
 -- fault ends a run before its reply counts.

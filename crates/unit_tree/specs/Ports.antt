@@ -36,7 +36,8 @@ pub record Outlet : Type 0 where
 
 abbrev pub outlets_of : ℕ × Standing → List Outlet
 outlets_of (instance, standing) =
-    map (λ counted. record { standing = standing; instance = instance; output = counted.1; number = counted.0 }) (enumerate_from 0 standing.0.component.unit.outputs)
+    map (λ counted. record { standing = standing; instance = instance; output = counted.1; number = counted.0 })
+    (enumerate_from 0 standing.0.component.unit.outputs)
 
 -- The outputs of a composition in given states, each at its place.
 abbrev pub outlets : Composition → List (List ℤ) → List Outlet

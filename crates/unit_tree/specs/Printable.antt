@@ -1,5 +1,6 @@
 -- Systems whose numbers are in range, and systems that have a canonical text.
-use Rattle.std.specs.Prelude.{◌≡◌, ◌≤◌, ℕ, suc, max, Bool, true, false, ◌&&◌, nat_le, not, List, [], ◌∷◌, ◌++◌, map, length, Option, Some, None, IsTrue, IsFalse, ⊤}
+use Rattle.std.specs.Prelude.{◌≡◌, ◌≤◌, ℕ, suc, max, Bool, true, false, ◌&&◌, nat_le, not, List, [], ◌∷◌, ◌++◌, map, length, Option, Some, None, IsTrue}
+use Rattle.std.specs.Prelude.{IsFalse, ⊤}
 use Rattle.std.specs.Int.{is_negative}
 use Rattle.std.specs.List.{AllByRecursion, list_all, list_any, fold}
 use Rattle.fixed_words.specs.Types.{is_word_of}

@@ -132,7 +132,8 @@ IsOpenedBy system (UnitScope unit) head =
     (head.scope ≡ TopScope) × (head.line ≡ form.Unit unit.name) × (slice_get system.units (length (filter is_unit_line head.earlier)) ≡ Some unit)
 IsOpenedBy system (StepScope unit) head = (head.scope ≡ UnitScope unit) × (head.line ≡ form.Step)
 IsOpenedBy system (InstanceScope instance) head =
-    (head.scope ≡ TopScope) × (head.line ≡ form.Instance instance.name instance.unit) × (slice_get system.instances (length (filter is_instance_line head.earlier)) ≡ Some instance)
+    (head.scope ≡ TopScope) × (head.line ≡ form.Instance instance.name instance.unit)
+    × (slice_get system.instances (length (filter is_instance_line head.earlier)) ≡ Some instance)
 
 -- What comes before a block ends with the site that opens it. Nothing comes before the text.
 abbrev pub Opens : System → Scope → List Site → Type 0

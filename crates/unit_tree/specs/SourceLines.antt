@@ -3,7 +3,8 @@
 use Rattle.std.specs.Prelude.{◌≡◌, ℕ, ◌==◌, not, List, [], ◌∷◌, ◌++◌, map, length, take, drop}
 use Rattle.std.specs.List.{filter, flat_map, enumerate_from}
 use Rattle.unit_tree.specs.Lines.{source_lines, is_blank_line}
-use Rattle.unit_tree.specs.Parts.{Part, HasUnit, HasInstance, Connects, Stop, Longest, Zero, Rows, Samples, UnitPart, Resolution, HasParam, HasState, HasLocal, HasInput, HasEventIn, HasOutput, HasEventOut, Max, Step, part_forms, unit_part_forms}
+use Rattle.unit_tree.specs.Parts.{Part, HasUnit, HasInstance, Connects, Stop, Longest, Zero, Rows, Samples, UnitPart, Resolution, HasParam, HasState, HasLocal}
+use Rattle.unit_tree.specs.Parts.{HasInput, HasEventIn, HasOutput, HasEventOut, Max, Step, part_forms, unit_part_forms}
 use Rattle.unit_tree.specs.Texts.{Reads}
 use Rattle.unit_tree.specs.declared.system.System.{System}
 
@@ -49,7 +50,8 @@ each_ranked rank size inside (part ∷ parts) lines =
 
 abbrev pub unit_lines_in_order : {A : Type 0} → List UnitPart → List A → List A
 unit_lines_in_order parts lines =
-    by_rank (0 ∷ 1 ∷ 2 ∷ 3 ∷ 4 ∷ 5 ∷ 6 ∷ 7 ∷ 8 ∷ 9 ∷ []) (each_ranked unit_part_rank (λ part. length (unit_part_forms part)) (λ part inside. inside) parts lines)
+    by_rank (0 ∷ 1 ∷ 2 ∷ 3 ∷ 4 ∷ 5 ∷ 6 ∷ 7 ∷ 8 ∷ 9 ∷ [])
+    (each_ranked unit_part_rank (λ part. length (unit_part_forms part)) (λ part inside. inside) parts lines)
 
 -- Of a unit its own line comes first, then those of its parts in canonical order, then its `end`.
 abbrev pub part_lines_in_order : {A : Type 0} → Part → List A → List A
@@ -60,7 +62,8 @@ part_lines_in_order part lines = lines
 -- What goes along with the lines of a text, one for each: that of the header, and those of the parts in canonical order.
 abbrev pub in_canonical_order : {A : Type 0} → List Part → List A → List A
 in_canonical_order parts lines =
-    take 1 lines ++ by_rank (0 ∷ 1 ∷ 2 ∷ 3 ∷ 4 ∷ 5 ∷ 6 ∷ 7 ∷ []) (each_ranked part_rank (λ part. length (part_forms part)) part_lines_in_order parts (drop 1 lines))
+    take 1 lines
+    ++ by_rank (0 ∷ 1 ∷ 2 ∷ 3 ∷ 4 ∷ 5 ∷ 6 ∷ 7 ∷ []) (each_ranked part_rank (λ part. length (part_forms part)) part_lines_in_order parts (drop 1 lines))
 
 -- ---- Numbers of lines
 

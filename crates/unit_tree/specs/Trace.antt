@@ -7,7 +7,8 @@ use Rattle.super_time.specs.declared.point.Point.{Point}
 use Rattle.unit_tree.specs.Components.{Moved}
 use Rattle.unit_tree.specs.Compositions.{Composition, run_of}
 use Rattle.unit_tree.specs.Ports.{Ports, IsAssignment, first_some, port_fault}
-use Rattle.unit_tree.specs.Successor.{Position, goes, ends, first_position, agreed, is_redone, trial, steps_by, stop_end, row_end, max_end, trial_end, successor}
+use Rattle.unit_tree.specs.Successor.{Position, goes, ends, first_position, agreed, is_redone, trial, steps_by, stop_end, row_end, max_end, trial_end}
+use Rattle.unit_tree.specs.Successor.{successor}
 use Rattle.unit_tree.specs.declared.ending.Ending.{Ending}
 use Rattle.unit_tree.specs.declared.system.System.{System}
 use Rattle.unit_tree.specs.declared.unit.State.{State}

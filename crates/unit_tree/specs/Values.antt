@@ -1,10 +1,12 @@
 -- Value of an expression in an environment: a word with its kind, or the first fault from the left.
-use Rattle.std.specs.Prelude.{◌≡◌, ◌<◌, ◌^◌, length, ℕ, zero, ◌-◌, Bool, true, false, not, ◌&&◌, ◌||◌, ℤ, pos, List, [], ◌∷◌, if◌then◌else◌, nat_le, ◌≤◌, ⊤, int_lt, int_le, Result, Ok, Err}
+use Rattle.std.specs.Prelude.{◌≡◌, ◌<◌, ◌^◌, length, ℕ, zero, ◌-◌, Bool, true, false, not, ◌&&◌, ◌||◌, ℤ, pos, List, [], ◌∷◌, if◌then◌else◌, nat_le, ◌≤◌, ⊤}
+use Rattle.std.specs.Prelude.{int_lt, int_le, Result, Ok, Err}
 use Rattle.std.specs.Str.{bytes_eq}
 use Rattle.std.specs.Ordering.{int_eq}
 use Rattle.std.specs.Int.{int_min, int_max}
 use Rattle.fixed_words.specs.Types.{kind_of}
-use Rattle.fixed_words.specs.Operations.{Outcome, is_zero, sum, difference, product, quotient, remainder, fixed_product, fixed_quotient, negated, magnitude, scaled_up, scaled_down, clamped}
+use Rattle.fixed_words.specs.Operations.{Outcome, is_zero, sum, difference, product, quotient, remainder, fixed_product, fixed_quotient, negated, magnitude}
+use Rattle.fixed_words.specs.Operations.{scaled_up, scaled_down, clamped}
 use Rattle.fixed_words.specs.declared.types.Fault.{Fault}
 use Rattle.fixed_words.specs.declared.types.Kind.{Kind}
 use Rattle.fixed_words.specs.declared.types.Kind.TheVariants as kinds

@@ -1,6 +1,7 @@
 -- Well-formed systems. Each rule has a test, which a canonical line passes where it breaks the rule. The rules are
 -- judged in the order of their numbers, each over the whole system and only where all earlier ones hold.
-use Rattle.std.specs.Prelude.{◌≡◌, ℕ, ◌*◌, max, Bool, true, false, not, ◌&&◌, ◌||◌, ◌==◌, nat_le, nat_lt, if◌then◌else◌, ℤ, List, [], ◌∷◌, ◌++◌, map, length, Option, Some, None, is_none, Result, Ok, Err}
+use Rattle.std.specs.Prelude.{◌≡◌, ℕ, ◌*◌, max, Bool, true, false, not, ◌&&◌, ◌||◌, ◌==◌, nat_le, nat_lt, if◌then◌else◌, ℤ, List, [], ◌∷◌, ◌++◌, map, length}
+use Rattle.std.specs.Prelude.{Option, Some, None, is_none, Result, Ok, Err}
 use Rattle.std.specs.Bool.{beq}
 use Rattle.std.specs.List.{AllByRecursion, list_any, count_by, enumerate_from, filter_map, flat_map, fold}
 use Rattle.std.specs.Option.{option_map, option_and_then, unwrap_or}
@@ -19,7 +20,8 @@ use Rattle.super_time.specs.declared.seconds.SecondsFault.{SecondsFault}
 use Rattle.unit_tree.specs.Costs.{expression_call_cost, step_call_cost}
 use Rattle.unit_tree.specs.Kinds.{same_kind, has_kind, line_is_kinded}
 use Rattle.unit_tree.specs.LineForms.{are_alike, tail_of, tail_speaks_of_events}
-use Rattle.unit_tree.specs.Names.{names_in, depth_of, expression_on, is_empty, is_among, are_among, param_names, Port, input_names, output_names, output_uses, max_uses, step_uses, keeps_to, type_in, kinds_in, unit_named, unit_of_instance, param_named, output_at, input_at, same_port}
+use Rattle.unit_tree.specs.Names.{names_in, depth_of, expression_on, is_empty, is_among, are_among, param_names, Port, input_names, output_names, output_uses}
+use Rattle.unit_tree.specs.Names.{max_uses, step_uses, keeps_to, type_in, kinds_in, unit_named, unit_of_instance, param_named, output_at, input_at, same_port}
 use Rattle.unit_tree.specs.Plain.{word_expression_of, plain_unit, plain_forms}
 use Rattle.unit_tree.specs.Sites.{Site, Scope, TopScope, UnitScope, StepScope, InstanceScope, sites_of}
 use Rattle.unit_tree.specs.declared.expr.Expr.{Expr}

@@ -16,9 +16,11 @@ use Rattle.run_laws.proofs.PlaceOrders.{ordered, orderly, among_ports, port_at, 
 abbrev pub AreClosed : Composition → List ℕ → Type 0
 AreClosed run order = (place : ℕ) → place < length (needs_of_places run) → AllByRecursion (IsAmong order) (needs_at run place) → IsAmong order place
 
-within : (run : Composition) (order before other : List ℕ) → AreClosed run order → ((place : ℕ) → IsAmong before place → IsAmong order place) → IsOrderedAfter run before other → (place : ℕ) → IsAmong other place → IsAmong order place
+within : (run : Composition) (order before other : List ℕ) → AreClosed run order → ((place : ℕ) → IsAmong before place → IsAmong order place)
+    → IsOrderedAfter run before other → (place : ℕ) → IsAmong other place → IsAmong order place
 within run order before [] closed came is place none = absurd none
-within run order before (first ∷ other) closed came is place stands = by here (λ at. within run order (before ++ (first ∷ [])) other closed (λ p among. either at p (among_either before first p among)) is.3 place) stands
+within run order before (first ∷ other) closed came is place stands =
+    by here (λ at. within run order (before ++ (first ∷ [])) other closed (λ p among. either at p (among_either before first p among)) is.3 place) stands
   where
     here : IsAmong order first
     here = closed first is.0 (all_weaker (IsAmong before) (IsAmong order) (needs_at run first) came is.2)
@@ -31,7 +33,8 @@ within run order before (first ∷ other) closed came is place stands = by here 
     by at later (inl same) = subst (IsAmong order) same at
     by at later (inr there) = later at there
 
-pub holds_every : (run : Composition) (order other : List ℕ) → AreClosed run order → IsOrderedAfter run [] other → (place : ℕ) → IsAmong other place → IsAmong order place
+pub holds_every : (run : Composition) (order other : List ℕ) → AreClosed run order → IsOrderedAfter run [] other → (place : ℕ) → IsAmong other place
+    → IsAmong order place
 holds_every run order other closed is place stands = within run order [] other closed (λ p none. absurd none) is place stands
 
 cut_at : {A : Type 0} (xs : List A) (k : ℕ) (x : A) → slice_get xs k ≡ Some x → xs ≡ take k xs ++ (x ∷ drop (suc k) xs)
@@ -52,14 +55,16 @@ module _ (system : System) (plain : HasNoEvents system) (differ : NamesDiffer sy
   abbrev port : ℕ → PortName
   port = port_at system plain differ wired
 
-  pub first_left : (order : List ℕ) (left : ℕ) → IsOrderedAfter run [] order → AreClosed run order → left < length (needs_of_places run) → (IsAmong order left → ⊥) → ((place : ℕ) → place < left → IsAmong order place) → IsFirstWithoutOrder system (port left)
+  pub first_left : (order : List ℕ) (left : ℕ) → IsOrderedAfter run [] order → AreClosed run order → left < length (needs_of_places run)
+      → (IsAmong order left → ⊥) → ((place : ℕ) → place < left → IsAmong order place) → IsFirstWithoutOrder system (port left)
   first_left order left is closed is_place apart others = record {
     before = take left (outputs_of system);
     later = drop (suc left) (outputs_of system);
     cut = cut_at (outputs_of system) left (port left) (at_is system plain differ wired left is_output);
     has_no_order = λ other other_is stands.
         apart (holds_every run order (places system plain differ other) closed (ordered system plain differ [] other tt other_is) left
-        (subst (IsAmong (places system plain differ other)) (place_back system plain differ wired left is_output) (among_places system plain differ other (port left) stands)));
+        (subst (IsAmong (places system plain differ other)) (place_back system plain differ wired left is_output)
+        (among_places system plain differ other (port left) stands)));
     is_first = all_first (λ other. HasNoOrder system other → ⊥) (outputs_of system) left (λ place other below found none.
         none (ports_at system plain differ wired order) (orderly system plain differ wired [] order tt is)
         (subst (IsIn (ports_at system plain differ wired order)) (ap (λ given. unwrap_or given (record { instance = []; port = [] })) found)

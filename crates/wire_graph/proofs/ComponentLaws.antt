@@ -31,7 +31,9 @@ module _ (system : System) where
     abbrev ports_with : Instance → List Port → List PortName
     ports_with instance ports = map (λ (port : Port). port_of instance port.name) ports
 
-    of_outputs : (instance : Instance) (outputs : List Output) → map (λ (output : Output). port_named instance.name output.name) outputs ≡ ports_with instance (map (λ (output : Output). record { name = output.name; ty = output.ty; is_event = false; needs = output.needs }) outputs)
+    of_outputs : (instance : Instance) (outputs : List Output)
+        → map (λ (output : Output). port_named instance.name output.name) outputs
+        ≡ ports_with instance (map (λ (output : Output). record { name = output.name; ty = output.ty; is_event = false; needs = output.needs }) outputs)
     of_outputs instance [] = refl
     of_outputs instance (output ∷ outputs) = ap (λ rest. port_named instance.name output.name ∷ rest) (of_outputs instance outputs)
 
@@ -43,17 +45,23 @@ module _ (system : System) where
         let plain_ports = map (λ (output : Output). record { name = output.name; ty = output.ty; is_event = false; needs = output.needs }) unit.outputs in
         of_outputs instance unit.outputs
         ∙ ap (ports_with instance) (sym (append-nil plain_ports))
-        ∙ ap (λ events. ports_with instance (plain_ports ++ event_ports events)) (sym (each_has (λ (u : Unit). (u.events_in ≡ []) × (u.events_out ≡ [])) system.units unit plain has).1)
+        ∙ ap (λ events. ports_with instance (plain_ports ++ event_ports events))
+        (sym (each_has (λ (u : Unit). (u.events_in ≡ []) × (u.events_out ≡ [])) system.units unit plain has).1)
 
-    outputs_by : (instance : Instance) (given : Option Unit) (components : List Named) (rest : List PortName) → unit_of_instance system instance ≡ given → outputs_named components ≡ rest → outputs_named (cons_option (named_with instance.name given) components) ≡ ports_with instance (outputs_in given) ++ rest
+    outputs_by : (instance : Instance) (given : Option Unit) (components : List Named) (rest : List PortName) → unit_of_instance system instance ≡ given
+        → outputs_named components ≡ rest
+        → outputs_named (cons_option (named_with instance.name given) components) ≡ ports_with instance (outputs_in given) ++ rest
     outputs_by instance None components rest given_is later = later
     outputs_by instance (Some unit) components rest given_is later =
         ap (λ front. front ++ outputs_named components) (of_unit instance unit (named_has system.units instance.unit unit given_is))
         ∙ ap (λ behind. ports_with instance (output_ports unit) ++ behind) later
 
-    outputs_of_all : (instances : List Instance) → outputs_named (filter_map component_of instances) ≡ flat_map (λ instance. ports_with instance (outputs_in (unit_of_instance system instance))) instances
+    outputs_of_all : (instances : List Instance)
+        → outputs_named (filter_map component_of instances)
+        ≡ flat_map (λ instance. ports_with instance (outputs_in (unit_of_instance system instance))) instances
     outputs_of_all [] = refl
-    outputs_of_all (instance ∷ instances) = outputs_by instance (unit_of_instance system instance) (filter_map component_of instances) _ refl (outputs_of_all instances)
+    outputs_of_all (instance ∷ instances) =
+        outputs_by instance (unit_of_instance system instance) (filter_map component_of instances) _ refl (outputs_of_all instances)
 
     pub outputs_are : outputs_named (components_in system) ≡ outputs_of system
     outputs_are = outputs_of_all system.instances
@@ -64,16 +72,23 @@ module _ (system : System) where
   inputs_beside instance [] = refl
   inputs_beside instance (input ∷ inputs) = ap (λ rest. input_of system instance.name input ∷ rest) (inputs_beside instance inputs)
 
-  sources_beside : (instance : Instance) (inputs : List Input) → map (λ (one : Input × InputSource). one.1) (map (input_of system instance.name) inputs) ≡ map (source_of system instance) inputs
+  sources_beside : (instance : Instance) (inputs : List Input)
+      → map (λ (one : Input × InputSource). one.1) (map (input_of system instance.name) inputs) ≡ map (source_of system instance) inputs
   sources_beside instance [] = refl
   sources_beside instance (input ∷ inputs) = ap (λ rest. source_of system instance input ∷ rest) (sources_beside instance inputs)
 
-  wired_all : (instances : List Instance) → AllZip IsWiredAs (filter_map (λ instance. member_with system instance (unit_of_instance system instance)) instances) (map (member_of system) (filter_map component_of instances))
+  wired_all : (instances : List Instance)
+      → AllZip IsWiredAs (filter_map (λ instance. member_with system instance (unit_of_instance system instance)) instances)
+      (map (member_of system) (filter_map component_of instances))
   wired_all [] = tt
   wired_all (instance ∷ instances) = by (unit_of_instance system instance) (wired_all instances)
     where
-      by : (given : Option Unit) → AllZip IsWiredAs (filter_map (λ one. member_with system one (unit_of_instance system one)) instances) (map (member_of system) (filter_map component_of instances))
-          → AllZip IsWiredAs (cons_option (member_with system instance given) (filter_map (λ one. member_with system one (unit_of_instance system one)) instances)) (map (member_of system) (cons_option (named_with instance.name given) (filter_map component_of instances)))
+      by : (given : Option Unit)
+          → AllZip IsWiredAs (filter_map (λ one. member_with system one (unit_of_instance system one)) instances)
+          (map (member_of system) (filter_map component_of instances))
+          → AllZip IsWiredAs
+          (cons_option (member_with system instance given) (filter_map (λ one. member_with system one (unit_of_instance system one)) instances))
+          (map (member_of system) (cons_option (named_with instance.name given) (filter_map component_of instances)))
       by None later = later
       by (Some unit) later = ((refl, inputs_beside instance unit.inputs, sources_beside instance unit.inputs), later)
 
@@ -87,13 +102,20 @@ module _ (system : System) where
     decimals_of_all [] = tt
     decimals_of_all (instance ∷ instances) = by (unit_of_instance system instance) refl (decimals_of_all instances)
       where
-        by : (given : Option Unit) → unit_of_instance system instance ≡ given → AllByRecursion (λ (component : Named). HaveDecimals component.1.inputs) (filter_map component_of instances) → AllByRecursion (λ (component : Named). HaveDecimals component.1.inputs) (cons_option (named_with instance.name given) (filter_map component_of instances))
+        by : (given : Option Unit) → unit_of_instance system instance ≡ given
+            → AllByRecursion (λ (component : Named). HaveDecimals component.1.inputs) (filter_map component_of instances)
+            → AllByRecursion (λ (component : Named). HaveDecimals component.1.inputs)
+            (cons_option (named_with instance.name given) (filter_map component_of instances))
         by None is later = later
-        by (Some unit) is later = (each_has (λ (u : Unit). HaveDecimals u.inputs) system.units unit decimals (named_has system.units instance.unit unit is), later)
+        by (Some unit) is later =
+            (each_has (λ (u : Unit). HaveDecimals u.inputs) system.units unit decimals (named_has system.units instance.unit unit is), later)
 
-    of_named : (components : List Component) → AllByRecursion (λ (component : Named). HaveDecimals component.1.inputs) (map named_of components) → AllByRecursion (λ (component : Component). HaveDecimals component.unit.now.inputs) components
+    of_named : (components : List Component) → AllByRecursion (λ (component : Named). HaveDecimals component.1.inputs) (map named_of components)
+        → AllByRecursion (λ (component : Component). HaveDecimals component.unit.now.inputs) components
     of_named [] all = tt
     of_named (component ∷ components) all = (all.0, of_named components all.1)
 
-    pub components_decimals : (components : List Component) → map named_of components ≡ components_in system → AllByRecursion (λ (component : Component). HaveDecimals component.unit.now.inputs) components
-    components_decimals components are = of_named components (subst (AllByRecursion (λ (component : Named). HaveDecimals component.1.inputs)) (sym are) (decimals_of_all system.instances))
+    pub components_decimals : (components : List Component) → map named_of components ≡ components_in system
+        → AllByRecursion (λ (component : Component). HaveDecimals component.unit.now.inputs) components
+    components_decimals components are =
+        of_named components (subst (AllByRecursion (λ (component : Named). HaveDecimals component.1.inputs)) (sym are) (decimals_of_all system.instances))

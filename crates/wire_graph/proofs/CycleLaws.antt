@@ -1,5 +1,6 @@
 -- A system has an order of all its outputs, or one output that is the first without an order.
-use Rattle.std.proofs.Common.{◌≡◌, ℕ, zero, suc, ◌+◌, ◌<◌, ◌≤◌, Bool, true, false, cond, List, [], ◌∷◌, ◌++◌, inl, inr, ◌⊎◌, refl, ap, sym, subst, ◌∙◌, arith, append-nil, append_assoc}
+use Rattle.std.proofs.Common.{◌≡◌, ℕ, zero, suc, ◌+◌, ◌<◌, ◌≤◌, Bool, true, false, cond, List, [], ◌∷◌, ◌++◌, inl, inr, ◌⊎◌, refl, ap, sym, subst, ◌∙◌, arith}
+use Rattle.std.proofs.Common.{append-nil, append_assoc}
 use Rattle.std.specs.Prelude.{◌||◌}
 use Rattle.std.specs.List.{AllByRecursion, list_any}
 use Rattle.language_laws.specs.Language.{CyclesAreJudgedOnce}
@@ -44,7 +45,8 @@ all_or_not : (before needed : List PortName) → AllByRecursion (IsIn before) ne
 all_or_not before [] = inl tt
 all_or_not before (first ∷ needed) = by (stands before first) refl (all_or_not before needed)
   where
-    by : (told : Bool) → stands before first ≡ told → AllByRecursion (IsIn before) needed ⊎ (AllByRecursion (IsIn before) needed → ⊥) → AllByRecursion (IsIn before) (first ∷ needed) ⊎ (AllByRecursion (IsIn before) (first ∷ needed) → ⊥)
+    by : (told : Bool) → stands before first ≡ told → AllByRecursion (IsIn before) needed ⊎ (AllByRecursion (IsIn before) needed → ⊥)
+        → AllByRecursion (IsIn before) (first ∷ needed) ⊎ (AllByRecursion (IsIn before) (first ∷ needed) → ⊥)
     by true is (inl all) = inl (is_in before first is, all)
     by true is (inr none) = inr (λ all. none all.1)
     by false is rest = inr (λ all. not_in before first is all.0)
@@ -70,7 +72,8 @@ at_most_by false false rest later stays below = omega (arith, below)
 at_most : (order ports : List PortName) (last : PortName) → left (order ++ (last ∷ [])) ports ≤ left order ports
 at_most order [] last = omega arith
 at_most order (port ∷ ports) last =
-    at_most_by (stands order port) (stands (order ++ (last ∷ [])) port) (left order ports) (left (order ++ (last ∷ [])) ports) (with_last order last port) (at_most order ports last)
+    at_most_by (stands order port) (stands (order ++ (last ∷ [])) port) (left order ports) (left (order ++ (last ∷ [])) ports) (with_last order last port)
+    (at_most order ports last)
 
 fewer_here : (was is : Bool) (rest later : ℕ) → was ≡ false → is ≡ true → later ≤ rest → cond is later (1 + later) < cond was rest (1 + rest)
 fewer_here true is rest later was_is is_is below = true_is_false true refl was_is
@@ -89,7 +92,8 @@ fewer order (port ∷ ports) last (inl is) isnt =
     fewer_here (stands order port) (stands (order ++ (last ∷ [])) port) (left order ports) (left (order ++ (last ∷ [])) ports)
     (ap (stands order) is ∙ isnt) (ap (stands (order ++ (last ∷ []))) is ∙ last_stands order last) (at_most order ports last)
 fewer order (port ∷ ports) last (inr later) isnt =
-    fewer_later (stands order port) (stands (order ++ (last ∷ [])) port) (left order ports) (left (order ++ (last ∷ [])) ports) (with_last order last port) (fewer order ports last later isnt)
+    fewer_later (stands order port) (stands (order ++ (last ∷ [])) port) (left order ports) (left (order ++ (last ∷ [])) ports) (with_last order last port)
+    (fewer order ports last later isnt)
 
 none_by : (was : Bool) (rest : ℕ) → cond was rest (1 + rest) ≤ 0 → (was ≡ true) × (rest ≤ 0)
 none_by true rest none = (refl, none)
@@ -117,10 +121,13 @@ module _ (system : System) where
   abbrev IsClosed : List PortName → Type 0
   IsClosed order = (port : PortName) → IsIn (outputs_of system) port → AllByRecursion (IsIn order) (needed_by system port) → IsIn order port
 
-  within_by : (order before : List PortName) (first port : PortName) → IsIn order first → ((p : PortName) → IsIn before p → IsIn order p) → IsIn (before ++ (first ∷ [])) port → IsIn order port
-  within_by order before first port here came is = elim (in_either before first port is) [ inl earlier ↦ came port earlier | inr same ↦ subst (IsIn order) same here ]
+  within_by : (order before : List PortName) (first port : PortName) → IsIn order first → ((p : PortName) → IsIn before p → IsIn order p)
+      → IsIn (before ++ (first ∷ [])) port → IsIn order port
+  within_by order before first port here came is =
+      elim (in_either before first port is) [ inl earlier ↦ came port earlier | inr same ↦ subst (IsIn order) same here ]
 
-  within : (order before other : List PortName) → IsClosed order → ((port : PortName) → IsIn before port → IsIn order port) → IsOrderlyAfter system before other → (port : PortName) → IsIn other port → IsIn order port
+  within : (order before other : List PortName) → IsClosed order → ((port : PortName) → IsIn before port → IsIn order port)
+      → IsOrderlyAfter system before other → (port : PortName) → IsIn other port → IsIn order port
   within order before [] closed came orderly port none = absurd none
   within order before (first ∷ other) closed came orderly port (inl is) =
       subst (IsIn order) is (closed first orderly.0 (all_in (IsIn before) (IsIn order) (needed_by system first) came orderly.2))
@@ -129,15 +136,22 @@ module _ (system : System) where
       (λ p. within_by order before first p (closed first orderly.0 (all_in (IsIn before) (IsIn order) (needed_by system first) came orderly.2)) came)
       orderly.3 port later
 
-  longer : (before order : List PortName) (last : PortName) → IsOrderlyAfter system before order → IsIn (outputs_of system) last → (IsIn (before ++ order) last → ⊥) → AllByRecursion (IsIn (before ++ order)) (needed_by system last) → IsOrderlyAfter system before (order ++ (last ∷ []))
-  longer before [] last orderly output apart needs =
-      (output, subst (λ all. IsIn all last → ⊥) (append-nil before) apart, subst (λ all. AllByRecursion (IsIn all) (needed_by system last)) (append-nil before) needs, tt)
+  longer : (before order : List PortName) (last : PortName) → IsOrderlyAfter system before order → IsIn (outputs_of system) last
+      → (IsIn (before ++ order) last → ⊥) → AllByRecursion (IsIn (before ++ order)) (needed_by system last)
+      → IsOrderlyAfter system before (order ++ (last ∷ []))
+  longer before [] last orderly output apart needs = (
+    output,
+    subst (λ all. IsIn all last → ⊥) (append-nil before) apart,
+    subst (λ all. AllByRecursion (IsIn all) (needed_by system last)) (append-nil before) needs,
+    tt,
+  )
   longer before (first ∷ order) last orderly output apart needs =
       let same : before ++ (first ∷ order) ≡ (before ++ (first ∷ [])) ++ order = sym (append_assoc before (first ∷ []) order) in (
         orderly.0,
         orderly.1,
         orderly.2,
-        longer (before ++ (first ∷ [])) order last orderly.3 output (subst (λ all. IsIn all last → ⊥) same apart) (subst (λ all. AllByRecursion (IsIn all) (needed_by system last)) same needs),
+        longer (before ++ (first ∷ [])) order last orderly.3 output (subst (λ all. IsIn all last → ⊥) same apart)
+            (subst (λ all. AllByRecursion (IsIn all) (needed_by system last)) same needs),
       )
 
   -- An output that can be added.
@@ -147,15 +161,22 @@ module _ (system : System) where
     new : stands order port ≡ false
     needs : AllByRecursion (IsIn order) (needed_by system port)
 
-  addable : (order ports : List PortName) → ((port : PortName) → IsIn ports port → IsIn (outputs_of system) port) → Addable order ⊎ ((port : PortName) → IsIn ports port → AllByRecursion (IsIn order) (needed_by system port) → IsIn order port)
+  addable : (order ports : List PortName) → ((port : PortName) → IsIn ports port → IsIn (outputs_of system) port)
+      → Addable order ⊎ ((port : PortName) → IsIn ports port → AllByRecursion (IsIn order) (needed_by system port) → IsIn order port)
   addable order [] are = inr (λ port none. absurd none)
-  addable order (first ∷ ports) are = by (stands order first) refl (all_or_not order (needed_by system first)) (addable order ports (λ port later. are port (inr later)))
+  addable order (first ∷ ports) are =
+      by (stands order first) refl (all_or_not order (needed_by system first)) (addable order ports (λ port later. are port (inr later)))
     where
-      here : ((port : PortName) → IsIn ports port → AllByRecursion (IsIn order) (needed_by system port) → IsIn order port) → (AllByRecursion (IsIn order) (needed_by system first) → IsIn order first) → (port : PortName) → IsIn (first ∷ ports) port → AllByRecursion (IsIn order) (needed_by system port) → IsIn order port
+      here : ((port : PortName) → IsIn ports port → AllByRecursion (IsIn order) (needed_by system port) → IsIn order port)
+          → (AllByRecursion (IsIn order) (needed_by system first) → IsIn order first) → (port : PortName) → IsIn (first ∷ ports) port
+          → AllByRecursion (IsIn order) (needed_by system port) → IsIn order port
       here rest at port (inl is) needs = subst (IsIn order) is (at (subst (λ p. AllByRecursion (IsIn order) (needed_by system p)) (sym is) needs))
       here rest at port (inr later) needs = rest port later needs
 
-      by : (told : Bool) → stands order first ≡ told → AllByRecursion (IsIn order) (needed_by system first) ⊎ (AllByRecursion (IsIn order) (needed_by system first) → ⊥) → Addable order ⊎ ((port : PortName) → IsIn ports port → AllByRecursion (IsIn order) (needed_by system port) → IsIn order port) → Addable order ⊎ ((port : PortName) → IsIn (first ∷ ports) port → AllByRecursion (IsIn order) (needed_by system port) → IsIn order port)
+      by : (told : Bool) → stands order first ≡ told
+          → AllByRecursion (IsIn order) (needed_by system first) ⊎ (AllByRecursion (IsIn order) (needed_by system first) → ⊥)
+          → Addable order ⊎ ((port : PortName) → IsIn ports port → AllByRecursion (IsIn order) (needed_by system port) → IsIn order port)
+          → Addable order ⊎ ((port : PortName) → IsIn (first ∷ ports) port → AllByRecursion (IsIn order) (needed_by system port) → IsIn order port)
       by told is needs (inl found) = inl found
       by true is needs (inr rest) = inr (here rest (λ _. is_in order first is))
       by false is (inl all) (inr rest) = inl (record { port = first; output = are first (inl refl); new = is; needs = all })
@@ -167,7 +188,8 @@ module _ (system : System) where
     closed : IsClosed order
 
   grown : (fuel : ℕ) (order : List PortName) → IsOrderly system order → left order (outputs_of system) ≤ fuel → Closed
-  grown zero order orderly below = record { order = order; orderly = orderly; closed = λ port output needs. none_left order (outputs_of system) below port output }
+  grown zero order orderly below =
+      record { order = order; orderly = orderly; closed = λ port output needs. none_left order (outputs_of system) below port output }
   grown (suc fuel) order orderly below =
       elim (addable order (outputs_of system) (λ port output. output)) [
         | inl found ↦
@@ -182,7 +204,8 @@ module _ (system : System) where
 
   -- ---- The first output that it leaves out
 
-  first_outside : (order before later : List PortName) (port : PortName) → IsClosed order → IsOrderly system order → outputs_of system ≡ before ++ (port ∷ later) → AllByRecursion (IsIn order) before → (IsIn order port → ⊥) → IsFirstWithoutOrder system port
+  first_outside : (order before later : List PortName) (port : PortName) → IsClosed order → IsOrderly system order
+      → outputs_of system ≡ before ++ (port ∷ later) → AllByRecursion (IsIn order) before → (IsIn order port → ⊥) → IsFirstWithoutOrder system port
   first_outside order before later port closed orderly cut inside outside = record {
     before = before;
     later = later;
@@ -191,15 +214,20 @@ module _ (system : System) where
     is_first = all_in (IsIn order) (λ other. HasNoOrder system other → ⊥) before (λ p here none. none order orderly here) inside;
   }
 
-  all_more : (order before : List PortName) (port : PortName) → AllByRecursion (IsIn order) before → IsIn order port → AllByRecursion (IsIn order) (before ++ (port ∷ []))
+  all_more : (order before : List PortName) (port : PortName) → AllByRecursion (IsIn order) before → IsIn order port
+      → AllByRecursion (IsIn order) (before ++ (port ∷ []))
   all_more order [] port all here = (here, tt)
   all_more order (first ∷ before) port all here = (all.0, all_more order before port all.1 here)
 
-  judged_from : (c : Closed) (before later : List PortName) → outputs_of system ≡ before ++ later → AllByRecursion (IsIn c.order) before → HasNoCycle system ⊎ ((port : PortName) × IsFirstWithoutOrder system port)
+  judged_from : (c : Closed) (before later : List PortName) → outputs_of system ≡ before ++ later → AllByRecursion (IsIn c.order) before
+      → HasNoCycle system ⊎ ((port : PortName) × IsFirstWithoutOrder system port)
   judged_from c before [] cut inside = inl (c.order, c.orderly, subst (AllByRecursion (IsIn c.order)) (sym (cut ∙ append-nil before)) inside)
-  judged_from c before (port ∷ later) cut inside = by (stands c.order port) refl (λ here. judged_from c (before ++ (port ∷ [])) later (cut ∙ sym (append_assoc before (port ∷ []) later)) (all_more c.order before port inside here))
+  judged_from c before (port ∷ later) cut inside =
+      by (stands c.order port) refl
+      (λ here. judged_from c (before ++ (port ∷ [])) later (cut ∙ sym (append_assoc before (port ∷ []) later)) (all_more c.order before port inside here))
     where
-      by : (told : Bool) → stands c.order port ≡ told → (IsIn c.order port → HasNoCycle system ⊎ ((one : PortName) × IsFirstWithoutOrder system one)) → HasNoCycle system ⊎ ((one : PortName) × IsFirstWithoutOrder system one)
+      by : (told : Bool) → stands c.order port ≡ told → (IsIn c.order port → HasNoCycle system ⊎ ((one : PortName) × IsFirstWithoutOrder system one))
+          → HasNoCycle system ⊎ ((one : PortName) × IsFirstWithoutOrder system one)
       by true is go = go (is_in c.order port is)
       by false is go = inr (port, first_outside c.order before later port c.closed c.orderly cut inside (not_in c.order port is))
 
@@ -208,25 +236,31 @@ module _ (system : System) where
 
   not_both : (port : PortName) → HasNoCycle system → IsFirstWithoutOrder system port → ⊥
   not_both port (order, orderly, all) first =
-      let output : IsIn (outputs_of system) port = subst (λ ports. IsIn ports port) (sym first.cut) (has_in (first.before ++ (port ∷ first.later)) port (has_behind first.before (port ∷ first.later) port (inl refl))) in
+      let output : IsIn (outputs_of system) port =
+      subst (λ ports. IsIn ports port) (sym first.cut)
+      (has_in (first.before ++ (port ∷ first.later)) port (has_behind first.before (port ∷ first.later) port (inl refl))) in
       first.has_no_order order orderly (each_in (IsIn order) (outputs_of system) port all output)
 
   -- Two cuts of the outputs, each at the first without an order.
-  one_cut : (one_before other_before one_later other_later : List PortName) (one other : PortName) → one_before ++ (one ∷ one_later) ≡ other_before ++ (other ∷ other_later) → HasNoOrder system one → HasNoOrder system other → AllByRecursion (λ port. HasNoOrder system port → ⊥) one_before → AllByRecursion (λ port. HasNoOrder system port → ⊥) other_before → one ≡ other
+  one_cut : (one_before other_before one_later other_later : List PortName) (one other : PortName)
+      → one_before ++ (one ∷ one_later) ≡ other_before ++ (other ∷ other_later) → HasNoOrder system one → HasNoOrder system other
+      → AllByRecursion (λ port. HasNoOrder system port → ⊥) one_before → AllByRecursion (λ port. HasNoOrder system port → ⊥) other_before → one ≡ other
   one_cut [] [] one_later other_later one other is one_none other_none one_first other_first = cc
   one_cut [] (first ∷ other_before) one_later other_later one other is one_none other_none one_first other_first =
       let same : one ≡ first = cc in absurd (other_first.0 (subst (HasNoOrder system) same one_none))
   one_cut (first ∷ one_before) [] one_later other_later one other is one_none other_none one_first other_first =
       let same : other ≡ first = cc in absurd (one_first.0 (subst (HasNoOrder system) same other_none))
   one_cut (first ∷ one_before) (second ∷ other_before) one_later other_later one other is one_none other_none one_first other_first =
-      one_cut one_before other_before one_later other_later one other (tails first second (one_before ++ (one ∷ one_later)) (other_before ++ (other ∷ other_later)) is) one_none other_none one_first.1 other_first.1
+      one_cut one_before other_before one_later other_later one other
+      (tails first second (one_before ++ (one ∷ one_later)) (other_before ++ (other ∷ other_later)) is) one_none other_none one_first.1 other_first.1
     where
       tails : (a b : PortName) (xs ys : List PortName) → a ∷ xs ≡ b ∷ ys → xs ≡ ys
       tails a b xs ys same = cc
 
   one_port : (one other : PortName) → IsFirstWithoutOrder system one → IsFirstWithoutOrder system other → one ≡ other
   one_port one other first second =
-      one_cut first.before second.before first.later second.later one other (sym first.cut ∙ second.cut) first.has_no_order second.has_no_order first.is_first second.is_first
+      one_cut first.before second.before first.later second.later one other
+      (sym first.cut ∙ second.cut) first.has_no_order second.has_no_order first.is_first second.is_first
 
 pub cycles_are_judged_once : CyclesAreJudgedOnce
 cycles_are_judged_once = record { judged = judged; not_both = not_both; one_port = one_port }

@@ -62,7 +62,8 @@ module _ (system : System) (ranged : IsRanged system) where
       (has_front (units ++ instances) wires part
       (has_front units instances part has))))))
 
-  unit_line : (unit : Unit) (part : UnitPart) (line : LineForm) → Has system.units unit → Has (to_events unit) part → Has (unit_part_forms part) line → Has (canonical_forms system) line
+  unit_line : (unit : Unit) (part : UnitPart) (line : LineForm) → Has system.units unit → Has (to_events unit) part → Has (unit_part_forms part) line
+      → Has (canonical_forms system) line
   unit_line unit part line unit_has has inside =
       inr (has_flat part_forms (canonical_parts system) (as_part unit) line (in_system (as_part unit) (has_map as_part system.units unit unit_has))
       (inr (has_front (flat_map unit_part_forms (unit_parts unit)) (form.End ∷ []) line
@@ -80,7 +81,8 @@ module _ (system : System) (ranged : IsRanged system) where
   event_decimals : (unit : Unit) (event : EventIn) → Has system.units unit → Has unit.events_in event → AreDecimals event.ty
   event_decimals unit event unit_has has =
       (in_range (form.EventInput event) (unit_line unit (parts.HasEventIn event) (form.EventInput event) unit_has
-      (has_behind (to_inputs unit) (map parts.HasEventIn unit.events_in) (parts.HasEventIn event) (has_map parts.HasEventIn unit.events_in event has)) (inl refl))).0
+      (has_behind (to_inputs unit) (map parts.HasEventIn unit.events_in) (parts.HasEventIn event) (has_map parts.HasEventIn unit.events_in event has))
+      (inl refl))).0
 
   -- ---- In the plain form
 
@@ -98,9 +100,11 @@ module _ (system : System) (ranged : IsRanged system) where
   plain_here : (unit : Unit) → Has system.units unit → HaveDecimals (plain_unit unit).inputs
   plain_here unit has =
       both_decimals unit.inputs (flat_map plain_inputs unit.events_in) (here unit has)
-      (events_decimals unit.events_in (all_has (λ (event : EventIn). AreDecimals event.ty) unit.events_in (λ event inside. event_decimals unit event has inside)))
+      (events_decimals unit.events_in
+      (all_has (λ (event : EventIn). AreDecimals event.ty) unit.events_in (λ event inside. event_decimals unit event has inside)))
 
-  plain_units : (some : List Unit) → AllByRecursion (λ unit. HaveDecimals (plain_unit unit).inputs) some → AllByRecursion (λ unit. HaveDecimals unit.inputs) (map plain_unit some)
+  plain_units : (some : List Unit) → AllByRecursion (λ unit. HaveDecimals (plain_unit unit).inputs) some
+      → AllByRecursion (λ unit. HaveDecimals unit.inputs) (map plain_unit some)
   plain_units [] all = tt
   plain_units (unit ∷ some) all = (all.0, plain_units some all.1)
 

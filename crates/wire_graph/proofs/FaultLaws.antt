@@ -33,7 +33,12 @@ get_behind (first ∷ front) x behind zero is = absurd (omega (arith, is))
 get_behind (first ∷ front) x behind (suc k) is = get_behind front x behind k (omega (arith, is))
 
 module _ (system : System) (all : List Named) where
-  outputs_named_by : (instance : ℕ) (component : Named) (front outputs : List Output) (from : ℕ) → slice_get all instance ≡ Some component → component.1.outputs ≡ front ++ outputs → from ≡ length front → AllZip (Names all) (map (λ (counted : ℕ × Output). record { instance = instance; output = counted.0; needs = needs_in (member_of system component).1 counted.1 }) (enumerate_from from outputs)) (map (λ (output : Output). port_named component.0 output.name) outputs)
+  outputs_named_by : (instance : ℕ) (component : Named) (front outputs : List Output) (from : ℕ) → slice_get all instance ≡ Some component
+      → component.1.outputs ≡ front ++ outputs → from ≡ length front
+      → AllZip (Names all)
+      (map (λ (counted : ℕ × Output). record { instance = instance; output = counted.0; needs = needs_in (member_of system component).1 counted.1 })
+      (enumerate_from from outputs))
+      (map (λ (output : Output). port_named component.0 output.name) outputs)
   outputs_named_by instance component front [] from is_instance cut from_is = tt
   outputs_named_by instance component front (output ∷ outputs) from is_instance cut from_is = (
     record {
@@ -43,15 +48,20 @@ module _ (system : System) (all : List Named) where
       is_output = ap (λ some. slice_get some from) cut ∙ get_behind front output outputs from from_is;
       is = refl;
     },
-    outputs_named_by instance component (front ++ (output ∷ [])) outputs (from + 1) is_instance (cut ∙ sym (append_assoc front (output ∷ []) outputs)) (omega (arith, from_is, length-append front (output ∷ []))),
+    outputs_named_by instance component (front ++ (output ∷ [])) outputs (from + 1) is_instance (cut ∙ sym (append_assoc front (output ∷ []) outputs))
+        (omega (arith, from_is, length-append front (output ∷ []))),
   )
 
-  all_named_by : (front components : List Named) (from : ℕ) → all ≡ front ++ components → from ≡ length front → AllZip (Names all) (flat_map numbered_in (enumerate_from from (map (member_of system) components))) (outputs_named components)
+  all_named_by : (front components : List Named) (from : ℕ) → all ≡ front ++ components → from ≡ length front
+      → AllZip (Names all) (flat_map numbered_in (enumerate_from from (map (member_of system) components))) (outputs_named components)
   all_named_by front [] from cut from_is = tt
   all_named_by front (component ∷ components) from cut from_is =
-      zip_append (Names all) (numbered_in (from, member_of system component)) (flat_map numbered_in (enumerate_from (from + 1) (map (member_of system) components))) (output_ports_of component) (outputs_named components)
-      (outputs_named_by from component [] component.1.outputs 0 (ap (λ some. slice_get some from) cut ∙ get_behind front component components from from_is) refl refl)
-      (all_named_by (front ++ (component ∷ [])) components (from + 1) (cut ∙ sym (append_assoc front (component ∷ []) components)) (omega (arith, from_is, length-append front (component ∷ []))))
+      zip_append (Names all) (numbered_in (from, member_of system component))
+      (flat_map numbered_in (enumerate_from (from + 1) (map (member_of system) components))) (output_ports_of component) (outputs_named components)
+      (outputs_named_by from component [] component.1.outputs 0
+      (ap (λ some. slice_get some from) cut ∙ get_behind front component components from from_is) refl refl)
+      (all_named_by (front ++ (component ∷ [])) components (from + 1) (cut ∙ sym (append_assoc front (component ∷ []) components))
+      (omega (arith, from_is, length-append front (component ∷ []))))
 
 -- The numbers of a route.
 record Routed (numbered : List Numbered) (route : Route) (k : ℕ) : Type 0 where
@@ -60,7 +70,8 @@ record Routed (numbered : List Numbered) (route : Route) (k : ℕ) : Type 0 wher
   instance : one.instance ≡ route.instance
   output : one.output ≡ route.output
 
-routed : (run : Composition) (numbered : List Numbered) (from k : ℕ) (route : Route) → slice_get (map (route_at run) (enumerate_from from numbered)) k ≡ Some route → Routed numbered route k
+routed : (run : Composition) (numbered : List Numbered) (from k : ℕ) (route : Route)
+    → slice_get (map (route_at run) (enumerate_from from numbered)) k ≡ Some route → Routed numbered route k
 routed run [] from k route is = absurd (cc)
 routed run (one ∷ numbered) from zero route is =
     let same : route_at run (from, one) ≡ route = cc in
@@ -69,7 +80,9 @@ routed run (one ∷ numbered) from (suc k) route is =
     let later = routed run numbered (from + 1) k route is in
     record { one = later.one; at = later.at; instance = later.instance; output = later.output }
 
-pub port_numbered : (system : System) → HasNoEvents system → (k : ℕ) (route : Route) (port : PortName) → slice_get (routes_of (composition_of system)).outputs k ≡ Some route → slice_get (outputs_of system) k ≡ Some port → IsNumbered system route.instance route.output port
+pub port_numbered : (system : System) → HasNoEvents system → (k : ℕ) (route : Route) (port : PortName)
+    → slice_get (routes_of (composition_of system)).outputs k ≡ Some route → slice_get (outputs_of system) k ≡ Some port
+    → IsNumbered system route.instance route.output port
 port_numbered system plain k route port route_is port_is =
     let run = composition_of system in
     let one = routed run (flat_map outputs_in (enumerate_from 0 run.members)) 0 k route route_is in

@@ -1,5 +1,6 @@
 -- Sorted places are an order of the system, or tell its first output without one.
-use Rattle.std.proofs.Common.{◌≡◌, ℕ, zero, suc, ◌+◌, ◌<◌, ◌==◌, Bool, true, false, cond, List, [], ◌∷◌, length, get_or, Some, None, inl, inr, ◌⊎◌, refl, ap, sym, subst, ◌∙◌, arith}
+use Rattle.std.proofs.Common.{◌≡◌, ℕ, zero, suc, ◌+◌, ◌<◌, ◌==◌, Bool, true, false, cond, List, [], ◌∷◌, length, get_or, Some, None, inl, inr, ◌⊎◌, refl, ap}
+use Rattle.std.proofs.Common.{sym, subst, ◌∙◌, arith}
 use Rattle.std.specs.Prelude.{not, slice_get}
 use Rattle.std.specs.List.{AllByRecursion, position_from}
 use Rattle.unit_tree.specs.Compositions.{Composition, composition_of, run_of}
@@ -63,7 +64,8 @@ first_left_at placed k is = left_at placed 0 k k is (omega arith)
 
 -- ---- An order
 
-module _ (run : Composition) (routes : Routes) (places : List ℕ) (placed : List Bool) (routes_are : routes ≡ routes_of run) (kept : IsSorting routes places placed) where
+module _ (run : Composition) (routes : Routes) (places : List ℕ) (placed : List Bool) (routes_are : routes ≡ routes_of run)
+    (kept : IsSorting routes places placed) where
   count : length placed ≡ length (needs_of_places run)
   count = kept.one_each ∙ ap (λ (all : Routes). length all.outputs) routes_are ∙ route_count run
 
@@ -95,7 +97,9 @@ plain_facts system ranged kept = by_version (one_or_two system.version ranged.ve
 
 -- ---- The fault
 
-pub right_fault : (system : System) (routes : Routes) (places : List ℕ) (placed : List Bool) (place : ℕ) (fault : OrderFault) → IsRanged system → IsWellFormed system → routes ≡ routes_of (run_of system) → IsSorting routes places placed → IsClosed routes places → position_from not 0 placed ≡ Some place → IsAtPlace routes place fault → IsRightFault system fault
+pub right_fault : (system : System) (routes : Routes) (places : List ℕ) (placed : List Bool) (place : ℕ) (fault : OrderFault) → IsRanged system
+    → IsWellFormed system → routes ≡ routes_of (run_of system) → IsSorting routes places placed → IsClosed routes places
+    → position_from not 0 placed ≡ Some place → IsAtPlace routes place fault → IsRightFault system fault
 right_fault system routes places placed place NoMemory ranged kept routes_are sorted closed is_left at = tt
 right_fault system routes places placed place (Loop instance output) ranged kept routes_are sorted closed is_left at =
     let plain = plain_form_without_events system ranged in
@@ -105,9 +109,12 @@ right_fault system routes places placed place (Loop instance output) ranged kept
     let within : place < length (needs_of_places run) = omega (arith, left.within, count run routes places placed routes_are sorted) in
     let is_output : place < length (outputs_of (plain_form system)) = omega (arith, within, count_is (plain_form system) plain facts.0) in
     let port = port_at (plain_form system) plain facts.0 facts.1 place in
-    let numbered = port_numbered (plain_form system) plain place at.0 port (ap (λ (all : Routes). slice_get all.outputs place) (sym routes_are) ∙ at.1) (at_is (plain_form system) plain facts.0 facts.1 place is_output) in (
+    let numbered =
+    port_numbered (plain_form system) plain place at.0 port (ap (λ (all : Routes). slice_get all.outputs place) (sym routes_are) ∙ at.1)
+    (at_is (plain_form system) plain facts.0 facts.1 place is_output) in (
       port,
-      subst (λ number. IsNumbered (plain_form system) instance number port) at.3 (subst (λ number. IsNumbered (plain_form system) number at.0.output port) at.2 numbered),
+      subst (λ number. IsNumbered (plain_form system) instance number port) at.3
+          (subst (λ number. IsNumbered (plain_form system) number at.0.output port) at.2 numbered),
       first_left (plain_form system) plain facts.0 facts.1 places place
           (ordered_along run [] places (subst (λ (all : Routes). IsRoutedAfter all [] places) routes_are sorted.routed))
           (are_closed run routes places placed routes_are sorted closed)

@@ -13,5 +13,9 @@ use Rattle.unit_tree.proofs.RouteLaws.{needs_are, count_is, needs_is}
 
 pub ordered_along : (run : Composition) (before order : List ℕ) → IsRoutedAfter (routes_of run) before order → IsOrderedAfter run before order
 ordered_along run before [] routed = tt
-ordered_along run before (place ∷ later) routed =
-    (omega (arith, routed.0, count_is run), routed.1, subst (AllByRecursion (IsAmong before)) (needs_is run place) routed.2, ordered_along run (before ++ (place ∷ [])) later routed.3)
+ordered_along run before (place ∷ later) routed = (
+  omega (arith, routed.0, count_is run),
+  routed.1,
+  subst (AllByRecursion (IsAmong before)) (needs_is run place) routed.2,
+  ordered_along run (before ++ (place ∷ [])) later routed.3,
+)

@@ -26,10 +26,12 @@ NamesOutput system instance output = (port : PortName) × IsNumbered system inst
 
 -- The numbers name the first output of the plain form that has no order. Want of memory is free.
 abbrev pub IsRightFault : System → OrderFault → Type 0
-IsRightFault system (Loop instance output) = (port : PortName) × IsNumbered (plain_form system) instance output port × IsFirstWithoutOrder (plain_form system) port
+IsRightFault system (Loop instance output) =
+    (port : PortName) × IsNumbered (plain_form system) instance output port × IsFirstWithoutOrder (plain_form system) port
 IsRightFault system NoMemory = ⊤
 
 -- The fault tells the numbers of the output at a place.
 abbrev pub IsAtPlace : Routes → ℕ → OrderFault → Type 0
-IsAtPlace routes place (Loop instance output) = (route : Route) × (slice_get routes.outputs place ≡ Some route) × (route.instance ≡ instance) × (route.output ≡ output)
+IsAtPlace routes place (Loop instance output) =
+    (route : Route) × (slice_get routes.outputs place ≡ Some route) × (route.instance ≡ instance) × (route.output ≡ output)
 IsAtPlace routes place NoMemory = ⊥

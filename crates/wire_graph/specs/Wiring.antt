@@ -8,11 +8,7 @@ use Rattle.unit_tree.specs.declared.system.System.{System}
 use Rattle.unit_tree.specs.declared.system.Wire.{Wire}
 use Rattle.unit_tree.specs.declared.unit.Unit.{Unit}
 use Rattle.wire_graph.specs.declared.components.Component.{Component}
-
--- The one that was there before, or else the other.
-abbrev pub the_first : {A : Type 0} → Option A → Option A → Option A
-the_first None other = other
-the_first (Some x) other = Some x
+use Rattle.list_laws.specs.Options.{the_first}
 
 -- ---- Components and their ports
 

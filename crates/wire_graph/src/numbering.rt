@@ -1,7 +1,7 @@
 ghost use Rattle.std.specs.Prelude.{◌≡◌, ℕ, IfOk, OnOk, Some, None, if◌then◌else◌};
 ghost use Rattle.std.specs.List.{position_from};
 ghost use Rattle.indexmap.specs.IndexMap.{get};
-ghost use Rattle.wire_graph.specs.Wiring.{the_first};
+ghost use Rattle.list_laws.specs.Options.{the_first};
 
 use fixed_words::NoMemory;
 use indexmap::IndexMap;

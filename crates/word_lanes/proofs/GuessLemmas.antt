@@ -1,5 +1,6 @@
 -- From the lanes of a vector of guesses to the guesses.
-use Rattle.std.proofs.Common.{◌≡◌, ℕ, ◌+◌, ◌-◌, ◌<◌, ◌≤◌, ◌%◌, ◌^◌, Bool, true, false, cond, ℤ, pos, ◌+ℤ◌, ◌-ℤ◌, ◌*ℤ◌, ◌≤ℤ◌, neg_ℤ, List, [], ◌∷◌, map, length, take, drop, get_or, set, ◌++◌, length-drop, append-nil, zero, suc, refl, sym, ◌∙◌, ap, ap₂, arith}
+use Rattle.std.proofs.Common.{◌≡◌, ℕ, ◌+◌, ◌-◌, ◌<◌, ◌≤◌, ◌%◌, ◌^◌, Bool, true, false, cond, ℤ, pos, ◌+ℤ◌, ◌-ℤ◌, ◌*ℤ◌, ◌≤ℤ◌, neg_ℤ, List, [], ◌∷◌, map, length}
+use Rattle.std.proofs.Common.{take, drop, get_or, set, ◌++◌, length-drop, append-nil, zero, suc, refl, sym, ◌∙◌, ap, ap₂, arith}
 use Rattle.std.proofs.lemmas.Int.{ints, clamps, to_z-of_z, wrapping_add_is, wrapping_sub_onto, int_wrap-add_left}
 use Rattle.std.proofs.lemmas.List.{take_at, drop_at, drop_all, length-take-le, take-append-drop, take_more, take_more_set}
 use Rattle.std.proofs.Math.Seq.{take-add}
@@ -75,7 +76,8 @@ guess_is l b lo hi f g m n =
     chosen_is _ (of_z w64 lo) s' ∙ ap₂ int_max (to_z-of_z w64 lo m) least
 
 -- all lanes are the guesses of their words
-pub lanes_are : (last before low high : List ℤ) → Each1 (FitsSigned w64) last → Each1 (FitsSigned w64) before → Each1 (FitsSigned w64) low → Each1 (FitsSigned w64) high
+pub lanes_are : (last before low high : List ℤ) → Each1 (FitsSigned w64) last → Each1 (FitsSigned w64) before → Each1 (FitsSigned w64) low
+    → Each1 (FitsSigned w64) high
     → map (to_z w64) (max_lanes (min_lanes (straight_lanes last before) (words high)) (words low)) ≡ guesses last before low high
 lanes_are [] before low high f g m n = refl
 lanes_are (l ∷ last) [] low high f g m n = refl
@@ -86,7 +88,8 @@ lanes_are (l ∷ last) (b ∷ before) (lo ∷ low) (hi ∷ high) f g m n = ap₂
 
 -- ---- a part of the guesses
 
-pub take-guesses : (n : ℕ) (last before low high : List ℤ) → guesses (take n last) (take n before) (take n low) (take n high) ≡ take n (guesses last before low high)
+pub take-guesses : (n : ℕ) (last before low high : List ℤ)
+    → guesses (take n last) (take n before) (take n low) (take n high) ≡ take n (guesses last before low high)
 take-guesses zero last before low high = refl
 take-guesses (suc n) [] before low high = refl
 take-guesses (suc n) (l ∷ last) [] low high = refl
@@ -118,7 +121,8 @@ get_or-guesses (l ∷ last) [] low high k d e p q r s = absurd (omega arith)
 get_or-guesses (l ∷ last) (b ∷ before) [] high k d e p q r s = absurd (omega arith)
 get_or-guesses (l ∷ last) (b ∷ before) (lo ∷ low) [] k d e p q r s = absurd (omega arith)
 get_or-guesses (l ∷ last) (b ∷ before) (lo ∷ low) (hi ∷ high) zero d e p q r s = refl
-get_or-guesses (l ∷ last) (b ∷ before) (lo ∷ low) (hi ∷ high) (suc k) d e p q r s = get_or-guesses last before low high k d e (omega arith) (omega arith) (omega arith) (omega arith)
+get_or-guesses (l ∷ last) (b ∷ before) (lo ∷ low) (hi ∷ high) (suc k) d e p q r s =
+    get_or-guesses last before low high k d e (omega arith) (omega arith) (omega arith) (omega arith)
 
 -- ---- the intervals
 
@@ -186,7 +190,8 @@ put_rest n xs ys le =
     let nothing : drop (length xs - n) (drop n xs) ≡ [] = drop_all (length xs - n) (drop n xs) (omega (arith, length-drop n xs)) in
     ap (λ r. take n xs ++ (ys ++ r)) nothing ∙ ap (λ r. take n xs ++ r) (append-nil ys)
 
-pub written_on : (n m : ℕ) (xs ys line : List ℤ) → n ≤ length xs → take n xs ≡ take n line → take m ys ≡ take m (drop n line) → take (n + m) (take n xs ++ ys) ≡ take (n + m) line
+pub written_on : (n m : ℕ) (xs ys line : List ℤ) → n ≤ length xs → take n xs ≡ take n line → take m ys ≡ take m (drop n line)
+    → take (n + m) (take n xs ++ ys) ≡ take (n + m) line
 written_on n m xs ys line le front next =
     let long : length (take n xs) ≡ n = length-take-le n xs le in
     take-add n m (take n xs ++ ys)
@@ -196,7 +201,8 @@ written_on n m xs ys line le front next =
 pub written_all : (n : ℕ) (xs ys line : List ℤ) → take n xs ≡ take n line → ys ≡ drop n line → take n xs ++ ys ≡ line
 written_all n xs ys line front rest = ap₂ ◌++◌ front rest ∙ take-append-drop n line
 
-pub written_more : (n : ℕ) (xs line : List ℤ) (z : ℤ) → n < length xs → length line ≡ length xs → take n xs ≡ take n line → z ≡ get_or line n z → take (n + 1) (set xs n z) ≡ take (n + 1) line
+pub written_more : (n : ℕ) (xs line : List ℤ) (z : ℤ) → n < length xs → length line ≡ length xs → take n xs ≡ take n line → z ≡ get_or line n z
+    → take (n + 1) (set xs n z) ≡ take (n + 1) line
 written_more n xs line z below same front is =
     let below' : n < length line = omega arith in
     take_more_set xs n z below ∙ ap₂ (λ l w. l ++ w ∷ []) front is ∙ sym (take_more line n z below')

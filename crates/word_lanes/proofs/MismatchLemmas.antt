@@ -1,5 +1,6 @@
 -- From the lanes at which two vectors differ to the first place at which two lists do.
-use Rattle.std.proofs.Common.{◌≡◌, ◌≢◌, ℕ, zero, suc, ◌+◌, ◌-◌, ◌*◌, ◌<◌, ◌≤◌, ◌%◌, ◌^◌, Bool, true, false, not, eqb, cond, ℤ, List, [], ◌∷◌, map, length, take, drop, refl, sym, ◌∙◌, ap, ap₂, ◌++◌, arith, one-add, zero-add}
+use Rattle.std.proofs.Common.{◌≡◌, ◌≢◌, ℕ, zero, suc, ◌+◌, ◌-◌, ◌*◌, ◌<◌, ◌≤◌, ◌%◌, ◌^◌, Bool, true, false, not, eqb, cond, ℤ, List, [], ◌∷◌, map, length, take}
+use Rattle.std.proofs.Common.{drop, refl, sym, ◌∙◌, ap, ap₂, ◌++◌, arith, one-add, zero-add}
 use Rattle.std.proofs.lemmas.Int.{to_z-of_z}
 use Rattle.std.proofs.lemmas.Bool.{eqb-true, eq-eqb, true≢false}
 use Rattle.std.proofs.lemmas.List.{take-take, take_all, take-append-drop, length-map}
@@ -93,7 +94,8 @@ module _ (xs ys : List ℤ) (same_length : length xs ≡ length ys) (few : lengt
   module _ (some : mask_of xs ys ≢ 0) where
     -- the lowest bit that is set is that of the first lane that differs
     lowest : count_trailing_zeros 64 (mask_of xs ys) ≡ agreeing xs ys
-    lowest = ap (count_trailing_zeros 64) mask_is ∙ trailing_mask_l (top 63) 64 (ne_lanes xs ys) (omega (arith, length-ne_lanes xs ys same_length)) (omega (arith, mask_is))
+    lowest = ap (count_trailing_zeros 64) mask_is
+        ∙ trailing_mask_l (top 63) 64 (ne_lanes xs ys) (omega (arith, length-ne_lanes xs ys same_length)) (omega (arith, mask_is))
 
     stops : agreeing xs ys < length xs
     stops = omega (arith, some_set (ne_lanes xs ys) (omega (arith, mask_is)), length-ne_lanes xs ys same_length)
@@ -107,7 +109,8 @@ module _ (xs ys : List ℤ) (same_length : length xs ≡ length ys) (few : lengt
 -- ---- a first mismatch of what lies behind a place up to which two lists agree
 
 -- a first mismatch of the rests is n places further on in the whole lists
-pub further : (n : ℕ) (a b : List ℤ) (k : ℕ) → n ≤ length a → n ≤ length b → take n a ≡ take n b → IsFirstMismatch (drop n a) (drop n b) k → IsFirstMismatch a b (n + k)
+pub further : (n : ℕ) (a b : List ℤ) (k : ℕ) → n ≤ length a → n ≤ length b → take n a ≡ take n b → IsFirstMismatch (drop n a) (drop n b) k
+    → IsFirstMismatch a b (n + k)
 further zero a b k la lb same h = rw zero-add h
 further (suc n) [] b k la lb same h = absurd (omega arith)
 further (suc n) (x ∷ a) [] k la lb same h = absurd (omega arith)
@@ -129,7 +132,11 @@ slice_get-take (suc m) (suc k) (x ∷ xs) lt = slice_get-take m k xs (omega arit
 pub within_front : (m : ℕ) (a b : List ℤ) (k : ℕ) → k < m → IsFirstMismatch (take m a) (take m b) k → IsFirstMismatch a b k
 within_front m a b k lt h =
     let le : k ≤ m = omega arith in
-    record { agree = sym (take-take k m a le) ∙ h.agree ∙ take-take k m b le; differ = λ e. h.differ (slice_get-take m k a lt ∙ e ∙ sym (slice_get-take m k b lt)) }
+    record {
+      agree = sym (take-take k m a le) ∙ h.agree
+          ∙ take-take k m b le;
+      differ = λ e. h.differ (slice_get-take m k a lt ∙ e ∙ sym (slice_get-take m k b lt));
+    }
 
 -- lists that agree on n words, and then on m more, agree on n + m
 pub take_further : (n m : ℕ) (a b : List ℤ) → take n a ≡ take n b → take m (drop n a) ≡ take m (drop n b) → take (n + m) a ≡ take (n + m) b
@@ -142,7 +149,12 @@ loaded_first n a b xs ys few is_a is_b xs_lanes ys_lanes f g some =
     let k = count_trailing_zeros 64 (mask_of xs ys) in
     let first = lowest_is_first xs ys (omega arith) (omega arith) some f g in
     let within : k < n = omega (arith, lowest_within xs ys (omega arith) (omega arith) some) in
-    within_front n a b k within (record { agree = ap (take k) (sym is_a) ∙ first.agree ∙ ap (take k) is_b; differ = λ e. first.differ (ap (λ l. slice_get l k) is_a ∙ e ∙ ap (λ l. slice_get l k) (sym is_b)) })
+    within_front n a b k within
+    (record {
+      agree = ap (take k) (sym is_a) ∙ first.agree
+          ∙ ap (take k) is_b;
+      differ = λ e. first.differ (ap (λ l. slice_get l k) is_a ∙ e ∙ ap (λ l. slice_get l k) (sym is_b));
+    })
 
 -- lists that agree on n words, and then on the rest, are equal
 pub joined : (n : ℕ) (a b : List ℤ) → take n a ≡ take n b → drop n a ≡ drop n b → a ≡ b

@@ -27,7 +27,12 @@ use Rattle.unit_tree.specs.declared.line_form.LineForm.TheVariants as form
 use Rattle.text_tokens.specs.Scanning.{keyword_of}
 use Rattle.text_tokens.proofs.TableLemmas.{keyword_of_none}
 use Rattle.worked_facts.specs.WorkedTexts.{commented_counter, thermal, thermal_text, mode, mode_line, mode_text, relay, relay_text, long_line_text, text_of}
-use Rattle.worked_facts.proofs.WorkedForms.{header, unit_line, state_line, output_line, step_line, assign_line, step_end, end_line, instance_line, stop_line, longest_line, plain_header, sample_line, half_stop, zero_line, unit_a, max_line, bool_output, input_line, fixed_state, resolution_line, rows_line, connect_line, instance_a, setting_line, unit_mode, param_k, param_l, state_m, state_p, state_q, state_r, local_x, local_w, step_alone, if_line, repeat_line, assign_x, else_line, accept_line, greatest_longest, long_header, counter_unit_line, counter_state, counter_output, counter_sum, counter_instance, header_2, unit_relay, event_input, event_output}
+use Rattle.worked_facts.proofs.WorkedForms.{header, unit_line, state_line, output_line, step_line, assign_line, step_end, end_line, instance_line, stop_line}
+use Rattle.worked_facts.proofs.WorkedForms.{longest_line, plain_header, sample_line, half_stop, zero_line, unit_a, max_line, bool_output, input_line}
+use Rattle.worked_facts.proofs.WorkedForms.{fixed_state, resolution_line, rows_line, connect_line, instance_a, setting_line, unit_mode, param_k, param_l}
+use Rattle.worked_facts.proofs.WorkedForms.{state_m, state_p, state_q, state_r, local_x, local_w, step_alone, if_line, repeat_line, assign_x, else_line}
+use Rattle.worked_facts.proofs.WorkedForms.{accept_line, greatest_longest, long_header, counter_unit_line, counter_state, counter_output, counter_sum}
+use Rattle.worked_facts.proofs.WorkedForms.{counter_instance, header_2, unit_relay, event_input, event_output}
 use Rattle.list_laws.proofs.Lists.{of_mapped}
 
 -- The lines of a text that are not blank.
@@ -35,12 +40,14 @@ abbrev filled : List ℕ → List (List ℕ)
 filled text = filter (λ line. not (is_blank_line line)) (source_lines text)
 
 -- Forms that both versions have are those of any text.
-in_any_text : (text : List (List ℕ)) (forms : List LineForm) (lines : List (List ℕ)) → list_any is_of_version_2 forms ≡ false → AllZip HasForm forms lines → AllZip (HasFormIn text) forms lines
+in_any_text : (text : List (List ℕ)) (forms : List LineForm) (lines : List (List ℕ)) → list_any is_of_version_2 forms ≡ false → AllZip HasForm forms lines
+    → AllZip (HasFormIn text) forms lines
 in_any_text text [] [] old have = have
 in_any_text text [] (line ∷ lines) old have = absurd have
 in_any_text text (some ∷ forms) [] old have = absurd have
 in_any_text text (some ∷ forms) (line ∷ lines) old have =
-    let both : (is_of_version_2 some ≡ false) × (list_any is_of_version_2 forms ≡ false) = or_false (is_of_version_2 some) (list_any is_of_version_2 forms) old in
+    let both : (is_of_version_2 some ≡ false) × (list_any is_of_version_2 forms ≡ false) =
+    or_false (is_of_version_2 some) (list_any is_of_version_2 forms) old in
     (record { has_form = have.0; of_version = λ told. absurd (cc (told, both.0)) }, in_any_text text forms lines both.1 have.1)
   where
     or_false : (one other : Bool) → (one || other) ≡ false → (one ≡ false) × (other ≡ false)
@@ -82,7 +89,11 @@ counter_is_old : list_any is_of_version_2 counter_forms ≡ false
 counter_is_old = simp expr_lemmas refl
 
 lines_are : HaveForms (source_lines commented_counter) counter_forms (source_lines commented_counter)
-lines_are = in_any_text (source_lines commented_counter) counter_forms (filled commented_counter) counter_is_old (header, (unit_line, (state_line, (output_line, (step_line, (assign_line, (step_end, (end_line, (instance_line, (end_line, (stop_line, (longest_line, _))))))))))))
+lines_are =
+    in_any_text (source_lines commented_counter) counter_forms (filled commented_counter) counter_is_old (
+      header,
+      (unit_line, (state_line, (output_line, (step_line, (assign_line, (step_end, (end_line, (instance_line, (end_line, (stop_line, (longest_line, _))))))))))),
+    )
 
 pub counter_is_read : Reads commented_counter counter
 counter_is_read = record {
@@ -101,7 +112,14 @@ thermal_parts =
     ∷ parts.Zero 0
     ∷ parts.HasUnit (codes "A") (
     parts.Max (expr.Var (codes "u"))
-    ∷ parts.HasOutput (record { name = codes "y"; ty = types.Bool; needs = codes "u" ∷ []; value = expr.Binary by.And (expr.Truth true) (expr.Unary of.Not (expr.Binary by.Lt (expr.Var (codes "n")) (expr.Number (pos 5) 1))) })
+    ∷ parts.HasOutput
+    (record {
+      name = codes "y";
+      ty = types.Bool;
+      needs = codes "u" ∷ [];
+      value =
+          expr.Binary by.And (expr.Truth true) (expr.Unary of.Not (expr.Binary by.Lt (expr.Var (codes "n")) (expr.Number (pos 5) 1)));
+    })
     ∷ parts.HasInput (record { name = codes "u"; ty = types.Int64; start = literal.Number (neg_ℤ (pos 9223372036854775808)) 0 })
     ∷ parts.HasState (record { name = codes "n"; ty = types.Fixed 1; start = literal.Number (pos 0) 1 })
     ∷ parts.Resolution 1
@@ -115,7 +133,29 @@ thermal_is_old : list_any is_of_version_2 (text_forms 1 thermal_parts) ≡ false
 thermal_is_old = simp expr_lemmas refl
 
 thermal_lines : HaveForms (source_lines thermal_text) (text_forms 1 thermal_parts) (source_lines thermal_text)
-thermal_lines = in_any_text (source_lines thermal_text) (text_forms 1 thermal_parts) (filled thermal_text) thermal_is_old (plain_header, (sample_line, (half_stop, (zero_line, (unit_a, (max_line, (bool_output, (input_line, (fixed_state, (resolution_line, (end_line, (rows_line, (connect_line, (instance_a, (setting_line, (end_line, _))))))))))))))))
+thermal_lines =
+    in_any_text (source_lines thermal_text) (text_forms 1 thermal_parts) (filled thermal_text) thermal_is_old (
+      plain_header,
+      (
+        sample_line,
+        (
+          half_stop,
+          (
+            zero_line,
+            (
+              unit_a,
+              (
+                max_line,
+                (
+                  bool_output,
+                  (input_line, (fixed_state, (resolution_line, (end_line, (rows_line, (connect_line, (instance_a, (setting_line, (end_line, _))))))))),
+                ),
+              ),
+            ),
+          ),
+        ),
+      ),
+    )
 
 pub thermal_is_read : ReadsFrom thermal_text thermal (1 ∷ 5 ∷ 10 ∷ 9 ∷ 8 ∷ 7 ∷ 6 ∷ 11 ∷ 14 ∷ 15 ∷ 16 ∷ 13 ∷ 3 ∷ 4 ∷ 12 ∷ 2 ∷ [])
 thermal_is_read = record {
@@ -161,7 +201,9 @@ mode_forms =
     ∷ form.Step
     ∷ form.If (expr.Binary by.Ge (expr.Var (codes "k")) (expr.Var (codes "l")))
     ∷ form.Repeat 1000
-    ∷ form.Assign (codes "x") (expr.Binary by.And (expr.Binary by.Gt (expr.Var (codes "m")) (expr.Var (codes "p"))) (expr.Binary by.Ne (expr.Unary of.Abs (expr.Var (codes "q"))) (expr.Var (codes "r"))))
+    ∷ form.Assign (codes "x")
+    (expr.Binary by.And (expr.Binary by.Gt (expr.Var (codes "m")) (expr.Var (codes "p")))
+    (expr.Binary by.Ne (expr.Unary of.Abs (expr.Var (codes "q"))) (expr.Var (codes "r"))))
     ∷ form.End
     ∷ form.Else
     ∷ form.Accept (expr.Binary by.Min expr.Step (expr.Binary by.Max expr.Time (expr.Number (pos 1) 0)))
@@ -178,7 +220,44 @@ mode_is_old : list_any is_of_version_2 mode_forms ≡ false
 mode_is_old = simp expr_lemmas refl
 
 mode_lines : HaveForms (source_lines mode_text) mode_forms (source_lines mode_text)
-mode_lines = in_any_text (source_lines mode_text) mode_forms (filled mode_text) mode_is_old (plain_header, (unit_mode, (param_k, (param_l, (state_m, (state_p, (state_q, (state_r, (local_x, (local_w, (step_alone, (if_line, (repeat_line, (assign_x, (end_line, (else_line, (accept_line, (end_line, (end_line, (end_line, (greatest_longest, _)))))))))))))))))))))
+mode_lines =
+    in_any_text (source_lines mode_text) mode_forms (filled mode_text) mode_is_old (
+      plain_header,
+      (
+        unit_mode,
+        (
+          param_k,
+          (
+            param_l,
+            (
+              state_m,
+              (
+                state_p,
+                (
+                  state_q,
+                  (
+                    state_r,
+                    (
+                      local_x,
+                      (
+                        local_w,
+                        (
+                          step_alone,
+                          (
+                            if_line,
+                            (repeat_line, (assign_x, (end_line, (else_line, (accept_line, (end_line, (end_line, (end_line, (greatest_longest, _))))))))),
+                          ),
+                        ),
+                      ),
+                    ),
+                  ),
+                ),
+              ),
+            ),
+          ),
+        ),
+      ),
+    )
 
 pub mode_is_read : Reads mode_text mode
 mode_is_read = record {
@@ -205,7 +284,14 @@ long_line_is_read = record {
 abbrev relay_parts : List Part
 relay_parts =
     parts.HasUnit (codes "Relay") (
-    parts.HasEventOut (record { name = codes "p"; ty = types.Fixed 2; needs = codes "e" ∷ []; value = expr.Choose (expr.Present (codes "e")) (expr.Number (pos 50) 2) expr.Absent })
+    parts.HasEventOut
+    (record {
+      name = codes "p";
+      ty = types.Fixed 2;
+      needs = codes "e" ∷ [];
+      value =
+          expr.Choose (expr.Present (codes "e")) (expr.Number (pos 50) 2) expr.Absent;
+    })
     ∷ parts.HasEventIn (record { name = codes "e"; ty = types.Int64 })
     ∷ [])
     ∷ parts.Stop (literal.Number (pos 3) 0)
@@ -235,7 +321,10 @@ relay_is_read = record {
   reads = record {
     parts = relay_parts;
     says = refl;
-    lines = (in_relay _ _ header_2, (in_relay _ _ unit_relay, (in_relay _ _ event_output, (in_relay _ _ event_input, (in_relay _ _ end_line, (in_relay _ _ stop_line, _))))));
+    lines = (
+      in_relay _ _ header_2,
+      (in_relay _ _ unit_relay, (in_relay _ _ event_output, (in_relay _ _ event_input, (in_relay _ _ end_line, (in_relay _ _ stop_line, _))))),
+    );
     placed = refl;
     short = leb-true (size_of relay_text) text_limit refl;
     lines_short = refl;
@@ -269,7 +358,14 @@ unfolding digits
 text_is = simp (line_lemmas, expr_lemmas) refl
 
 plain_lines : HaveForms (source_lines canonical_lines) counter_forms (source_lines canonical_lines)
-plain_lines = in_any_text (source_lines canonical_lines) counter_forms (filled canonical_lines) counter_is_old (plain_header, (counter_unit_line, (counter_state, (counter_output, (step_alone, (counter_sum, (end_line, (end_line, (counter_instance, (end_line, (stop_line, (longest_line, _))))))))))))
+plain_lines =
+    in_any_text (source_lines canonical_lines) counter_forms (filled canonical_lines) counter_is_old (
+      plain_header,
+      (
+        counter_unit_line,
+        (counter_state, (counter_output, (step_alone, (counter_sum, (end_line, (end_line, (counter_instance, (end_line, (stop_line, (longest_line, _)))))))))),
+      ),
+    )
 
 plain_is_read : Reads canonical_lines counter
 plain_is_read = record {
@@ -305,20 +401,36 @@ name_a = is_name (codes "a") (refl, refl, omega arith) refl
 
 abbrev all_names : List (List (List ℕ))
 all_names =
-    [] ∷ (codes "Counter" ∷ []) ∷ (codes "n" ∷ []) ∷ (codes "y" ∷ codes "n" ∷ []) ∷ [] ∷ (codes "n" ∷ codes "n" ∷ []) ∷ [] ∷ [] ∷ (codes "a" ∷ codes "Counter" ∷ []) ∷ [] ∷ [] ∷ [] ∷ []
+    [] ∷ (codes "Counter" ∷ []) ∷ (codes "n" ∷ []) ∷ (codes "y" ∷ codes "n" ∷ []) ∷ [] ∷ (codes "n" ∷ codes "n" ∷ []) ∷ [] ∷ []
+    ∷ (codes "a" ∷ codes "Counter" ∷ []) ∷ [] ∷ [] ∷ [] ∷ []
 
 names_are : map names_on counter_forms ≡ all_names
 names_are = simp expr_lemmas refl
 
 names_are_names : AllByRecursion (AllByRecursion IsName) all_names
-names_are_names = (_, ((long_name, _), ((name_n, _), ((name_y, (name_n, _)), (_, ((name_n, (name_n, _)), (_, (_, ((name_a, (long_name, _)), (_, (_, (_, _))))))))))))
+names_are_names =
+    (_, ((long_name, _), ((name_n, _), ((name_y, (name_n, _)), (_, ((name_n, (name_n, _)), (_, (_, ((name_a, (long_name, _)), (_, (_, (_, _))))))))))))
 
 names_are_words : AllByRecursion (AllByRecursion IsWord) all_names
-names_are_words = (_, ((long_name.0, _), ((name_n.0, _), ((name_y.0, (name_n.0, _)), (_, ((name_n.0, (name_n.0, _)), (_, (_, ((name_a.0, (long_name.0, _)), (_, (_, (_, _))))))))))))
+names_are_words = (
+  _,
+  (
+    (long_name.0, _),
+    ((name_n.0, _), ((name_y.0, (name_n.0, _)), (_, ((name_n.0, (name_n.0, _)), (_, (_, ((name_a.0, (long_name.0, _)), (_, (_, (_, _)))))))))),
+  ),
+)
 
 numbers_are : AllByRecursion IsInRange counter_forms
-numbers_are =
-    (((omega arith, omega arith), _), ((_, _), ((_, omega arith), ((_, simp expr_lemmas refl), ((_, _), ((_, simp expr_lemmas refl), ((_, _), ((_, _), ((_, _), ((_, _), ((_, omega arith), ((_, omega arith), _))))))))))))
+numbers_are = (
+  ((omega arith, omega arith), _),
+  (
+    (_, _),
+    (
+      (_, omega arith),
+      ((_, simp expr_lemmas refl), ((_, _), ((_, simp expr_lemmas refl), ((_, _), ((_, _), ((_, _), ((_, _), ((_, omega arith), ((_, omega arith), _))))))))),
+    ),
+  ),
+)
 
 on_forms : (P : List LineForm → Type 0) → P counter_forms → P (canonical_forms counter)
 on_forms P so = subst P (sym canonical_forms_are) so
@@ -338,11 +450,13 @@ counter_is_printable = record {
   ranged = record {
     version = (omega arith, omega arith);
     events = λ first. on_forms (λ forms. list_any is_event_port forms ≡ false) refl;
-    names = on_forms (λ forms. AllByRecursion (λ line. AllByRecursion IsWord (names_on line)) forms) (of_mapped (AllByRecursion IsWord) names_on counter_forms (subst (AllByRecursion (AllByRecursion IsWord)) (sym names_are) names_are_words));
+    names = on_forms (λ forms. AllByRecursion (λ line. AllByRecursion IsWord (names_on line)) forms)
+        (of_mapped (AllByRecursion IsWord) names_on counter_forms (subst (AllByRecursion (AllByRecursion IsWord)) (sym names_are) names_are_words));
     numbers = on_forms (λ forms. AllByRecursion IsInRange forms) numbers_are;
   };
   of_version = λ first. on_forms (λ forms. list_any is_of_version_2 forms ≡ false) counter_is_old;
-  names = on_forms (λ forms. AllByRecursion (λ line. AllByRecursion IsName (names_on line)) forms) (of_mapped (AllByRecursion IsName) names_on counter_forms (subst (AllByRecursion (AllByRecursion IsName)) (sym names_are) names_are_names));
+  names = on_forms (λ forms. AllByRecursion (λ line. AllByRecursion IsName (names_on line)) forms)
+      (of_mapped (AllByRecursion IsName) names_on counter_forms (subst (AllByRecursion (AllByRecursion IsName)) (sym names_are) names_are_names));
   tails = on_forms (λ forms. IsTrue (list_all (λ line. is_writable (tail_of line)) forms)) tails_are;
   blocks = blocks_are;
   lines = on_forms (λ forms. IsTrue (list_all (λ line. nat_le (length (line_text line)) line_limit) forms)) lines_are_short;

@@ -13,7 +13,8 @@ use Rattle.unit_tree.specs.Sites.{UnitScope, TopScope}
 use Rattle.unit_tree.specs.SourceLines.{in_canonical_order}
 use Rattle.unit_tree.specs.WellFormed.{refusal_of, exceeds, mistakes_kind, has_deep_expression}
 use Rattle.worked_facts.specs.WorkedPhrases.{Worked}
-use Rattle.worked_facts.specs.WorkedSystems.{Refused, n, one, sum, set, number, input_u, state_n, output_y, counts, unit_a, instance, port, wire, a_to_b, run_of, stop, lines_of_system}
+use Rattle.worked_facts.specs.WorkedSystems.{Refused, n, one, sum, set, number, input_u, state_n, output_y, counts, unit_a, instance, port, wire, a_to_b}
+use Rattle.worked_facts.specs.WorkedSystems.{run_of, stop, lines_of_system}
 use Rattle.unit_tree.specs.declared.expr.BinOp.TheVariants as by
 use Rattle.unit_tree.specs.declared.expr.Expr.{Expr}
 use Rattle.unit_tree.specs.declared.expr.Expr as expr
@@ -173,7 +174,8 @@ mixed_unit =
     ∷ output_y types.Int64 (codes "u" ∷ []) (expr.Var (codes "u"))
     ∷ output_p (codes "e" ∷ []) (if_present e expr.Absent)
     ∷ parts.Max (if_present one n)
-    ∷ parts.Step (line.If (expr.Present (codes "e")) (line.Repeat 2 (set (codes "n") (if_present e n) ∷ []) ∷ []) (Some (line.Accept (if_present one n) ∷ [])) ∷ [])
+    ∷ parts.Step
+    (line.If (expr.Present (codes "e")) (line.Repeat 2 (set (codes "n") (if_present e n) ∷ []) ∷ []) (Some (line.Accept (if_present one n) ∷ [])) ∷ [])
     ∷ []
 
 -- Two instances of the unit, with connections of both kinds, and what is sampled.
@@ -198,7 +200,8 @@ plain_mixed_unit =
     ∷ parts.HasInput (record { name = codes "e?"; ty = types.Bool; start = literal.Truth false })
     ∷ parts.HasInput (record { name = codes "e"; ty = types.Int64; start = number 0 })
     ∷ output_y types.Int64 (codes "u" ∷ []) (expr.Var (codes "u"))
-    ∷ parts.HasOutput (record { name = codes "p?"; ty = types.Bool; needs = codes "e?" ∷ codes "e" ∷ []; value = if_occurs (expr.Truth true) (expr.Truth false) })
+    ∷ parts.HasOutput
+    (record { name = codes "p?"; ty = types.Bool; needs = codes "e?" ∷ codes "e" ∷ []; value = if_occurs (expr.Truth true) (expr.Truth false) })
     ∷ parts.HasOutput (record { name = codes "p"; ty = types.Int64; needs = codes "e?" ∷ codes "e" ∷ []; value = if_occurs e (expr.Number (pos 0) 0) })
     ∷ parts.Max (if_occurs one n)
     ∷ parts.Step (line.If (expr.Var (codes "e?")) (line.Repeat 2 (set (codes "n") (if_occurs e n) ∷ []) ∷ []) (Some (line.Accept (if_occurs one n) ∷ [])) ∷ [])
@@ -223,11 +226,16 @@ pub record PlainFormsAreWorked : Type 0 where
   -- a system of version 1 is its own
   pub same : plain_form (system_of 1 (run_of counts)) ≡ system_of 1 (run_of counts)
   -- needs, in which an event input is two, and an input that is plain stays one
-  pub needs : lines_of_system (plain_form (system_of 2 (unit_a (input_u ∷ input_e ∷ output_y types.Bool (codes "e" ∷ codes "u" ∷ []) (expr.Present (codes "e")) ∷ []) ∷ []))) ≡ codes "cosim 2" ∷ codes "unit A" ∷ codes "input u:Int64=0" ∷ codes "input e?:Bool=false" ∷ codes "input e:Int64=0" ∷ codes "output y:Bool needs e?,e,u=e?" ∷ codes "end" ∷ []
+  pub needs : lines_of_system
+      (plain_form (system_of 2 (unit_a (input_u ∷ input_e ∷ output_y types.Bool (codes "e" ∷ codes "u" ∷ []) (expr.Present (codes "e")) ∷ []) ∷ [])))
+      ≡ codes "cosim 2" ∷ codes "unit A" ∷ codes "input u:Int64=0" ∷ codes "input e?:Bool=false" ∷ codes "input e:Int64=0"
+      ∷ codes "output y:Bool needs e?,e,u=e?" ∷ codes "end" ∷ []
   -- what an event output becomes: of `absent`, of a choice whose branches are choices, and of any other
   pub presence_of_absent : presence_of expr.Absent ≡ expr.Truth false
-  pub presence_of_choices : presence_of (expr.Choose e (at_times n) n) ≡ expr.Choose e (expr.Choose (expr.Binary by.Eq n one) (expr.Truth true) (expr.Truth false)) (expr.Truth true)
-  pub word_of_choices : word_expression_of (types.Fixed 2) (expr.Choose e (at_times n) n) ≡ expr.Choose e (expr.Choose (expr.Binary by.Eq n one) n (expr.Number (pos 0) 2)) n
+  pub presence_of_choices : presence_of (expr.Choose e (at_times n) n)
+      ≡ expr.Choose e (expr.Choose (expr.Binary by.Eq n one) (expr.Truth true) (expr.Truth false)) (expr.Truth true)
+  pub word_of_choices : word_expression_of (types.Fixed 2) (expr.Choose e (at_times n) n)
+      ≡ expr.Choose e (expr.Choose (expr.Binary by.Eq n one) n (expr.Number (pos 0) 2)) n
   -- the zero of each kind
   pub zero_of_truth : zero_of types.Bool ≡ expr.Truth false
   pub zero_of_fixed_0 : zero_of (types.Fixed 0) ≡ expr.Unary (of.ToFix 0) (expr.Number (pos 0) 0)
@@ -268,10 +276,13 @@ of_events = form.Connect (record { from = port (codes "a") (codes "p"); to = por
 
 pub record EventsAreWorked : Type 0 where
   pub present_written : Worked (phrase.Unary of.Not (phrase.Present (codes "e"))) (codes "not present(e)") (codes "not present(e)")
-  pub absent_written : Worked (phrase.Choose (phrase.Present (codes "e")) phrase.Absent (phrase.Parens phrase.Absent)) (codes "if present(e)then absent else(absent)") (codes "if present(e)then absent else absent")
+  pub absent_written : Worked (phrase.Choose (phrase.Present (codes "e")) phrase.Absent (phrase.Parens phrase.Absent))
+      (codes "if present(e)then absent else(absent)") (codes "if present(e)then absent else absent")
   pub accepted : Accepted2 (event_pair (p_to_e ∷ []))
   -- an event port stands behind the plain ones, wherever the text has it
-  pub event_first : in_canonical_order {A = ℕ} (unit_a (output_p [] one ∷ input_e ∷ output_y types.Int64 [] one ∷ input_u ∷ []) ∷ []) (1 ∷ 2 ∷ 3 ∷ 4 ∷ 5 ∷ 6 ∷ 7 ∷ []) ≡ 1 ∷ 2 ∷ 6 ∷ 4 ∷ 5 ∷ 3 ∷ 7 ∷ []
+  pub event_first : in_canonical_order {A = ℕ} (unit_a (output_p [] one ∷ input_e ∷ output_y types.Int64 [] one ∷ input_u ∷ []) ∷ [])
+      (1 ∷ 2 ∷ 3 ∷ 4 ∷ 5 ∷ 6 ∷ 7 ∷ [])
+      ≡ 1 ∷ 2 ∷ 6 ∷ 4 ∷ 5 ∷ 3 ∷ 7 ∷ []
   -- a system of version 1 has no event ports in range, and no text where it speaks of events
   pub ports_of_version_1 : IsRanged (system_of 1 (run_of (input_e ∷ []))) → ⊥
   pub absent_of_version_1 : IsPrintable (system_of 1 (run_of (output_y types.Int64 [] expr.Absent ∷ []))) → ⊥
@@ -297,13 +308,24 @@ pub record EventsAreWorked : Type 0 where
   pub hidden_in_event : Refused2 (run_of (input_u ∷ output_p [] (expr.Var (codes "u")) ∷ [])) 12 4
   -- 14: connections of event ports
   pub to_a_plain_input : Refused2 (event_pair (wire (port (codes "a") (codes "p")) (port (codes "b") (codes "u")) ∷ [])) 14 11
-  pub from_a_plain_output : Refused2 (unit_a (input_e ∷ output_y types.Int64 [] one ∷ []) ∷ instance (codes "a") ∷ instance (codes "b") ∷ wire (port (codes "a") (codes "y")) (port (codes "b") (codes "e")) ∷ stop ∷ []) 14 10
+  pub from_a_plain_output : Refused2
+      (unit_a (input_e ∷ output_y types.Int64 [] one ∷ []) ∷ instance (codes "a") ∷ instance (codes "b")
+      ∷ wire (port (codes "a") (codes "y")) (port (codes "b") (codes "e")) ∷ stop ∷ []) 14 10
   -- 16: an event port, and a connection of events, are two; the samples are one each
-  pub sixteen_events : exceeds (system_of 2 []) (UnitScope with_e) (repeat 15 (form.EventInput (event_in types.Bool) ∷ [])) (form.EventInput (event_in types.Bool)) ≡ false
-  pub inputs_before : exceeds (system_of 2 []) (UnitScope with_e) (repeat 31 (form.Input (record { name = codes "u"; ty = types.Bool; start = literal.Truth true }) ∷ [])) (form.EventInput (event_in types.Bool)) ≡ true
-  pub outputs_before : exceeds (system_of 2 []) (UnitScope with_e) (repeat 31 (form.Output (record { name = codes "y"; ty = types.Bool; needs = []; value = one }) ∷ [])) (form.EventOutput (event_out types.Bool [] expr.Absent)) ≡ true
+  pub sixteen_events : exceeds (system_of 2 []) (UnitScope with_e) (repeat 15 (form.EventInput (event_in types.Bool) ∷ []))
+      (form.EventInput (event_in types.Bool))
+      ≡ false
+  pub inputs_before : exceeds (system_of 2 []) (UnitScope with_e)
+      (repeat 31 (form.Input (record { name = codes "u"; ty = types.Bool; start = literal.Truth true }) ∷ [])) (form.EventInput (event_in types.Bool))
+      ≡ true
+  pub outputs_before : exceeds (system_of 2 []) (UnitScope with_e)
+      (repeat 31 (form.Output (record { name = codes "y"; ty = types.Bool; needs = []; value = one }) ∷ []))
+      (form.EventOutput (event_out types.Bool [] expr.Absent))
+      ≡ true
   pub connections : exceeds (system_of 2 (event_pair [])) TopScope (repeat 1024 (of_events ∷ [])) of_events ≡ true
-  pub last_sample : exceeds (system_of 2 (event_pair [])) TopScope (repeat 2047 (form.Sample (port (codes "a") (codes "p")) ∷ [])) (form.Sample (port (codes "a") (codes "p"))) ≡ false
+  pub last_sample : exceeds (system_of 2 (event_pair [])) TopScope (repeat 2047 (form.Sample (port (codes "a") (codes "p")) ∷ []))
+      (form.Sample (port (codes "a") (codes "p")))
+      ≡ false
   -- 17: the zero that `absent` becomes is deeper by one where its type is `Fixed 0`
   pub absent_at_32 : is_deep_event types.Int64 (gaps 31) ≡ false
   pub fixed_0_at_32 : is_deep_event (types.Fixed 0) (gaps 31) ≡ true

@@ -17,7 +17,8 @@ use Rattle.unit_tree.specs.declared.line.Line.{Line}
 -- `n` is Int, `p` is Bool and `x` is Fixed 2; nothing else is declared.
 abbrev pub declared_kinds : KindsOfNames
 declared_kinds name =
-    if bytes_eq name (codes "n") then Some Int else (if bytes_eq name (codes "p") then Some Truth else (if bytes_eq name (codes "x") then Some (Fixed 2) else None))
+    if bytes_eq name (codes "n") then Some Int else
+    (if bytes_eq name (codes "p") then Some Truth else (if bytes_eq name (codes "x") then Some (Fixed 2) else None))
 
 abbrev pub n : Expr
 n = expr.Var (codes "n")

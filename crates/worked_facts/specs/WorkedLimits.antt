@@ -57,10 +57,13 @@ pub record LimitsAreWorked : Type 0 where
   pub only_alike : exceeds no_system TopScope (repeat 64 (connection ∷ []) ++ repeat 63 (form.Unit (codes "A") ∷ [])) (form.Unit (codes "B")) ≡ false
   -- numbers on a line
   pub resolutions : AreCountsInRange (form.Resolution 0) × AreCountsInRange (form.Resolution 9) × (AreCountsInRange (form.Resolution 10) → ⊥)
-  pub repeats : AreCountsInRange (form.Repeat 1) × AreCountsInRange (form.Repeat 1000) × (AreCountsInRange (form.Repeat 0) → ⊥) × (AreCountsInRange (form.Repeat 1001) → ⊥)
+  pub repeats : AreCountsInRange (form.Repeat 1) × AreCountsInRange (form.Repeat 1000) × (AreCountsInRange (form.Repeat 0) → ⊥)
+      × (AreCountsInRange (form.Repeat 1001) → ⊥)
   pub zeros : AreCountsInRange (form.Zero 0) × AreCountsInRange (form.Zero 10000) × (AreCountsInRange (form.Zero 10001) → ⊥)
-  pub rows : AreCountsInRange (form.Rows 1) × AreCountsInRange (form.Rows 100000) × (AreCountsInRange (form.Rows 0) → ⊥) × (AreCountsInRange (form.Rows 100001) → ⊥)
-  pub decimals : AreCountsInRange (form.Local (record { name = codes "x"; ty = types.Fixed 9 })) × (AreCountsInRange (form.Local (record { name = codes "x"; ty = types.Fixed 10 })) → ⊥)
+  pub rows : AreCountsInRange (form.Rows 1) × AreCountsInRange (form.Rows 100000) × (AreCountsInRange (form.Rows 0) → ⊥)
+      × (AreCountsInRange (form.Rows 100001) → ⊥)
+  pub decimals : AreCountsInRange (form.Local (record { name = codes "x"; ty = types.Fixed 9 }))
+      × (AreCountsInRange (form.Local (record { name = codes "x"; ty = types.Fixed 10 })) → ⊥)
   -- words
   pub longest_word : IsWord (repeat 32 (codes "a"))
   pub too_long_word : IsWord (repeat 33 (codes "a")) → ⊥

@@ -58,16 +58,19 @@ pub record PhrasesAreWorked : Type 0 where
   pub not_of_comparison : Worked (phrase.Unary of.Not (phrase.Parens (phrase.Binary by.Le a b))) (codes "not(a<=b)") (codes "not a<=b")
   -- comparisons do not chain
   pub no_chain : Unwritable (phrase.Binary by.Eq (phrase.Binary by.Eq a b) c) (codes "a==b==c")
-  pub comparisons : Worked (phrase.Choose (phrase.Binary by.Gt a b) (phrase.Binary by.Ge b c) (phrase.Binary by.Lt c a)) (codes "if a>b then b>=c else c<a") (codes "if a>b then b>=c else c<a")
+  pub comparisons : Worked (phrase.Choose (phrase.Binary by.Gt a b) (phrase.Binary by.Ge b c) (phrase.Binary by.Lt c a)) (codes "if a>b then b>=c else c<a")
+      (codes "if a>b then b>=c else c<a")
   -- a prefix `-` before products; the one of a literal is no part of an expression
   pub minus_first : Worked (phrase.Binary by.Mul (phrase.Unary of.Neg a) b) (codes "-a*b") (codes "-a*b")
   pub minus_of_minus : Worked (phrase.Binary by.Sub a (phrase.Unary of.Neg (phrase.Unary of.Neg b))) (codes "a---b") (codes "a---b")
   pub minus_of_not : Unwritable (phrase.Unary of.Neg (phrase.Unary of.Not a)) (codes "-not a")
   -- `if` is the weakest
-  pub choice_in_sum : Worked (phrase.Binary by.Add (n 1) (phrase.Parens (phrase.Choose a b c))) (codes "1+(if a then b else c)") (codes "1+(if a then b else c)")
+  pub choice_in_sum : Worked (phrase.Binary by.Add (n 1) (phrase.Parens (phrase.Choose a b c))) (codes "1+(if a then b else c)")
+      (codes "1+(if a then b else c)")
   pub no_choice_in_sum : Unwritable (phrase.Binary by.Add (n 1) (phrase.Choose a b c)) (codes "1+if a then b else c")
   -- arguments are whole expressions
-  pub calls : Worked (phrase.Clamp (phrase.Parens a) (phrase.Unary of.Abs (phrase.Unary of.Neg b)) (phrase.Binary by.Max c (phrase.Choose a b c))) (codes "clamp((a),abs(-b),max(c,if a then b else c))") (codes "clamp(a,abs(-b),max(c,if a then b else c))")
+  pub calls : Worked (phrase.Clamp (phrase.Parens a) (phrase.Unary of.Abs (phrase.Unary of.Neg b)) (phrase.Binary by.Max c (phrase.Choose a b c)))
+      (codes "clamp((a),abs(-b),max(c,if a then b else c))") (codes "clamp(a,abs(-b),max(c,if a then b else c))")
   pub least : Worked (phrase.Binary by.Min (phrase.Binary by.Sub a b) (n 0)) (codes "min(a-b,0)") (codes "min(a-b,0)")
   pub scaled : Worked (phrase.Unary (of.ToFix 2) (phrase.Unary of.ToInt a)) (codes "fix 2(int(a))") (codes "fix 2(int(a))")
   pub scaled_too_far : Unwritable (phrase.Unary (of.ToFix 10) a) (codes "fix 10(a)")

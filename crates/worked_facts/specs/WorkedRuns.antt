@@ -111,9 +111,12 @@ pub record CountersAreWorked : Type 0 where
   pub none : RunsTo (counts [] (parts.Stop (whole 0) ∷ [])) (counted 0 ∷ []) Completed
   pub two_rows : RunsTo (counts [] (parts.Rows 2 ∷ until_three)) (counted 0 ∷ counted 1 ∷ []) RowBudget
   pub four_rows : RunsTo (counts [] (parts.Rows 4 ∷ until_three)) (counted 0 ∷ counted 1 ∷ counted 2 ∷ counted 3 ∷ []) Completed
-  pub waits : RunsTo (counts (parts.Max (number 0) ∷ []) (parts.Stop (whole 5) ∷ parts.Zero 3 ∷ [])) (waiting 0 ∷ waiting 1 ∷ waiting 2 ∷ waiting 3 ∷ []) ZeroBudget
-  pub beyond_type : RunsTo (counts_from types.Int8 126 [] until_three) (stand 0 0 0 (one 126) (pos 126 ∷ []) ∷ stand 1 1 0 (one 127) (pos 127 ∷ []) ∷ []) (UnitFault 0 place.Step fault.Range)
-  pub beyond_words : RunsTo (counts_from types.Int64 greatest [] until_three) (stand 0 0 0 (one greatest) (pos greatest ∷ []) ∷ []) (UnitFault 0 place.Step fault.Overflow)
+  pub waits : RunsTo (counts (parts.Max (number 0) ∷ []) (parts.Stop (whole 5) ∷ parts.Zero 3 ∷ []))
+      (waiting 0 ∷ waiting 1 ∷ waiting 2 ∷ waiting 3 ∷ []) ZeroBudget
+  pub beyond_type : RunsTo (counts_from types.Int8 126 [] until_three) (stand 0 0 0 (one 126) (pos 126 ∷ []) ∷ stand 1 1 0 (one 127) (pos 127 ∷ []) ∷ [])
+      (UnitFault 0 place.Step fault.Range)
+  pub beyond_words : RunsTo (counts_from types.Int64 greatest [] until_three) (stand 0 0 0 (one greatest) (pos greatest ∷ []) ∷ [])
+      (UnitFault 0 place.Step fault.Overflow)
   pub negative_max : RunsTo (counts (parts.Max (expr.Unary of.Neg (number 1)) ∷ []) until_three) (counted 0 ∷ []) (UnitFault 0 place.Max fault.Max)
 
 -- ---- A ring of members that is no ring of outputs: the one's state is the other's input
@@ -327,7 +330,8 @@ pub record StepsAreWorked : Type 0 where
   pub redo_zero : RunsTo accepts_none (counted 0 ∷ []) ZeroBudget
   pub zero_cells : cells_of (composition_of (system_of 1 accepts_none)) (counted 0 ∷ []) ≡ 2
   pub defaults : ((run_of (system_of 2 pulse_and_tally)).zero_budget ≡ 1000) × ((run_of (system_of 2 pulse_and_tally)).row_budget ≡ 10000)
-  pub pulse : IsTrace (composition_of (system_of 2 plain_pulse_and_tally)) (pulsed 0 0 0 0 0 ∷ pulsed 1 1 10 0 0 ∷ pulsed 2 0 0 10 10 ∷ pulsed 3 1 30 10 10 ∷ pulsed 4 0 0 40 40 ∷ []) Completed
+  pub pulse : IsTrace (composition_of (system_of 2 plain_pulse_and_tally))
+      (pulsed 0 0 0 0 0 ∷ pulsed 1 1 10 0 0 ∷ pulsed 2 0 0 10 10 ∷ pulsed 3 1 30 10 10 ∷ pulsed 4 0 0 40 40 ∷ []) Completed
   pub shorter : RunsTo four_and_seven four_and_seven_stands Completed
   pub shorter_cells : cells_of (composition_of (system_of 1 four_and_seven)) four_and_seven_stands ≡ 10
   pub refused : RunsTo four_and_three (both_at 0 0 ∷ []) (StepRefused 1 4 3)

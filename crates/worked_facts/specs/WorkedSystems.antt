@@ -96,7 +96,8 @@ thermostat =
     ∷ instance_with (codes "room") (record { name = codes "k"; value = literal.Number (pos 250) 2 } ∷ [])
     ∷ parts.HasUnit (codes "A") (
     parts.Step (
-    line.If (expr.Binary by.Lt n (expr.Number (pos 0) 1)) (line.Repeat 2 (set (codes "n") (sum n (expr.Unary (of.ToFix 1) one)) ∷ []) ∷ []) (Some (line.Accept (expr.Unary of.ToInt (expr.Var (codes "k"))) ∷ []))
+    line.If (expr.Binary by.Lt n (expr.Number (pos 0) 1)) (line.Repeat 2 (set (codes "n") (sum n (expr.Unary (of.ToFix 1) one)) ∷ []) ∷ [])
+    (Some (line.Accept (expr.Unary of.ToInt (expr.Var (codes "k"))) ∷ []))
     ∷ [])
     ∷ parts.Max (sum expr.Time one)
     ∷ output_y (types.Fixed 1) (codes "u" ∷ codes "v" ∷ []) (expr.Unary of.Neg (sum n n))
@@ -197,7 +198,8 @@ choosing_scopes =
 pub record SystemsAreWorked : Type 0 where
   pub thermostat_is : lines_of_system (system_of 1 thermostat) ≡ thermostat_lines
   -- the lines of a text, by number, in canonical order
-  pub step_first : in_canonical_order {A = ℕ} (a_to_b ∷ unit_a (choosing ++ counts) ∷ a_to_b ∷ []) (1 ∷ 2 ∷ 3 ∷ 4 ∷ 5 ∷ 6 ∷ 7 ∷ 8 ∷ 9 ∷ 10 ∷ 11 ∷ 12 ∷ []) ≡ 1 ∷ 3 ∷ 9 ∷ 10 ∷ 4 ∷ 5 ∷ 6 ∷ 7 ∷ 8 ∷ 11 ∷ 2 ∷ 12 ∷ []
+  pub step_first : in_canonical_order {A = ℕ} (a_to_b ∷ unit_a (choosing ++ counts) ∷ a_to_b ∷ []) (1 ∷ 2 ∷ 3 ∷ 4 ∷ 5 ∷ 6 ∷ 7 ∷ 8 ∷ 9 ∷ 10 ∷ 11 ∷ 12 ∷ [])
+      ≡ 1 ∷ 3 ∷ 9 ∷ 10 ∷ 4 ∷ 5 ∷ 6 ∷ 7 ∷ 8 ∷ 11 ∷ 2 ∷ 12 ∷ []
   -- the scope of each line
   pub scopes : map (λ site. site.scope) (sites_of (system_of 1 (run_of choosing))) ≡ choosing_scopes
   -- 8: the second of two equal names, in canonical order
@@ -237,11 +239,14 @@ pub record SystemsAreWorked : Type 0 where
   pub param_assigned : Refused (run_of (param_k types.Int64 (number 1) ∷ parts.Step (set (codes "k") one ∷ []) ∷ [])) 22 5
   pub no_instance : Refused (stop ∷ []) 23 1
   pub half_a_tick_first : Refused (parts.Stop (literal.Number (pos 5) 1) ∷ []) 20 2
-  pub set_twice : Refused (unit_a (param_k types.Int64 (number 1) ∷ []) ∷ instance_with (codes "a") (record { name = codes "k"; value = number 1 } ∷ record { name = codes "k"; value = number 1 } ∷ []) ∷ stop ∷ []) 24 7
+  pub set_twice : Refused
+      (unit_a (param_k types.Int64 (number 1) ∷ [])
+      ∷ instance_with (codes "a") (record { name = codes "k"; value = number 1 } ∷ record { name = codes "k"; value = number 1 } ∷ []) ∷ stop ∷ []) 24 7
   pub sampled_twice : Refused (parts.Samples (port (codes "a") (codes "y")) ∷ parts.Samples (port (codes "a") (codes "y")) ∷ run_of counts) 24 10
   pub needed_twice : Refused (run_of (input_u ∷ output_y types.Int64 (codes "u" ∷ codes "u" ∷ []) u ∷ [])) 24 4
   -- 9: clocks and variables of their names, which no text can tell apart, are two things
-  pub time_by_param : Refused (run_of (parts.HasParam (record { name = codes "t"; ty = types.Int64; start = number 1 }) ∷ output_y types.Int64 [] expr.Time ∷ [])) 9 4
+  pub time_by_param : Refused
+      (run_of (parts.HasParam (record { name = codes "t"; ty = types.Int64; start = number 1 }) ∷ output_y types.Int64 [] expr.Time ∷ [])) 9 4
   pub step_by_state : Refused (run_of (parts.HasState (record { name = codes "h"; ty = types.Int64; start = number 1 }) ∷ parts.Max expr.Step ∷ [])) 9 4
   pub variable_t : Refused (run_of (parts.Max (expr.Var (codes "t")) ∷ [])) 9 3
   -- 9: where clocks and locals stand, and the other places of names
@@ -258,17 +263,21 @@ pub record SystemsAreWorked : Type 0 where
   pub truth_accepted : Refused (run_of (parts.Step (line.Accept (expr.Truth true) ∷ []) ∷ [])) 10 4
   pub fixed_0_and_int : Refused (run_of (state_n (types.Fixed 0) (number 0) ∷ output_y (types.Fixed 0) [] one ∷ [])) 10 4
   pub fixed_0 : Accepted (run_of (state_n (types.Fixed 0) (number 0) ∷ output_y (types.Fixed 0) [] n ∷ []))
-  pub form_of_a_setting : Refused (unit_a (param_k types.Int64 (number 1) ∷ []) ∷ instance_with (codes "a") (record { name = codes "k"; value = literal.Truth true } ∷ []) ∷ stop ∷ []) 10 6
+  pub form_of_a_setting : Refused
+      (unit_a (param_k types.Int64 (number 1) ∷ []) ∷ instance_with (codes "a") (record { name = codes "k"; value = literal.Truth true } ∷ []) ∷ stop ∷ []) 10 6
   pub form_of_an_input : Refused (run_of (parts.HasInput (record { name = codes "u"; ty = types.Int64; start = literal.Truth true }) ∷ [])) 10 3
   pub range_of_a_param : Refused (run_of (param_k types.UInt8 (literal.Number (neg_ℤ (pos 1)) 0) ∷ [])) 11 3
   -- 18 to 24: the other places and the ends of ranges
-  pub cost_100000 : Accepted (run_of (counts ++ (parts.Step (line.Repeat 1000 (line.Repeat 94 [] ∷ set (codes "n") n ∷ []) ∷ line.Repeat 997 [] ∷ line.Repeat 999 [] ∷ []) ∷ [])))
-  pub cost_100001 : Refused (run_of (counts ++ (parts.Step (line.Repeat 1000 (line.Repeat 94 [] ∷ set (codes "n") n ∷ []) ∷ line.Repeat 998 [] ∷ line.Repeat 999 [] ∷ []) ∷ []))) 18 5
+  pub cost_100000 : Accepted
+      (run_of (counts ++ (parts.Step (line.Repeat 1000 (line.Repeat 94 [] ∷ set (codes "n") n ∷ []) ∷ line.Repeat 997 [] ∷ line.Repeat 999 [] ∷ []) ∷ [])))
+  pub cost_100001 : Refused
+      (run_of (counts ++ (parts.Step (line.Repeat 1000 (line.Repeat 94 [] ∷ set (codes "n") n ∷ []) ∷ line.Repeat 998 [] ∷ line.Repeat 999 [] ∷ []) ∷ []))) 18 5
   pub longest_run : Accepted (unit_a counts ∷ instance (codes "a") ∷ parts.Stop (number 1000000000000000) ∷ [])
   pub too_long_a_run : Refused (unit_a counts ∷ instance (codes "a") ∷ parts.Stop (number 1000000000000001) ∷ []) 20 8
   pub stop_zero : Accepted (unit_a counts ∷ instance (codes "a") ∷ parts.Stop (number 0) ∷ [])
   pub negative_stop : Refused (unit_a counts ∷ instance (codes "a") ∷ parts.Stop (literal.Number (neg_ℤ (pos 3)) 0) ∷ []) 20 8
-  pub resolution_of_unit_without_instance : Refused (parts.HasUnit (codes "B") (parts.Resolution 1 ∷ []) ∷ parts.Longest (literal.Number (pos 5) 1) ∷ run_of counts) 20 12
+  pub resolution_of_unit_without_instance : Refused
+      (parts.HasUnit (codes "B") (parts.Resolution 1 ∷ []) ∷ parts.Longest (literal.Number (pos 5) 1) ∷ run_of counts) 20 12
   pub input_assigned : Refused (run_of (input_u ∷ parts.Step (set (codes "u") one ∷ []) ∷ [])) 22 5
   pub output_assigned : Refused (run_of (counts ++ (parts.Step (set (codes "y") one ∷ []) ∷ []))) 22 6
 
@@ -290,7 +299,8 @@ behind_ring = instance (codes "c") ∷ joins (codes "a") (codes "c") ∷ ring
 -- The same two, whose outputs need nothing: the instances form a ring, and their ports do not.
 abbrev pub ring_of_instances : List Part
 ring_of_instances =
-    unit_a (input_u ∷ output_y types.Int64 [] one ∷ []) ∷ instance (codes "a") ∷ instance (codes "b") ∷ joins (codes "a") (codes "b") ∷ joins (codes "b") (codes "a") ∷ stop ∷ []
+    unit_a (input_u ∷ output_y types.Int64 [] one ∷ []) ∷ instance (codes "a") ∷ instance (codes "b") ∷ joins (codes "a") (codes "b")
+    ∷ joins (codes "b") (codes "a") ∷ stop ∷ []
 
 pub record OrdersAreWorked : Type 0 where
   pub chain_has_all : HasNoCycle (system_of 1 (pair_with (joins (codes "b") (codes "a") ∷ [])))

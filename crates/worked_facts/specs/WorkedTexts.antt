@@ -56,7 +56,15 @@ thermal_unit = record {
   locals = [];
   inputs = record { name = codes "u"; ty = types.Int64; start = literal.Number (neg_ℤ (pos 9223372036854775808)) 0 } ∷ [];
   events_in = [];
-  outputs = record { name = codes "y"; ty = types.Bool; needs = codes "u" ∷ []; value = expr.Binary by.And (expr.Truth true) (expr.Unary of.Not (expr.Binary by.Lt (expr.Var (codes "n")) (expr.Number (pos 5) 1))) } ∷ [];
+  outputs =
+      record {
+        name = codes "y";
+        ty = types.Bool;
+        needs = codes "u" ∷ [];
+        value =
+            expr.Binary by.And (expr.Truth true) (expr.Unary of.Not (expr.Binary by.Lt (expr.Var (codes "n")) (expr.Number (pos 5) 1)));
+      }
+      ∷ [];
   events_out = [];
   max = Some (expr.Var (codes "u"));
   step = None;
@@ -99,14 +107,20 @@ thermal_text = text_of (
 abbrev pub mode_line : Line
 mode_line =
     line.If (expr.Binary by.Ge (expr.Var (codes "k")) (expr.Var (codes "l")))
-    (line.Repeat 1000 (line.Assign (codes "x") (expr.Binary by.And (expr.Binary by.Gt (expr.Var (codes "m")) (expr.Var (codes "p"))) (expr.Binary by.Ne (expr.Unary of.Abs (expr.Var (codes "q"))) (expr.Var (codes "r")))) ∷ []) ∷ [])
+    (line.Repeat 1000
+    (line.Assign (codes "x")
+    (expr.Binary by.And (expr.Binary by.Gt (expr.Var (codes "m")) (expr.Var (codes "p")))
+    (expr.Binary by.Ne (expr.Unary of.Abs (expr.Var (codes "q"))) (expr.Var (codes "r"))))
+    ∷ [])
+    ∷ [])
     (Some (line.Accept (expr.Binary by.Min expr.Step (expr.Binary by.Max expr.Time (expr.Number (pos 1) 0))) ∷ []))
 
 abbrev pub mode_unit : Unit
 mode_unit = record {
   name = codes "Mode";
   resolution = None;
-  params = record { name = codes "k"; ty = types.Int8; start = literal.Number (neg_ℤ (pos 128)) 0 } ∷ record { name = codes "l"; ty = types.UInt8; start = literal.Number (pos 255) 0 } ∷ [];
+  params = record { name = codes "k"; ty = types.Int8; start = literal.Number (neg_ℤ (pos 128)) 0 }
+      ∷ record { name = codes "l"; ty = types.UInt8; start = literal.Number (pos 255) 0 } ∷ [];
   states =
       record { name = codes "m"; ty = types.Int16; start = literal.Number (pos 0) 0 }
       ∷ record { name = codes "p"; ty = types.UInt16; start = literal.Number (pos 0) 0 }
@@ -183,7 +197,15 @@ relay_unit = record {
   inputs = [];
   events_in = record { name = codes "e"; ty = types.Int64 } ∷ [];
   outputs = [];
-  events_out = record { name = codes "p"; ty = types.Fixed 2; needs = codes "e" ∷ []; value = expr.Choose (expr.Present (codes "e")) (expr.Number (pos 50) 2) expr.Absent } ∷ [];
+  events_out =
+      record {
+        name = codes "p";
+        ty = types.Fixed 2;
+        needs = codes "e" ∷ [];
+        value =
+            expr.Choose (expr.Present (codes "e")) (expr.Number (pos 50) 2) expr.Absent;
+      }
+      ∷ [];
   max = None;
   step = None;
 }

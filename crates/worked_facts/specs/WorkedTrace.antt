@@ -47,4 +47,5 @@ pub record TextIsWorked : Type 0 where
   pub columns : columns_of pulses ≡ pulse_column ∷ tally_column ∷ []
   pub sampled : columns_of tally_first ≡ tally_column ∷ pulse_column ∷ []
   pub text : trace_text pulses first_rows ≡ ended (codes "time,index,p.e,c.k") ++ ended (codes "0,0,,0") ++ ended (codes "1,0,10,0") ++ ended (codes "2,0,,10")
-  pub text_sampled : trace_text tally_alone first_rows ≡ ended (codes "time,index,c.k") ++ ended (codes "0,0,0") ++ ended (codes "1,0,0") ++ ended (codes "2,0,10")
+  pub text_sampled : trace_text tally_alone first_rows
+      ≡ ended (codes "time,index,c.k") ++ ended (codes "0,0,0") ++ ended (codes "1,0,0") ++ ended (codes "2,0,10")

@@ -14,5 +14,6 @@ returns-else-differing-eq0-clause-within c =
 
 pub returns-else-differing-eq0-clause-least : goal.returns-else-differing-eq0-clause-least
 returns-else-differing-eq0-clause-least c =
-    loaded_first 8 c.args.a.now c.args.b.now c.load.result c.load-2.result (omega arith) c.load.ensures.value c.load-2.ensures.value c.load.ensures.lanes c.load-2.ensures.lanes
+    loaded_first 8 c.args.a.now c.args.b.now c.load.result c.load-2.result
+    (omega arith) c.load.ensures.value c.load-2.ensures.value c.load.ensures.lanes c.load-2.ensures.lanes
     c.load.ensures.fits c.load-2.ensures.fits c.if-differing-eq0.false

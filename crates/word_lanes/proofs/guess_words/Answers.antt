@@ -11,7 +11,8 @@ guess_word-requires c =
     let k = c.loop-place.place in
     let low_fits : FitsSigned w64 (get_or c.args.low.now k (pos 0)) = search rules in
     let high_fits : FitsSigned w64 (get_or c.args.high.now k (pos 0)) = search rules in
-    rw (to_z-of_z w64 _ low_fits, to_z-of_z w64 _ high_fits) (interval_at c.args.low.now c.args.high.now k (pos 0) c.requires.intervals (omega arith) (omega arith))
+    rw (to_z-of_z w64 _ low_fits, to_z-of_z w64 _ high_fits)
+    (interval_at c.args.low.now c.args.high.now k (pos 0) c.requires.intervals (omega arith) (omega arith))
 
 pub loop-place-preserved : goal.loop-place-preserved
 loop-place-preserved c =

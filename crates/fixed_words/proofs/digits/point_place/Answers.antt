@@ -10,5 +10,6 @@ pub returns : goal.returns
 returns c =
     let text = c.args.text.now in
     let found : c.position.result ≡ position (λ byte. byte == 46) text =
-    position_from_yields_List (λ byte. byte == 46) _ _ c.position.result c.position.ensures.ran (YieldsList-from_slice text cc) (λ x b q k. search (rules, tests)) in
+    position_from_yields_List (λ byte. byte == 46) _ _ c.position.result c.position.ensures.ran (YieldsList-from_slice text cc)
+    (λ x b q k. search (rules, tests)) in
     c.unwrap_or.ensures ∙ place_from_position c.position.result (position_or_len (λ byte. byte == 46) text) (length text) (prefix_len-le-length _ text) found

@@ -43,7 +43,8 @@ module _ (R S : RattleType) (h : R.Denot → S.Denot) where
   the_places alike = view_places stored (list this) view (λ X Y k u. refl) (λ X u. refl) R.Denot S.Denot h (whole.the_row R).coded (whole.the_row S).coded
       (invariant R.Denot) (invariant S.Denot) (λ u p q. refl) (λ u p q. refl) (λ u e. tt) (λ u e. tt)
       (over (inside.the_row R)) (over (inside.the_row S))
-      (struct_places (inside.the_type R) (inside.the_type S) (vec.mapped h, tt) _ (λ d. refl) refl (laid _ _ _ (vec.the_places global.the_row ghosts R S h alike), tt))
+      (struct_places (inside.the_type R) (inside.the_type S) (vec.mapped h, tt) _ (λ d. refl) refl
+      (laid _ _ _ (vec.the_places global.the_row ghosts R S h alike), tt))
 
   pub the_codes_placed : Recodes R S h → Recodes (whole.the_row R) (whole.the_row S) ((the_former this).map R.Denot S.Denot h)
   the_codes_placed same_codes elements = sym (code_map R.coded.code S.coded.code h (λ x. sym (same_codes x)) elements)

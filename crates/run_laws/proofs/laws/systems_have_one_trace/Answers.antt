@@ -40,14 +40,16 @@ runs_have_orders system ranged kept no_cycle = by_version (one_or_two system.ver
         subst HasOrder (sym (plain_form_1 system is)) (system_is_ordered system (version_1_without_events system ranged is) (names_differ system kept) no_cycle)
     by_version (inr is) =
         subst (λ version. HasOrder (cond (version == 2) (plain_of system) system)) (sym is)
-        (system_is_ordered (plain_of system) (plain_of_without_events system) (plain_names_differ system ranged kept) (plain_has_no_cycle system ranged kept no_cycle))
+        (system_is_ordered (plain_of system) (plain_of_without_events system) (plain_names_differ system ranged kept)
+        (plain_has_no_cycle system ranged kept no_cycle))
 
 orders_have_runs : (system : System) → IsRanged system → IsWellFormed system → HasOrder (plain_form system) → HasNoCycle system
 orders_have_runs system ranged kept order = by_version (one_or_two system.version ranged.version.0 ranged.version.1)
   where
     by_version : (system.version ≡ 1) ⊎ (system.version ≡ 2) → HasNoCycle system
     by_version (inl is) =
-        has_no_cycle system (version_1_without_events system ranged is) (names_differ system kept) (is_wired system kept) (subst HasOrder (plain_form_1 system is) order)
+        has_no_cycle system (version_1_without_events system ranged is) (names_differ system kept) (is_wired system kept)
+        (subst HasOrder (plain_form_1 system is) order)
     by_version (inr is) =
         has_none_of_plain system ranged kept
         (has_no_cycle (plain_of system) (plain_of_without_events system) (plain_names_differ system ranged kept) (plain_is_wired system ranged kept)

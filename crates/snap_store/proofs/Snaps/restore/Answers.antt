@@ -7,7 +7,9 @@ index-requires c = slot_of_live (λ v. v.items) c.self.inside.slots.slots c.self
 
 pub copy_from_slice-requires : goal.copy_from_slice-requires
 copy_from_slice-requires c =
-    let asked = length_of_live (λ v. v.items) c.self.inside.slots.slots c.self.view_is c.args.id _ _ c.index.result.now c.id.view_is c.index.ensures c.requires.same_length in
+    let asked =
+    length_of_live
+    (λ v. v.items) c.self.inside.slots.slots c.self.view_is c.args.id _ _ c.index.result.now c.id.view_is c.index.ensures c.requires.same_length in
     sym (ap length c.deref.ensures.value ∙ asked)
 
 pub returns : goal.returns

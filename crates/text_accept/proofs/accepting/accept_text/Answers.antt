@@ -10,10 +10,12 @@ returns-in-Ok c =
 pub at_source-requires-clause-first : goal.at_source-requires-clause-first
 at_source-requires-clause-first c =
     let line = c.in-Ok-line_of_cycle.ensures in
-    (output_inside c.args.text.now c.in_ok-checked.field-0.checked c.in_ok-checked.field-0.lines line.port c.in-Ok-line_of_cycle.item c.in_ok-checked.ensures.reads line.declared).0
+    (output_inside c.args.text.now c.in_ok-checked.field-0.checked c.in_ok-checked.field-0.lines line.port c.in-Ok-line_of_cycle.item
+    c.in_ok-checked.ensures.reads line.declared).0
 
 pub at_source-requires-clause-last : goal.at_source-requires-clause-last
 at_source-requires-clause-last c =
     let line = c.in-Ok-line_of_cycle.ensures in
     subst (λ (lines : List ℕ). c.in-Ok-line_of_cycle.item ≤ length lines) (sym c.as_slice.ensures)
-    (output_inside c.args.text.now c.in_ok-checked.field-0.checked c.in_ok-checked.field-0.lines line.port c.in-Ok-line_of_cycle.item c.in_ok-checked.ensures.reads line.declared).1
+    (output_inside c.args.text.now c.in_ok-checked.field-0.checked c.in_ok-checked.field-0.lines line.port c.in-Ok-line_of_cycle.item
+    c.in_ok-checked.ensures.reads line.declared).1

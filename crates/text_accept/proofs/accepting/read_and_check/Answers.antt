@@ -6,11 +6,16 @@ use Rattle.text_accept.proofs.accepting.read_and_check.Goals as goal
 pub at_source-requires-clause-first : goal.at_source-requires-clause-first
 at_source-requires-clause-first c =
     let told = subst (IsFaultOf c.in_ok-system.field-0.system) c.in-Err-Line.field-0-is c.in-Err-Line.ensures.refused in
-    let inside = refusal_inside c.args.text.now c.in_ok-system.field-0.system c.in_ok-system.field-0.lines (record { by = c.in-Err-Line.rule; at = c.in-Err-Line.item }) c.in_ok-system.ensures.answer told in
+    let inside =
+    refusal_inside c.args.text.now c.in_ok-system.field-0.system c.in_ok-system.field-0.lines
+    (record { by = c.in-Err-Line.rule; at = c.in-Err-Line.item }) c.in_ok-system.ensures.answer told in
     subst (λ n. 1 ≤ n) (sym c.in-Err-Line.item-is) inside.0
 
 pub at_source-requires-clause-last : goal.at_source-requires-clause-last
 at_source-requires-clause-last c =
     let told = subst (IsFaultOf c.in_ok-system.field-0.system) c.in-Err-Line.field-0-is c.in-Err-Line.ensures.refused in
-    let inside = refusal_inside c.args.text.now c.in_ok-system.field-0.system c.in_ok-system.field-0.lines (record { by = c.in-Err-Line.rule; at = c.in-Err-Line.item }) c.in_ok-system.ensures.answer told in
-    subst (λ n. n ≤ length c.as_slice.result.now) (sym c.in-Err-Line.item-is) (subst (λ (lines : List ℕ). c.in-Err-Line.item ≤ length lines) (sym c.as_slice.ensures) inside.1)
+    let inside =
+    refusal_inside c.args.text.now c.in_ok-system.field-0.system c.in_ok-system.field-0.lines
+    (record { by = c.in-Err-Line.rule; at = c.in-Err-Line.item }) c.in_ok-system.ensures.answer told in
+    subst (λ n. n ≤ length c.as_slice.result.now) (sym c.in-Err-Line.item-is)
+    (subst (λ (lines : List ℕ). c.in-Err-Line.item ≤ length lines) (sym c.as_slice.ensures) inside.1)

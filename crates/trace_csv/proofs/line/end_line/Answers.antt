@@ -16,7 +16,8 @@ returns c =
           let many : 2 ≤ fields_written c.args.line.now = rw has.count (omega (arith, two)) in
           let ended = rw (has.setup, tail_is quoting c.args.line.now.wrote (fields_written c.args.line.now) many) at d.bytes in
           let whole = line_ends before _ _ fields has.text ended in
-          let under : (writer_under c.flush.new.self).items ≡ before ++ line_of fields = sym (append-nil _) ∙ ap (λ rest. (writer_under c.flush.new.self).items ++ rest) (sym e.pending) ∙ e.bytes ∙ whole in
+          let under : (writer_under c.flush.new.self).items ≡ before ++ line_of fields = sym (append-nil _)
+          ∙ ap (λ rest. (writer_under c.flush.new.self).items ++ rest) (sym e.pending) ∙ e.bytes ∙ whole in
           rw w.result-is (
             under,
             record {

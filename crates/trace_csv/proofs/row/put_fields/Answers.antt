@@ -17,7 +17,8 @@ loop-column-preserved c =
     let within : place < length columns = c.loop-column-test.true in
     let default : Column = record { instance = 0; output = 0; place = 0; ty = types.Int8; event = false } in
     let more = fields_more (field_of c.args.ports.now) columns place default within in
-    rw more at (c.in_ok-put_column.ensures before (row_fields c.args.resolution (take place columns) c.args.point c.args.ports.now) (c.loop-column.invariant before has))
+    rw more at
+    (c.in_ok-put_column.ensures before (row_fields c.args.resolution (take place columns) c.args.point c.args.ports.now) (c.loop-column.invariant before has))
 
 pub returns : goal.returns
 returns c =

@@ -14,5 +14,9 @@ returns c =
     let added : c.seconds_text.new.out.items ≡ seconds_text_of c.args.resolution c.args.point.t = rw c.clear.ensures.items at c.in_ok-seconds_text.ensures.ok in
     let time : c.as_slice.result.now ≡ seconds_text_of c.args.resolution c.args.point.t = c.as_slice.ensures.value ∙ added in
     let index : c.as_bytes.result.now ≡ decimal c.args.point.n = c.as_bytes.ensures.value ∙ c.format.ensures.text in
-    let one = rw time at (c.in_ok-put_field.ensures style.Necessary before [] has (subst (IsBare style.Necessary) (sym time) (time_bare c.args.resolution c.args.point.t ticks))) in
-    rw index at (c.put_field-2.ensures style.Necessary before (seconds_text_of c.args.resolution c.args.point.t ∷ []) one (subst (IsBare style.Necessary) (sym index) (index_bare c.args.point.n steps)))
+    let one =
+    rw time at
+    (c.in_ok-put_field.ensures style.Necessary before [] has (subst (IsBare style.Necessary) (sym time) (time_bare c.args.resolution c.args.point.t ticks))) in
+    rw index at
+    (c.put_field-2.ensures style.Necessary before (seconds_text_of c.args.resolution c.args.point.t ∷ []) one
+    (subst (IsBare style.Necessary) (sym index) (index_bare c.args.point.n steps)))

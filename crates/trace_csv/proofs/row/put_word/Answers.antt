@@ -12,7 +12,8 @@ returns-in_ok-word_text-in-Bool c =
     λ before fields has.
     let small : unsigned_abs c.args.word < 2 ^ 64 = search rules in
     let fits : FitsSigned w64 c.args.word = search rules in
-    let added : c.word_text.new.out.items ≡ text_of c.args.ty c.args.word = rw (c.clear.ensures.items, to_z-of_z w64 _ fits) at c.in_ok-word_text-in-Bool.ensures.ok in
+    let added : c.word_text.new.out.items ≡ text_of c.args.ty c.args.word =
+    rw (c.clear.ensures.items, to_z-of_z w64 _ fits) at c.in_ok-word_text-in-Bool.ensures.ok in
     let field : c.as_slice.result.now ≡ text_of c.args.ty c.args.word = c.as_slice.ensures.value ∙ added in
     rw field at (c.put_field.ensures style.Necessary before fields has (subst (IsBare style.Necessary) (sym field) (word_bare c.args.ty c.args.word small)))
 
@@ -26,4 +27,5 @@ returns-in_default c =
     ∙ c.format.ensures.text
     ∙ ap signed_decimal (to_z-of_z w64 _ fits)
     ∙ sym (integer_text c.args.ty c.args.word c.in_default.not-Bool c.in_default.not-Fixed) in
-    rw field at (c.put_field-in_default.ensures style.Necessary before fields has (subst (IsBare style.Necessary) (sym field) (word_bare c.args.ty c.args.word small)))
+    rw field at
+    (c.put_field-in_default.ensures style.Necessary before fields has (subst (IsBare style.Necessary) (sym field) (word_bare c.args.ty c.args.word small)))

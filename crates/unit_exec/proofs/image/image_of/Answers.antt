@@ -17,13 +17,15 @@ start_inputs-requires c = subst (AllByRecursion (λ input. AreDecimals input.ty)
 
 pub returns : goal.returns
 returns c =
-    image_is c.args.unit.now c.args.params.now c.requires c.code.inside.program c.in_ok-start_states.field-0 c.in_ok-start_inputs.field-0 (c.code.view_is ∙ c.in_ok-code.ensures ∙ c.in_ok-program.ensures)
+    image_is c.args.unit.now c.args.params.now c.requires c.code.inside.program c.in_ok-start_states.field-0 c.in_ok-start_inputs.field-0
+    (c.code.view_is ∙ c.in_ok-code.ensures ∙ c.in_ok-program.ensures)
     (c.in_ok-start_states.ensures ∙ ap (map (λ state. start_word state.ty state.start)) c.as_slice.ensures)
     (c.in_ok-start_inputs.ensures ∙ ap (map (λ input. start_word input.ty input.start)) c.as_slice-2.ensures)
 
 pub invariant_of-result-2 : goal.invariant_of-result-2
 invariant_of-result-2 c = (
-  starts_are c.args.unit.now c.args.params.now c.code.inside.program c.in_ok-start_states.field-0 c.in_ok-start_inputs.field-0 (c.code.view_is ∙ c.in_ok-code.ensures ∙ c.in_ok-program.ensures)
+  starts_are c.args.unit.now c.args.params.now c.code.inside.program c.in_ok-start_states.field-0 c.in_ok-start_inputs.field-0
+      (c.code.view_is ∙ c.in_ok-code.ensures ∙ c.in_ok-program.ensures)
       (c.in_ok-start_states.ensures ∙ ap (map (λ state. start_word state.ty state.start)) c.as_slice.ensures)
       (c.in_ok-start_inputs.ensures ∙ ap (map (λ input. start_word input.ty input.start)) c.as_slice-2.ensures),
   subst (λ program. ShowStates program c.in_ok-shown.shown.items) (c.program-2.ensures ∙ sym c.code.view_is) c.in_ok-shown.ensures,

@@ -9,4 +9,6 @@ pub unwrap-requires : goal.unwrap-requires
 unwrap-requires c = found_there c.args.program.now c.in_ok-words.words c.in_ok-found.found c.requires c.in_ok-words.ensures c.in_ok-found.ensures.none
 
 pub returns : goal.returns
-returns c = found_is c.args.program.now c.in_ok-words.words c.in_ok-found.found c.unwrap.result c.requires c.in_ok-words.ensures c.in_ok-found.ensures.some c.unwrap.ensures
+returns c =
+    found_is c.args.program.now c.in_ok-words.words c.in_ok-found.found c.unwrap.result c.requires c.in_ok-words.ensures c.in_ok-found.ensures.some
+    c.unwrap.ensures

@@ -14,7 +14,8 @@ loop-place-preserved c =
     ap (λ name. bytes_eq name c.args.name.now) (sym c.as_slice.ensures) ∙ sym c.eq.ensures ∙ c.if-eq.false in (
       c.loop-place.invariant.0,
       c.loop-place.invariant.1
-          ∙ stored-later c.args.variables.now c.loop-place.words c.args.name.now (to_z w64 (of_z w64 c.args.word)) c.loop-place.place c.index-variables-place.result within one_each c.index-variables-place.is other,
+          ∙ stored-later c.args.variables.now c.loop-place.words c.args.name.now
+          (to_z w64 (of_z w64 c.args.word)) c.loop-place.place c.index-variables-place.result within one_each c.index-variables-place.is other,
     )
 
 pub returns-then-eq-clause-ok : goal.returns-then-eq-clause-ok
@@ -29,5 +30,6 @@ returns-then-eq-clause-ok c =
     ap (λ w. stored c.args.variables.now c.args.words.now c.args.name.now w) (sym word_is)
     ∙ ap (λ ws. stored c.args.variables.now ws c.args.name.now (to_z w64 (of_z w64 c.args.word))) (sym c.loop-place.invariant.0)
     ∙ c.loop-place.invariant.1
-    ∙ stored-here c.args.variables.now c.loop-place.words c.args.name.now (to_z w64 (of_z w64 c.args.word)) c.loop-place.place c.index-variables-place.result within one_each c.index-variables-place.is same fits
+    ∙ stored-here c.args.variables.now c.loop-place.words c.args.name.now
+    (to_z w64 (of_z w64 c.args.word)) c.loop-place.place c.index-variables-place.result within one_each c.index-variables-place.is same fits
     ∙ ap (λ words. Ok words) (sym c.set.ensures)

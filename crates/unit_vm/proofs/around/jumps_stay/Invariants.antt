@@ -6,4 +6,5 @@ use Rattle.unit_vm.specs.Instructions.{flow_of}
 use Rattle.unit_vm.proofs.around.jumps_stay.Given as goal
 
 abbrev pub invariant-loop-place : goal.invariant-loop-place
-invariant-loop-place l = (from : ℕ) (instruction : Instruction) → from < l.place → slice_get l.code from ≡ Some instruction → stays (flow_of instruction) from l.table.rows ≡ true
+invariant-loop-place l = (from : ℕ) (instruction : Instruction) → from < l.place → slice_get l.code from ≡ Some instruction
+    → stays (flow_of instruction) from l.table.rows ≡ true

@@ -6,8 +6,10 @@ use Rattle.unit_vm.proofs.judging.judge_outputs.Goals as goal
 
 pub returns-in-None-clause-none : goal.returns-in-None-clause-none
 returns-in-None-clause-none c =
-    outputs_none c.args.sizes c.args.outputs.now c.loop-place.place c.index-outputs-place.result (read_part c.args.outputs.now c.loop-place.place c.index-outputs-place.result c.loop-place-test.true c.index-outputs-place.is)
-    (subst (λ code. IsNoPart c.args.sizes (output_part code)) c.as_slice.ensures (none_of (IsNoPart c.args.sizes (output_part c.as_slice.result.now)) _ c.in_ok-facts.ensures.none c.in-None.is))
+    outputs_none c.args.sizes c.args.outputs.now c.loop-place.place c.index-outputs-place.result
+    (read_part c.args.outputs.now c.loop-place.place c.index-outputs-place.result c.loop-place-test.true c.index-outputs-place.is)
+    (subst (λ code. IsNoPart c.args.sizes (output_part code)) c.as_slice.ensures
+    (none_of (IsNoPart c.args.sizes (output_part c.as_slice.result.now)) _ c.in_ok-facts.ensures.none c.in-None.is))
 
 pub loop-place-preserved : goal.loop-place-preserved
 loop-place-preserved c =

@@ -8,4 +8,5 @@ use Rattle.wire_graph.proofs.origins.members.Given as goal
 abbrev pub invariant-loop-component : goal.invariant-loop-component
 invariant-loop-component l =
     AllByRecursion (λ (component : Component). HaveDecimals component.unit.now.inputs) (drop l.component-index l.components)
-    × (map member_behind l.members.items ++ map (member_of l.system) (map named_of (drop l.component-index l.components)) ≡ map (member_of l.system) (map named_of l.components))
+    × (map member_behind l.members.items ++ map (member_of l.system) (map named_of (drop l.component-index l.components))
+    ≡ map (member_of l.system) (map named_of l.components))

@@ -9,4 +9,5 @@ abbrev pub invariant-loop-instance : goal.invariant-loop-instance
 invariant-loop-instance l =
     let rest = flat_map wired_among (enumerate_from l.instance (map member_behind (drop l.instance l.members))) in
     let all = flat_map wired_among (enumerate_from 0 (map member_behind l.members)) in
-    (routed_by l.routes rest ≡ routed_by l.initial.routes all) × (l.starts.items ++ filter_map starts_at rest ≡ l.initial.starts.items ++ filter_map starts_at all)
+    (routed_by l.routes rest ≡ routed_by l.initial.routes all)
+    × (l.starts.items ++ filter_map starts_at rest ≡ l.initial.starts.items ++ filter_map starts_at all)

@@ -22,5 +22,7 @@ pub returns : goal.returns
 returns c =
     let system = c.args.system.now in
     c.in_ok-routes.ensures
-    ∙ ap routes_from (ap (map member_behind) c.deref-3.ensures.value ∙ c.in_ok-members.ensures ∙ ap (map (member_of system)) (ap (map named_of) c.deref-2.ensures.value ∙ c.in_ok-components.ensures))
+    ∙ ap routes_from
+    (ap (map member_behind) c.deref-3.ensures.value ∙ c.in_ok-members.ensures
+    ∙ ap (map (member_of system)) (ap (map named_of) c.deref-2.ensures.value ∙ c.in_ok-components.ensures))
     ∙ routes_are (composition_of system) (map (member_of system) (components_in system)) (wired_members system)

@@ -11,5 +11,7 @@ returns c =
     record {
       places = subst (λ (ports : List PortName). Finds ports c.in_ok-places.places) (ap (map port_with) c.deref.ensures.value ∙ is) c.in_ok-places.ensures;
       count = c.len.ensures ∙ c.in_ok-outputs.outputs.ok.0 ∙ sym (length-map c.in_ok-outputs.outputs.items port_with) ∙ ap length is;
-      targets = subst (λ (ports : List PortName). Finds ports c.in_ok-targets-2.targets) (ap (map port_with) c.deref-2.ensures.value ∙ c.in_ok-targets.ensures ∙ ap targets_of c.as_slice.ensures) c.in_ok-targets-2.ensures;
+      targets =
+          subst (λ (ports : List PortName). Finds ports c.in_ok-targets-2.targets)
+          (ap (map port_with) c.deref-2.ensures.value ∙ c.in_ok-targets.ensures ∙ ap targets_of c.as_slice.ensures) c.in_ok-targets-2.ensures;
     }

@@ -11,7 +11,8 @@ use Rattle.unit_tree.specs.LineForms.{is_of_version_2}
 use Rattle.unit_tree.specs.Names.{kinds_in, node_depth, depth_of}
 use Rattle.unit_tree.specs.Parts.{unit_of, system_of}
 use Rattle.unit_tree.specs.Plain.{plain_expression, plain_line, plain_unit, plain_form, presence_of, word_expression_of, zero_of, with_choices}
-use Rattle.worked_facts.specs.WorkedEvents.{e, tenfold, odd_else, pulse_unit, tally_unit, pulse_and_tally, plain_pulse, plain_tally, plain_pulse_and_tally, if_present, if_occurs, mixed_unit, plain_mixed_unit, plain_mixed, with_e, is_mistaken, gaps, is_deep_event}
+use Rattle.worked_facts.specs.WorkedEvents.{e, tenfold, odd_else, pulse_unit, tally_unit, pulse_and_tally, plain_pulse, plain_tally, plain_pulse_and_tally}
+use Rattle.worked_facts.specs.WorkedEvents.{if_present, if_occurs, mixed_unit, plain_mixed_unit, plain_mixed, with_e, is_mistaken, gaps, is_deep_event}
 use Rattle.worked_facts.specs.WorkedSystems.{n, one, sum, set, run_of, output_y}
 use Rattle.unit_tree.specs.declared.expr.Expr as expr
 use Rattle.unit_tree.specs.declared.expr.Expr.{Expr, the_lemmas as expr_lemmas}
@@ -52,7 +53,8 @@ counting_is = simp (line_lemmas, plain_laws) refl
 
 abbrev pulse_of : Expr → Expr → Line → Unit
 pulse_of occurs value counted = record (unit_of (codes "Pulse") plain_pulse) {
-  outputs = record { name = codes "e?"; ty = types.Bool; needs = []; value = occurs } ∷ record { name = codes "e"; ty = types.Int64; needs = []; value = value } ∷ [];
+  outputs =
+      record { name = codes "e?"; ty = types.Bool; needs = []; value = occurs } ∷ record { name = codes "e"; ty = types.Int64; needs = []; value = value } ∷ [];
   step = Some (counted ∷ []);
 }
 
@@ -120,10 +122,17 @@ mixed_is =
     let value_is : plain_expression (word_expression_of types.Int64 given) ≡ if_occurs e nothing = ap plain_expression word ∙ simp plain_laws refl in
     let limit_is : plain_expression (if_present one n) ≡ if_occurs one n = simp plain_laws refl in
     let changed_is : plain_line mixed_line ≡ plain_mixed_line = simp (line_lemmas, plain_laws) refl in
-    ap (λ shown. mixed_of shown (plain_expression (presence_of given)) (plain_expression (word_expression_of types.Int64 given)) (plain_expression (if_present one n)) (plain_line mixed_line)) shown_is
-    ∙ ap (λ occurs. mixed_of (expr.Var (codes "u")) occurs (plain_expression (word_expression_of types.Int64 given)) (plain_expression (if_present one n)) (plain_line mixed_line)) occurs_is
-    ∙ ap (λ value. mixed_of (expr.Var (codes "u")) (if_occurs (expr.Truth true) (expr.Truth false)) value (plain_expression (if_present one n)) (plain_line mixed_line)) value_is
-    ∙ ap (λ limit. mixed_of (expr.Var (codes "u")) (if_occurs (expr.Truth true) (expr.Truth false)) (if_occurs e nothing) limit (plain_line mixed_line)) limit_is
+    ap (λ shown.
+    mixed_of shown (plain_expression (presence_of given)) (plain_expression (word_expression_of types.Int64 given)) (plain_expression (if_present one n))
+    (plain_line mixed_line)) shown_is
+    ∙ ap
+    (λ occurs. mixed_of (expr.Var (codes "u")) occurs (plain_expression (word_expression_of types.Int64 given)) (plain_expression (if_present one n))
+    (plain_line mixed_line)) occurs_is
+    ∙ ap
+    (λ value. mixed_of (expr.Var (codes "u")) (if_occurs (expr.Truth true) (expr.Truth false)) value (plain_expression (if_present one n))
+    (plain_line mixed_line)) value_is
+    ∙ ap
+    (λ limit. mixed_of (expr.Var (codes "u")) (if_occurs (expr.Truth true) (expr.Truth false)) (if_occurs e nothing) limit (plain_line mixed_line)) limit_is
     ∙ ap (mixed_of (expr.Var (codes "u")) (if_occurs (expr.Truth true) (expr.Truth false)) (if_occurs e nothing) (if_occurs one n)) changed_is
 
 pub returns-clause-plain_forms : goal.returns-clause-plain_forms
@@ -163,7 +172,8 @@ filled_depth gap (suc count) some =
     ∙ rw (fold-Truth ℕ node_depth true, filled_depth gap count some) (omega arith)
 
 -- How deep an event output becomes, by the depth of the zero of its type.
-deep_by : (ty : Ty) (count gap : ℕ) → depth_of (zero_of ty) ≡ gap → 1 ≤ gap → is_deep_event ty (gaps count) ≡ (nat_lt 32 (count + 1) || (nat_lt 32 (count + gap) || false))
+deep_by : (ty : Ty) (count gap : ℕ) → depth_of (zero_of ty) ≡ gap → 1 ≤ gap
+    → is_deep_event ty (gaps count) ≡ (nat_lt 32 (count + 1) || (nat_lt 32 (count + gap) || false))
 deep_by ty count gap is some =
     let of_word : depth_of (plain_expression (word_expression_of ty (gaps count))) ≡ count + gap =
     plain_depth (word_expression_of ty (gaps count)) ∙ ap depth_of (filled_is (zero_of ty) (λ other. other) count)
@@ -194,10 +204,16 @@ returns-clause-rules c = record {
   equal_names = refl;
   presence_of_input = simp (kind_laws, expr_lemmas, line_lemmas) refl;
   sampled = simp (plain_laws, plain_measures) (simp (kind_laws, expr_lemmas, line_lemmas) refl);
-  choices = by_word (expr.Choose (expr.Present (codes "e")) expr.Absent n) (expr.Choose (expr.Present (codes "e")) nothing n) (simp plain_laws refl) ∙ simp kind_laws refl;
+  choices = by_word (expr.Choose (expr.Present (codes "e")) expr.Absent n) (expr.Choose (expr.Present (codes "e")) nothing n) (simp plain_laws refl)
+      ∙ simp kind_laws refl;
   absent_alone = simp (plain_laws, plain_measures) (simp (kind_laws, expr_lemmas, line_lemmas) refl);
-  both_absent = by_word (expr.Choose (expr.Present (codes "e")) expr.Absent expr.Absent) (expr.Choose (expr.Present (codes "e")) nothing nothing) (simp plain_laws refl) ∙ simp kind_laws refl;
-  choice_of_other_kind = by_word (expr.Choose (expr.Present (codes "e")) expr.Absent (expr.Truth true)) (expr.Choose (expr.Present (codes "e")) nothing (expr.Truth true)) (simp plain_laws refl) ∙ simp kind_laws refl;
+  both_absent =
+      by_word (expr.Choose (expr.Present (codes "e")) expr.Absent expr.Absent) (expr.Choose (expr.Present (codes "e")) nothing nothing) (simp plain_laws refl)
+      ∙ simp kind_laws refl;
+  choice_of_other_kind =
+      by_word (expr.Choose (expr.Present (codes "e")) expr.Absent (expr.Truth true)) (expr.Choose (expr.Present (codes "e")) nothing (expr.Truth true))
+      (simp plain_laws refl)
+      ∙ simp kind_laws refl;
   absent_in_sum = by_word (sum n expr.Absent) (sum n expr.Absent) (simp plain_laws refl) ∙ simp kind_laws refl;
   absent_as_condition = by_word (expr.Choose expr.Absent n n) (expr.Choose expr.Absent n n) (simp plain_laws refl) ∙ simp kind_laws refl;
   absent_in_output = simp (kind_laws, expr_lemmas, line_lemmas) refl;

@@ -27,7 +27,8 @@ ring_is_there = through (y_of (codes "a")) (y_of (codes "b")) (y_of (codes "a"))
 pub returns : goal.returns
 returns c = record {
   chain_has_all = (y_of (codes "b") ∷ y_of (codes "a") ∷ [], chain_is, (inr (inl refl), (inl refl, _)));
-  instances_only = (y_of (codes "a") ∷ y_of (codes "b") ∷ [], (inl refl, (λ none. none), _, (inr (inl refl), a_is_not_b, _, _)), (inl refl, (inr (inl refl), _)));
+  instances_only =
+      (y_of (codes "a") ∷ y_of (codes "b") ∷ [], (inl refl, (λ none. none), _, (inr (inl refl), a_is_not_b, _, _)), (inl refl, (inr (inl refl), _)));
   first_of_ring = record {
     before = [];
     later = y_of (codes "b") ∷ [];

@@ -14,6 +14,13 @@ returns-clause-gives c =
     let same : to_z w64 (of_z w64 c.result.result) ≡ c.result.result = to_z-of_z w64 c.result.result fits in
     let image_is : c.deref-image.result.now ≡ c.self.inside.image.value = c.deref-image.ensures in
     let there : is_some c.self.inside.image.value.program.limit ≡ true =
-    ap (λ (i : Compiled). is_some i.program.limit) (sym image_is) ∙ ap (λ (p : Program). is_some p.limit) (sym (c.program.ensures ∙ c.code.ensures)) ∙ c.is_none.ensures ∙ ap not c.if-is_none.false in
+    ap (λ (i : Compiled). is_some i.program.limit) (sym image_is) ∙ ap (λ (p : Program). is_some p.limit) (sym (c.program.ensures ∙ c.code.ensures))
+    ∙ c.is_none.ensures ∙ ap not c.if-is_none.false in
     sym (ap (λ (u : Running). greatest_step_by u.image.program u.state u.inputs c.args.t) c.self.view_is)
-    ∙ limited c.self.inside.image.value c.self.inside.frame.facts c.self.invariant.made c.code-2.result.now (c.code-2.ensures ∙ ap (λ (i : Compiled). i.program) image_is) c.self.inside.state.items c.self.inside.inputs.items c.as_slice.result.now c.as_slice-2.result.now c.as_slice.ensures.value c.as_slice-2.ensures.value c.self.inside.frame c.run_on.new.frame c.in_ok-run_on.field-0 c.args.t there c.in_ok-run_on.ensures.runs c.unsigned_abs.result (c.unsigned_abs.ensures.value ∙ ap unsigned_abs (same ∙ c.result.ensures))
+    ∙ limited c.self.inside.image.value c.self.inside.frame.facts c.self.invariant.made c.code-2.result.now
+    (c.code-2.ensures
+    ∙ ap (λ (i : Compiled).
+    i.program) image_is) c.self.inside.state.items c.self.inside.inputs.items c.as_slice.result.now c.as_slice-2.result.now c.as_slice.ensures.value
+    c.as_slice-2.ensures.value c.self.inside.frame c.run_on.new.frame c.in_ok-run_on.field-0 c.args.t there c.in_ok-run_on.ensures.runs
+    c.unsigned_abs.result
+    (c.unsigned_abs.ensures.value ∙ ap unsigned_abs (same ∙ c.result.ensures))
