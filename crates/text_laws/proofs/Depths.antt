@@ -18,7 +18,7 @@ use Rattle.unit_tree.specs.declared.line.Line.TheViews.{roll-Line}
 use Rattle.unit_tree.specs.declared.line_form.LineForm.{LineForm}
 use Rattle.unit_tree.specs.declared.line_form.LineForm.TheVariants as form
 use Rattle.unit_tree.proofs.FoldLemmas.{fold-Assign, fold-If, fold-Repeat, fold-Accept}
-use Rattle.language_laws.proofs.OpenBlocks.{blocks_behind, lines_leave}
+use Rattle.language_laws.proofs.OpenBlocks.{blocks_behind}
 
 -- ---- Lines in a row
 

@@ -20,7 +20,7 @@ use Rattle.unit_tree.specs.declared.token.Symbol.{Symbol}
 use Rattle.unit_tree.specs.declared.token.Symbol.TheVariants as sign
 use Rattle.unit_tree.specs.declared.token.Token.{Token}
 use Rattle.unit_tree.specs.declared.token.Token.TheVariants as token
-use Rattle.text_tokens.proofs.TableLemmas.{keyword_is_word, is_symbol_text, symbol_is_text}
+use Rattle.text_tokens.proofs.TableLemmas.{keyword_is_word, symbol_is_text}
 use Rattle.text_laws.proofs.TokensApart.{can_grow, is_growth, is_point, starts_with, reads_on, are_apart, form_is_apart}
 use Rattle.text_laws.proofs.FitTokens.{IsFit, AreFit, form_fits}
 use Rattle.text_laws.proofs.SpelledBytes.{all_pass, word_bytes, keyword_bytes}

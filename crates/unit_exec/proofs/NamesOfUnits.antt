@@ -38,7 +38,7 @@ use Rattle.unit_exec.proofs.Declarations.{declarations, ports, front_lines, Decl
 use Rattle.unit_exec.proofs.UnitSites.{Passes}
 use Rattle.list_laws.proofs.Members.{Has, Distinct, has_front, has_behind, has_either, has_map}
 use Rattle.list_laws.proofs.Truths.{true_is_false}
-use Rattle.run_laws.proofs.PortLaws.{has_among, among}
+use Rattle.run_laws.proofs.PortLaws.{among}
 
 -- ---- Lists of variables
 

@@ -10,10 +10,10 @@ ghost use Rattle.unit_tree.specs.declared.unit.Input.{Input};
 ghost use Rattle.unit_tree.specs.declared.unit.State.{State};
 ghost use Rattle.unit_vm.specs.declared.program.Program.{Program};
 
+use code_units::program;
 use fixed_words::{List, Literal, NoMemory, Ty, literal_word};
 use std::alloc::Global;
 use std::marker::Model;
-use code_units::program;
 use unit_tree::{Checked, Input, State, Unit};
 use unit_vm::{Code, Instruction, Program};
 

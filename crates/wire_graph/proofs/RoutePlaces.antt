@@ -4,12 +4,10 @@ use Rattle.std.proofs.lemmas.List.{length-map, map-append}
 use Rattle.std.proofs.lemmas.Option.{slice_get-map}
 use Rattle.std.specs.Prelude.{slice_get, unwrap_or}
 use Rattle.std.specs.List.{AllByRecursion, enumerate_from, flat_map}
-use Rattle.unit_tree.specs.Compositions.{Member, Composition}
-use Rattle.unit_tree.specs.Ports.{IsAmong, IsOrderedAfter, places_needed, needs_of_places, needs_at}
-use Rattle.unit_tree.specs.Routes.{Numbered, IsRoutedAfter, outputs_in, route_at, routes_of, needs_on}
-use Rattle.unit_tree.specs.declared.order.Route.{Route}
-use Rattle.unit_tree.specs.declared.unit.Output.{Output}
-use Rattle.unit_tree.proofs.RouteLaws.{needs_are, count_is, needs_is}
+use Rattle.unit_tree.specs.Compositions.{Composition}
+use Rattle.unit_tree.specs.Ports.{IsAmong, IsOrderedAfter}
+use Rattle.unit_tree.specs.Routes.{IsRoutedAfter, routes_of}
+use Rattle.unit_tree.proofs.RouteLaws.{count_is, needs_is}
 
 pub ordered_along : (run : Composition) (before order : List ℕ) → IsRoutedAfter (routes_of run) before order → IsOrderedAfter run before order
 ordered_along run before [] routed = tt

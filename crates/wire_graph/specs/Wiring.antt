@@ -8,7 +8,6 @@ use Rattle.unit_tree.specs.declared.system.System.{System}
 use Rattle.unit_tree.specs.declared.system.Wire.{Wire}
 use Rattle.unit_tree.specs.declared.unit.Unit.{Unit}
 use Rattle.wire_graph.specs.declared.components.Component.{Component}
-use Rattle.list_laws.specs.Options.{the_first}
 
 -- ---- Components and their ports
 
