@@ -9,9 +9,9 @@ ghost use Rattle.unit_tree.specs.Values.{kind_of_number};
 ghost use Rattle.unit_vm.specs.declared.instruction.Instruction.TheVariants.{Clamp};
 
 use crate::scope::{NamePlace, Scope};
+use code_pieces::{choice, joined};
 use fixed_words::{Kind, List, NoMemory, Ty};
 use std::alloc::Global;
-use code_pieces::{choice, joined};
 use unit_tree::{BinOp, Expr, UnOp, kind_of_number};
 use unit_vm::Instruction;
 

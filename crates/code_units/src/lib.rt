@@ -17,4 +17,4 @@ mod scope;
 
 pub use laws::{codes_cost_what_trees_do, programs_compute_units, unit_programs_are_valid};
 pub use programs::program;
-pub use scope::{Named, NamePlace, Scope};
+pub use scope::{NamePlace, Named, Scope};

@@ -8,9 +8,9 @@ ghost use Rattle.unit_vm.specs.declared.instruction.Instruction.TheVariants.{Acc
 
 use crate::expressions::value_code;
 use crate::scope::{NamePlace, Scope};
+use code_pieces::{choice, joined, turns, when};
 use fixed_words::{List, NoMemory};
 use std::alloc::Global;
-use code_pieces::{choice, joined, turns, when};
 use unit_tree::{Expr, Line};
 use unit_vm::Instruction;
 

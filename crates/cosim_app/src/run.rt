@@ -13,8 +13,8 @@ use cosim_io::Sink;
 use serial_run::{CrewFault, run_alone};
 use std::alloc::Global;
 use std::sync::Arc;
-use trace_core::{Plan, PlanFault};
 use text_accept::{AcceptedText, accept_text};
+use trace_core::{Plan, PlanFault};
 use unit_text::TextFault;
 use unit_tree::{Checked, Ending};
 

@@ -10,7 +10,7 @@ ghost use Rattle.unit_text.specs.Reading.{IsWritten, headless_rule, TellsVersion
 
 use crate::draft::{Draft, drop_draft, drop_form};
 use crate::fault::TextFault;
-use crate::numbers::{Group, Mark, BlockPlace, note, numbers_in_order};
+use crate::numbers::{BlockPlace, Group, Mark, note, numbers_in_order};
 use fixed_words::List;
 use std::alloc::Global;
 use text_lines::{
