@@ -239,7 +239,10 @@ fn last(form: LineForm, rest: &[Token]) -> Result<LineForm, Unread>
 {
     match rest {
         [] => Ok(form),
-        _ => Err(Unread::NoForm),
+        _ => {
+            drop(form);
+            Err(Unread::NoForm)
+        }
     }
 }
 

@@ -14,10 +14,10 @@ const RETURN: u8 = b'\r';
 /// The most bytes of a line without its end.
 pub const LONGEST_LINE: usize = 1000;
 
-/// The rule that code holds no other bytes than those that it may.
+/// Rule 1: a byte before the comment that no code may hold.
 const BYTE_RULE: u8 = 1;
 
-/// The rule that bounds a line.
+/// Rule 3: a line that is too long.
 pub const LENGTH_RULE: u8 = 3;
 
 /// What the bytes of a line tell.

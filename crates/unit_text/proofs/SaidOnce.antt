@@ -1,11 +1,9 @@
 -- Lines that may stand once: whether one like them was said shows in the system, or the unit, that was said.
-use Rattle.std.proofs.Common.{◌≡◌, ℕ, Bool, true, false, List, [], ◌∷◌, ◌++◌, append_assoc, cond, map, Some, None, refl, ap, sym, subst, ◌∙◌}
+use Rattle.std.proofs.Common.{◌≡◌, ℕ, Bool, true, false, List, [], ◌∷◌, ◌++◌, map, Some, None, refl, ap, sym, subst, ◌∙◌}
 use Rattle.std.specs.Prelude.{◌||◌, is_some}
 use Rattle.std.specs.List.{flat_map, list_any}
-use Rattle.std.proofs.lemmas.Bool.{or_parts}
 use Rattle.std.proofs.lemmas.List.Folds.{list_any-append}
 use Rattle.std.proofs.lemmas.Grind.{fold-append}
-use Rattle.std.proofs.lemmas.List.{append-nil}
 use Rattle.fixed_words.specs.declared.types.Literal.{Literal}
 use Rattle.unit_tree.specs.Blocks.{Before, no_lines, and_line, and_lines, opens_unit}
 use Rattle.unit_tree.specs.LineForms.{are_alike}

@@ -203,10 +203,13 @@ headed (Then cond) lines = line.If cond lines None
 headed (Else cond then_lines) lines = line.If cond then_lines (Some lines)
 headed (Times count) lines = line.Repeat count lines
 
+-- Behind the end of the innermost block, which becomes a line of the one around it.
+abbrev pub behind_block : List Around → Around → List Line → StepSoFar
+behind_block around block lines = record { lines = block.before ++ (headed block.head lines ∷ []); around = around }
+
 abbrev pub ended_by : System → Unit → List Line → Option (List Around × Around) → Draft
 ended_by system unit lines None = in_unit system (record unit { step = Some lines })
-ended_by system unit lines (Some split) =
-    in_step system unit (record { lines = split.1.before ++ (headed split.1.head lines ∷ []); around = split.0 })
+ended_by system unit lines (Some split) = in_step system unit (behind_block split.0 split.1 lines)
 
 abbrev pub ended : System → Unit → StepSoFar → Option Draft
 ended system unit step = Some (ended_by system unit step.lines (split_last step.around))

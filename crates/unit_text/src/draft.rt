@@ -3,7 +3,7 @@ ghost use Rattle.std.specs.Prelude.{◌≡◌, Some};
 ghost use Rattle.text_tokens.specs.Scanning.{Gives};
 ghost use Rattle.text_tokens.specs.declared.fault.Unread.TheVariants.{NoForm};
 ghost use Rattle.unit_tree.specs.Parts.{bare_unit};
-ghost use Rattle.unit_text.specs.Drafts.{bare_draft, at_top, in_unit, in_step, in_instance, bare_instance, with_wire, with_stop, with_longest, with_zero, with_rows, with_sample, with_resolution, with_param, with_state, with_local, with_input, with_event_in, with_output, with_event_out, with_max, with_step, with_unit, with_setting, with_instance, headed, with_form, top_form, declared_form, unit_form, and_line, in_block, turned, ended, line_in_step, step_form, instance_form, split_last, whole_system, is_top, limit_form, single_form, setting_form, Puts};
+ghost use Rattle.unit_text.specs.Drafts.{bare_draft, at_top, in_unit, in_step, in_instance, bare_instance, with_wire, with_stop, with_longest, with_zero, with_rows, with_sample, with_resolution, with_param, with_state, with_local, with_input, with_event_in, with_output, with_event_out, with_max, with_step, with_unit, with_setting, with_instance, headed, behind_block, with_form, top_form, declared_form, unit_form, and_line, in_block, turned, ended, line_in_step, step_form, instance_form, split_last, whole_system, is_top, limit_form, single_form, setting_form, Puts};
 
 use fixed_words::{List, Literal};
 use std::alloc::Global;
@@ -108,7 +108,14 @@ impl Draft {
         ensures { result ≡ whole_system self }
     {
         let Draft { system, block } = self;
-        if block.is_top() { Some(system) } else { None }
+        let is_whole = block.is_top();
+        drop(block);
+        if is_whole {
+            Some(system)
+        } else {
+            drop(system);
+            None
+        }
     }
 }
 
@@ -158,18 +165,11 @@ fn in_unit(system: System, unit: Unit) -> Draft
     }
 }
 
-/// Drops a form, as nothing else of this crate does with one that owns something. To check the drop of a value of so many variants
-/// takes a minute wherever it stands: so each arm of a `match` on a form moves it here, or moves what it holds.
-pub(crate) fn drop_form(_form: LineForm) {}
-
-/// Drops a draft, for the same reason.
-pub(crate) fn drop_draft(_draft: Draft) {}
-
 /// What is told of a line that may not stand where it does.
 fn misplaced(form: LineForm) -> Unread
     ensures { result ≡ NoForm }
 {
-    drop_form(form);
+    drop(form);
     Unread::NoForm
 }
 
@@ -262,7 +262,7 @@ fn take_limit(system: &mut System, form: LineForm) -> Result<(), Unread>
     ensures { Puts result system.new (limit_form system.old form) }
 {
     let put = put_limit(system, &form);
-    drop_form(form);
+    drop(form);
     put
 }
 
@@ -286,10 +286,13 @@ fn top_form(alloc: Global, mut system: System, form: LineForm) -> Result<Draft, 
         LineForm::Instance { name, unit } => {
             Ok(in_instance(system, bare_instance(alloc, name, unit)))
         }
-        _ => {
-            put_at_top(&mut system, form)?;
-            Ok(at_top(system))
-        }
+        _ => match put_at_top(&mut system, form) {
+            Ok(()) => Ok(at_top(system)),
+            Err(unread) => {
+                drop(system);
+                Err(unread)
+            }
+        },
     }
 }
 
@@ -394,6 +397,8 @@ fn with_step(alloc: Global, system: System, unit: Unit) -> Result<Draft, Unread>
     ensures { Gives result (with_step system unit) }
 {
     if unit.step.is_some() {
+        drop(system);
+        drop(unit);
         return Err(Unread::NoForm);
     }
     let step = StepSoFar {
@@ -407,8 +412,13 @@ fn with_step(alloc: Global, system: System, unit: Unit) -> Result<Draft, Unread>
 fn with_unit(mut system: System, unit: Unit) -> Result<Draft, Unread>
     ensures { Gives result (Some (with_unit system unit)) }
 {
-    system.units.push(unit)?;
-    Ok(at_top(system))
+    match system.units.push(unit) {
+        Ok(()) => Ok(at_top(system)),
+        Err(_) => {
+            drop(system);
+            Err(Unread::NoMemory)
+        }
+    }
 }
 
 /// A line in a unit.
@@ -418,10 +428,14 @@ fn unit_form(alloc: Global, system: System, mut unit: Unit, form: LineForm) -> R
     match form {
         LineForm::Step => with_step(alloc, system, unit),
         LineForm::End => with_unit(system, unit),
-        _ => {
-            put_declared(&mut unit, form)?;
-            Ok(in_unit(system, unit))
-        }
+        _ => match put_declared(&mut unit, form) {
+            Ok(()) => Ok(in_unit(system, unit)),
+            Err(unread) => {
+                drop(system);
+                drop(unit);
+                Err(unread)
+            }
+        },
     }
 }
 
@@ -456,10 +470,12 @@ fn with_line(mut step: StepSoFar, line: Line) -> Result<StepSoFar, Unread>
 fn in_block(alloc: Global, step: StepSoFar, head: Head) -> Result<StepSoFar, Unread>
     ensures { Gives result (in_block step head) }
 {
-    let StepSoFar { lines, mut around } = step;
-    if around.len() >= DEEPEST_BLOCK {
+    if step.around.len() >= DEEPEST_BLOCK {
+        drop(step);
+        drop(head);
         return Err(Unread::NoForm);
     }
+    let StepSoFar { lines, mut around } = step;
     around.push(Around {
         before: lines,
         head,
@@ -505,6 +521,18 @@ fn headed(head: Head, lines: List<Line>) -> Line
     }
 }
 
+/// The step behind the `end` of its innermost block, which becomes a line of the one around it.
+fn behind_block(around: List<Around>, block: Around, lines: List<Line>) -> Result<StepSoFar, Unread>
+    ensures { Gives result (Some (behind_block around block lines)) }
+{
+    let Around { mut before, head } = block;
+    before.push(headed(head, lines))?;
+    Ok(StepSoFar {
+        lines: before,
+        around,
+    })
+}
+
 /// Behind an `end`: the innermost block becomes a line of the one around it, and the step one of its unit.
 fn ended(system: System, mut unit: Unit, step: StepSoFar) -> Result<Draft, Unread>
     ensures { Gives result (ended system unit step) }
@@ -515,15 +543,14 @@ fn ended(system: System, mut unit: Unit, step: StepSoFar) -> Result<Draft, Unrea
             unit.step = Some(lines);
             Ok(in_unit(system, unit))
         }
-        Some((around, block)) => {
-            let Around { mut before, head } = block;
-            before.push(headed(head, lines))?;
-            let step = StepSoFar {
-                lines: before,
-                around,
-            };
-            Ok(in_step(system, unit, step))
-        }
+        Some((around, block)) => match behind_block(around, block, lines) {
+            Ok(step) => Ok(in_step(system, unit, step)),
+            Err(unread) => {
+                drop(system);
+                drop(unit);
+                Err(unread)
+            }
+        },
     }
 }
 
@@ -553,7 +580,14 @@ fn step_form(
 {
     match form {
         LineForm::End => ended(system, unit, step),
-        _ => Ok(in_step(system, unit, line_in_step(alloc, step, form)?)),
+        _ => match line_in_step(alloc, step, form) {
+            Ok(step) => Ok(in_step(system, unit, step)),
+            Err(unread) => {
+                drop(system);
+                drop(unit);
+                Err(unread)
+            }
+        },
     }
 }
 
@@ -579,8 +613,13 @@ fn put_in_instance(instance: &mut Instance, form: LineForm) -> Result<(), Unread
 fn with_instance(mut system: System, instance: Instance) -> Result<Draft, Unread>
     ensures { Gives result (Some (with_instance system instance)) }
 {
-    system.instances.push(instance)?;
-    Ok(at_top(system))
+    match system.instances.push(instance) {
+        Ok(()) => Ok(at_top(system)),
+        Err(_) => {
+            drop(system);
+            Err(Unread::NoMemory)
+        }
+    }
 }
 
 /// A line in an instance.
@@ -589,9 +628,13 @@ fn instance_form(system: System, mut instance: Instance, form: LineForm) -> Resu
 {
     match form {
         LineForm::End => with_instance(system, instance),
-        _ => {
-            put_in_instance(&mut instance, form)?;
-            Ok(in_instance(system, instance))
-        }
+        _ => match put_in_instance(&mut instance, form) {
+            Ok(()) => Ok(in_instance(system, instance)),
+            Err(unread) => {
+                drop(system);
+                drop(instance);
+                Err(unread)
+            }
+        },
     }
 }

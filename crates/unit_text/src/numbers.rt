@@ -6,10 +6,11 @@ ghost use Rattle.unit_text.specs.Numbering.{joined_slices, no_unit_numbers, bare
 use crate::draft::OpenBlock;
 use fixed_words::{List, NoMemory};
 use std::alloc::Global;
+use std::mem::replace;
 use unit_tree::LineForm;
 
 /// Where a line stands: what is open before it.
-#[derive(Clone, Copy, Debug, PartialEq, Eq)]
+#[derive(Clone, Copy)]
 pub enum BlockPlace {
     Top,
     Unit,
@@ -32,7 +33,7 @@ impl BlockPlace {
 }
 
 /// The lines that stand together in canonical order, in each unit or in the whole text. The header is in none.
-#[derive(Clone, Copy, Debug, PartialEq, Eq)]
+#[derive(Clone, Copy)]
 pub enum Group {
     UnitHead,
     Resolution,
@@ -109,7 +110,7 @@ impl Group {
 }
 
 /// A line of a text by its group and its number.
-#[derive(Clone, Copy, Debug, PartialEq, Eq)]
+#[derive(Clone, Copy)]
 pub struct Mark {
     pub group: Group,
     pub number: u32,
@@ -126,7 +127,7 @@ pub fn note(marks: &mut Vec<Mark>, group: Option<Group>, number: u32) -> Result<
 }
 
 /// The numbers of the lines of the unit that is open, group by group.
-#[derive(Debug, Drop)]
+#[derive(Drop)]
 pub struct UnitNumbers {
     pub head: List<u32>,
     pub resolution: List<u32>,
@@ -142,7 +143,7 @@ pub struct UnitNumbers {
 }
 
 /// The numbers of the lines of a text, group by group. Those of the unit that is open stand by themselves.
-#[derive(Debug, Drop)]
+#[derive(Drop)]
 pub struct Numbers {
     pub header: List<u32>,
     /// The lines of the units that are whole, those of each in canonical order.
@@ -265,7 +266,7 @@ impl Numbers {
     {
         self.unit.append_to(&mut self.units)?;
         self.units.push(number)?;
-        self.unit = UnitNumbers::new(alloc);
+        drop(replace(&mut self.unit, UnitNumbers::new(alloc)));
         Ok(())
     }
 
@@ -305,24 +306,34 @@ impl Numbers {
             ],
         )
     }
-}
 
-/// The numbers of the header and of the lines behind it, group by group.
-fn numbered(alloc: Global, header: u32, marks: &[Mark]) -> Result<Numbers, NoMemory>
-    ensures { IfOk result (λ numbers. numbers ≡ with_marks (bare_numbers header) marks.now) }
-{
-    let mut numbers = Numbers::new(alloc, header)?;
-    for mark in marks {
-        numbers.add(alloc, mark.group, mark.number)?;
+    /// Adds lines, one after the other.
+    fn add_all(&mut self, alloc: Global, marks: &[Mark]) -> Result<(), NoMemory>
+        ensures { OnOk result (self.new ≡ with_marks self.old marks.now) }
+    {
+        for mark in marks {
+            self.add(alloc, mark.group, mark.number)?;
+        }
+        Ok(())
     }
-    Ok(numbers)
+
+    /// Adds lines, and gives all numbers, in canonical order.
+    fn in_order_with(&mut self, alloc: Global, marks: &[Mark]) -> Result<List<u32>, NoMemory>
+        ensures { IfOk result (λ numbers. numbers ≡ in_order (with_marks self.old marks.now)) }
+    {
+        self.add_all(alloc, marks)?;
+        let mut numbers = List::new(alloc);
+        self.append_to(&mut numbers)?;
+        Ok(numbers)
+    }
 }
 
 /// The numbers of the header and of the lines behind it, in canonical order.
 pub fn numbers_in_order(alloc: Global, header: u32, marks: &[Mark]) -> Result<List<u32>, NoMemory>
     ensures { IfOk result (λ numbers. numbers ≡ in_order (with_marks (bare_numbers header) marks.now)) }
 {
-    let mut numbers = List::new(alloc);
-    numbered(alloc, header, marks)?.append_to(&mut numbers)?;
-    Ok(numbers)
+    let mut groups = Numbers::new(alloc, header)?;
+    let numbers = groups.in_order_with(alloc, marks);
+    drop(groups);
+    numbers
 }

@@ -8,7 +8,7 @@ ghost use Rattle.unit_tree.specs.Texts.{text_limit};
 ghost use Rattle.text_tokens.specs.Scanning.{Gives, ReadsAs};
 ghost use Rattle.unit_text.specs.Reading.{IsWritten, headless_rule, TellsVersion, FirstGives, IsFormOf, FormIn, and_group, LineGives, WholeGives, fault_at, AnswersAt, blank_rule, HeaderGives, AnswersText};
 
-use crate::draft::{Draft, drop_draft, drop_form};
+use crate::draft::Draft;
 use crate::fault::TextFault;
 use crate::numbers::{BlockPlace, Group, Mark, note, numbers_in_order};
 use fixed_words::List;
@@ -23,19 +23,19 @@ use unit_tree::{LineForm, System};
 /// The most bytes of a text, with an end counted for each line.
 pub const LONGEST_TEXT: usize = 1_048_576;
 
-/// The rule that bounds the text.
+/// Rule 2: a text that is too long.
 pub const SIZE_RULE: u8 = 2;
 
-/// The rule that a line has a form.
+/// Rule 4: a line that has none of the forms, though it is not blank.
 const FORM_RULE: u8 = 4;
 
-/// The rule that a line stands where its form may.
+/// Rule 5: a line that may not stand there.
 const PLACE_RULE: u8 = 5;
 
-/// The rule that no block is open at the end.
+/// Rule 6: a block that is open at the end.
 const END_RULE: u8 = 6;
 
-/// The rule that a text begins with a header.
+/// Rule 7: a text that does not begin with a header.
 const HEADER_RULE: u8 = 7;
 
 /// Whether a line may stand outside blocks, behind no lines.
@@ -84,7 +84,7 @@ fn version_in(form: LineForm) -> Result<u8, u8>
     ensures { TellsVersion form result }
 {
     let told = version_told(&form);
-    drop_form(form);
+    drop(form);
     told
 }
 
@@ -124,7 +124,7 @@ fn form_in(alloc: Global, line: &[u8], version: u8) -> Result<LineForm, Unread>
     if is_form_of(version, &form) {
         Ok(form)
     } else {
-        drop_form(form);
+        drop(form);
         Err(Unread::NoForm)
     }
 }
@@ -169,7 +169,7 @@ fn with_written(
     let form = match form_in(alloc, line, draft.system.version) {
         Ok(form) => form,
         Err(unread) => {
-            drop_draft(draft);
+            drop(draft);
             return Err(at_line(unread, number, FORM_RULE));
         }
     };
@@ -190,7 +190,7 @@ fn with_line(
 {
     match look_at(line) {
         Seen::Broken(rule) => {
-            drop_draft(draft);
+            drop(draft);
             Err(TextFault::Line { line: number, rule })
         }
         Seen::Blank => Ok((draft, None)),
@@ -209,10 +209,13 @@ fn whole_text(
     ensures { WholeGives draft header marks.now number result }
 {
     match draft.whole_system() {
-        Some(system) => {
-            let lines = numbers_in_order(alloc, header, marks)?;
-            Ok(ReadText { system, lines })
-        }
+        Some(system) => match numbers_in_order(alloc, header, marks) {
+            Ok(lines) => Ok(ReadText { system, lines }),
+            Err(_) => {
+                drop(system);
+                Err(TextFault::NoMemory)
+            }
+        },
         None => Err(TextFault::Line {
             line: number,
             rule: END_RULE,
@@ -297,8 +300,7 @@ fn read_lines(alloc: Global, text: &[u8]) -> Result<ReadText, TextFault>
         rest = behind;
         number += 1;
         let (next, group) = with_line(alloc, draft, without_return(line), number)?;
-        draft = next;
-        note(&mut marks, group, number)?;
+        draft = note(&mut marks, group, number).and(Ok(next))?;
     }
     whole_text(alloc, draft, header, marks.as_slice(), number)
 }

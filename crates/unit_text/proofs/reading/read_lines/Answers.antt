@@ -1,8 +1,10 @@
-use Rattle.std.proofs.Common.{◌≡◌, ◌+◌, Ok, Err, length, arith, sym, subst}
+use Rattle.std.proofs.Common.{◌≡◌, ◌+◌, ◌++◌, Ok, Err, length, arith, sym, subst}
 use Rattle.std.proofs.lemmas.Bool.Decides.{nat_tests}
 use Rattle.unit_text.specs.Drafts.{bare_draft}
+use Rattle.unit_text.specs.Numbering.{marks_of}
 use Rattle.unit_text.specs.Reading.{LineGives, WholeGives, AnswersAt}
 use Rattle.unit_text.proofs.KnownForms.{known}
+use Rattle.unit_text.proofs.LineAnswers.{and_kept}
 use Rattle.unit_text.proofs.ReadingLaws.{Reached, reached_first, reached_next, header_error, line_error, whole_answer}
 use Rattle.unit_text.proofs.reading.read_lines.Goals as goal
 
@@ -23,9 +25,12 @@ returns-in_err-next c =
 
 pub loop-rest-preserved : goal.loop-rest-preserved
 loop-rest-preserved c =
-    subst (Reached c.args.text.now c.cut_line.result.1.now c.in_ok-version.header (c.loop-rest.number + 1) c.in_ok-next.next) (sym c.in_ok-note.ensures)
+    let noted : (c.in_ok-draft.draft ≡ c.in_ok-next.next) × (c.note.new.marks.items ≡ c.loop-rest.marks.items ++ marks_of c.in_ok-next.group (c.loop-rest.number + 1)) =
+    and_kept c.note.result c.in_ok-next.next c.in_ok-draft.draft c.note.ensures c.in_ok-draft.ensures in
+    subst (λ draft. Reached c.args.text.now c.cut_line.result.1.now c.in_ok-version.header (c.loop-rest.number + 1) draft c.note.new.marks.items) (sym noted.0)
+    (subst (Reached c.args.text.now c.cut_line.result.1.now c.in_ok-version.header (c.loop-rest.number + 1) c.in_ok-next.next) (sym noted.1)
     (reached_next known c.args.text.now c.loop-rest.rest.now c.cut_line.result.0.now c.cut_line.result.1.now c.in_ok-version.header c.loop-rest.number c.loop-rest.draft c.in_ok-next.next c.loop-rest.marks.items c.in_ok-next.group c.loop-rest.invariant c.cut_line.ensures.cut c.cut_line.ensures.shorter
-    (subst (λ line. LineGives c.loop-rest.draft line (Ok (c.in_ok-next.next, c.in_ok-next.group))) c.without_return.ensures c.in_ok-next.ensures))
+    (subst (λ line. LineGives c.loop-rest.draft line (Ok (c.in_ok-next.next, c.in_ok-next.group))) c.without_return.ensures c.in_ok-next.ensures)))
 
 pub returns : goal.returns
 returns c =
