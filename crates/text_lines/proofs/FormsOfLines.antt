@@ -24,7 +24,8 @@ pub line_unspelled : (line : List ℕ) → ((tokens : List Token) → Spells tok
 line_unspelled line unspelled some has = unspelled has.tokens has.spelled
 
 -- The answer for the tokens of a line's code is one for the line.
-pub line_reads : (line : List ℕ) (tokens : List Token) (result : Result LineForm Unread) → Spells tokens (code_of line) → ReadsAs result (FormIs tokens) → ReadsAs result (LineHas line)
+pub line_reads : (line : List ℕ) (tokens : List Token) (result : Result LineForm Unread) → Spells tokens (code_of line) → ReadsAs result (FormIs tokens)
+    → ReadsAs result (LineHas line)
 line_reads line tokens (Ok some) spelled is = line_said line tokens (Some some) spelled is
 line_reads line tokens (Err unread.NoForm) spelled is = line_said line tokens None spelled is
 line_reads line tokens (Err unread.NoMemory) spelled is = tt
@@ -32,16 +33,19 @@ line_reads line tokens (Err unread.NoMemory) spelled is = tt
 -- A line has one form at most.
 pub one_form : HasOneForm
 one_form line one other first second =
-    let read : read_form second.tokens ≡ Some one = ap read_form (spells_one second.tokens first.tokens (code_of line) second.spelled first.spelled) ∙ form_written one first.tokens first.written in
+    let read : read_form second.tokens ≡ Some one = ap read_form (spells_one second.tokens first.tokens (code_of line) second.spelled first.spelled)
+    ∙ form_written one first.tokens first.written in
     let same : ◌≡◌ {A = Option LineForm} (Some one) (Some other) = sym read ∙ form_written other second.tokens second.written in
     cc
 
 -- A line has a form, or it has none.
-has_or_not : (line : List ℕ) (found : Option LineForm) → LineHas line found → ((some : LineForm) × HasForm some line) ⊎ (((some : LineForm) × HasForm some line) → ⊥)
+has_or_not : (line : List ℕ) (found : Option LineForm) → LineHas line found
+    → ((some : LineForm) × HasForm some line) ⊎ (((some : LineForm) × HasForm some line) → ⊥)
 has_or_not line (Some some) has = inl (some, has)
 has_or_not line None has = inr (λ held. has held.0 held.1)
 
-decided_by : (line : List ℕ) (found : Option (List Token)) → TokensAre (code_of line) found → ((some : LineForm) × HasForm some line) ⊎ (((some : LineForm) × HasForm some line) → ⊥)
+decided_by : (line : List ℕ) (found : Option (List Token)) → TokensAre (code_of line) found
+    → ((some : LineForm) × HasForm some line) ⊎ (((some : LineForm) × HasForm some line) → ⊥)
 decided_by line None are = has_or_not line None (line_unspelled line are)
 decided_by line (Some tokens) are = has_or_not line (read_form tokens) (line_said line tokens (read_form tokens) are (form_said tokens (read_form tokens) refl))
 

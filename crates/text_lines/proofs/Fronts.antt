@@ -1,10 +1,13 @@
 -- What is read of tokens is an expression that the grammar has, written with the first of them.
-use Rattle.std.proofs.Common.{◌≡◌, ℕ, suc, zero, ◌<◌, ◌^◌, Bool, true, false, cond, ◌&&◌, ◌==◌, max, List, [], ◌∷◌, ◌++◌, Option, Some, None, refl, ap, sym, subst, ◌∙◌, arith, append_assoc, pos, nat_le, nat_lt}
+use Rattle.std.proofs.Common.{◌≡◌, ℕ, suc, zero, ◌<◌, ◌^◌, Bool, true, false, cond, ◌&&◌, ◌==◌, max, List, [], ◌∷◌, ◌++◌, Option, Some, None, refl, ap, sym}
+use Rattle.std.proofs.Common.{subst, ◌∙◌, arith, append_assoc, pos, nat_le, nat_lt}
 use Rattle.std.specs.Prelude.{IfSome, option_and_then}
 use Rattle.std.proofs.lemmas.Bool.{and_parts, and_from, eqb-true}
 use Rattle.std.proofs.lemmas.Slice.Eq.{bytes_eq-Decides}
 use Rattle.unit_tree.specs.Phrases as phrase
-use Rattle.unit_tree.specs.Phrases.{Phrase, Level, Whole, Or, And, Not, Comparison, Sum, Product, Negation, Primary, level_of, unary_level, binary_level, binary_nesting, operand_level, left_level, right_level, allows, stands, nesting, numbers_fit, tree_of, phrase_tokens, unary_tokens, binary_tokens, call_of_two, operation, in_parens, keyword, symbol, whole}
+use Rattle.unit_tree.specs.Phrases.{Phrase, Level, Whole, Or, And, Not, Comparison, Sum, Product, Negation, Primary, level_of, unary_level, binary_level}
+use Rattle.unit_tree.specs.Phrases.{binary_nesting, operand_level, left_level, right_level, allows, stands, nesting, numbers_fit, tree_of, phrase_tokens}
+use Rattle.unit_tree.specs.Phrases.{unary_tokens, binary_tokens, call_of_two, operation, in_parens, keyword, symbol, whole}
 use Rattle.unit_tree.specs.Tokens.{symbol_text}
 use Rattle.unit_tree.specs.Values.{unary_is_ranged}
 use Rattle.unit_tree.specs.declared.expr.BinOp.{BinOp}
@@ -21,14 +24,17 @@ use Rattle.unit_tree.specs.declared.token.Token.{Token}
 use Rattle.unit_tree.specs.declared.token.Token.TheVariants as token
 use Rattle.text_tokens.specs.Scanning.{symbol_of}
 use Rattle.text_tokens.proofs.TableLemmas.{symbol_of-symbol_text}
-use Rattle.text_lines.specs.Expressions.{Reader, Front, same_symbol, after_symbol, after_then, after_else, name_at, decimals_at, grouped_at, call_at, fix_at, prefix_at, pair_at, clamp_at, choice_at, present_at, keyword_operand, symbol_operand, operand_at, infix_at, with_right, climb, within, read}
+use Rattle.text_lines.specs.Expressions.{Reader, Front, same_symbol, after_symbol, after_then, after_else, name_at, decimals_at, grouped_at, call_at, fix_at}
+use Rattle.text_lines.specs.Expressions.{prefix_at, pair_at, clamp_at, choice_at, present_at, keyword_operand, symbol_operand, operand_at, infix_at, with_right}
+use Rattle.text_lines.specs.Expressions.{climb, within, read}
 use Rattle.text_lines.proofs.InfixOperations.{is_infix, infix_tokens, infix_at_is, Takes, allows_from, strongest}
 use Rattle.text_lines.proofs.PhraseTokens.{group_tokens, pair_tokens, clamp_tokens, choice_tokens}
 
 -- ---- Single tokens
 
 -- What holds of what comes next holds of the whole reading.
-pub then_holds : {A B : Type 0} (found : Option A) (next : A → Option B) (P : A → Type 0) (Q : B → Type 0) → IfSome found P → ((x : A) → P x → IfSome (next x) Q) → IfSome (option_and_then next found) Q
+pub then_holds : {A B : Type 0} (found : Option A) (next : A → Option B) (P : A → Type 0) (Q : B → Type 0) → IfSome found P
+    → ((x : A) → P x → IfSome (next x) Q) → IfSome (option_and_then next found) Q
 then_holds None next P Q is more = tt
 then_holds (Some x) next P Q is more = more x is
 
@@ -48,7 +54,8 @@ same_symbol_is one other same =
 pub after_symbol_is : (wanted : Symbol) (tokens : List Token) → IfSome (after_symbol wanted tokens) (λ rest. symbol wanted ∷ rest ≡ tokens)
 after_symbol_is wanted [] = tt
 after_symbol_is wanted (token.Symbol found ∷ rest) =
-    if_holds (same_symbol found wanted) (Some rest) (λ behind. symbol wanted ∷ behind ≡ token.Symbol found ∷ rest) (λ same. ap (λ s. token.Symbol s ∷ rest) (sym (same_symbol_is found wanted same)))
+    if_holds (same_symbol found wanted) (Some rest) (λ behind. symbol wanted ∷ behind ≡ token.Symbol found ∷ rest)
+    (λ same. ap (λ s. token.Symbol s ∷ rest) (sym (same_symbol_is found wanted same)))
 after_symbol_is wanted (_ ∷ rest) = tt
 
 after_then_is : (tokens : List Token) → IfSome (after_then tokens) (λ rest. keyword word.Then ∷ rest ≡ tokens)
@@ -67,7 +74,8 @@ name_at_is (_ ∷ rest) = tt
 pub decimals_at_is : (tokens : List Token) → IfSome (decimals_at tokens) (λ found. (whole found.0 ∷ found.1 ≡ tokens) × (nat_le found.0 9 ≡ true))
 decimals_at_is [] = tt
 decimals_at_is (token.Number digits decimals ∷ rest) =
-    if_holds ((decimals == 0) && nat_le digits 9) (Some (digits, rest)) (λ found. (whole found.0 ∷ found.1 ≡ token.Number digits decimals ∷ rest) × (nat_le found.0 9 ≡ true)) (λ both.
+    if_holds ((decimals == 0) && nat_le digits 9) (Some (digits, rest))
+    (λ found. (whole found.0 ∷ found.1 ≡ token.Number digits decimals ∷ rest) × (nat_le found.0 9 ≡ true)) (λ both.
     let parts = and_parts (decimals == 0) (nat_le digits 9) both in
     (ap (λ d. token.Number digits d ∷ rest) (sym (eqb-true decimals 0 parts.0)), parts.1))
 decimals_at_is (_ ∷ rest) = tt
@@ -88,8 +96,10 @@ stands_allowed asked _ so = primary_stands asked
 -- An expression that stands somewhere stands wherever its level is allowed.
 pub stands_where : (before asked : Level) (inner : Phrase) → stands before inner ≡ true → allows asked (level_of inner) ≡ true → stands asked inner ≡ true
 stands_where before asked (phrase.Parens inner) so allowed = so
-stands_where before asked (phrase.Unary op arg) so allowed = and_from (allows asked (unary_level op)) _ allowed (and_parts (allows before (unary_level op)) _ so).1
-stands_where before asked (phrase.Binary op left right) so allowed = and_from (allows asked (binary_level op)) _ allowed (and_parts (allows before (binary_level op)) _ so).1
+stands_where before asked (phrase.Unary op arg) so allowed =
+    and_from (allows asked (unary_level op)) _ allowed (and_parts (allows before (unary_level op)) _ so).1
+stands_where before asked (phrase.Binary op left right) so allowed =
+    and_from (allows asked (binary_level op)) _ allowed (and_parts (allows before (binary_level op)) _ so).1
 stands_where before asked (phrase.Clamp value low high) so allowed = so
 stands_where before asked (phrase.Choose condition chosen other) so allowed = and_from (allows asked Whole) _ allowed (and_parts (allows before Whole) _ so).1
 stands_where before asked _ so allowed = refl
@@ -129,7 +139,8 @@ grouped_is limit inner tokens sound =
     record {
       written = is.written;
       is_tree = is.is_tree;
-      spelled = group_tokens (phrase_tokens is.written) rest ∙ ap (λ all. symbol sign.Open ∷ all) (ap (λ all. phrase_tokens is.written ++ all) closed ∙ is.spelled) ∙ opened;
+      spelled = group_tokens (phrase_tokens is.written) rest
+          ∙ ap (λ all. symbol sign.Open ∷ all) (ap (λ all. phrase_tokens is.written ++ all) closed ∙ is.spelled) ∙ opened;
       stands_so = is.stands_so;
       nested = is.nested;
       fits = is.fits;
@@ -146,14 +157,16 @@ call_at_is limit inner asked op before tokens sound calls primary ranged =
       written = phrase.Unary op is.written;
       is_tree = ap (expr.Unary op) is.is_tree;
       is_level = primary;
-      spelled = ap (λ all. all ++ arg.1) (calls (phrase_tokens is.written)) ∙ append_assoc before (in_parens (phrase_tokens is.written)) arg.1 ∙ ap (λ all. before ++ all) is.spelled;
+      spelled = ap (λ all. all ++ arg.1) (calls (phrase_tokens is.written)) ∙ append_assoc before (in_parens (phrase_tokens is.written)) arg.1
+          ∙ ap (λ all. before ++ all) is.spelled;
       stands_so = and_from (allows asked (unary_level op)) _ (rw primary (primary_stands asked)) (rw primary is.stands_so);
       nested = let deep = is.nested in omega arith;
       fits = and_from (unary_is_ranged op) _ ranged is.fits;
     })
 
 -- A conversion to fixed point, which has its decimals before the parentheses.
-fix_at_is : (limit : ℕ) (inner : Reader) (asked : Level) (tokens : List Token) → IsSound limit inner → IfSome (fix_at inner tokens) (IsFront (suc limit) asked (keyword word.Fix ∷ tokens))
+fix_at_is : (limit : ℕ) (inner : Reader) (asked : Level) (tokens : List Token) → IsSound limit inner
+    → IfSome (fix_at inner tokens) (IsFront (suc limit) asked (keyword word.Fix ∷ tokens))
 unfolding fix_at
 fix_at_is limit inner asked tokens sound =
     then_holds (decimals_at tokens) _ _ (IsFront (suc limit) asked (keyword word.Fix ∷ tokens)) (decimals_at_is tokens) (λ found is.
@@ -179,7 +192,8 @@ prefix_at_is limit inner asked op first tokens sound begins same ranged =
     }))
 
 -- Calls of two operands are of the strongest level, one level of nesting deeper, and written as calls.
-call_stands : (asked : Level) (op : BinOp) (left right : Phrase) → is_infix op ≡ false → stands Whole left ≡ true → stands Whole right ≡ true → stands asked (phrase.Binary op left right) ≡ true
+call_stands : (asked : Level) (op : BinOp) (left right : Phrase) → is_infix op ≡ false → stands Whole left ≡ true → stands Whole right ≡ true
+    → stands asked (phrase.Binary op left right) ≡ true
 call_stands asked by.Min left right called one other = and_from (allows asked Primary) _ (primary_stands asked) (and_from (stands Whole left) _ one other)
 call_stands asked by.Max left right called one other = and_from (allows asked Primary) _ (primary_stands asked) (and_from (stands Whole left) _ one other)
 call_stands asked by.Add left right called one other = absurd (cc)
@@ -204,7 +218,8 @@ call_tokens by.Add left right called = absurd (cc)
 call_tokens _ left right called = absurd (cc)
 
 -- A call of two operands.
-pair_at_is : (limit : ℕ) (inner : Reader) (asked : Level) (op : BinOp) (tokens : List Token) → IsSound limit inner → is_infix op ≡ false → IfSome (pair_at inner op tokens) (IsFront (suc limit) asked (operation op ∷ tokens))
+pair_at_is : (limit : ℕ) (inner : Reader) (asked : Level) (op : BinOp) (tokens : List Token) → IsSound limit inner → is_infix op ≡ false
+    → IfSome (pair_at inner op tokens) (IsFront (suc limit) asked (operation op ∷ tokens))
 unfolding pair_at
 pair_at_is limit inner asked op tokens sound called =
     let Claim = IsFront (suc limit) asked (operation op ∷ tokens) in
@@ -226,12 +241,14 @@ pair_at_is limit inner asked op tokens sound called =
           ∙ ap (λ all. symbol sign.Open ∷ all) one.spelled
           ∙ opened);
       stands_so = call_stands asked op one.written other.written called one.stands_so other.stands_so;
-      nested = let deep = one.nested in let deeper_still = other.nested in let is = call_nesting op (max (nesting one.written) (nesting other.written)) called in omega arith;
+      nested = let deep = one.nested in let deeper_still = other.nested in
+          let is = call_nesting op (max (nesting one.written) (nesting other.written)) called in omega arith;
       fits = and_from (numbers_fit one.written) _ one.fits other.fits;
     })))))
 
 -- A call of `clamp`.
-clamp_at_is : (limit : ℕ) (inner : Reader) (asked : Level) (tokens : List Token) → IsSound limit inner → IfSome (clamp_at inner tokens) (IsFront (suc limit) asked (keyword word.Clamp ∷ tokens))
+clamp_at_is : (limit : ℕ) (inner : Reader) (asked : Level) (tokens : List Token) → IsSound limit inner
+    → IfSome (clamp_at inner tokens) (IsFront (suc limit) asked (keyword word.Clamp ∷ tokens))
 unfolding clamp_at
 clamp_at_is limit inner asked tokens sound =
     let Claim = IsFront (suc limit) asked (keyword word.Clamp ∷ tokens) in
@@ -246,14 +263,18 @@ clamp_at_is limit inner asked tokens sound =
       written = phrase.Clamp of_value.written of_low.written of_high.written;
       is_tree = rw (of_value.is_tree, of_low.is_tree, of_high.is_tree) refl;
       is_level = refl;
-      spelled = ap (λ all. keyword word.Clamp ∷ all) (clamp_tokens (phrase_tokens of_value.written) (phrase_tokens of_low.written) (phrase_tokens of_high.written) rest ∙ rw (closed, of_high.spelled, behind, of_low.spelled, between, of_value.spelled) opened);
+      spelled =
+          ap (λ all. keyword word.Clamp ∷ all)
+          (clamp_tokens (phrase_tokens of_value.written) (phrase_tokens of_low.written) (phrase_tokens of_high.written) rest
+          ∙ rw (closed, of_high.spelled, behind, of_low.spelled, between, of_value.spelled) opened);
       stands_so = and_from (stands Whole of_value.written) _ of_value.stands_so (and_from (stands Whole of_low.written) _ of_low.stands_so of_high.stands_so);
       nested = let one = of_value.nested in let other = of_low.nested in let last = of_high.nested in omega arith;
       fits = and_from (numbers_fit of_value.written) _ of_value.fits (and_from (numbers_fit of_low.written) _ of_low.fits of_high.fits);
     })))))))
 
 -- A choice, whose last part ends it.
-choice_at_is : (limit : ℕ) (inner : Reader) (asked : Level) (tokens : List Token) → IsSound limit inner → allows asked Whole ≡ true → IfSome (choice_at inner tokens) (IsFront (suc limit) asked (keyword word.If ∷ tokens))
+choice_at_is : (limit : ℕ) (inner : Reader) (asked : Level) (tokens : List Token) → IsSound limit inner → allows asked Whole ≡ true
+    → IfSome (choice_at inner tokens) (IsFront (suc limit) asked (keyword word.If ∷ tokens))
 unfolding choice_at
 choice_at_is limit inner asked tokens sound allowed =
     let Claim = IsFront (suc limit) asked (keyword word.If ∷ tokens) in
@@ -267,9 +288,16 @@ choice_at_is limit inner asked tokens sound allowed =
       is_tree = rw (of_condition.is_tree, of_chosen.is_tree, of_other.is_tree) refl;
       is_level = refl;
       spelled =
-          let parts : phrase_tokens of_condition.written ++ (keyword word.Then ∷ (phrase_tokens of_chosen.written ++ (keyword word.Else ∷ (phrase_tokens of_other.written ++ other.2)))) ≡ tokens = rw (of_other.spelled, behind, of_chosen.spelled, between) of_condition.spelled in
-          ap (λ all. keyword word.If ∷ all) (choice_tokens (phrase_tokens of_condition.written) (phrase_tokens of_chosen.written) (phrase_tokens of_other.written) other.2 ∙ parts);
-      stands_so = and_from (allows asked Whole) _ allowed (and_from (stands Whole of_condition.written) _ of_condition.stands_so (and_from (stands Whole of_chosen.written) _ of_chosen.stands_so of_other.stands_so));
+          let parts : phrase_tokens of_condition.written
+          ++ (keyword word.Then ∷ (phrase_tokens of_chosen.written ++ (keyword word.Else ∷ (phrase_tokens of_other.written ++ other.2))))
+          ≡ tokens =
+          rw (of_other.spelled, behind, of_chosen.spelled, between) of_condition.spelled in
+          ap (λ all. keyword word.If ∷ all)
+          (choice_tokens (phrase_tokens of_condition.written) (phrase_tokens of_chosen.written) (phrase_tokens of_other.written) other.2 ∙ parts);
+      stands_so =
+          and_from (allows asked Whole) _ allowed
+          (and_from (stands Whole of_condition.written) _ of_condition.stands_so
+          (and_from (stands Whole of_chosen.written) _ of_chosen.stands_so of_other.stands_so));
       nested = let one = of_condition.nested in let another = of_chosen.nested in let last = of_other.nested in omega arith;
       fits = and_from (numbers_fit of_condition.written) _ of_condition.fits (and_from (numbers_fit of_chosen.written) _ of_chosen.fits of_other.fits);
     })))))
@@ -293,12 +321,18 @@ present_at_is limit asked tokens =
     })))
 
 -- An operand by its first token.
-keyword_operand_is : (limit : ℕ) (inner : Reader) (asked : Level) (spelled : Keyword) (rest : List Token) → IsSound limit inner → IfSome (keyword_operand inner asked spelled rest) (IsFront (suc limit) asked (keyword spelled ∷ rest))
-keyword_operand_is limit inner asked word.True rest sound = record { written = phrase.Truth true; is_tree = refl; is_level = refl; spelled = refl; stands_so = refl; nested = omega arith; fits = refl }
-keyword_operand_is limit inner asked word.False rest sound = record { written = phrase.Truth false; is_tree = refl; is_level = refl; spelled = refl; stands_so = refl; nested = omega arith; fits = refl }
-keyword_operand_is limit inner asked word.Time rest sound = record { written = phrase.Time; is_tree = refl; is_level = refl; spelled = refl; stands_so = refl; nested = omega arith; fits = refl }
-keyword_operand_is limit inner asked word.Length rest sound = record { written = phrase.Step; is_tree = refl; is_level = refl; spelled = refl; stands_so = refl; nested = omega arith; fits = refl }
-keyword_operand_is limit inner asked word.Absent rest sound = record { written = phrase.Absent; is_tree = refl; is_level = refl; spelled = refl; stands_so = refl; nested = omega arith; fits = refl }
+keyword_operand_is : (limit : ℕ) (inner : Reader) (asked : Level) (spelled : Keyword) (rest : List Token) → IsSound limit inner
+    → IfSome (keyword_operand inner asked spelled rest) (IsFront (suc limit) asked (keyword spelled ∷ rest))
+keyword_operand_is limit inner asked word.True rest sound =
+    record { written = phrase.Truth true; is_tree = refl; is_level = refl; spelled = refl; stands_so = refl; nested = omega arith; fits = refl }
+keyword_operand_is limit inner asked word.False rest sound =
+    record { written = phrase.Truth false; is_tree = refl; is_level = refl; spelled = refl; stands_so = refl; nested = omega arith; fits = refl }
+keyword_operand_is limit inner asked word.Time rest sound =
+    record { written = phrase.Time; is_tree = refl; is_level = refl; spelled = refl; stands_so = refl; nested = omega arith; fits = refl }
+keyword_operand_is limit inner asked word.Length rest sound =
+    record { written = phrase.Step; is_tree = refl; is_level = refl; spelled = refl; stands_so = refl; nested = omega arith; fits = refl }
+keyword_operand_is limit inner asked word.Absent rest sound =
+    record { written = phrase.Absent; is_tree = refl; is_level = refl; spelled = refl; stands_so = refl; nested = omega arith; fits = refl }
 keyword_operand_is limit inner asked word.Not rest sound = prefix_at_is limit inner asked of.Not (keyword word.Not) rest sound (λ arg. refl) refl refl
 keyword_operand_is limit inner asked word.Abs rest sound = call_at_is limit inner asked of.Abs (keyword word.Abs ∷ []) rest sound (λ arg. refl) refl refl
 keyword_operand_is limit inner asked word.Int rest sound = call_at_is limit inner asked of.ToInt (keyword word.Int ∷ []) rest sound (λ arg. refl) refl refl
@@ -311,21 +345,35 @@ keyword_operand_is limit inner asked word.If rest sound =
 keyword_operand_is limit inner asked word.Present rest sound = present_at_is limit asked rest
 keyword_operand_is limit inner asked _ rest sound = tt
 
-symbol_operand_is : (limit : ℕ) (inner : Reader) (asked : Level) (spelled : Symbol) (rest : List Token) → IsSound limit inner → IfSome (symbol_operand inner asked spelled rest) (IsFront (suc limit) asked (symbol spelled ∷ rest))
+symbol_operand_is : (limit : ℕ) (inner : Reader) (asked : Level) (spelled : Symbol) (rest : List Token) → IsSound limit inner
+    → IfSome (symbol_operand inner asked spelled rest) (IsFront (suc limit) asked (symbol spelled ∷ rest))
 symbol_operand_is limit inner asked sign.Minus rest sound = prefix_at_is limit inner asked of.Neg (symbol sign.Minus) rest sound (λ arg. refl) refl refl
 symbol_operand_is limit inner asked sign.Open rest sound =
-    then_holds (grouped_at inner (symbol sign.Open ∷ rest)) _ _ (IsFront (suc limit) asked (symbol sign.Open ∷ rest)) (grouped_is limit inner (symbol sign.Open ∷ rest) sound) (λ found is.
-    record { written = phrase.Parens is.written; is_tree = is.is_tree; is_level = refl; spelled = is.spelled; stands_so = is.stands_so; nested = let deep = is.nested in omega arith; fits = is.fits })
+    then_holds (grouped_at inner (symbol sign.Open ∷ rest)) _ _ (IsFront (suc limit) asked (symbol sign.Open ∷ rest))
+    (grouped_is limit inner (symbol sign.Open ∷ rest) sound) (λ found is.
+    record {
+      written = phrase.Parens is.written;
+      is_tree = is.is_tree;
+      is_level = refl;
+      spelled = is.spelled;
+      stands_so = is.stands_so;
+      nested = let deep = is.nested in
+          omega arith;
+      fits = is.fits;
+    })
 symbol_operand_is limit inner asked _ rest sound = tt
 
 -- An operand is an expression that the grammar has there.
-pub operand_at_is : (limit : ℕ) (inner : Reader) (asked : Level) (tokens : List Token) → IsSound limit inner → IfSome (operand_at inner asked tokens) (IsFront (suc limit) asked tokens)
+pub operand_at_is : (limit : ℕ) (inner : Reader) (asked : Level) (tokens : List Token) → IsSound limit inner
+    → IfSome (operand_at inner asked tokens) (IsFront (suc limit) asked tokens)
 unfolding operand_at
 operand_at_is limit inner asked [] sound = tt
 operand_at_is limit inner asked (token.Number digits decimals ∷ rest) sound =
-    if_holds (nat_lt digits (2 ^ 63) && nat_le decimals 9) (Some (expr.Number (pos digits) decimals, Primary, rest)) (IsFront (suc limit) asked (token.Number digits decimals ∷ rest)) (λ fit.
+    if_holds (nat_lt digits (2 ^ 63) && nat_le decimals 9) (Some (expr.Number (pos digits) decimals, Primary, rest))
+    (IsFront (suc limit) asked (token.Number digits decimals ∷ rest)) (λ fit.
     record { written = phrase.Number digits decimals; is_tree = refl; is_level = refl; spelled = refl; stands_so = refl; nested = omega arith; fits = fit })
-operand_at_is limit inner asked (token.Name name ∷ rest) sound = record { written = phrase.Var name; is_tree = refl; is_level = refl; spelled = refl; stands_so = refl; nested = omega arith; fits = refl }
+operand_at_is limit inner asked (token.Name name ∷ rest) sound =
+    record { written = phrase.Var name; is_tree = refl; is_level = refl; spelled = refl; stands_so = refl; nested = omega arith; fits = refl }
 operand_at_is limit inner asked (token.Symbol spelled ∷ rest) sound = symbol_operand_is limit inner asked spelled rest sound
 operand_at_is limit inner asked (token.Keyword spelled ∷ rest) sound = keyword_operand_is limit inner asked spelled rest sound
 
@@ -338,8 +386,11 @@ infix_nesting by.Max deepest between = absurd (cc)
 infix_nesting _ deepest between = refl
 
 -- A left side with one more operation and its right side is an expression that the grammar has there.
-with_right_is : (limit : ℕ) (reader : Reader) (asked : Level) (tokens : List Token) (next : Front → Option Front) (left : Front) (found : Option (BinOp × List Token)) → IsSound limit reader
-    → ((x : Front) → IsFront limit asked tokens x → IfSome (next x) (IsFront limit asked tokens)) → IsFront limit asked tokens left → IfSome found (Takes asked left.1 left.2)
+with_right_is : (limit : ℕ) (reader : Reader) (asked : Level) (tokens : List Token) (next : Front → Option Front) (left : Front)
+    (found : Option (BinOp × List Token))
+    → IsSound limit reader
+    → ((x : Front) → IsFront limit asked tokens x → IfSome (next x) (IsFront limit asked tokens)) → IsFront limit asked tokens left
+    → IfSome found (Takes asked left.1 left.2)
     → IfSome (with_right reader next left found) (IsFront limit asked tokens)
 with_right_is limit reader asked tokens next left None sound more is takes = is
 with_right_is limit reader asked tokens next left (Some (op, behind)) sound more is takes =
@@ -356,16 +407,20 @@ with_right_is limit reader asked tokens next left (Some (op, behind)) sound more
           ∙ is.spelled;
       stands_so =
           and_from (allows asked (binary_level op)) _ takes.asked_for (and_from (stands (left_level (binary_level op)) is.written) _
-          (stands_where asked (left_level (binary_level op)) is.written is.stands_so (ap (allows (left_level (binary_level op))) is.is_level ∙ takes.left_fits)) other.stands_so);
-      nested = let one = is.nested in let another = other.nested in let same = infix_nesting op (max (nesting is.written) (nesting other.written)) takes.between in omega arith;
+          (stands_where asked (left_level (binary_level op)) is.written is.stands_so
+          (ap (allows (left_level (binary_level op))) is.is_level ∙ takes.left_fits)) other.stands_so);
+      nested = let one = is.nested in let another = other.nested in
+          let same = infix_nesting op (max (nesting is.written) (nesting other.written)) takes.between in omega arith;
       fits = and_from (numbers_fit is.written) _ is.fits other.fits;
     }))
 
 -- So it is with all the operations behind it.
-climb_is : (limit : ℕ) (reader : Reader) (asked : Level) (tokens turns : List Token) (left : Front) → IsSound limit reader → IsFront limit asked tokens left → IfSome (climb reader asked turns left) (IsFront limit asked tokens)
+climb_is : (limit : ℕ) (reader : Reader) (asked : Level) (tokens turns : List Token) (left : Front) → IsSound limit reader → IsFront limit asked tokens left
+    → IfSome (climb reader asked turns left) (IsFront limit asked tokens)
 climb_is limit reader asked tokens [] left sound is = is
 climb_is limit reader asked tokens (turn ∷ turns) left sound is =
-    with_right_is limit reader asked tokens (climb reader asked turns) left (infix_at asked left.1 left.2) sound (λ x front. climb_is limit reader asked tokens turns x sound front) is (infix_at_is asked left.1 left.2)
+    with_right_is limit reader asked tokens (climb reader asked turns) left (infix_at asked left.1 left.2) sound
+    (λ x front. climb_is limit reader asked tokens turns x sound front) is (infix_at_is asked left.1 left.2)
 
 -- So it is with any number of levels left.
 within_is : (limit : ℕ) (inner : Reader) (levels_left : ℕ) → IsSound limit inner → IsSound (suc limit) (within inner levels_left)

@@ -1,8 +1,10 @@
 -- Infix operations: what a token says of one, and an expression read as its first operand and the operations behind.
-use Rattle.std.proofs.Common.{◌≡◌, ℕ, suc, zero, ◌+◌, ◌<◌, ◌≤◌, Bool, true, false, cond, List, [], ◌∷◌, ◌++◌, Option, Some, None, refl, ap, sym, ◌∙◌, arith, ◌&&◌}
+use Rattle.std.proofs.Common.{◌≡◌, ℕ, suc, zero, ◌+◌, ◌<◌, ◌≤◌, Bool, true, false, cond, List, [], ◌∷◌, ◌++◌, Option, Some, None, refl, ap, sym, ◌∙◌, arith}
+use Rattle.std.proofs.Common.{◌&&◌}
 use Rattle.std.specs.Prelude.{IfSome, option_and_then}
 use Rattle.std.proofs.lemmas.Bool.Decides.{nat_tests}
-use Rattle.unit_tree.specs.Phrases.{Level, Whole, Or, And, Not, Comparison, Sum, Product, Negation, Primary, strength, binary_level, left_level, right_level, allows, operation, binary_tokens}
+use Rattle.unit_tree.specs.Phrases.{Level, Whole, Or, And, Not, Comparison, Sum, Product, Negation, Primary, strength, binary_level, left_level, right_level}
+use Rattle.unit_tree.specs.Phrases.{allows, operation, binary_tokens}
 use Rattle.unit_tree.specs.declared.expr.BinOp.{BinOp}
 use Rattle.unit_tree.specs.declared.expr.BinOp.TheVariants as by
 use Rattle.unit_tree.specs.declared.expr.Expr as expr
@@ -111,16 +113,20 @@ pub record Takes (asked left : Level) (tokens : List Token) (found : BinOp × Li
   pub left_fits : allows (left_level (binary_level found.0)) left ≡ true
 
 -- An operation is taken where both tests pass.
-takes_test : (asked left : Level) (first : Token) (rest : List Token) (op : BinOp) (one other : Bool) → Reads first op → allows asked (binary_level op) ≡ one → allows (left_level (binary_level op)) left ≡ other → IfSome (cond (one && other) (Some (op, rest)) None) (Takes asked left (first ∷ rest))
-takes_test asked left first rest op true true is one other = record { spelled = ap (λ t. t ∷ rest) (sym is.0); between = is.1; asked_for = one; left_fits = other }
+takes_test : (asked left : Level) (first : Token) (rest : List Token) (op : BinOp) (one other : Bool) → Reads first op → allows asked (binary_level op) ≡ one
+    → allows (left_level (binary_level op)) left ≡ other → IfSome (cond (one && other) (Some (op, rest)) None) (Takes asked left (first ∷ rest))
+takes_test asked left first rest op true true is one other =
+    record { spelled = ap (λ t. t ∷ rest) (sym is.0); between = is.1; asked_for = one; left_fits = other }
 takes_test asked left first rest op true false is one other = tt
 takes_test asked left first rest op false other is one same = tt
 
 -- So it is with what the first token is read as.
 takes_by : (asked left : Level) (first : Token) (rest : List Token) (found : Option BinOp) → IfSome found (Reads first)
-    → IfSome (option_and_then (λ op. cond (allows asked (binary_level op) && allows (left_level (binary_level op)) left) (Some (op, rest)) None) found) (Takes asked left (first ∷ rest))
+    → IfSome (option_and_then (λ op. cond (allows asked (binary_level op) && allows (left_level (binary_level op)) left) (Some (op, rest)) None) found)
+    (Takes asked left (first ∷ rest))
 takes_by asked left first rest None is = tt
-takes_by asked left first rest (Some op) is = takes_test asked left first rest op (allows asked (binary_level op)) (allows (left_level (binary_level op)) left) is refl refl
+takes_by asked left first rest (Some op) is =
+    takes_test asked left first rest op (allows asked (binary_level op)) (allows (left_level (binary_level op)) left) is refl refl
 
 -- So it is with the first of any tokens.
 pub infix_at_is : (asked left : Level) (tokens : List Token) → IfSome (infix_at asked left tokens) (Takes asked left tokens)
@@ -128,7 +134,8 @@ infix_at_is asked left [] = tt
 infix_at_is asked left (first ∷ rest) = takes_by asked left first rest (infix_of first) (infix_is first)
 
 -- The right side of an operation that is found is on a stronger level than the one asked for.
-rises_by : (asked left : Level) (tokens : List Token) (found : Option (BinOp × List Token)) (op : BinOp) (rest : List Token) → IfSome found (Takes asked left tokens) → found ≡ Some (op, rest) → strength asked < strength (right_level (binary_level op))
+rises_by : (asked left : Level) (tokens : List Token) (found : Option (BinOp × List Token)) (op : BinOp) (rest : List Token)
+    → IfSome found (Takes asked left tokens) → found ≡ Some (op, rest) → strength asked < strength (right_level (binary_level op))
 rises_by asked left tokens None op rest is same = absurd (cc)
 rises_by asked left tokens (Some other) op rest is same =
     let one : other.0 ≡ op = ap (λ (o : Option (BinOp × List Token)). elim o [ None ↦ op | Some x ↦ x.0 ]) same in
@@ -137,7 +144,8 @@ rises_by asked left tokens (Some other) op rest is same =
     rw (← one) (omega arith)
 
 -- So it is with the operation that comes first.
-pub infix_at_rises : (asked left : Level) (tokens : List Token) (op : BinOp) (rest : List Token) → infix_at asked left tokens ≡ Some (op, rest) → strength asked < strength (right_level (binary_level op))
+pub infix_at_rises : (asked left : Level) (tokens : List Token) (op : BinOp) (rest : List Token) → infix_at asked left tokens ≡ Some (op, rest)
+    → strength asked < strength (right_level (binary_level op))
 infix_at_rises asked left tokens op rest same = rises_by asked left tokens (infix_at asked left tokens) op rest (infix_at_is asked left tokens) same
 
 -- ---- Reading step by step
@@ -149,35 +157,45 @@ then_same (Some x) f g same = same x
 
 -- Two readers that agree on every right side that is asked for.
 abbrev Agree : Reader → Reader → Level → Type 0
-Agree one other asked = (op : BinOp) (tokens : List Token) → is_infix op ≡ true → allows asked (binary_level op) ≡ true → one (right_level (binary_level op)) tokens ≡ other (right_level (binary_level op)) tokens
+Agree one other asked = (op : BinOp) (tokens : List Token) → is_infix op ≡ true → allows asked (binary_level op) ≡ true
+    → one (right_level (binary_level op)) tokens ≡ other (right_level (binary_level op)) tokens
 
 -- With one more operation two readers that agree give the same.
-agree_by : (one other : Reader) (asked : Level) (f g : Front → Option Front) (left : Front) (found : Option (BinOp × List Token)) → Agree one other asked → ((x : Front) → f x ≡ g x) → IfSome found (Takes asked left.1 left.2) → with_right one f left found ≡ with_right other g left found
+agree_by : (one other : Reader) (asked : Level) (f g : Front → Option Front) (left : Front) (found : Option (BinOp × List Token)) → Agree one other asked
+    → ((x : Front) → f x ≡ g x) → IfSome found (Takes asked left.1 left.2) → with_right one f left found ≡ with_right other g left found
 agree_by one other asked f g left None same next is = refl
 agree_by one other asked f g left (Some (op, behind)) same next is =
-    let on : (right : Front) → f (expr.Binary op left.0 right.0, binary_level op, right.2) ≡ g (expr.Binary op left.0 right.0, binary_level op, right.2) = λ right. next (expr.Binary op left.0 right.0, binary_level op, right.2) in
+    let on : (right : Front)
+    → f (expr.Binary op left.0 right.0, binary_level op, right.2) ≡ g (expr.Binary op left.0 right.0, binary_level op, right.2) =
+    λ right. next (expr.Binary op left.0 right.0, binary_level op, right.2) in
     ap (option_and_then (λ (right : Front). f (expr.Binary op left.0 right.0, binary_level op, right.2))) (same op behind is.between is.asked_for)
-    ∙ then_same (other (right_level (binary_level op)) behind) (λ right. f (expr.Binary op left.0 right.0, binary_level op, right.2)) (λ right. g (expr.Binary op left.0 right.0, binary_level op, right.2)) on
+    ∙ then_same (other (right_level (binary_level op)) behind) (λ right. f (expr.Binary op left.0 right.0, binary_level op, right.2))
+    (λ right. g (expr.Binary op left.0 right.0, binary_level op, right.2)) on
 
 -- With all the operations behind a left side two readers that agree give the same.
-climb_agree : (one other : Reader) (asked : Level) (turns : List Token) (left : Front) → Agree one other asked → climb one asked turns left ≡ climb other asked turns left
+climb_agree : (one other : Reader) (asked : Level) (turns : List Token) (left : Front) → Agree one other asked
+    → climb one asked turns left ≡ climb other asked turns left
 climb_agree one other asked [] left same = refl
 climb_agree one other asked (turn ∷ turns) left same =
-    agree_by one other asked (climb one asked turns) (climb other asked turns) left (infix_at asked left.1 left.2) same (λ x. climb_agree one other asked turns x same) (infix_at_is asked left.1 left.2)
+    agree_by one other asked (climb one asked turns) (climb other asked turns) left (infix_at asked left.1 left.2) same
+    (λ x. climb_agree one other asked turns x same) (infix_at_is asked left.1 left.2)
 
 -- More levels than are left change nothing.
-steady : (inner : Reader) (levels_left : ℕ) (asked : Level) (tokens : List Token) → 8 < levels_left + strength asked → within inner (suc levels_left) asked tokens ≡ within inner levels_left asked tokens
+steady : (inner : Reader) (levels_left : ℕ) (asked : Level) (tokens : List Token) → 8 < levels_left + strength asked
+    → within inner (suc levels_left) asked tokens ≡ within inner levels_left asked tokens
 unfolding within
 steady inner zero asked tokens enough = let bound = strongest asked in absurd (omega arith)
 steady inner (suc levels_left) asked tokens enough =
-    then_same (operand_at inner asked tokens) (λ left. climb (within inner (suc levels_left)) asked left.2 left) (λ left. climb (within inner levels_left) asked left.2 left) (λ left.
+    then_same (operand_at inner asked tokens) (λ left. climb (within inner (suc levels_left)) asked left.2 left)
+    (λ left. climb (within inner levels_left) asked left.2 left) (λ left.
     climb_agree (within inner (suc levels_left)) (within inner levels_left) asked left.2 left (λ op behind between allowed.
     let up = rises op between in
     let bound = allows_is asked (binary_level op) allowed in
     steady inner levels_left (right_level (binary_level op)) behind (omega arith)))
 
 -- An expression is its first operand with the infix operations behind it.
-pub read_step : (budget : ℕ) (asked : Level) (tokens : List Token) → read budget asked tokens ≡ option_and_then (λ left. climb (read budget) asked left.2 left) (operand_at (deeper budget) asked tokens)
+pub read_step : (budget : ℕ) (asked : Level) (tokens : List Token)
+    → read budget asked tokens ≡ option_and_then (λ left. climb (read budget) asked left.2 left) (operand_at (deeper budget) asked tokens)
 unfolding read within
 read_step zero asked tokens = sym (steady (λ level behind. None) 9 asked tokens (omega arith))
 read_step (suc budget) asked tokens = sym (steady (read budget) 9 asked tokens (omega arith))

@@ -6,7 +6,8 @@ use Rattle.unit_tree.specs.declared.token.Token.TheVariants as token
 use Rattle.text_lines.specs.Expressions.{name_at}
 use Rattle.text_lines.specs.LineReading.{more_names}
 
-pub next_named : (names : List (List ℕ)) (tokens : List Token) (name : List ℕ) (rest : List Token) → name_at tokens ≡ Some (name, rest) → more_names names (token.Symbol sign.Comma ∷ tokens) ≡ more_names (names ++ (name ∷ [])) rest
+pub next_named : (names : List (List ℕ)) (tokens : List Token) (name : List ℕ) (rest : List Token) → name_at tokens ≡ Some (name, rest)
+    → more_names names (token.Symbol sign.Comma ∷ tokens) ≡ more_names (names ++ (name ∷ [])) rest
 next_named names [] name rest is = absurd (cc)
 next_named names (token.Name found ∷ behind) name rest is =
     let pairs : ◌≡◌ {A = List ℕ × List Token} (found, behind) (name, rest) = cc in

@@ -10,19 +10,24 @@ pub group_tokens : (inner rest : List Token) → in_parens inner ++ rest ≡ sym
 group_tokens inner rest = ap (λ all. symbol sign.Open ∷ all) (append_assoc inner (symbol sign.Close ∷ []) rest)
 
 -- Two expressions in parentheses.
-pub pair_tokens : (left right rest : List Token) → in_parens (left ++ (symbol sign.Comma ∷ right)) ++ rest ≡ symbol sign.Open ∷ (left ++ (symbol sign.Comma ∷ (right ++ (symbol sign.Close ∷ rest))))
+pub pair_tokens : (left right rest : List Token)
+    → in_parens (left ++ (symbol sign.Comma ∷ right)) ++ rest ≡ symbol sign.Open ∷ (left ++ (symbol sign.Comma ∷ (right ++ (symbol sign.Close ∷ rest))))
 pair_tokens left right rest =
     group_tokens (left ++ (symbol sign.Comma ∷ right)) rest
     ∙ ap (λ all. symbol sign.Open ∷ all) (append_assoc left (symbol sign.Comma ∷ right) (symbol sign.Close ∷ rest))
 
 -- Three expressions in parentheses.
-pub clamp_tokens : (value low high rest : List Token) → in_parens (value ++ (symbol sign.Comma ∷ (low ++ (symbol sign.Comma ∷ high)))) ++ rest ≡ symbol sign.Open ∷ (value ++ (symbol sign.Comma ∷ (low ++ (symbol sign.Comma ∷ (high ++ (symbol sign.Close ∷ rest))))))
+pub clamp_tokens : (value low high rest : List Token)
+    → in_parens (value ++ (symbol sign.Comma ∷ (low ++ (symbol sign.Comma ∷ high)))) ++ rest
+    ≡ symbol sign.Open ∷ (value ++ (symbol sign.Comma ∷ (low ++ (symbol sign.Comma ∷ (high ++ (symbol sign.Close ∷ rest))))))
 clamp_tokens value low high rest =
     pair_tokens value (low ++ (symbol sign.Comma ∷ high)) rest
     ∙ ap (λ all. symbol sign.Open ∷ (value ++ (symbol sign.Comma ∷ all))) (append_assoc low (symbol sign.Comma ∷ high) (symbol sign.Close ∷ rest))
 
 -- The parts of a choice, behind `if`.
-pub choice_tokens : (condition chosen other rest : List Token) → (condition ++ (keyword word.Then ∷ (chosen ++ (keyword word.Else ∷ other)))) ++ rest ≡ condition ++ (keyword word.Then ∷ (chosen ++ (keyword word.Else ∷ (other ++ rest))))
+pub choice_tokens : (condition chosen other rest : List Token)
+    → (condition ++ (keyword word.Then ∷ (chosen ++ (keyword word.Else ∷ other)))) ++ rest
+    ≡ condition ++ (keyword word.Then ∷ (chosen ++ (keyword word.Else ∷ (other ++ rest))))
 choice_tokens condition chosen other rest =
     append_assoc condition (keyword word.Then ∷ (chosen ++ (keyword word.Else ∷ other))) rest
     ∙ ap (λ all. condition ++ (keyword word.Then ∷ all)) (append_assoc chosen (keyword word.Else ∷ other) rest)

@@ -1,5 +1,6 @@
 -- The form that tokens write is the one that is read of them: what is read is written.
-use Rattle.std.proofs.Common.{◌≡◌, ℕ, ◌≤◌, ◌^◌, Bool, true, false, cond, ◌&&◌, ◌==◌, pos, nat_le, nat_lt, List, [], ◌∷◌, ◌++◌, append_assoc, codes, Option, Some, None, refl, ap, sym, subst, ◌∙◌, arith}
+use Rattle.std.proofs.Common.{◌≡◌, ℕ, ◌≤◌, ◌^◌, Bool, true, false, cond, ◌&&◌, ◌==◌, pos, nat_le, nat_lt, List, [], ◌∷◌, ◌++◌, append_assoc, codes, Option}
+use Rattle.std.proofs.Common.{Some, None, refl, ap, sym, subst, ◌∙◌, arith}
 use Rattle.std.specs.Prelude.{IfSome}
 use Rattle.std.specs.Str.{bytes_eq}
 use Rattle.std.proofs.lemmas.Bool.{and_parts, eqb-true}
@@ -10,7 +11,8 @@ use Rattle.fixed_words.specs.Types.{AreDecimals, is_word_of}
 use Rattle.fixed_words.specs.declared.types.Literal.TheVariants as literal
 use Rattle.fixed_words.specs.declared.types.Ty.{Ty}
 use Rattle.fixed_words.specs.declared.types.Ty.TheVariants as types
-use Rattle.unit_tree.specs.LineForms.{type_tokens, port_tokens, names_tokens, needs_tokens, equals, front_tokens, Nothing, tail_of, sign_tokens, WritesLiteral, WritesSeconds, WritesTail, AreCountsInRange, WritesForm}
+use Rattle.unit_tree.specs.LineForms.{type_tokens, port_tokens, names_tokens, needs_tokens, equals, front_tokens, Nothing, tail_of, sign_tokens, WritesLiteral}
+use Rattle.unit_tree.specs.LineForms.{WritesSeconds, WritesTail, AreCountsInRange, WritesForm}
 use Rattle.unit_tree.specs.Phrases.{keyword, symbol, whole, Writes}
 use Rattle.unit_tree.specs.declared.line_form.LineForm.{LineForm}
 use Rattle.unit_tree.specs.declared.line_form.LineForm.TheVariants as form
@@ -24,14 +26,19 @@ use Rattle.unit_tree.specs.declared.unit.Local.{Local}
 use Rattle.unit_tree.specs.declared.unit.Output.{Output}
 use Rattle.unit_tree.specs.declared.unit.Param.{Param}
 use Rattle.text_lines.specs.Expressions.{after_symbol, name_at, decimals_at, read_expression}
-use Rattle.text_lines.specs.LineReading.{count_at, unsigned_type, plain_type, named_type, type_at, declaration_at, port_at, more_names, needs_at, number_literal, literal_of, seconds_of, last, started_of, output_of, header_form, unit_form, resolution_form, param_form, state_form, local_form, input_form, event_input_form, output_form, event_output_form, event_form, max_form, if_form, accept_form, repeat_form, instance_form, connect_form, stop_form, longest_form, zero_form, rows_form, sample_form, assign_form, setting_form, keyword_form, name_form, read_form}
+use Rattle.text_lines.specs.LineReading.{count_at, unsigned_type, plain_type, named_type, type_at, declaration_at, port_at, more_names, needs_at}
+use Rattle.text_lines.specs.LineReading.{number_literal, literal_of, seconds_of, last, started_of, output_of, header_form, unit_form, resolution_form}
+use Rattle.text_lines.specs.LineReading.{param_form, state_form, local_form, input_form, event_input_form, output_form, event_output_form, event_form, max_form}
+use Rattle.text_lines.specs.LineReading.{if_form, accept_form, repeat_form, instance_form, connect_form, stop_form, longest_form, zero_form, rows_form}
+use Rattle.text_lines.specs.LineReading.{sample_form, assign_form, setting_form, keyword_form, name_form, read_form}
 use Rattle.text_lines.proofs.Fronts.{then_holds, if_holds, after_symbol_is, name_at_is, decimals_at_is}
 use Rattle.text_lines.proofs.WrittenTrees.{written_read}
 
 -- ---- Parts of a line
 
 -- What holds of both ways of a test holds of the reading by it.
-either_holds : {B : Type 0} (test : Bool) (one other : Option B) (Q : B → Type 0) → (test ≡ true → IfSome one Q) → IfSome other Q → IfSome (cond test one other) Q
+either_holds : {B : Type 0} (test : Bool) (one other : Option B) (Q : B → Type 0) → (test ≡ true → IfSome one Q) → IfSome other Q
+    → IfSome (cond test one other) Q
 either_holds true one other Q first second = first refl
 either_holds false one other Q first second = second
 
@@ -47,7 +54,8 @@ IsCount low high tokens found = (whole found.0 ∷ found.1 ≡ tokens) × (low �
 count_at_is : (low high : ℕ) (tokens : List Token) → IfSome (count_at low high tokens) (IsCount low high tokens)
 count_at_is low high [] = tt
 count_at_is low high (token.Number digits decimals ∷ rest) =
-    if_holds ((decimals == 0) && (nat_le low digits && nat_le digits high)) (Some (digits, rest)) (IsCount low high (token.Number digits decimals ∷ rest)) (λ all.
+    if_holds ((decimals == 0) && (nat_le low digits && nat_le digits high)) (Some (digits, rest)) (IsCount low high (token.Number digits decimals ∷ rest))
+    (λ all.
     let parts = and_parts (decimals == 0) (nat_le low digits && nat_le digits high) all in
     let bounds = and_parts (nat_le low digits) (nat_le digits high) parts.1 in
     (ap (λ d. token.Number digits d ∷ rest) (sym (eqb-true decimals 0 parts.0)), grind (arith, nat_tests, bounds.0), grind (arith, nat_tests, bounds.1)))
@@ -83,8 +91,12 @@ unfolding named_type
 named_type_is name rest =
     either_holds (bytes_eq name (codes "Fixed")) _ _ (IsType (token.Name name ∷ rest)) (λ same.
     then_holds (decimals_at rest) _ _ (IsType (token.Name name ∷ rest)) (decimals_at_is rest) (λ found is.
-    let few = is.1 in
-    (ap (λ all. token.Name (codes "Fixed") ∷ all) is.0 ∙ ap (λ n. token.Name n ∷ rest) (sym ((bytes_eq-Decides name (codes "Fixed")).0 same)), grind (arith, nat_tests)))) (
+    let few = is.1 in (
+      ap (λ all. token.Name (codes "Fixed") ∷ all) is.0
+          ∙ ap (λ n. token.Name n ∷ rest) (sym ((bytes_eq-Decides name (codes "Fixed")).0 same)),
+      grind (arith, nat_tests),
+    )))
+    (
     then_holds (plain_type name) _ _ (IsType (token.Name name ∷ rest)) (plain_type_is name) (λ ty is.
     (ap (λ all. all ++ rest) is.0, is.1)))
 
@@ -120,7 +132,8 @@ port_at_is tokens =
     ap (λ all. token.Name instance.0 ∷ symbol sign.Point ∷ all) is ∙ ap (λ all. token.Name instance.0 ∷ all) point ∙ named)))
 
 -- A name more comes behind a comma.
-names_and_one : (first next : List ℕ) (names : List (List ℕ)) → names_tokens (first ∷ names ++ (next ∷ [])) ≡ names_tokens (first ∷ names) ++ (symbol sign.Comma ∷ token.Name next ∷ [])
+names_and_one : (first next : List ℕ) (names : List (List ℕ))
+    → names_tokens (first ∷ names ++ (next ∷ [])) ≡ names_tokens (first ∷ names) ++ (symbol sign.Comma ∷ token.Name next ∷ [])
 names_and_one first next [] = refl
 names_and_one first next (second ∷ names) = ap (λ all. token.Name first ∷ symbol sign.Comma ∷ all) (names_and_one second next names)
 
@@ -128,7 +141,8 @@ names_and_one first next (second ∷ names) = ap (λ all. token.Name first ∷ s
 abbrev AreNeeds : List Token → List (List ℕ) × List Token → Type 0
 AreNeeds tokens found = needs_tokens found.0 ++ found.1 ≡ tokens
 
-more_names_is : (first : List ℕ) (names : List (List ℕ)) (tokens : List Token) → IfSome (more_names (first ∷ names) tokens) (AreNeeds (needs_tokens (first ∷ names) ++ tokens))
+more_names_is : (first : List ℕ) (names : List (List ℕ)) (tokens : List Token)
+    → IfSome (more_names (first ∷ names) tokens) (AreNeeds (needs_tokens (first ∷ names) ++ tokens))
 more_names_is first names (token.Symbol sign.Comma ∷ token.Name next ∷ rest) =
     subst (λ all. IfSome (more_names (first ∷ names ++ (next ∷ [])) rest) (AreNeeds all))
     (ap (λ all. keyword word.Needs ∷ all ++ rest) (names_and_one first next names)
@@ -144,9 +158,11 @@ needs_at_is rest = refl
 
 -- ---- Ends of a line
 
-number_literal_is : (negative : Bool) (digits decimals : ℕ) → IfSome (number_literal negative digits decimals) (λ value. WritesLiteral value (sign_tokens negative ++ (token.Number digits decimals ∷ [])))
+number_literal_is : (negative : Bool) (digits decimals : ℕ)
+    → IfSome (number_literal negative digits decimals) (λ value. WritesLiteral value (sign_tokens negative ++ (token.Number digits decimals ∷ [])))
 number_literal_is negative digits decimals =
-    if_holds (is_word_of types.Int64 (with_sign negative digits)) (Some (literal.Number (with_sign negative digits) decimals)) (λ value. WritesLiteral value (sign_tokens negative ++ (token.Number digits decimals ∷ []))) (λ fits.
+    if_holds (is_word_of types.Int64 (with_sign negative digits)) (Some (literal.Number (with_sign negative digits) decimals))
+    (λ value. WritesLiteral value (sign_tokens negative ++ (token.Number digits decimals ∷ []))) (λ fits.
     record {
       negative = negative;
       digits = digits;
@@ -164,7 +180,8 @@ literal_of_is _ = tt
 
 seconds_of_is : (tokens : List Token) → IfSome (seconds_of tokens) (λ seconds. WritesSeconds seconds tokens)
 seconds_of_is (token.Number digits decimals ∷ []) =
-    if_holds (nat_lt digits (2 ^ 63)) (Some (literal.Number (pos digits) decimals)) (λ seconds. WritesSeconds seconds (token.Number digits decimals ∷ [])) (λ below. (digits, grind (arith, nat_tests), refl, refl))
+    if_holds (nat_lt digits (2 ^ 63)) (Some (literal.Number (pos digits) decimals)) (λ seconds. WritesSeconds seconds (token.Number digits decimals ∷ []))
+    (λ below. (digits, grind (arith, nat_tests), refl, refl))
 seconds_of_is _ = tt
 
 expression_is : (tokens : List Token) → IfSome (read_expression tokens) (λ value. Writes value tokens)
@@ -175,7 +192,8 @@ abbrev Written : List Token → LineForm → Type 0
 Written tokens some = WritesForm some tokens
 
 -- A form that has no tail is written by its front.
-last_is : (some : LineForm) (rest tokens : List Token) → tail_of some ≡ Nothing → front_tokens some ++ rest ≡ tokens → AreCountsInRange some → IfSome (last some rest) (Written tokens)
+last_is : (some : LineForm) (rest tokens : List Token) → tail_of some ≡ Nothing → front_tokens some ++ rest ≡ tokens → AreCountsInRange some
+    → IfSome (last some rest) (Written tokens)
 last_is some [] tokens none spelled counts = record {
   tail = [];
   spelled = sym spelled;
@@ -200,7 +218,9 @@ started_of_is tokens =
     record {
       tail = behind;
       spelled = sym (
-          ap (λ all. token.Name declared.0.name ∷ symbol sign.Colon ∷ all) (append_assoc (type_tokens declared.0.ty) equals behind ∙ ap (λ all. type_tokens declared.0.ty ++ all) behind_is) ∙ is.0);
+          ap (λ all. token.Name declared.0.name ∷ symbol sign.Colon ∷ all)
+          (append_assoc (type_tokens declared.0.ty) equals behind ∙ ap (λ all. type_tokens declared.0.ty ++ all) behind_is)
+          ∙ is.0);
       tail_is = start_is;
       counts = is.1;
     })))
@@ -279,7 +299,8 @@ event_input_is : (tokens : List Token) → IfSome (event_input_form tokens) (Wri
 unfolding event_input_form
 event_input_is tokens =
     then_holds (declaration_at tokens) _ _ (Written (keyword word.Event ∷ keyword word.Input ∷ tokens)) (declaration_at_is tokens) (λ event is.
-    last_is (form.EventInput (record { name = event.0.name; ty = event.0.ty })) event.1 _ refl (ap (λ all. keyword word.Event ∷ keyword word.Input ∷ all) is.0) is.1)
+    last_is (form.EventInput (record { name = event.0.name; ty = event.0.ty })) event.1 _ refl
+    (ap (λ all. keyword word.Event ∷ keyword word.Input ∷ all) is.0) is.1)
 
 output_is : (tokens : List Token) → IfSome (output_form tokens) (Written (keyword word.Output ∷ tokens))
 unfolding output_form

@@ -26,7 +26,8 @@ read_written tree tokens is =
     ∙ ap Some is.is_tree
 
 -- A front with no token behind it is written.
-written_by : (tree : Expr) (tokens : List Token) (found : Option Front) → IfSome found (IsFront 65 Whole tokens) → whole_tree found ≡ Some tree → Writes tree tokens
+written_by : (tree : Expr) (tokens : List Token) (found : Option Front) → IfSome found (IsFront 65 Whole tokens) → whole_tree found ≡ Some tree
+    → Writes tree tokens
 written_by tree tokens None is same = absurd (cc)
 written_by tree tokens (Some (read, level, [])) is same =
     let one : read ≡ tree = cc in
@@ -34,7 +35,8 @@ written_by tree tokens (Some (read, level, [])) is same =
       phrase = is.written;
       is_tree = is.is_tree ∙ one;
       spelled = sym (append-nil (phrase_tokens is.written)) ∙ is.spelled;
-      is_grammatical = let deep = is.nested in and_from (stands Whole is.written) _ is.stands_so (and_from (nat_le (nesting is.written) 64) _ (grind (arith, nat_tests)) is.fits);
+      is_grammatical = let deep = is.nested in
+          and_from (stands Whole is.written) _ is.stands_so (and_from (nat_le (nesting is.written) 64) _ (grind (arith, nat_tests)) is.fits);
     }
 written_by tree tokens (Some (read, level, first ∷ rest)) is same = absurd (cc)
 
@@ -56,7 +58,8 @@ reads_as tokens (Err unread.NoMemory) gives = tt
 
 -- Tokens write an expression, or none.
 -- What says what they write decides it.
-decided_by : (tokens : List Token) (found : Option Expr) → ExpressionIs tokens found → ((tree : Expr) × Writes tree tokens) ⊎ ((tree : Expr) → Writes tree tokens → ⊥)
+decided_by : (tokens : List Token) (found : Option Expr) → ExpressionIs tokens found
+    → ((tree : Expr) × Writes tree tokens) ⊎ ((tree : Expr) → Writes tree tokens → ⊥)
 decided_by tokens (Some tree) is = inl (tree, is)
 decided_by tokens None is = inr is
 

@@ -1,5 +1,6 @@
 -- Reading of an expression from tokens: what its answer says, and how it is read.
-use Rattle.std.specs.Prelude.{◌≡◌, ℕ, suc, zero, ◌^◌, pos, Bool, true, false, ◌&&◌, ◌==◌, nat_le, nat_lt, List, [], ◌∷◌, Option, Some, None, Result, Ok, Err, ⊤, if◌then◌else◌, option_and_then}
+use Rattle.std.specs.Prelude.{◌≡◌, ℕ, suc, zero, ◌^◌, pos, Bool, true, false, ◌&&◌, ◌==◌, nat_le, nat_lt, List, [], ◌∷◌, Option, Some, None, Result, Ok, Err, ⊤}
+use Rattle.std.specs.Prelude.{if◌then◌else◌, option_and_then}
 use Rattle.std.specs.Borrow.{Bor}
 use Rattle.std.specs.Str.{bytes_eq}
 use Rattle.unit_tree.specs.Phrases.{Level, Whole, Primary, unary_level, binary_level, left_level, right_level, allows, Writes}

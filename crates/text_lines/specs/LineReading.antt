@@ -59,7 +59,8 @@ plain_type name =
 -- The type with the name, and with the decimals behind it if it has them.
 unfoldable pub named_type : List ℕ → List Token → Option (Ty × List Token)
 named_type name rest =
-    if bytes_eq name (codes "Fixed") then (decimals_at rest >>= λ decimals. Some (types.Fixed decimals.0, decimals.1)) else (plain_type name >>= λ ty. Some (ty, rest))
+    if bytes_eq name (codes "Fixed") then (decimals_at rest >>= λ decimals. Some (types.Fixed decimals.0, decimals.1)) else
+    (plain_type name >>= λ ty. Some (ty, rest))
 
 -- A type.
 unfoldable pub type_at : List Token → Option (Ty × List Token)

@@ -1,5 +1,6 @@
 -- Each text says one system, or is refused at one line by one rule.
-use Rattle.std.proofs.Common.{◌≡◌, cond, ℕ, suc, ◌<◌, ◌≤◌, Bool, true, false, not, List, [], ◌∷◌, ◌++◌, append_assoc, length, ◌⊎◌, inl, inr, refl, ap, sym, subst, ◌∙◌, arith}
+use Rattle.std.proofs.Common.{◌≡◌, cond, ℕ, suc, ◌<◌, ◌≤◌, Bool, true, false, not, List, [], ◌∷◌, ◌++◌, append_assoc, length, ◌⊎◌, inl, inr, refl, ap, sym}
+use Rattle.std.proofs.Common.{subst, ◌∙◌, arith}
 use Rattle.std.specs.Prelude.{◌&&◌, nat_le, nat_lt, ◌≢◌}
 use Rattle.std.specs.List.{list_all, filter, AllZip}
 use Rattle.std.proofs.lemmas.Bool.{and_parts, cases_Bool, cases_lt, true≢false}
@@ -21,7 +22,9 @@ use Rattle.text_lines.specs.Seen.{IsClean}
 use Rattle.unit_text.specs.Nesting.{Nested, headed_by, and_form, nested_forms}
 use Rattle.unit_text.proofs.NestingLaws.{before_next, same_parts, whole_forms, parts_close}
 use Rattle.text_laws.proofs.RefusalSteps.{unbroken, IsUnbroken, AreUnbroken, IsLeast, first_broken, no_break}
-use Rattle.unit_text.proofs.Walks.{FormsAreKnown, Decided, first_line, version_known, FormIn, form_in, same_forms, AreBlank, NestTo, are_short, blank_more, nest_blank, header_begins, line_nests, BreaksLeast, bytes_break, length_breaks, formless_breaks, place_breaks, first_place_breaks, headless_breaks, blank_unbroken, is_written, blank_have_none, one_in}
+use Rattle.unit_text.proofs.Walks.{FormsAreKnown, Decided, first_line, version_known, FormIn, form_in, same_forms, AreBlank, NestTo, are_short, blank_more}
+use Rattle.unit_text.proofs.Walks.{nest_blank, header_begins, line_nests, BreaksLeast, bytes_break, length_breaks, formless_breaks, place_breaks}
+use Rattle.unit_text.proofs.Walks.{first_place_breaks, headless_breaks, blank_unbroken, is_written, blank_have_none, one_in}
 use Rattle.text_laws.proofs.SpelledBytes.{none_forbidden}
 use Rattle.unit_tree.specs.Texts.{BeginsVersion2}
 use Rattle.text_laws.proofs.ReadIsPrintable.{none_written}
@@ -50,7 +53,8 @@ seen line = elim (cases_Bool (has_forbidden_byte line)) [
 
 -- ---- The first broken line
 
-pub broken_at : (text before : List (List ℕ)) (line : List ℕ) (later : List (List ℕ)) (rule : ℕ) → before ++ (line ∷ later) ≡ text → list_all is_blank_line text ≡ false → AreUnbroken text [] before → BreaksLeast text before line rule → IsFirstBroken text (suc (length before)) rule
+pub broken_at : (text before : List (List ℕ)) (line : List ℕ) (later : List (List ℕ)) (rule : ℕ) → before ++ (line ∷ later) ≡ text
+    → list_all is_blank_line text ≡ false → AreUnbroken text [] before → BreaksLeast text before line rule → IsFirstBroken text (suc (length before)) rule
 broken_at text before line later rule cut written kept broken =
     subst (λ all. IsFirstBroken all (suc (length before)) rule) cut
     (first_broken before line later rule
@@ -72,10 +76,12 @@ pub data OneMore (text before : List (List ℕ)) (line : List ℕ) : Type 0 wher
   Stops : (rule : ℕ) → BreaksLeast text before line rule → OneMore text before line
   GoesOn : (next : Nested) → NestTo text (before ++ (line ∷ [])) next → OneMore text before line
 
-one_more : FormsAreKnown → (text : List (List ℕ)) → Versioned text → (before : List (List ℕ)) (nested : Nested) (line : List ℕ) → NestTo text before nested → OneMore text before line
+one_more : FormsAreKnown → (text : List (List ℕ)) → Versioned text → (before : List (List ℕ)) (nested : Nested) (line : List ℕ) → NestTo text before nested
+    → OneMore text before line
 one_more known text version before nested line so_far = by_bytes (seen line)
   where
-    by_place : IsClean line → (some : LineForm) → HasFormIn text some line → (may_stand (before_next nested) some ≡ true) ⊎ (may_stand (before_next nested) some ≡ false) → OneMore text before line
+    by_place : IsClean line → (some : LineForm) → HasFormIn text some line
+        → (may_stand (before_next nested) some ≡ true) ⊎ (may_stand (before_next nested) some ≡ false) → OneMore text before line
     by_place clean some has (inl may) = GoesOn (and_form nested some) (line_nests known text before line nested some so_far clean has may)
     by_place clean some has (inr off) = Stops 5 (place_breaks text before line nested some so_far clean has off)
 
@@ -89,7 +95,8 @@ one_more known text version before nested line so_far = by_bytes (seen line)
     by_bytes (IsBlank clean blank) = GoesOn nested (nest_blank text before line nested so_far clean blank)
     by_bytes (IsWritten clean here) = by_form clean here (form_in known text version line)
 
-along : FormsAreKnown → (text : List (List ℕ)) → Versioned text → list_all is_blank_line text ≡ false → (later before : List (List ℕ)) (nested : Nested) → before ++ later ≡ text → NestTo text before nested → Judged text
+along : FormsAreKnown → (text : List (List ℕ)) → Versioned text → list_all is_blank_line text ≡ false → (later before : List (List ℕ)) (nested : Nested)
+    → before ++ later ≡ text → NestTo text before nested → Judged text
 along known text version some_written [] before nested cut so_far =
     Nests nested (subst (λ all. NestTo text all nested) (sym (append-nil before) ∙ cut) so_far)
 along known text version some_written (line ∷ later) before nested cut so_far = elim (one_more known text version before nested line so_far) [
@@ -136,11 +143,14 @@ pub data OneFirst (text before : List (List ℕ)) (line : List ℕ) : Type 0 whe
   StaysBlank : AreBlank text (before ++ (line ∷ [])) → OneFirst text before line
   Begins : (version : ℕ) → NestTo text (before ++ (line ∷ [])) (headed_by version) → OneFirst text before line
 
-one_first : FormsAreKnown → (text : List (List ℕ)) → Versioned text → (before : List (List ℕ)) (line : List ℕ) → AreBlank text before → OneFirst text before line
+one_first : FormsAreKnown → (text : List (List ℕ)) → Versioned text → (before : List (List ℕ)) (line : List ℕ) → AreBlank text before
+    → OneFirst text before line
 one_first known text version before line so_far = by_bytes (seen line)
   where
-    by_head : IsClean line → (some : LineForm) → HasFormIn text some line → Heads some → (may_stand no_lines some ≡ true) ⊎ (may_stand no_lines some ≡ false) → OneFirst text before line
-    by_head clean some has (IsHeader by is) told = Begins by (header_begins known text before line by so_far clean (subst (λ one. HasFormIn text one line) is has))
+    by_head : IsClean line → (some : LineForm) → HasFormIn text some line → Heads some → (may_stand no_lines some ≡ true) ⊎ (may_stand no_lines some ≡ false)
+        → OneFirst text before line
+    by_head clean some has (IsHeader by is) told =
+        Begins by (header_begins known text before line by so_far clean (subst (λ one. HasFormIn text one line) is has))
     by_head clean some has (IsOther other) (inl may) = Stops 7 (headless_breaks known text before line some so_far clean has may other)
     by_head clean some has (IsOther other) (inr off) = Stops 5 (first_place_breaks text before line some so_far clean has off)
 
@@ -154,7 +164,8 @@ one_first known text version before line so_far = by_bytes (seen line)
     by_bytes (IsBlank clean blank) = StaysBlank (blank_more text before line so_far clean blank)
     by_bytes (IsWritten clean here) = by_form clean here (form_in known text version line)
 
-from_top : FormsAreKnown → (text : List (List ℕ)) → Versioned text → list_all is_blank_line text ≡ false → (later before : List (List ℕ)) → before ++ later ≡ text → AreBlank text before → Judged text
+from_top : FormsAreKnown → (text : List (List ℕ)) → Versioned text → list_all is_blank_line text ≡ false → (later before : List (List ℕ))
+    → before ++ later ≡ text → AreBlank text before → Judged text
 from_top known text version some_written [] before cut so_far =
     absurd (true≢false (sym (ap (list_all is_blank_line) (sym cut ∙ append-nil before) ∙ so_far.blank) ∙ some_written))
 from_top known text version some_written (line ∷ later) before cut so_far = elim (one_first known text version before line so_far) [
@@ -206,7 +217,8 @@ blank_is_refused (line ∷ lines) blank = by_length (nat_lt line_limit (length l
     least_at rule within is_least other by (inr told) = inr (sym told.1, omega (arith, told.2, within))
     least_at rule within is_least other by (inl at) = by_place at.before at.cut at.is_number at.breaks
       where
-        by_place : (before : List (List ℕ)) → text ≡ before ++ (at.line ∷ at.later) → other ≡ suc (length before) → LineBreaks text by before at.line → (1 < other) ⊎ ((1 ≡ other) × (rule ≤ by))
+        by_place : (before : List (List ℕ)) → text ≡ before ++ (at.line ∷ at.later) → other ≡ suc (length before) → LineBreaks text by before at.line
+            → (1 < other) ⊎ ((1 ≡ other) × (rule ≤ by))
         by_place [] cut number breaks =
             let same : at.line ≡ line = cc in
             inr (sym number, is_least by (subst (λ l. LineBreaks text by [] l) same breaks))
@@ -224,13 +236,15 @@ blank_is_refused (line ∷ lines) blank = by_length (nat_lt line_limit (length l
         let short : length line ≤ line_limit = grind (arith, nat_tests, is) in
         record {
           breaks = inr (blank, refl, refl);
-          first = least_at 7 (omega arith) (λ by breaks. absurd (blank_unbroken text [] line (record { bytes = blank_has_bytes line here; short = short }) here by breaks));
+          first = least_at 7 (omega arith)
+              (λ by breaks. absurd (blank_unbroken text [] line (record { bytes = blank_has_bytes line here; short = short }) here by breaks));
         }
 
 -- ---- The end of a text
 
 -- Lines that nest and leave no block open say the system of their parts.
-unfoldable pub ends_whole : (text : List ℕ) (nested : Nested) → size_of text ≤ text_limit → NestTo (source_lines text) (source_lines text) nested → nested_forms nested ≡ text_forms nested.version nested.parts → Reads text (system_of nested.version nested.parts)
+unfoldable pub ends_whole : (text : List ℕ) (nested : Nested) → size_of text ≤ text_limit → NestTo (source_lines text) (source_lines text) nested
+    → nested_forms nested ≡ text_forms nested.version nested.parts → Reads text (system_of nested.version nested.parts)
 ends_whole text nested fits so_far whole = record {
   parts = nested.parts;
   says = ap (λ version. system_of version nested.parts) (version_is nested.version nested.parts);
@@ -243,7 +257,8 @@ ends_whole text nested fits so_far whole = record {
     forms : nested_forms nested ≡ text_forms (system_of nested.version nested.parts).version nested.parts
     forms = whole ∙ ap (λ version. text_forms version nested.parts) (sym (version_is nested.version nested.parts))
 
-pub ends_open : (lines : List (List ℕ)) (nested : Nested) → list_all is_blank_line lines ≡ false → NestTo lines lines nested → open_blocks (nested_forms nested) ≢ [] → IsUnended lines (length lines) 6
+pub ends_open : (lines : List (List ℕ)) (nested : Nested) → list_all is_blank_line lines ≡ false → NestTo lines lines nested
+    → open_blocks (nested_forms nested) ≢ [] → IsUnended lines (length lines) 6
 ends_open lines nested some_written so_far is_open = record {
   forms = nested_forms nested;
   have_forms = so_far.forms;
@@ -270,16 +285,19 @@ zip_cut R (x ∷ xs) (y ∷ ys) zs all =
     let rest = zip_cut R xs ys zs all.1 in
     record { front = x ∷ rest.front; back = rest.back; cut = ap (λ more. x ∷ more) rest.cut; on_front = (all.0, rest.on_front); on_back = rest.on_back }
 
-pub placed_at : (front : List LineForm) (some : LineForm) (others : List LineForm) (before : Before) → are_placed before (front ++ (some ∷ others)) ≡ true → may_stand (and_lines before front) some ≡ true
+pub placed_at : (front : List LineForm) (some : LineForm) (others : List LineForm) (before : Before) → are_placed before (front ++ (some ∷ others)) ≡ true
+    → may_stand (and_lines before front) some ≡ true
 placed_at [] some others before placed = (and_parts (may_stand before some) (are_placed (and_line before some) others) placed).0
 placed_at (first ∷ front) some others before placed =
-    placed_at front some others (and_line before first) (and_parts (may_stand before first) (are_placed (and_line before first) (front ++ (some ∷ others))) placed).1
+    placed_at front some others (and_line before first)
+    (and_parts (may_stand before first) (are_placed (and_line before first) (front ++ (some ∷ others))) placed).1
 
 short_at : (before : List (List ℕ)) (line : List ℕ) (later : List (List ℕ)) → are_short (before ++ (line ∷ later)) ≡ true → length line ≤ line_limit
 short_at [] line later short =
     let here = (and_parts (nat_le (length line) line_limit) (are_short later) short).0 in
     grind (arith, nat_tests, here)
-short_at (first ∷ before) line later short = short_at before line later (and_parts (nat_le (length first) line_limit) (are_short (before ++ (line ∷ later))) short).1
+short_at (first ∷ before) line later short =
+    short_at before line later (and_parts (nat_le (length first) line_limit) (are_short (before ++ (line ∷ later))) short).1
 
 -- What the lines of a text have where it says a system.
 record Says (text : List (List ℕ)) (version : ℕ) (all : List Part) : Type 0 where
@@ -296,19 +314,24 @@ record Stands (text before : List (List ℕ)) (line : List ℕ) (version : ℕ) 
   have : HaveForms text front before
   has : HasFormIn text some line
 
-stands_at : (text before : List (List ℕ)) (line : List ℕ) (later : List (List ℕ)) (version : ℕ) (all : List Part) → Says text version all → text ≡ before ++ (line ∷ later) → is_blank_line line ≡ false → Stands text before line version all
+stands_at : (text before : List (List ℕ)) (line : List ℕ) (later : List (List ℕ)) (version : ℕ) (all : List Part) → Says text version all
+    → text ≡ before ++ (line ∷ later) → is_blank_line line ≡ false → Stands text before line version all
 stands_at text before line later version all says cut here =
-    let lines = ap (filter is_written) cut ∙ filter-append is_written before (line ∷ later) ∙ ap (λ told. filter is_written before ++ cond (not told) (line ∷ filter is_written later) (filter is_written later)) here in
-    by_cut (zip_cut (HasFormIn text) (text_forms version all) (filter is_written before) (line ∷ filter is_written later) (subst (AllZip (HasFormIn text) (text_forms version all)) lines says.forms))
+    let lines = ap (filter is_written) cut ∙ filter-append is_written before (line ∷ later)
+    ∙ ap (λ told. filter is_written before ++ cond (not told) (line ∷ filter is_written later) (filter is_written later)) here in
+    by_cut (zip_cut (HasFormIn text) (text_forms version all) (filter is_written before) (line ∷ filter is_written later)
+    (subst (AllZip (HasFormIn text) (text_forms version all)) lines says.forms))
   where
-    by_back : (front back : List LineForm) → text_forms version all ≡ front ++ back → HaveForms text front before → AllZip (HasFormIn text) back (line ∷ filter is_written later) → Stands text before line version all
+    by_back : (front back : List LineForm) → text_forms version all ≡ front ++ back → HaveForms text front before
+        → AllZip (HasFormIn text) back (line ∷ filter is_written later) → Stands text before line version all
     by_back front [] is have on_back = absurd on_back
     by_back front (some ∷ others) is have on_back = record { front = front; some = some; others = others; cut = is; have = have; has = on_back.0 }
 
     by_cut : ZipCut (HasFormIn text) (text_forms version all) (filter is_written before) (line ∷ filter is_written later) → Stands text before line version all
     by_cut found = by_back found.front found.back found.cut found.on_front found.on_back
 
-line_keeps : FormsAreKnown → (text before : List (List ℕ)) (line : List ℕ) (later : List (List ℕ)) (version : ℕ) (all : List Part) → Says text version all → text ≡ before ++ (line ∷ later) → IsUnbroken text before line
+line_keeps : FormsAreKnown → (text before : List (List ℕ)) (line : List ℕ) (later : List (List ℕ)) (version : ℕ) (all : List Part) → Says text version all
+    → text ≡ before ++ (line ∷ later) → IsUnbroken text before line
 line_keeps known text before line later version all says cut = elim (cases_Bool (is_blank_line line)) [
   | inl blank ↦ blank_unbroken text before line (record { bytes = blank_has_bytes line blank; short = short }) blank
   | inr here ↦ by_form (stands_at text before line later version all says cut here)
@@ -317,7 +340,8 @@ line_keeps known text before line later version all says cut = elim (cases_Bool 
     short : length line ≤ line_limit
     short = short_at before line later (ap are_short (sym cut) ∙ says.short)
 
-    first_is_header : (front : List LineForm) (some : LineForm) (others : List LineForm) → text_forms version all ≡ front ++ (some ∷ others) → front ≡ [] → some ≡ form.Header version
+    first_is_header : (front : List LineForm) (some : LineForm) (others : List LineForm) → text_forms version all ≡ front ++ (some ∷ others) → front ≡ []
+        → some ≡ form.Header version
     first_is_header front some others is none = let whole = is ∙ ap (λ all_front. all_front ++ (some ∷ others)) none in cc
 
     by_form : Stands text before line version all → IsUnbroken text before line
@@ -327,12 +351,15 @@ line_keeps known text before line later version all says cut = elim (cases_Bool 
         let forms = same_forms known text before off.forms at.front off.lines at.have in
         let one = one_in known text off.some at.some line off.has_form at.has in
         let may = placed_at at.front at.some at.others no_lines (ap (are_placed no_lines) (sym at.cut) ∙ says.placed) in
-        true≢false (sym (ap (λ all_forms. may_stand (and_lines no_lines all_forms) off.some) forms ∙ ap (may_stand (and_lines no_lines at.front)) one ∙ may) ∙ off.misplaced))
+        true≢false
+        (sym (ap (λ all_forms. may_stand (and_lines no_lines all_forms) off.some) forms ∙ ap (may_stand (and_lines no_lines at.front)) one ∙ may)
+        ∙ off.misplaced))
         (λ lacks.
         let none = same_forms known text before at.front [] at.have (blank_have_none text before lacks.before_is_blank) in
         lacks.is_other version (subst (λ some. HasForm some line) (first_is_header at.front at.some at.others at.cut none) at.has.has_form))
 
-nothing_broken : FormsAreKnown → (text : List (List ℕ)) (version : ℕ) (all : List Part) → Says text version all → (number rule : ℕ) → Breaks text number rule → ⊥
+nothing_broken : FormsAreKnown → (text : List (List ℕ)) (version : ℕ) (all : List Part) → Says text version all → (number rule : ℕ) → Breaks text number rule
+    → ⊥
 nothing_broken known text version all says number rule (inl at) = line_keeps known text at.before at.line at.later version all says at.cut rule at.breaks
 nothing_broken known text version all says number rule (inr blank) =
     subst (AllZip (HasFormIn text) (text_forms version all)) (none_written text blank.0) says.forms
@@ -342,13 +369,19 @@ says_of text system reads = record { forms = reads.lines; placed = reads.placed;
 
 -- ---- Each text is answered once
 
-answered_by : FormsAreKnown → (text : List ℕ) → size_of text ≤ text_limit → Judged (source_lines text) → list_all is_blank_line (source_lines text) ≡ false → IsAnswered text
+answered_by : FormsAreKnown → (text : List ℕ) → size_of text ≤ text_limit → Judged (source_lines text) → list_all is_blank_line (source_lines text) ≡ false
+    → IsAnswered text
 answered_by known text fits (Broken number rule broken) some_written = inr (number, rule, inr (fits, inl broken))
 answered_by known text fits (Nests nested so_far) some_written = by_blocks (open_blocks (nested_forms nested)) refl
   where
     by_blocks : (open_after : List Block) → open_blocks (nested_forms nested) ≡ open_after → IsAnswered text
     by_blocks [] is = inl (system_of nested.version nested.parts, ends_whole text nested fits so_far (whole_forms nested is))
-    by_blocks (block ∷ others) is = inr (length (source_lines text), 6, inr (fits, inr (ends_open (source_lines text) nested some_written so_far (λ none. let whole = sym is ∙ none in absurd (cc)))))
+    by_blocks (block ∷ others) is =
+        inr (
+          length (source_lines text),
+          6,
+          inr (fits, inr (ends_open (source_lines text) nested some_written so_far (λ none. let whole = sym is ∙ none in absurd (cc)))),
+        )
 
 answered : FormsAreKnown → (text : List ℕ) → IsAnswered text
 answered known text = elim (cases_lt text_limit (size_of text)) [
@@ -361,7 +394,8 @@ answered known text = elim (cases_lt text_limit (size_of text)) [
 
 one_reading : FormsAreKnown → (text : List ℕ) → HasOneReading text
 one_reading known text version by one other have have_too =
-    let same = same_parts version by one other (same_forms known (source_lines text) (source_lines text) (text_forms version one) (text_forms by other) have have_too) in
+    let same =
+    same_parts version by one other (same_forms known (source_lines text) (source_lines text) (text_forms version one) (text_forms by other) have have_too) in
     (same.version_is, same.parts_are)
 
 one_system : FormsAreKnown → (text : List ℕ) → SaysOneSystem text
@@ -374,7 +408,10 @@ not_both known text system line rule reads (inl refused) = omega (arith, refused
 not_both known text system line rule reads (inr (fits, inl broken)) =
     nothing_broken known (source_lines text) system.version reads.parts (says_of text system reads) line rule broken.breaks
 not_both known text system line rule reads (inr (fits, inr unended)) =
-    unended.is_open (ap open_blocks (same_forms known (source_lines text) (source_lines text) unended.forms (text_forms system.version reads.parts) unended.have_forms reads.lines) ∙ parts_close system.version reads.parts)
+    unended.is_open
+    (ap open_blocks
+    (same_forms known (source_lines text) (source_lines text) unended.forms (text_forms system.version reads.parts) unended.have_forms reads.lines)
+    ∙ parts_close system.version reads.parts)
 
 pub answered_once : FormsAreKnown → EveryTextIsAnsweredOnce
 answered_once known text = record {

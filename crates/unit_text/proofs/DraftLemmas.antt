@@ -12,7 +12,8 @@ pub split_behind : {A : Type 0} (xs : List A) (last : A) → split_last (xs ++ (
 split_behind [] last = refl
 split_behind (first ∷ others) last = ap Some (split_one first others last)
 
-pub split_pop : {A : Type 0} (old new : List A) (last : Option A) → old ≡ new ++ option_to_list last → (IsSome last ↔ (0 < length old)) → split_last old ≡ option_map (λ one. (new, one)) last
+pub split_pop : {A : Type 0} (old new : List A) (last : Option A) → old ≡ new ++ option_to_list last → (IsSome last ↔ (0 < length old))
+    → split_last old ≡ option_map (λ one. (new, one)) last
 split_pop old new (Some last) is some = ap split_last is ∙ split_behind new last
 split_pop [] new None is some = refl
 split_pop (first ∷ others) new None is some = let has = some.1 (omega arith) in absurd (cc)

@@ -29,7 +29,8 @@ use Rattle.unit_text.specs.Nesting as nesting
 use Rattle.unit_text.specs.declared.draft.Around.{Around}
 use Rattle.unit_text.specs.declared.draft.Head.{Head}
 use Rattle.unit_text.specs.declared.draft.Head.TheVariants.{Then, Else, Times}
-use Rattle.unit_text.specs.Nesting.{Inner, Open, AtTop, InUnit, InStep, InInstance, Nested, and_part, opened, block_in, headed_by, nested_by, and_form, head_forms, around_forms, open_forms, nested_forms, block_of, blocks_of}
+use Rattle.unit_text.specs.Nesting.{Inner, Open, AtTop, InUnit, InStep, InInstance, Nested, and_part, opened, block_in, headed_by, nested_by, and_form}
+use Rattle.unit_text.specs.Nesting.{head_forms, around_forms, open_forms, nested_forms, block_of, blocks_of}
 use Rattle.text_laws.proofs.CanonicalPlaces.{all_in_text}
 
 -- ---- Lines of a step
@@ -37,7 +38,8 @@ use Rattle.text_laws.proofs.CanonicalPlaces.{all_in_text}
 -- A line of a step is one line more of its innermost block.
 abbrev IsAdded : Line → Type 0
 IsAdded some =
-    (nested : Nested) (name : List ℕ) (unit_parts : List UnitPart) (inner : Inner) → fold and_form (opened nested (InStep name unit_parts inner)) (line_forms some) ≡ opened nested (InStep name unit_parts (nesting.and_line inner some))
+    (nested : Nested) (name : List ℕ) (unit_parts : List UnitPart) (inner : Inner)
+    → fold and_form (opened nested (InStep name unit_parts inner)) (line_forms some) ≡ opened nested (InStep name unit_parts (nesting.and_line inner some))
 
 abbrev Added : Type 0
 Added = (some : Line) × IsAdded some
@@ -48,8 +50,11 @@ added_line one = one.0
 abbrev with_lines : Inner → List Line → Inner
 with_lines inner lines = record inner { lines = inner.lines ++ lines }
 
-joined_added : (lines : List Added) (nested : Nested) (name : List ℕ) (unit_parts : List UnitPart) (inner : Inner) → fold and_form (opened nested (InStep name unit_parts inner)) (joined (map line_forms (map added_line lines))) ≡ opened nested (InStep name unit_parts (with_lines inner (map added_line lines)))
-joined_added [] nested name unit_parts inner = ap (λ lines. opened nested (InStep name unit_parts (record inner { lines = lines }))) (sym (append-nil inner.lines))
+joined_added : (lines : List Added) (nested : Nested) (name : List ℕ) (unit_parts : List UnitPart) (inner : Inner)
+    → fold and_form (opened nested (InStep name unit_parts inner)) (joined (map line_forms (map added_line lines)))
+    ≡ opened nested (InStep name unit_parts (with_lines inner (map added_line lines)))
+joined_added [] nested name unit_parts inner =
+    ap (λ lines. opened nested (InStep name unit_parts (record inner { lines = lines }))) (sym (append-nil inner.lines))
 joined_added (one ∷ lines) nested name unit_parts inner =
     fold-append and_form (opened nested (InStep name unit_parts inner)) (line_forms one.0) (joined (map line_forms (map added_line lines)))
     ∙ ap (λ more. fold and_form more (joined (map line_forms (map added_line lines)))) (one.1 nested name unit_parts inner)
@@ -68,36 +73,45 @@ added-IfNone condition then_lines nested name unit_parts inner =
     let within = block_in inner (Then condition) in
     ap (fold and_form (opened nested (InStep name unit_parts inner))) (fold-If (List LineForm) block_forms condition (map added_line then_lines) None)
     ∙ fold-append and_form (opened nested (InStep name unit_parts within)) (joined (map line_forms (map added_line then_lines)) ++ []) (form.End ∷ [])
-    ∙ ap (λ forms. fold and_form (fold and_form (opened nested (InStep name unit_parts within)) forms) (form.End ∷ [])) (append-nil (joined (map line_forms (map added_line then_lines))))
+    ∙ ap (λ forms. fold and_form (fold and_form (opened nested (InStep name unit_parts within)) forms) (form.End ∷ []))
+    (append-nil (joined (map line_forms (map added_line then_lines))))
     ∙ ap (λ more. fold and_form more (form.End ∷ [])) (joined_added then_lines nested name unit_parts within)
 
-added-IfElse : (condition : Expr) (then_lines else_lines : List Added) → IsAdded (line.If condition (map added_line then_lines) (Some (map added_line else_lines)))
+added-IfElse : (condition : Expr) (then_lines else_lines : List Added)
+    → IsAdded (line.If condition (map added_line then_lines) (Some (map added_line else_lines)))
 added-IfElse condition then_lines else_lines nested name unit_parts inner =
     let within = block_in inner (Then condition) in
     let others : Inner = record { lines = []; around = record { before = inner.lines; head = Else condition (map added_line then_lines) } ∷ inner.around } in
-    ap (fold and_form (opened nested (InStep name unit_parts inner))) (fold-If (List LineForm) block_forms condition (map added_line then_lines) (Some (map added_line else_lines)))
-    ∙ fold-append and_form (opened nested (InStep name unit_parts within)) (joined (map line_forms (map added_line then_lines)) ++ (form.Else ∷ joined (map line_forms (map added_line else_lines)))) (form.End ∷ [])
+    ap (fold and_form (opened nested (InStep name unit_parts inner)))
+    (fold-If (List LineForm) block_forms condition (map added_line then_lines) (Some (map added_line else_lines)))
+    ∙ fold-append and_form (opened nested (InStep name unit_parts within))
+    (joined (map line_forms (map added_line then_lines)) ++ (form.Else ∷ joined (map line_forms (map added_line else_lines)))) (form.End ∷ [])
     ∙ ap (λ more. fold and_form more (form.End ∷ [])) (
-    fold-append and_form (opened nested (InStep name unit_parts within)) (joined (map line_forms (map added_line then_lines))) (form.Else ∷ joined (map line_forms (map added_line else_lines)))
+    fold-append and_form (opened nested (InStep name unit_parts within)) (joined (map line_forms (map added_line then_lines)))
+    (form.Else ∷ joined (map line_forms (map added_line else_lines)))
     ∙ ap (λ more. fold and_form more (form.Else ∷ joined (map line_forms (map added_line else_lines)))) (joined_added then_lines nested name unit_parts within)
     ∙ joined_added else_lines nested name unit_parts others
     )
 
 added_node : (y : Line-F Added) → IsAdded (roll-Line (map-Line Added Line added_line y))
 added_node (Line-F.Assign target value) =
-    subst IsAdded (sym (rolls-Assign target value)) (λ nested name unit_parts inner. ap (fold and_form (opened nested (InStep name unit_parts inner))) (fold-Assign (List LineForm) block_forms target value))
+    subst IsAdded (sym (rolls-Assign target value))
+    (λ nested name unit_parts inner. ap (fold and_form (opened nested (InStep name unit_parts inner))) (fold-Assign (List LineForm) block_forms target value))
 added_node (Line-F.If condition then_lines None) = subst IsAdded (sym (rolls-If condition (map added_line then_lines) None)) (added-IfNone condition then_lines)
 added_node (Line-F.If condition then_lines (Some else_lines)) =
     subst IsAdded (sym (rolls-If condition (map added_line then_lines) (Some (map added_line else_lines)))) (added-IfElse condition then_lines else_lines)
 added_node (Line-F.Repeat count body) = subst IsAdded (sym (rolls-Repeat count (map added_line body))) (added-Repeat count body)
 added_node (Line-F.Accept value) =
-    subst IsAdded (sym (rolls-Accept value)) (λ nested name unit_parts inner. ap (fold and_form (opened nested (InStep name unit_parts inner))) (fold-Accept (List LineForm) block_forms value))
+    subst IsAdded (sym (rolls-Accept value))
+    (λ nested name unit_parts inner. ap (fold and_form (opened nested (InStep name unit_parts inner))) (fold-Accept (List LineForm) block_forms value))
 
 line_is_added : (some : Line) → IsAdded some
 line_is_added = ind-Line IsAdded (λ x y is. subst (λ z. IsAdded (roll-Line z)) is (added_node y))
 
-lines_are_added : (lines : List Line) (nested : Nested) (name : List ℕ) (unit_parts : List UnitPart) (inner : Inner) → fold and_form (opened nested (InStep name unit_parts inner)) (flat_map line_forms lines) ≡ opened nested (InStep name unit_parts (with_lines inner lines))
-lines_are_added [] nested name unit_parts inner = ap (λ lines. opened nested (InStep name unit_parts (record inner { lines = lines }))) (sym (append-nil inner.lines))
+lines_are_added : (lines : List Line) (nested : Nested) (name : List ℕ) (unit_parts : List UnitPart) (inner : Inner)
+    → fold and_form (opened nested (InStep name unit_parts inner)) (flat_map line_forms lines) ≡ opened nested (InStep name unit_parts (with_lines inner lines))
+lines_are_added [] nested name unit_parts inner =
+    ap (λ lines. opened nested (InStep name unit_parts (record inner { lines = lines }))) (sym (append-nil inner.lines))
 lines_are_added (some ∷ lines) nested name unit_parts inner =
     fold-append and_form (opened nested (InStep name unit_parts inner)) (line_forms some) (flat_map line_forms lines)
     ∙ ap (λ more. fold and_form more (flat_map line_forms lines)) (line_is_added some nested name unit_parts inner)
@@ -106,7 +120,8 @@ lines_are_added (some ∷ lines) nested name unit_parts inner =
 
 -- ---- Parts
 
-unit_part_is_added : (part : UnitPart) (nested : Nested) (name : List ℕ) (unit_parts : List UnitPart) → fold and_form (opened nested (InUnit name unit_parts)) (unit_part_forms part) ≡ opened nested (InUnit name (unit_parts ++ (part ∷ [])))
+unit_part_is_added : (part : UnitPart) (nested : Nested) (name : List ℕ) (unit_parts : List UnitPart)
+    → fold and_form (opened nested (InUnit name unit_parts)) (unit_part_forms part) ≡ opened nested (InUnit name (unit_parts ++ (part ∷ [])))
 unit_part_is_added (parts.Resolution decimals) nested name unit_parts = refl
 unit_part_is_added (parts.HasParam param) nested name unit_parts = refl
 unit_part_is_added (parts.HasState state) nested name unit_parts = refl
@@ -121,7 +136,8 @@ unit_part_is_added (parts.Step lines) nested name unit_parts =
     fold-append and_form (opened nested (InStep name unit_parts within)) (flat_map line_forms lines) (form.End ∷ [])
     ∙ ap (λ more. fold and_form more (form.End ∷ [])) (lines_are_added lines nested name unit_parts within)
 
-unit_parts_are_added : (more : List UnitPart) (nested : Nested) (name : List ℕ) (unit_parts : List UnitPart) → fold and_form (opened nested (InUnit name unit_parts)) (flat_map unit_part_forms more) ≡ opened nested (InUnit name (unit_parts ++ more))
+unit_parts_are_added : (more : List UnitPart) (nested : Nested) (name : List ℕ) (unit_parts : List UnitPart)
+    → fold and_form (opened nested (InUnit name unit_parts)) (flat_map unit_part_forms more) ≡ opened nested (InUnit name (unit_parts ++ more))
 unit_parts_are_added [] nested name unit_parts = ap (λ all. opened nested (InUnit name all)) (sym (append-nil unit_parts))
 unit_parts_are_added (part ∷ more) nested name unit_parts =
     fold-append and_form (opened nested (InUnit name unit_parts)) (unit_part_forms part) (flat_map unit_part_forms more)
@@ -129,7 +145,9 @@ unit_parts_are_added (part ∷ more) nested name unit_parts =
     ∙ unit_parts_are_added more nested name (unit_parts ++ (part ∷ []))
     ∙ ap (λ all. opened nested (InUnit name all)) (append_assoc unit_parts (part ∷ []) more)
 
-settings_are_added : (more : List Setting) (nested : Nested) (instance : Instance) → fold and_form (opened nested (InInstance instance)) (map form.Setting more) ≡ opened nested (InInstance (record instance { settings = instance.settings ++ more }))
+settings_are_added : (more : List Setting) (nested : Nested) (instance : Instance)
+    → fold and_form (opened nested (InInstance instance)) (map form.Setting more)
+    ≡ opened nested (InInstance (record instance { settings = instance.settings ++ more }))
 settings_are_added [] nested instance = ap (λ all. opened nested (InInstance (record instance { settings = all }))) (sym (append-nil instance.settings))
 settings_are_added (setting ∷ more) nested instance =
     settings_are_added more nested (record instance { settings = instance.settings ++ (setting ∷ []) })
@@ -230,12 +248,14 @@ pub record IsHeld (nested : Nested) (some : LineForm) : Type 0 where
 abbrev Adds : Nested → LineForm → Type 0
 Adds nested some = nested_forms (and_form nested some) ≡ nested_forms nested ++ (some ∷ [])
 
-opened_adds : (nested : Nested) (block : Open) (some : LineForm) → open_forms block ≡ open_forms nested.block ++ (some ∷ []) → nested_forms (opened nested block) ≡ nested_forms nested ++ (some ∷ [])
+opened_adds : (nested : Nested) (block : Open) (some : LineForm) → open_forms block ≡ open_forms nested.block ++ (some ∷ [])
+    → nested_forms (opened nested block) ≡ nested_forms nested ++ (some ∷ [])
 opened_adds nested block some is =
     ap (λ lines. text_forms nested.version nested.parts ++ lines) is
     ∙ sym (append_assoc (text_forms nested.version nested.parts) (open_forms nested.block) (some ∷ []))
 
-part_adds : (nested : Nested) (part : Part) (some : LineForm) → part_forms part ≡ open_forms nested.block ++ (some ∷ []) → nested_forms (and_part nested part) ≡ nested_forms nested ++ (some ∷ [])
+part_adds : (nested : Nested) (part : Part) (some : LineForm) → part_forms part ≡ open_forms nested.block ++ (some ∷ [])
+    → nested_forms (and_part nested part) ≡ nested_forms nested ++ (some ∷ [])
 part_adds nested part some is =
     append-nil (text_forms nested.version (nested.parts ++ (part ∷ [])))
     ∙ ap (λ lines. form.Header nested.version ∷ lines) (flat_map-append part_forms nested.parts (part ∷ []))
@@ -261,7 +281,8 @@ top_adds version all (form.If condition) is = let held = is.held in absurd (cc)
 top_adds version all form.Else is = let held = is.held in absurd (cc)
 top_adds version all (form.Repeat count) is = let held = is.held in absurd (cc)
 top_adds version all (form.Accept value) is = let held = is.held in absurd (cc)
-top_adds version all (form.Instance name unit) is = opened_adds (holding version all) (InInstance (record { name = name; unit = unit; settings = [] })) (form.Instance name unit) refl
+top_adds version all (form.Instance name unit) is =
+    opened_adds (holding version all) (InInstance (record { name = name; unit = unit; settings = [] })) (form.Instance name unit) refl
 top_adds version all (form.Setting setting) is = let held = is.held in absurd (cc)
 top_adds version all (form.Connect wire) is = part_adds (holding version all) (parts.Connects wire) (form.Connect wire) refl
 top_adds version all (form.Stop seconds) is = part_adds (holding version all) (parts.Stop seconds) (form.Stop seconds) refl
@@ -273,15 +294,20 @@ top_adds version all (form.Sample port) is = part_adds (holding version all) (pa
 abbrev pub in_unit_at : ℕ → List Part → List ℕ → List UnitPart → Nested
 in_unit_at version all unit inside = opened (holding version all) (InUnit unit inside)
 
-unit_part_adds : (version : ℕ) (all : List Part) (unit : List ℕ) (inside : List UnitPart) (part : UnitPart) (some : LineForm) → unit_part_forms part ≡ some ∷ [] → nested_forms (in_unit_at version all unit (inside ++ (part ∷ []))) ≡ nested_forms (in_unit_at version all unit inside) ++ (some ∷ [])
+unit_part_adds : (version : ℕ) (all : List Part) (unit : List ℕ) (inside : List UnitPart) (part : UnitPart) (some : LineForm)
+    → unit_part_forms part ≡ some ∷ []
+    → nested_forms (in_unit_at version all unit (inside ++ (part ∷ []))) ≡ nested_forms (in_unit_at version all unit inside) ++ (some ∷ [])
 unit_part_adds version all unit inside part some is =
     opened_adds (in_unit_at version all unit inside) (InUnit unit (inside ++ (part ∷ []))) some
-    (ap (λ lines. form.Unit unit ∷ lines) (flat_map-append unit_part_forms inside (part ∷ [])) ∙ ap (λ lines. form.Unit unit ∷ flat_map unit_part_forms inside ++ lines) (append-nil (unit_part_forms part) ∙ is))
+    (ap (λ lines. form.Unit unit ∷ lines) (flat_map-append unit_part_forms inside (part ∷ []))
+    ∙ ap (λ lines. form.Unit unit ∷ flat_map unit_part_forms inside ++ lines) (append-nil (unit_part_forms part) ∙ is))
 
-unit_adds : (version : ℕ) (all : List Part) (unit : List ℕ) (inside : List UnitPart) (some : LineForm) → IsHeld (in_unit_at version all unit inside) some → Adds (in_unit_at version all unit inside) some
+unit_adds : (version : ℕ) (all : List Part) (unit : List ℕ) (inside : List UnitPart) (some : LineForm) → IsHeld (in_unit_at version all unit inside) some
+    → Adds (in_unit_at version all unit inside) some
 unit_adds version all unit inside (form.Header other) is = absurd (is.no_header other refl)
 unit_adds version all unit inside (form.Unit other) is = let held = is.held in absurd (cc)
-unit_adds version all unit inside (form.Resolution decimals) is = unit_part_adds version all unit inside (parts.Resolution decimals) (form.Resolution decimals) refl
+unit_adds version all unit inside (form.Resolution decimals) is =
+    unit_part_adds version all unit inside (parts.Resolution decimals) (form.Resolution decimals) refl
 unit_adds version all unit inside (form.Param param) is = unit_part_adds version all unit inside (parts.HasParam param) (form.Param param) refl
 unit_adds version all unit inside (form.State state) is = unit_part_adds version all unit inside (parts.HasState state) (form.State state) refl
 unit_adds version all unit inside (form.Local local) is = unit_part_adds version all unit inside (parts.HasLocal local) (form.Local local) refl
@@ -290,7 +316,8 @@ unit_adds version all unit inside (form.EventInput event) is = unit_part_adds ve
 unit_adds version all unit inside (form.Output output) is = unit_part_adds version all unit inside (parts.HasOutput output) (form.Output output) refl
 unit_adds version all unit inside (form.EventOutput event) is = unit_part_adds version all unit inside (parts.HasEventOut event) (form.EventOutput event) refl
 unit_adds version all unit inside (form.Max value) is = unit_part_adds version all unit inside (parts.Max value) (form.Max value) refl
-unit_adds version all unit inside form.Step is = opened_adds (in_unit_at version all unit inside) (InStep unit inside (record { lines = []; around = [] })) form.Step refl
+unit_adds version all unit inside form.Step is =
+    opened_adds (in_unit_at version all unit inside) (InStep unit inside (record { lines = []; around = [] })) form.Step refl
 unit_adds version all unit inside form.End is = part_adds (in_unit_at version all unit inside) (parts.HasUnit unit inside) form.End refl
 unit_adds version all unit inside (form.Assign target value) is = let held = is.held in absurd (cc)
 unit_adds version all unit inside (form.If condition) is = let held = is.held in absurd (cc)
@@ -309,7 +336,8 @@ unit_adds version all unit inside (form.Sample port) is = let held = is.held in 
 abbrev pub in_instance_at : ℕ → List Part → Instance → Nested
 in_instance_at version all instance = opened (holding version all) (InInstance instance)
 
-instance_adds : (version : ℕ) (all : List Part) (instance : Instance) (some : LineForm) → IsHeld (in_instance_at version all instance) some → Adds (in_instance_at version all instance) some
+instance_adds : (version : ℕ) (all : List Part) (instance : Instance) (some : LineForm) → IsHeld (in_instance_at version all instance) some
+    → Adds (in_instance_at version all instance) some
 instance_adds version all instance (form.Header other) is = absurd (is.no_header other refl)
 instance_adds version all instance (form.Unit other) is = let held = is.held in absurd (cc)
 instance_adds version all instance (form.Resolution decimals) is = let held = is.held in absurd (cc)
@@ -360,27 +388,39 @@ in_step (block ∷ others) = by_head block.head
     by_head (Else condition then_lines) = record { not_top = refl; not_unit = refl; not_instance = refl }
     by_head (Times count) = record { not_top = refl; not_unit = refl; not_instance = refl }
 
-inner_adds : (version : ℕ) (all : List Part) (unit : List ℕ) (inside : List UnitPart) (inner next : Inner) (some : LineForm) → around_forms next.around ++ flat_map line_forms next.lines ≡ (around_forms inner.around ++ flat_map line_forms inner.lines) ++ (some ∷ []) → nested_forms (in_step_at version all unit inside next) ≡ nested_forms (in_step_at version all unit inside inner) ++ (some ∷ [])
+inner_adds : (version : ℕ) (all : List Part) (unit : List ℕ) (inside : List UnitPart) (inner next : Inner) (some : LineForm)
+    → around_forms next.around ++ flat_map line_forms next.lines ≡ (around_forms inner.around ++ flat_map line_forms inner.lines) ++ (some ∷ [])
+    → nested_forms (in_step_at version all unit inside next) ≡ nested_forms (in_step_at version all unit inside inner) ++ (some ∷ [])
 inner_adds version all unit inside inner next some is =
     opened_adds (in_step_at version all unit inside inner) (InStep unit inside next) some
     (ap (λ lines. form.Unit unit ∷ flat_map unit_part_forms inside ++ (form.Step ∷ lines)) is
-    ∙ sym (append_assoc (form.Unit unit ∷ flat_map unit_part_forms inside) (form.Step ∷ around_forms inner.around ++ flat_map line_forms inner.lines) (some ∷ [])))
+    ∙ sym (append_assoc (form.Unit unit ∷ flat_map unit_part_forms inside) (form.Step ∷ around_forms inner.around ++ flat_map line_forms inner.lines)
+    (some ∷ [])))
 
-step_line_adds : (inner : Inner) (more : Line) (some : LineForm) → line_forms more ≡ some ∷ [] → around_forms inner.around ++ flat_map line_forms (inner.lines ++ (more ∷ [])) ≡ (around_forms inner.around ++ flat_map line_forms inner.lines) ++ (some ∷ [])
+step_line_adds : (inner : Inner) (more : Line) (some : LineForm) → line_forms more ≡ some ∷ []
+    → around_forms inner.around ++ flat_map line_forms (inner.lines ++ (more ∷ []))
+    ≡ (around_forms inner.around ++ flat_map line_forms inner.lines) ++ (some ∷ [])
 step_line_adds inner more some is =
-    ap (λ lines. around_forms inner.around ++ lines) (flat_map-append line_forms inner.lines (more ∷ []) ∙ ap (λ lines. flat_map line_forms inner.lines ++ lines) (append-nil (line_forms more) ∙ is))
+    ap (λ lines. around_forms inner.around ++ lines)
+    (flat_map-append line_forms inner.lines (more ∷ []) ∙ ap (λ lines. flat_map line_forms inner.lines ++ lines) (append-nil (line_forms more) ∙ is))
     ∙ sym (append_assoc (around_forms inner.around) (flat_map line_forms inner.lines) (some ∷ []))
 
-turned_by_adds : (front : List LineForm) (condition : Expr) (lines : List Line) → (front ++ (form.If condition ∷ flat_map line_forms lines ++ (form.Else ∷ []))) ++ [] ≡ ((front ++ (form.If condition ∷ [])) ++ flat_map line_forms lines) ++ (form.Else ∷ [])
+turned_by_adds : (front : List LineForm) (condition : Expr) (lines : List Line)
+    → (front ++ (form.If condition ∷ flat_map line_forms lines ++ (form.Else ∷ []))) ++ []
+    ≡ ((front ++ (form.If condition ∷ [])) ++ flat_map line_forms lines) ++ (form.Else ∷ [])
 turned_by_adds front condition lines =
     append-nil (front ++ (form.If condition ∷ flat_map line_forms lines ++ (form.Else ∷ [])))
-    ∙ sym (append_assoc (front ++ (form.If condition ∷ [])) (flat_map line_forms lines) (form.Else ∷ []) ∙ append_assoc front (form.If condition ∷ []) (flat_map line_forms lines ++ (form.Else ∷ [])))
+    ∙ sym (append_assoc (front ++ (form.If condition ∷ [])) (flat_map line_forms lines) (form.Else ∷ [])
+    ∙ append_assoc front (form.If condition ∷ []) (flat_map line_forms lines ++ (form.Else ∷ [])))
 
-turned_adds : (lines : List Line) (around : List Around) → blocks.lacks_else (blocks_around around) ≡ true → around_forms (nesting.turned lines around) ++ [] ≡ (around_forms around ++ flat_map line_forms lines) ++ (form.Else ∷ [])
+turned_adds : (lines : List Line) (around : List Around) → blocks.lacks_else (blocks_around around) ≡ true
+    → around_forms (nesting.turned lines around) ++ [] ≡ (around_forms around ++ flat_map line_forms lines) ++ (form.Else ∷ [])
 turned_adds lines [] lacks = absurd (cc)
 turned_adds lines (block ∷ others) lacks = by_head block.head lacks
   where
-    by_head : (head : Head) → blocks.lacks_else (block_of head ∷ blocks_around others) ≡ true → around_forms (nesting.turned lines (record { before = block.before; head = head } ∷ others)) ++ [] ≡ (around_forms (record { before = block.before; head = head } ∷ others) ++ flat_map line_forms lines) ++ (form.Else ∷ [])
+    by_head : (head : Head) → blocks.lacks_else (block_of head ∷ blocks_around others) ≡ true
+        → around_forms (nesting.turned lines (record { before = block.before; head = head } ∷ others)) ++ []
+        ≡ (around_forms (record { before = block.before; head = head } ∷ others) ++ flat_map line_forms lines) ++ (form.Else ∷ [])
     by_head (Then condition) told = turned_by_adds (around_forms others ++ flat_map line_forms block.before) condition lines
     by_head (Else condition then_lines) told = absurd (cc)
     by_head (Times count) told = absurd (cc)
@@ -405,26 +445,33 @@ headed_forms (Times count) lines =
     fold-Repeat (List LineForm) block_forms count lines
     ∙ ap (λ forms. form.Repeat count ∷ forms ++ (form.End ∷ [])) (joined_is lines)
 
-ended_adds : (lines : List Line) (block : Around) (others : List Around) → around_forms others ++ flat_map line_forms (block.before ++ (headed block.head lines ∷ [])) ≡ (around_forms (block ∷ others) ++ flat_map line_forms lines) ++ (form.End ∷ [])
+ended_adds : (lines : List Line) (block : Around) (others : List Around)
+    → around_forms others ++ flat_map line_forms (block.before ++ (headed block.head lines ∷ []))
+    ≡ (around_forms (block ∷ others) ++ flat_map line_forms lines) ++ (form.End ∷ [])
 ended_adds lines block others =
     let ending = flat_map line_forms lines ++ (form.End ∷ []) in
-    ap (λ forms. around_forms others ++ forms) (flat_map-append line_forms block.before (headed block.head lines ∷ []) ∙ ap (λ forms. flat_map line_forms block.before ++ forms) (append-nil (line_forms (headed block.head lines)) ∙ headed_forms block.head lines))
+    ap (λ forms. around_forms others ++ forms)
+    (flat_map-append line_forms block.before (headed block.head lines ∷ [])
+    ∙ ap (λ forms. flat_map line_forms block.before ++ forms) (append-nil (line_forms (headed block.head lines)) ∙ headed_forms block.head lines))
     ∙ sym (
     append_assoc (around_forms (block ∷ others)) (flat_map line_forms lines) (form.End ∷ [])
     ∙ append_assoc (around_forms others ++ flat_map line_forms block.before) (head_forms block.head) ending
     ∙ append_assoc (around_forms others) (flat_map line_forms block.before) (head_forms block.head ++ ending)
     )
 
-step_ends : (version : ℕ) (all : List Part) (unit : List ℕ) (inside : List UnitPart) (lines : List Line) (around : List Around) → Adds (in_step_at version all unit inside (record { lines = lines; around = around })) form.End
+step_ends : (version : ℕ) (all : List Part) (unit : List ℕ) (inside : List UnitPart) (lines : List Line) (around : List Around)
+    → Adds (in_step_at version all unit inside (record { lines = lines; around = around })) form.End
 step_ends version all unit inside lines [] =
     opened_adds (in_step_at version all unit inside (record { lines = lines; around = [] })) (InUnit unit (inside ++ (parts.Step lines ∷ []))) form.End
     (ap (λ forms. form.Unit unit ∷ forms) (flat_map-append unit_part_forms inside (parts.Step lines ∷ []))
     ∙ ap (λ forms. form.Unit unit ∷ flat_map unit_part_forms inside ++ forms) (append-nil (unit_part_forms (parts.Step lines)))
     ∙ sym (append_assoc (form.Unit unit ∷ flat_map unit_part_forms inside) (form.Step ∷ flat_map line_forms lines) (form.End ∷ [])))
 step_ends version all unit inside lines (block ∷ others) =
-    inner_adds version all unit inside (record { lines = lines; around = block ∷ others }) (record { lines = block.before ++ (headed block.head lines ∷ []); around = others }) form.End (ended_adds lines block others)
+    inner_adds version all unit inside (record { lines = lines; around = block ∷ others })
+    (record { lines = block.before ++ (headed block.head lines ∷ []); around = others }) form.End (ended_adds lines block others)
 
-step_adds : (version : ℕ) (all : List Part) (unit : List ℕ) (inside : List UnitPart) (inner : Inner) (some : LineForm) → IsHeld (in_step_at version all unit inside inner) some → Adds (in_step_at version all unit inside inner) some
+step_adds : (version : ℕ) (all : List Part) (unit : List ℕ) (inside : List UnitPart) (inner : Inner) (some : LineForm)
+    → IsHeld (in_step_at version all unit inside inner) some → Adds (in_step_at version all unit inside inner) some
 step_adds version all unit inside inner (form.Header other) is = absurd (is.no_header other refl)
 step_adds version all unit inside inner (form.Unit other) is = let held = is.held in let other = (in_step inner.around).not_top in absurd (cc)
 step_adds version all unit inside inner (form.Resolution decimals) is = let held = is.held in let other = (in_step inner.around).not_unit in absurd (cc)
@@ -439,15 +486,20 @@ step_adds version all unit inside inner (form.Max value) is = let held = is.held
 step_adds version all unit inside inner form.Step is = let held = is.held in let other = (in_step inner.around).not_unit in absurd (cc)
 step_adds version all unit inside inner form.End is = step_ends version all unit inside inner.lines inner.around
 step_adds version all unit inside inner (form.Assign target value) is =
-    inner_adds version all unit inside inner (nesting.and_line inner (line.Assign target value)) (form.Assign target value) (step_line_adds inner (line.Assign target value) (form.Assign target value) (fold-Assign (List LineForm) block_forms target value))
+    inner_adds version all unit inside inner (nesting.and_line inner (line.Assign target value)) (form.Assign target value)
+    (step_line_adds inner (line.Assign target value) (form.Assign target value) (fold-Assign (List LineForm) block_forms target value))
 step_adds version all unit inside inner (form.If condition) is =
-    inner_adds version all unit inside inner (block_in inner (Then condition)) (form.If condition) (append-nil (around_forms (block_in inner (Then condition)).around))
+    inner_adds version all unit inside inner (block_in inner (Then condition)) (form.If condition)
+    (append-nil (around_forms (block_in inner (Then condition)).around))
 step_adds version all unit inside inner form.Else is =
-    inner_adds version all unit inside inner (record { lines = []; around = nesting.turned inner.lines inner.around }) form.Else (turned_adds inner.lines inner.around is.held)
+    inner_adds version all unit inside inner (record { lines = []; around = nesting.turned inner.lines inner.around }) form.Else
+    (turned_adds inner.lines inner.around is.held)
 step_adds version all unit inside inner (form.Repeat count) is =
-    inner_adds version all unit inside inner (block_in inner (Times count)) (form.Repeat count) (append-nil (around_forms (block_in inner (Times count)).around))
+    inner_adds version all unit inside inner (block_in inner (Times count)) (form.Repeat count)
+    (append-nil (around_forms (block_in inner (Times count)).around))
 step_adds version all unit inside inner (form.Accept value) is =
-    inner_adds version all unit inside inner (nesting.and_line inner (line.Accept value)) (form.Accept value) (step_line_adds inner (line.Accept value) (form.Accept value) (fold-Accept (List LineForm) block_forms value))
+    inner_adds version all unit inside inner (nesting.and_line inner (line.Accept value)) (form.Accept value)
+    (step_line_adds inner (line.Accept value) (form.Accept value) (fold-Accept (List LineForm) block_forms value))
 step_adds version all unit inside inner (form.Instance of named) is = let held = is.held in let other = (in_step inner.around).not_top in absurd (cc)
 step_adds version all unit inside inner (form.Setting setting) is = let held = is.held in let other = (in_step inner.around).not_instance in absurd (cc)
 step_adds version all unit inside inner (form.Connect wire) is = let held = is.held in let other = (in_step inner.around).not_top in absurd (cc)
@@ -457,7 +509,8 @@ step_adds version all unit inside inner (form.Zero count) is = let held = is.hel
 step_adds version all unit inside inner (form.Rows count) is = let held = is.held in let other = (in_step inner.around).not_top in absurd (cc)
 step_adds version all unit inside inner (form.Sample port) is = let held = is.held in let other = (in_step inner.around).not_top in absurd (cc)
 
-adds_in : (version : ℕ) (all : List Part) (block : Open) (some : LineForm) → IsHeld (opened (holding version all) block) some → Adds (opened (holding version all) block) some
+adds_in : (version : ℕ) (all : List Part) (block : Open) (some : LineForm) → IsHeld (opened (holding version all) block) some
+    → Adds (opened (holding version all) block) some
 adds_in version all AtTop some is = top_adds version all some is
 adds_in version all (InUnit unit inside) some is = unit_adds version all unit inside some is
 adds_in version all (InStep unit inside inner) some is = step_adds version all unit inside inner some is
@@ -477,7 +530,9 @@ header_has_rival nested version = ap (list_any (are_alike (form.Header version))
 
 pub is_held : (nested : Nested) (some : LineForm) → may_stand (before_next nested) some ≡ true → IsHeld nested some
 is_held nested some may =
-    let both = and_parts (holds_form (before_next nested).open_blocks some) (not (has_rival (before_next nested) some) && has_room (before_next nested).open_blocks some) may in
+    let both =
+    and_parts (holds_form (before_next nested).open_blocks some)
+    (not (has_rival (before_next nested) some) && has_room (before_next nested).open_blocks some) may in
     let alone = and_parts (not (has_rival (before_next nested) some)) (has_room (before_next nested).open_blocks some) both.1 in
     record {
       held = subst (λ open_before. holds_form open_before some ≡ true) (blocks_are nested) both.0;
@@ -491,7 +546,8 @@ is_held nested some may =
 pub before_more : (nested : Nested) (some : LineForm) → IsHeld nested some → before_next (and_form nested some) ≡ and_line (before_next nested) some
 before_more nested some is = ap (and_lines no_lines) (adds nested some is) ∙ fold-append and_line no_lines (nested_forms nested) (some ∷ [])
 
-pub placed_add : (forms : List LineForm) (nested : Nested) → are_placed (before_next nested) forms ≡ true → nested_forms (fold and_form nested forms) ≡ nested_forms nested ++ forms
+pub placed_add : (forms : List LineForm) (nested : Nested) → are_placed (before_next nested) forms ≡ true
+    → nested_forms (fold and_form nested forms) ≡ nested_forms nested ++ forms
 placed_add [] nested placed = sym (append-nil (nested_forms nested))
 placed_add (some ∷ forms) nested placed =
     let both = and_parts (may_stand (before_next nested) some) (are_placed (and_line (before_next nested) some) forms) placed in
@@ -511,9 +567,11 @@ no_block (InStep unit inside inner) is = absurd (none inner.around is)
 no_block (InInstance instance) is = absurd (cc)
 
 -- the lines behind a header are what they nest to
-pub lines_are_nested : (version : ℕ) (forms : List LineForm) → IsTrue (are_placed no_lines (form.Header version ∷ forms)) → nested_forms (nested_by version forms) ≡ form.Header version ∷ forms
+pub lines_are_nested : (version : ℕ) (forms : List LineForm) → IsTrue (are_placed no_lines (form.Header version ∷ forms))
+    → nested_forms (nested_by version forms) ≡ form.Header version ∷ forms
 lines_are_nested version forms placed =
-    placed_add forms (headed_by version) (and_parts (may_stand no_lines (form.Header version)) (are_placed (and_line no_lines (form.Header version)) forms) placed).1
+    placed_add forms (headed_by version)
+    (and_parts (may_stand no_lines (form.Header version)) (are_placed (and_line no_lines (form.Header version)) forms) placed).1
 
 -- where no block is open, they are the lines of the parts
 pub whole_forms : (nested : Nested) → open_blocks (nested_forms nested) ≡ [] → nested_forms nested ≡ text_forms nested.version nested.parts

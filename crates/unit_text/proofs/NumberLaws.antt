@@ -1,6 +1,7 @@
 -- The numbers of the lines of a text, collected line by line, are those of what the lines nest to; of a whole text they
 -- stand in canonical order.
-use Rattle.std.proofs.Common.{◌≡◌, ℕ, ◌+◌, ◌≤◌, ◌==◌, Bool, true, false, List, [], ◌∷◌, ◌++◌, append_assoc, length, take, drop, map, Option, Some, None, refl, ap, sym, ◌∙◌, arith}
+use Rattle.std.proofs.Common.{◌≡◌, ℕ, ◌+◌, ◌≤◌, ◌==◌, Bool, true, false, List, [], ◌∷◌, ◌++◌, append_assoc, length, take, drop, map, Option, Some, None, refl}
+use Rattle.std.proofs.Common.{ap, sym, ◌∙◌, arith}
 use Rattle.std.specs.Prelude.{if◌then◌else◌}
 use Rattle.std.specs.List.{fold, flat_map}
 use Rattle.std.proofs.lemmas.Grind.{fold-append, flat_map-append}
@@ -12,8 +13,10 @@ use Rattle.unit_tree.specs.declared.line_form.LineForm.{LineForm}
 use Rattle.unit_tree.specs.declared.line_form.LineForm.TheVariants as form
 use Rattle.unit_tree.specs.declared.system.Instance.{Instance}
 use Rattle.unit_text.specs.Nesting as nesting
-use Rattle.unit_text.specs.Nesting.{Inner, Open, AtTop, InUnit, InStep, InInstance, Nested, opened, headed_by, and_form, and_step_form, around_forms, open_forms, nested_forms}
-use Rattle.unit_text.specs.Numbering.{place_of, no_unit_numbers, bare_numbers, unit_in_order, unit_end, instance_line, with_group, with_line, marks_of, with_mark, with_marks, in_order}
+use Rattle.unit_text.specs.Nesting.{Inner, Open, AtTop, InUnit, InStep, InInstance, Nested, opened, headed_by, and_form, and_step_form, around_forms}
+use Rattle.unit_text.specs.Nesting.{open_forms, nested_forms}
+use Rattle.unit_text.specs.Numbering.{place_of, no_unit_numbers, bare_numbers, unit_in_order, unit_end, instance_line, with_group, with_line, marks_of}
+use Rattle.unit_text.specs.Numbering.{with_mark, with_marks, in_order}
 use Rattle.unit_text.specs.declared.numbers.Group.{Group}
 use Rattle.unit_text.specs.declared.numbers.Mark.{Mark}
 use Rattle.unit_text.specs.declared.numbers.Numbers.{Numbers}
@@ -118,46 +121,64 @@ numbers_of nested numbers =
 -- ---- Numbers along parts
 
 -- More parts go along with what is behind the lines of the others.
-each_more : {P : Type 0} (rank : P → ℕ) (forms : P → List LineForm) (own : P → List ℕ → List ℕ) (all more : List P) (lines : List ℕ) → each_ranked rank (λ part. length (forms part)) own (all ++ more) lines ≡ each_ranked rank (λ part. length (forms part)) own all lines ++ each_ranked rank (λ part. length (forms part)) own more (drop (length (flat_map forms all)) lines)
+each_more : {P : Type 0} (rank : P → ℕ) (forms : P → List LineForm) (own : P → List ℕ → List ℕ) (all more : List P) (lines : List ℕ)
+    → each_ranked rank (λ part. length (forms part)) own (all ++ more) lines
+    ≡ each_ranked rank (λ part. length (forms part)) own all lines
+    ++ each_ranked rank (λ part. length (forms part)) own more (drop (length (flat_map forms all)) lines)
 each_more rank forms own [] more lines = refl
 each_more rank forms own (part ∷ all) more lines =
     let size = length (forms part) in
-    let behind : drop (length (flat_map forms all)) (drop size lines) ≡ drop (length (flat_map forms (part ∷ all))) lines = drop-drop (length (flat_map forms all)) size lines ∙ ap (λ n. drop n lines) (omega (arith, length-append (forms part) (flat_map forms all))) in
+    let behind : drop (length (flat_map forms all)) (drop size lines) ≡ drop (length (flat_map forms (part ∷ all))) lines =
+    drop-drop (length (flat_map forms all)) size lines
+    ∙ ap (λ n. drop n lines) (omega (arith, length-append (forms part) (flat_map forms all))) in
     ap (λ pieces. (rank part, own part (take size lines)) ∷ pieces) (
     each_more rank forms own all more (drop size lines)
     ∙ ap (λ rest. each_ranked rank (λ p. length (forms p)) own all (drop size lines) ++ each_ranked rank (λ p. length (forms p)) own more rest) behind
     )
 
 -- What is behind the lines of the parts changes nothing.
-each_extra : {P : Type 0} (rank : P → ℕ) (forms : P → List LineForm) (own : P → List ℕ → List ℕ) (all : List P) (lines extra : List ℕ) → length (flat_map forms all) ≤ length lines → each_ranked rank (λ part. length (forms part)) own all (lines ++ extra) ≡ each_ranked rank (λ part. length (forms part)) own all lines
+each_extra : {P : Type 0} (rank : P → ℕ) (forms : P → List LineForm) (own : P → List ℕ → List ℕ) (all : List P) (lines extra : List ℕ)
+    → length (flat_map forms all) ≤ length lines
+    → each_ranked rank (λ part. length (forms part)) own all (lines ++ extra) ≡ each_ranked rank (λ part. length (forms part)) own all lines
 each_extra rank forms own [] lines extra enough = refl
 each_extra rank forms own (part ∷ all) lines extra enough =
     let size = length (forms part) in
     let long : size ≤ length lines = omega (arith, enough, length-append (forms part) (flat_map forms all)) in
-    let rest : length (flat_map forms all) ≤ length (drop size lines) = omega (arith, enough, length-append (forms part) (flat_map forms all), length-drop size lines) in
-    ap (λ taken. (rank part, own part taken) ∷ each_ranked rank (λ p. length (forms p)) own all (drop size (lines ++ extra))) (take-append-le size lines extra long)
+    let rest : length (flat_map forms all) ≤ length (drop size lines) =
+    omega (arith, enough, length-append (forms part) (flat_map forms all), length-drop size lines) in
+    ap (λ taken. (rank part, own part taken) ∷ each_ranked rank (λ p. length (forms p)) own all (drop size (lines ++ extra)))
+    (take-append-le size lines extra long)
     ∙ ap (λ dropped. (rank part, own part (take size lines)) ∷ each_ranked rank (λ p. length (forms p)) own all dropped) (drop-append-le size lines extra long)
     ∙ ap (λ pieces. (rank part, own part (take size lines)) ∷ pieces) (each_extra rank forms own all (drop size lines) extra rest)
 
 -- One part more, whose lines are all that is behind those of the others.
-each_one : {P : Type 0} (rank : P → ℕ) (forms : P → List LineForm) (own : P → List ℕ → List ℕ) (all : List P) (part : P) (lines extra : List ℕ) → length (flat_map forms all) ≤ length lines → length (drop (length (flat_map forms all)) lines ++ extra) ≡ length (forms part) → each_ranked rank (λ part. length (forms part)) own (all ++ (part ∷ [])) (lines ++ extra) ≡ each_ranked rank (λ part. length (forms part)) own all lines ++ ((rank part, own part (drop (length (flat_map forms all)) lines ++ extra)) ∷ [])
+each_one : {P : Type 0} (rank : P → ℕ) (forms : P → List LineForm) (own : P → List ℕ → List ℕ) (all : List P) (part : P) (lines extra : List ℕ)
+    → length (flat_map forms all) ≤ length lines → length (drop (length (flat_map forms all)) lines ++ extra) ≡ length (forms part)
+    → each_ranked rank (λ part. length (forms part)) own (all ++ (part ∷ [])) (lines ++ extra)
+    ≡ each_ranked rank (λ part. length (forms part)) own all lines ++ ((rank part, own part (drop (length (flat_map forms all)) lines ++ extra)) ∷ [])
 each_one rank forms own all part lines extra enough same =
     let before = length (flat_map forms all) in
     let behind = drop before lines ++ extra in
     each_more rank forms own all (part ∷ []) (lines ++ extra)
-    ∙ ap (λ pieces. pieces ++ each_ranked rank (λ p. length (forms p)) own (part ∷ []) (drop before (lines ++ extra))) (each_extra rank forms own all lines extra enough)
-    ∙ ap (λ rest. each_ranked rank (λ p. length (forms p)) own all lines ++ each_ranked rank (λ p. length (forms p)) own (part ∷ []) rest) (drop-append-le before lines extra enough)
-    ∙ ap (λ taken. each_ranked rank (λ p. length (forms p)) own all lines ++ ((rank part, own part taken) ∷ [])) (take_all (length (forms part)) behind (omega (arith, same)))
+    ∙ ap (λ pieces. pieces ++ each_ranked rank (λ p. length (forms p)) own (part ∷ []) (drop before (lines ++ extra)))
+    (each_extra rank forms own all lines extra enough)
+    ∙ ap (λ rest. each_ranked rank (λ p. length (forms p)) own all lines ++ each_ranked rank (λ p. length (forms p)) own (part ∷ []) rest)
+    (drop-append-le before lines extra enough)
+    ∙ ap (λ taken. each_ranked rank (λ p. length (forms p)) own all lines ++ ((rank part, own part taken) ∷ []))
+    (take_all (length (forms part)) behind (omega (arith, same)))
 
 -- ---- Of each kind
 
 -- What is collected of a part stands in front of what the later ones have of the kind.
-ranked_behind : (asked : ℕ) (piece : ℕ × List ℕ) (test : Bool) (so_far : List ℕ) (pieces : List (ℕ × List ℕ)) → (piece.0 == asked) ≡ test → with_ranked asked piece.0 so_far piece.1 ++ of_rank pieces asked ≡ so_far ++ of_rank (piece ∷ pieces) asked
+ranked_behind : (asked : ℕ) (piece : ℕ × List ℕ) (test : Bool) (so_far : List ℕ) (pieces : List (ℕ × List ℕ)) → (piece.0 == asked) ≡ test
+    → with_ranked asked piece.0 so_far piece.1 ++ of_rank pieces asked ≡ so_far ++ of_rank (piece ∷ pieces) asked
 ranked_behind asked piece true so_far pieces is = rw is (append_assoc so_far piece.1 (of_rank pieces asked))
 ranked_behind asked piece false so_far pieces is = rw is refl
 
 -- What is collected of one kind are the numbers of its rank.
-kind_is : {A : Type 0} (more : A → ℕ × List ℕ → A) (kind : A → List ℕ) (asked : ℕ) → ((so_far : A) (piece : ℕ × List ℕ) → kind (more so_far piece) ≡ with_ranked asked piece.0 (kind so_far) piece.1) → (pieces : List (ℕ × List ℕ)) (so_far : A) → kind (fold more so_far pieces) ≡ kind so_far ++ of_rank pieces asked
+kind_is : {A : Type 0} (more : A → ℕ × List ℕ → A) (kind : A → List ℕ) (asked : ℕ)
+    → ((so_far : A) (piece : ℕ × List ℕ) → kind (more so_far piece) ≡ with_ranked asked piece.0 (kind so_far) piece.1)
+    → (pieces : List (ℕ × List ℕ)) (so_far : A) → kind (fold more so_far pieces) ≡ kind so_far ++ of_rank pieces asked
 kind_is more kind asked law [] so_far = sym (append-nil (kind so_far))
 kind_is more kind asked law (piece ∷ pieces) so_far =
     kind_is more kind asked law pieces (more so_far piece)
@@ -165,20 +186,24 @@ kind_is more kind asked law (piece ∷ pieces) so_far =
     ∙ ranked_behind asked piece (piece.0 == asked) (kind so_far) pieces refl
 
 -- What parts don't change stays the same.
-stays : {A B : Type 0} (more : A → ℕ × List ℕ → A) (kind : A → B) → ((so_far : A) (piece : ℕ × List ℕ) → kind (more so_far piece) ≡ kind so_far) → (pieces : List (ℕ × List ℕ)) (so_far : A) → kind (fold more so_far pieces) ≡ kind so_far
+stays : {A B : Type 0} (more : A → ℕ × List ℕ → A) (kind : A → B) → ((so_far : A) (piece : ℕ × List ℕ) → kind (more so_far piece) ≡ kind so_far)
+    → (pieces : List (ℕ × List ℕ)) (so_far : A) → kind (fold more so_far pieces) ≡ kind so_far
 stays more kind law [] so_far = refl
 stays more kind law (piece ∷ pieces) so_far = stays more kind law pieces (more so_far piece) ∙ law so_far piece
 
 -- Lists that are joined, with equal ones in their places.
-eleven_lists : {a b c d e f g h i j k a' b' c' d' e' f' g' h' i' j' k' : List ℕ} → a ≡ a' → b ≡ b' → c ≡ c' → d ≡ d' → e ≡ e' → f ≡ f' → g ≡ g' → h ≡ h' → i ≡ i' → j ≡ j' → k ≡ k' → joined (a ∷ b ∷ c ∷ d ∷ e ∷ f ∷ g ∷ h ∷ i ∷ j ∷ k ∷ []) ≡ joined (a' ∷ b' ∷ c' ∷ d' ∷ e' ∷ f' ∷ g' ∷ h' ∷ i' ∷ j' ∷ k' ∷ [])
+eleven_lists : {a b c d e f g h i j k a' b' c' d' e' f' g' h' i' j' k' : List ℕ} → a ≡ a' → b ≡ b' → c ≡ c' → d ≡ d' → e ≡ e' → f ≡ f' → g ≡ g' → h ≡ h'
+    → i ≡ i' → j ≡ j' → k ≡ k' → joined (a ∷ b ∷ c ∷ d ∷ e ∷ f ∷ g ∷ h ∷ i ∷ j ∷ k ∷ []) ≡ joined (a' ∷ b' ∷ c' ∷ d' ∷ e' ∷ f' ∷ g' ∷ h' ∷ i' ∷ j' ∷ k' ∷ [])
 eleven_lists pa pb pc pd pe pf pg ph pi pj pk = rw (pa, pb, pc, pd, pe, pf, pg, ph, pi, pj, pk) refl
 
 -- The same of nine lists.
-nine_lists : {a b c d e f g h i a' b' c' d' e' f' g' h' i' : List ℕ} → a ≡ a' → b ≡ b' → c ≡ c' → d ≡ d' → e ≡ e' → f ≡ f' → g ≡ g' → h ≡ h' → i ≡ i' → joined (a ∷ b ∷ c ∷ d ∷ e ∷ f ∷ g ∷ h ∷ i ∷ []) ≡ joined (a' ∷ b' ∷ c' ∷ d' ∷ e' ∷ f' ∷ g' ∷ h' ∷ i' ∷ [])
+nine_lists : {a b c d e f g h i a' b' c' d' e' f' g' h' i' : List ℕ} → a ≡ a' → b ≡ b' → c ≡ c' → d ≡ d' → e ≡ e' → f ≡ f' → g ≡ g' → h ≡ h' → i ≡ i'
+    → joined (a ∷ b ∷ c ∷ d ∷ e ∷ f ∷ g ∷ h ∷ i ∷ []) ≡ joined (a' ∷ b' ∷ c' ∷ d' ∷ e' ∷ f' ∷ g' ∷ h' ∷ i' ∷ [])
 nine_lists pa pb pc pd pe pf pg ph pi = rw (pa, pb, pc, pd, pe, pf, pg, ph, pi) refl
 
 -- The numbers of a unit are put into canonical order.
-unit_order : (head : List ℕ) (inside : List UnitPart) (lines : List ℕ) → unit_in_order (unit_numbers head inside lines) ≡ head ++ unit_lines_in_order inside lines
+unit_order : (head : List ℕ) (inside : List UnitPart) (lines : List ℕ)
+    → unit_in_order (unit_numbers head inside lines) ≡ head ++ unit_lines_in_order inside lines
 unit_order head inside lines =
     let pieces = unit_pieces inside lines in
     let none : UnitNumbers = record no_unit_numbers { head = head } in
@@ -223,14 +248,18 @@ numbers_begin version number = refl
 -- ---- One line more: what stays open
 
 -- One part more of the open unit.
-unit_part_more : (inside : List UnitPart) (part : UnitPart) (head lines extra : List ℕ) → unit_size inside ≤ length lines → length (drop (unit_size inside) lines ++ extra) ≡ length (unit_part_forms part) → unit_numbers head (inside ++ (part ∷ [])) (lines ++ extra) ≡ with_unit_piece (unit_numbers head inside lines) (unit_part_rank part, drop (unit_size inside) lines ++ extra)
+unit_part_more : (inside : List UnitPart) (part : UnitPart) (head lines extra : List ℕ) → unit_size inside ≤ length lines
+    → length (drop (unit_size inside) lines ++ extra) ≡ length (unit_part_forms part)
+    → unit_numbers head (inside ++ (part ∷ [])) (lines ++ extra)
+    ≡ with_unit_piece (unit_numbers head inside lines) (unit_part_rank part, drop (unit_size inside) lines ++ extra)
 unit_part_more inside part head lines extra enough same =
     let none : UnitNumbers = record no_unit_numbers { head = head } in
     ap (fold with_unit_piece none) (each_one unit_part_rank unit_part_forms (λ part own. own) inside part lines extra enough same)
     ∙ fold-append with_unit_piece none (unit_pieces inside lines) ((unit_part_rank part, drop (unit_size inside) lines ++ extra) ∷ [])
 
 -- Lines behind the parts of the open unit don't change what they say.
-unit_extra : (inside : List UnitPart) (head lines extra : List ℕ) → unit_size inside ≤ length lines → unit_numbers head inside (lines ++ extra) ≡ unit_numbers head inside lines
+unit_extra : (inside : List UnitPart) (head lines extra : List ℕ) → unit_size inside ≤ length lines
+    → unit_numbers head inside (lines ++ extra) ≡ unit_numbers head inside lines
 unit_extra inside head lines extra enough =
     ap (fold with_unit_piece (record no_unit_numbers { head = head })) (each_extra unit_part_rank unit_part_forms (λ part own. own) inside lines extra enough)
 
@@ -257,16 +286,23 @@ abbrev whole_numbers : ℕ → List Part → List ℕ → Numbers
 whole_numbers header all rest = part_numbers (header ∷ []) all rest
 
 -- Another block is open behind the same parts.
-block_more : (version : ℕ) (all : List Part) (block : Open) (header number : ℕ) (rest : List ℕ) → text_size all ≤ length rest → numbers_of (holding version all block) (header ∷ rest ++ (number ∷ [])) ≡ with_open (whole_numbers header all rest) block (drop (text_size all) rest ++ (number ∷ []))
+block_more : (version : ℕ) (all : List Part) (block : Open) (header number : ℕ) (rest : List ℕ) → text_size all ≤ length rest
+    → numbers_of (holding version all block) (header ∷ rest ++ (number ∷ []))
+    ≡ with_open (whole_numbers header all rest) block (drop (text_size all) rest ++ (number ∷ []))
 block_more version all block header number rest enough =
-    ap (λ pieces. with_open (fold with_piece (header_numbers (header ∷ [])) pieces) block (drop (text_size all) (rest ++ (number ∷ [])))) (each_extra part_rank part_forms part_lines_in_order all rest (number ∷ []) enough)
+    ap (λ pieces. with_open (fold with_piece (header_numbers (header ∷ [])) pieces) block (drop (text_size all) (rest ++ (number ∷ []))))
+    (each_extra part_rank part_forms part_lines_in_order all rest (number ∷ []) enough)
     ∙ ap (with_open (whole_numbers header all rest) block) (drop-append-le (text_size all) rest (number ∷ []) enough)
 
 -- The open block becomes a part.
-part_more : (version : ℕ) (all : List Part) (part : Part) (header number : ℕ) (rest : List ℕ) → text_size all ≤ length rest → length (drop (text_size all) rest ++ (number ∷ [])) ≡ length (part_forms part) → numbers_of (holding version (all ++ (part ∷ [])) AtTop) (header ∷ rest ++ (number ∷ [])) ≡ with_piece (whole_numbers header all rest) (part_rank part, part_lines_in_order part (drop (text_size all) rest ++ (number ∷ [])))
+part_more : (version : ℕ) (all : List Part) (part : Part) (header number : ℕ) (rest : List ℕ) → text_size all ≤ length rest
+    → length (drop (text_size all) rest ++ (number ∷ [])) ≡ length (part_forms part)
+    → numbers_of (holding version (all ++ (part ∷ [])) AtTop) (header ∷ rest ++ (number ∷ []))
+    ≡ with_piece (whole_numbers header all rest) (part_rank part, part_lines_in_order part (drop (text_size all) rest ++ (number ∷ [])))
 part_more version all part header number rest enough same =
     ap (fold with_piece (header_numbers (header ∷ []))) (each_one part_rank part_forms part_lines_in_order all part rest (number ∷ []) enough same)
-    ∙ fold-append with_piece (header_numbers (header ∷ [])) (text_pieces all rest) ((part_rank part, part_lines_in_order part (drop (text_size all) rest ++ (number ∷ []))) ∷ [])
+    ∙ fold-append with_piece (header_numbers (header ∷ [])) (text_pieces all rest)
+    ((part_rank part, part_lines_in_order part (drop (text_size all) rest ++ (number ∷ []))) ∷ [])
 
 -- No unit is open behind parts.
 no_unit : (header : ℕ) (all : List Part) (rest : List ℕ) → (whole_numbers header all rest).unit ≡ no_unit_numbers
@@ -282,17 +318,22 @@ none_behind (line ∷ lines) none = absurd (omega arith)
 -- Where the line is collected, by what the numbers of the others are.
 abbrev IsCollected : Nested → LineForm → Type 0
 IsCollected nested some =
-    (header number : ℕ) (rest : List ℕ) → GoesAlong nested rest → with_line (numbers_of nested (header ∷ rest)) (place_of nested.block) some number ≡ numbers_of (and_form nested some) (header ∷ rest ++ (number ∷ []))
+    (header number : ℕ) (rest : List ℕ) → GoesAlong nested rest
+    → with_line (numbers_of nested (header ∷ rest)) (place_of nested.block) some number ≡ numbers_of (and_form nested some) (header ∷ rest ++ (number ∷ []))
 
 -- A part of one line.
-one_line : (version : ℕ) (all : List Part) (part : Part) (header number : ℕ) (rest : List ℕ) → GoesAlong (holding version all AtTop) rest → length (part_forms part) ≡ 1 → numbers_of (holding version (all ++ (part ∷ [])) AtTop) (header ∷ rest ++ (number ∷ [])) ≡ with_piece (whole_numbers header all rest) (part_rank part, part_lines_in_order part (number ∷ []))
+one_line : (version : ℕ) (all : List Part) (part : Part) (header number : ℕ) (rest : List ℕ) → GoesAlong (holding version all AtTop) rest
+    → length (part_forms part) ≡ 1
+    → numbers_of (holding version (all ++ (part ∷ [])) AtTop) (header ∷ rest ++ (number ∷ []))
+    ≡ with_piece (whole_numbers header all rest) (part_rank part, part_lines_in_order part (number ∷ []))
 one_line version all part header number rest along one =
     let none = none_behind (drop (text_size all) rest) along.behind in
     part_more version all part header number rest along.enough (ap (λ behind. length (behind ++ (number ∷ []))) none ∙ sym one)
     ∙ ap (λ behind. with_piece (whole_numbers header all rest) (part_rank part, part_lines_in_order part (behind ++ (number ∷ [])))) none
 
 -- A block that begins.
-block_begins : (version : ℕ) (all : List Part) (block : Open) (header number : ℕ) (rest : List ℕ) → GoesAlong (holding version all AtTop) rest → numbers_of (holding version all block) (header ∷ rest ++ (number ∷ [])) ≡ with_open (whole_numbers header all rest) block (number ∷ [])
+block_begins : (version : ℕ) (all : List Part) (block : Open) (header number : ℕ) (rest : List ℕ) → GoesAlong (holding version all AtTop) rest
+    → numbers_of (holding version all block) (header ∷ rest ++ (number ∷ [])) ≡ with_open (whole_numbers header all rest) block (number ∷ [])
 block_begins version all block header number rest along =
     block_more version all block header number rest along.enough
     ∙ ap (λ behind. with_open (whole_numbers header all rest) block (behind ++ (number ∷ []))) (none_behind (drop (text_size all) rest) along.behind)
@@ -332,7 +373,8 @@ top_more version all (form.Sample port) is header number rest along = sym (one_l
 -- ---- One line more: in a unit
 
 -- The first number stays the first.
-first_stays : {A : Type 0} (of : List ℕ → List ℕ → A) (lines extra : List ℕ) → 1 ≤ length lines → of (take 1 (lines ++ extra)) (drop 1 (lines ++ extra)) ≡ of (take 1 lines) (drop 1 lines ++ extra)
+first_stays : {A : Type 0} (of : List ℕ → List ℕ → A) (lines extra : List ℕ) → 1 ≤ length lines
+    → of (take 1 (lines ++ extra)) (drop 1 (lines ++ extra)) ≡ of (take 1 lines) (drop 1 lines ++ extra)
 first_stays of [] extra long = absurd (omega arith)
 first_stays of (first ∷ lines) extra long = refl
 
@@ -354,7 +396,12 @@ abbrev with_unit : Numbers → UnitNumbers → Numbers
 with_unit numbers unit = record numbers { unit = unit }
 
 -- One part more of the unit.
-unit_part_ends : (version : ℕ) (all : List Part) (name : List ℕ) (inside : List UnitPart) (part : UnitPart) (header number : ℕ) (rest : List ℕ) → text_size all ≤ length rest → HoldUnit inside (drop (text_size all) rest) → length (behind_parts inside (drop (text_size all) rest) ++ (number ∷ [])) ≡ length (unit_part_forms part) → numbers_of (holding version all (InUnit name (inside ++ (part ∷ [])))) (header ∷ rest ++ (number ∷ [])) ≡ with_unit (whole_numbers header all rest) (with_unit_piece (open_unit inside (drop (text_size all) rest)) (unit_part_rank part, behind_parts inside (drop (text_size all) rest) ++ (number ∷ [])))
+unit_part_ends : (version : ℕ) (all : List Part) (name : List ℕ) (inside : List UnitPart) (part : UnitPart) (header number : ℕ) (rest : List ℕ)
+    → text_size all ≤ length rest → HoldUnit inside (drop (text_size all) rest)
+    → length (behind_parts inside (drop (text_size all) rest) ++ (number ∷ [])) ≡ length (unit_part_forms part)
+    → numbers_of (holding version all (InUnit name (inside ++ (part ∷ [])))) (header ∷ rest ++ (number ∷ []))
+    ≡ with_unit (whole_numbers header all rest)
+    (with_unit_piece (open_unit inside (drop (text_size all) rest)) (unit_part_rank part, behind_parts inside (drop (text_size all) rest) ++ (number ∷ [])))
 unit_part_ends version all name inside part header number rest enough hold same =
     let behind = drop (text_size all) rest in
     block_more version all (InUnit name (inside ++ (part ∷ []))) header number rest enough
@@ -362,79 +409,118 @@ unit_part_ends version all name inside part header number rest enough hold same 
     ∙ ap (with_unit (whole_numbers header all rest)) (unit_part_more inside part (take 1 behind) (drop 1 behind) (number ∷ []) hold.enough same)
 
 -- A line of the step of the unit that does not end it.
-step_goes_on : (version : ℕ) (all : List Part) (name : List ℕ) (inside : List UnitPart) (inner : Inner) (header number : ℕ) (rest : List ℕ) → text_size all ≤ length rest → HoldUnit inside (drop (text_size all) rest) → numbers_of (holding version all (InStep name inside inner)) (header ∷ rest ++ (number ∷ [])) ≡ with_unit (whole_numbers header all rest) (with_step_lines (open_unit inside (drop (text_size all) rest)) (behind_parts inside (drop (text_size all) rest) ++ (number ∷ [])))
+step_goes_on : (version : ℕ) (all : List Part) (name : List ℕ) (inside : List UnitPart) (inner : Inner) (header number : ℕ) (rest : List ℕ)
+    → text_size all ≤ length rest → HoldUnit inside (drop (text_size all) rest)
+    → numbers_of (holding version all (InStep name inside inner)) (header ∷ rest ++ (number ∷ []))
+    ≡ with_unit (whole_numbers header all rest)
+    (with_step_lines (open_unit inside (drop (text_size all) rest)) (behind_parts inside (drop (text_size all) rest) ++ (number ∷ [])))
 step_goes_on version all name inside inner header number rest enough hold =
     let behind = drop (text_size all) rest in
     let base = whole_numbers header all rest in
     block_more version all (InStep name inside inner) header number rest enough
-    ∙ first_stays (λ head lines. with_unit base (with_step_lines (unit_numbers head inside lines) (drop (unit_size inside) lines))) behind (number ∷ []) hold.long
-    ∙ ap (λ unit. with_unit base (with_step_lines unit (drop (unit_size inside) (drop 1 behind ++ (number ∷ []))))) (unit_extra inside (take 1 behind) (drop 1 behind) (number ∷ []) hold.enough)
-    ∙ ap (λ lines. with_unit base (with_step_lines (open_unit inside behind) lines)) (drop-append-le (unit_size inside) (drop 1 behind) (number ∷ []) hold.enough)
+    ∙ first_stays (λ head lines. with_unit base (with_step_lines (unit_numbers head inside lines) (drop (unit_size inside) lines))) behind
+    (number ∷ []) hold.long
+    ∙ ap (λ unit. with_unit base (with_step_lines unit (drop (unit_size inside) (drop 1 behind ++ (number ∷ [])))))
+    (unit_extra inside (take 1 behind) (drop 1 behind) (number ∷ []) hold.enough)
+    ∙ ap (λ lines. with_unit base (with_step_lines (open_unit inside behind) lines))
+    (drop-append-le (unit_size inside) (drop 1 behind) (number ∷ []) hold.enough)
 
 -- Where a unit is open, its lines are there.
-unit_holds : (version : ℕ) (all : List Part) (name : List ℕ) (inside : List UnitPart) (rest : List ℕ) → GoesAlong (holding version all (InUnit name inside)) rest → HoldUnit inside (drop (text_size all) rest)
+unit_holds : (version : ℕ) (all : List Part) (name : List ℕ) (inside : List UnitPart) (rest : List ℕ)
+    → GoesAlong (holding version all (InUnit name inside)) rest → HoldUnit inside (drop (text_size all) rest)
 unit_holds version all name inside rest along =
     let same = along.behind in
     record { long = omega (arith, same); enough = omega (arith, same, length-drop 1 (drop (text_size all) rest)) }
 
 -- Between the parts of an open unit no line is left over.
-nothing_behind : (version : ℕ) (all : List Part) (name : List ℕ) (inside : List UnitPart) (rest : List ℕ) → GoesAlong (holding version all (InUnit name inside)) rest → behind_parts inside (drop (text_size all) rest) ≡ []
+nothing_behind : (version : ℕ) (all : List Part) (name : List ℕ) (inside : List UnitPart) (rest : List ℕ)
+    → GoesAlong (holding version all (InUnit name inside)) rest → behind_parts inside (drop (text_size all) rest) ≡ []
 nothing_behind version all name inside rest along =
     let behind = drop (text_size all) rest in
     let same = along.behind in
     none_behind (behind_parts inside behind) (omega (arith, same, length-drop 1 behind, length-drop (unit_size inside) (drop 1 behind)))
 
 -- A declaration.
-one_in_unit : (version : ℕ) (all : List Part) (name : List ℕ) (inside : List UnitPart) (part : UnitPart) (header number : ℕ) (rest : List ℕ) → GoesAlong (holding version all (InUnit name inside)) rest → length (unit_part_forms part) ≡ 1 → numbers_of (holding version all (InUnit name (inside ++ (part ∷ [])))) (header ∷ rest ++ (number ∷ [])) ≡ with_unit (whole_numbers header all rest) (with_unit_piece (open_unit inside (drop (text_size all) rest)) (unit_part_rank part, number ∷ []))
+one_in_unit : (version : ℕ) (all : List Part) (name : List ℕ) (inside : List UnitPart) (part : UnitPart) (header number : ℕ) (rest : List ℕ)
+    → GoesAlong (holding version all (InUnit name inside)) rest → length (unit_part_forms part) ≡ 1
+    → numbers_of (holding version all (InUnit name (inside ++ (part ∷ [])))) (header ∷ rest ++ (number ∷ []))
+    ≡ with_unit (whole_numbers header all rest) (with_unit_piece (open_unit inside (drop (text_size all) rest)) (unit_part_rank part, number ∷ []))
 one_in_unit version all name inside part header number rest along one =
     let none = nothing_behind version all name inside rest along in
-    unit_part_ends version all name inside part header number rest along.enough (unit_holds version all name inside rest along) (ap (λ lines. length (lines ++ (number ∷ []))) none ∙ sym one)
-    ∙ ap (λ lines. with_unit (whole_numbers header all rest) (with_unit_piece (open_unit inside (drop (text_size all) rest)) (unit_part_rank part, lines ++ (number ∷ [])))) none
+    unit_part_ends version all name inside part header number rest along.enough (unit_holds version all name inside rest along)
+    (ap (λ lines. length (lines ++ (number ∷ []))) none ∙ sym one)
+    ∙ ap (λ lines. with_unit (whole_numbers header all rest)
+    (with_unit_piece (open_unit inside (drop (text_size all) rest)) (unit_part_rank part, lines ++ (number ∷ [])))) none
 
 -- The step of the unit begins.
-step_begins : (version : ℕ) (all : List Part) (name : List ℕ) (inside : List UnitPart) (inner : Inner) (header number : ℕ) (rest : List ℕ) → GoesAlong (holding version all (InUnit name inside)) rest → numbers_of (holding version all (InStep name inside inner)) (header ∷ rest ++ (number ∷ [])) ≡ with_unit (whole_numbers header all rest) (with_step_lines (open_unit inside (drop (text_size all) rest)) (number ∷ []))
+step_begins : (version : ℕ) (all : List Part) (name : List ℕ) (inside : List UnitPart) (inner : Inner) (header number : ℕ) (rest : List ℕ)
+    → GoesAlong (holding version all (InUnit name inside)) rest
+    → numbers_of (holding version all (InStep name inside inner)) (header ∷ rest ++ (number ∷ []))
+    ≡ with_unit (whole_numbers header all rest) (with_step_lines (open_unit inside (drop (text_size all) rest)) (number ∷ []))
 step_begins version all name inside inner header number rest along =
     step_goes_on version all name inside inner header number rest along.enough (unit_holds version all name inside rest along)
-    ∙ ap (λ lines. with_unit (whole_numbers header all rest) (with_step_lines (open_unit inside (drop (text_size all) rest)) (lines ++ (number ∷ [])))) (nothing_behind version all name inside rest along)
+    ∙ ap (λ lines. with_unit (whole_numbers header all rest) (with_step_lines (open_unit inside (drop (text_size all) rest)) (lines ++ (number ∷ []))))
+    (nothing_behind version all name inside rest along)
 
 -- The unit ends: its lines in canonical order, and its `end`.
-ended_order : (name : List ℕ) (inside : List UnitPart) (number : ℕ) (behind : List ℕ) → HoldUnit inside behind → behind_parts inside behind ≡ [] → part_lines_in_order (parts.HasUnit name inside) (behind ++ (number ∷ [])) ≡ unit_in_order (open_unit inside behind) ++ (number ∷ [])
+ended_order : (name : List ℕ) (inside : List UnitPart) (number : ℕ) (behind : List ℕ) → HoldUnit inside behind → behind_parts inside behind ≡ []
+    → part_lines_in_order (parts.HasUnit name inside) (behind ++ (number ∷ [])) ≡ unit_in_order (open_unit inside behind) ++ (number ∷ [])
 ended_order name inside number behind hold none =
     let head = take 1 behind in
     let lines = drop 1 behind in
     first_stays (λ first others. first ++ unit_lines_in_order inside others ++ drop (unit_size inside) others) behind (number ∷ []) hold.long
-    ∙ ap (λ pieces. head ++ by_rank (0 ∷ 1 ∷ 2 ∷ 3 ∷ 4 ∷ 5 ∷ 6 ∷ 7 ∷ 8 ∷ 9 ∷ []) pieces ++ drop (unit_size inside) (lines ++ (number ∷ []))) (each_extra unit_part_rank unit_part_forms (λ part own. own) inside lines (number ∷ []) hold.enough)
-    ∙ ap (λ end. head ++ unit_lines_in_order inside lines ++ end) (drop-append-le (unit_size inside) lines (number ∷ []) hold.enough ∙ ap (λ end. end ++ (number ∷ [])) none)
+    ∙ ap (λ pieces. head ++ by_rank (0 ∷ 1 ∷ 2 ∷ 3 ∷ 4 ∷ 5 ∷ 6 ∷ 7 ∷ 8 ∷ 9 ∷ []) pieces ++ drop (unit_size inside) (lines ++ (number ∷ [])))
+    (each_extra unit_part_rank unit_part_forms (λ part own. own) inside lines (number ∷ []) hold.enough)
+    ∙ ap (λ end. head ++ unit_lines_in_order inside lines ++ end)
+    (drop-append-le (unit_size inside) lines (number ∷ []) hold.enough ∙ ap (λ end. end ++ (number ∷ [])) none)
     ∙ ap (λ all. all ++ (number ∷ [])) (sym (unit_order head inside lines))
 
 -- A unit that ends has the lines behind the whole parts, and its `end`.
-ended_length : (name : List ℕ) (inside : List UnitPart) (number : ℕ) (behind : List ℕ) → length behind ≡ length (open_forms (InUnit name inside)) → length (behind ++ (number ∷ [])) ≡ length (part_forms (parts.HasUnit name inside))
-ended_length name inside number behind same = omega (arith, same, length-append behind (number ∷ []), length-append (flat_map unit_part_forms inside) (form.End ∷ []))
+ended_length : (name : List ℕ) (inside : List UnitPart) (number : ℕ) (behind : List ℕ) → length behind ≡ length (open_forms (InUnit name inside))
+    → length (behind ++ (number ∷ [])) ≡ length (part_forms (parts.HasUnit name inside))
+ended_length name inside number behind same =
+    omega (arith, same, length-append behind (number ∷ []), length-append (flat_map unit_part_forms inside) (form.End ∷ []))
 
 -- The `end` of a unit is collected.
-unit_ends : (version : ℕ) (all : List Part) (name : List ℕ) (inside : List UnitPart) (header number : ℕ) (rest : List ℕ) → GoesAlong (holding version all (InUnit name inside)) rest → unit_end (with_unit (whole_numbers header all rest) (open_unit inside (drop (text_size all) rest))) number ≡ numbers_of (holding version (all ++ (parts.HasUnit name inside ∷ [])) AtTop) (header ∷ rest ++ (number ∷ []))
+unit_ends : (version : ℕ) (all : List Part) (name : List ℕ) (inside : List UnitPart) (header number : ℕ) (rest : List ℕ)
+    → GoesAlong (holding version all (InUnit name inside)) rest
+    → unit_end (with_unit (whole_numbers header all rest) (open_unit inside (drop (text_size all) rest))) number
+    ≡ numbers_of (holding version (all ++ (parts.HasUnit name inside ∷ [])) AtTop) (header ∷ rest ++ (number ∷ []))
 unit_ends version all name inside header number rest along =
     let base = whole_numbers header all rest in
     let behind = drop (text_size all) rest in
     let order = ended_order name inside number behind (unit_holds version all name inside rest along) (nothing_behind version all name inside rest along) in
-    ap (λ units. record base { units = units; unit = no_unit_numbers }) (append_assoc base.units (unit_in_order (open_unit inside behind)) (number ∷ []) ∙ ap (λ own. base.units ++ own) (sym order))
-    ∙ ap (λ unit. record base { units = base.units ++ part_lines_in_order (parts.HasUnit name inside) (behind ++ (number ∷ [])); unit = unit }) (sym (no_unit header all rest))
+    ap (λ units. record base { units = units; unit = no_unit_numbers })
+    (append_assoc base.units (unit_in_order (open_unit inside behind)) (number ∷ []) ∙ ap (λ own. base.units ++ own) (sym order))
+    ∙ ap (λ unit. record base { units = base.units ++ part_lines_in_order (parts.HasUnit name inside) (behind ++ (number ∷ [])); unit = unit })
+    (sym (no_unit header all rest))
     ∙ sym (part_more version all (parts.HasUnit name inside) header number rest along.enough (ended_length name inside number behind along.behind))
 
 -- A line in a unit is collected.
-unit_more : (version : ℕ) (all : List Part) (name : List ℕ) (inside : List UnitPart) (some : LineForm) → IsHeld (holding version all (InUnit name inside)) some → IsCollected (holding version all (InUnit name inside)) some
+unit_more : (version : ℕ) (all : List Part) (name : List ℕ) (inside : List UnitPart) (some : LineForm)
+    → IsHeld (holding version all (InUnit name inside)) some → IsCollected (holding version all (InUnit name inside)) some
 unit_more version all name inside (form.Header other) is header number rest along = absurd (is.no_header other refl)
 unit_more version all name inside (form.Unit other) is header number rest along = let held = is.held in absurd (cc)
-unit_more version all name inside (form.Resolution decimals) is header number rest along = sym (one_in_unit version all name inside (parts.Resolution decimals) header number rest along refl)
-unit_more version all name inside (form.Param param) is header number rest along = sym (one_in_unit version all name inside (parts.HasParam param) header number rest along refl)
-unit_more version all name inside (form.State state) is header number rest along = sym (one_in_unit version all name inside (parts.HasState state) header number rest along refl)
-unit_more version all name inside (form.Local local) is header number rest along = sym (one_in_unit version all name inside (parts.HasLocal local) header number rest along refl)
-unit_more version all name inside (form.Input input) is header number rest along = sym (one_in_unit version all name inside (parts.HasInput input) header number rest along refl)
-unit_more version all name inside (form.EventInput event) is header number rest along = sym (one_in_unit version all name inside (parts.HasEventIn event) header number rest along refl)
-unit_more version all name inside (form.Output output) is header number rest along = sym (one_in_unit version all name inside (parts.HasOutput output) header number rest along refl)
-unit_more version all name inside (form.EventOutput event) is header number rest along = sym (one_in_unit version all name inside (parts.HasEventOut event) header number rest along refl)
-unit_more version all name inside (form.Max value) is header number rest along = sym (one_in_unit version all name inside (parts.Max value) header number rest along refl)
-unit_more version all name inside form.Step is header number rest along = sym (step_begins version all name inside (record { lines = []; around = [] }) header number rest along)
+unit_more version all name inside (form.Resolution decimals) is header number rest along =
+    sym (one_in_unit version all name inside (parts.Resolution decimals) header number rest along refl)
+unit_more version all name inside (form.Param param) is header number rest along =
+    sym (one_in_unit version all name inside (parts.HasParam param) header number rest along refl)
+unit_more version all name inside (form.State state) is header number rest along =
+    sym (one_in_unit version all name inside (parts.HasState state) header number rest along refl)
+unit_more version all name inside (form.Local local) is header number rest along =
+    sym (one_in_unit version all name inside (parts.HasLocal local) header number rest along refl)
+unit_more version all name inside (form.Input input) is header number rest along =
+    sym (one_in_unit version all name inside (parts.HasInput input) header number rest along refl)
+unit_more version all name inside (form.EventInput event) is header number rest along =
+    sym (one_in_unit version all name inside (parts.HasEventIn event) header number rest along refl)
+unit_more version all name inside (form.Output output) is header number rest along =
+    sym (one_in_unit version all name inside (parts.HasOutput output) header number rest along refl)
+unit_more version all name inside (form.EventOutput event) is header number rest along =
+    sym (one_in_unit version all name inside (parts.HasEventOut event) header number rest along refl)
+unit_more version all name inside (form.Max value) is header number rest along =
+    sym (one_in_unit version all name inside (parts.Max value) header number rest along refl)
+unit_more version all name inside form.Step is header number rest along =
+    sym (step_begins version all name inside (record { lines = []; around = [] }) header number rest along)
 unit_more version all name inside form.End is header number rest along = unit_ends version all name inside header number rest along
 unit_more version all name inside (form.Assign target value) is header number rest along = let held = is.held in absurd (cc)
 unit_more version all name inside (form.If condition) is header number rest along = let held = is.held in absurd (cc)
@@ -453,40 +539,70 @@ unit_more version all name inside (form.Sample port) is header number rest along
 -- ---- One line more: in a step
 
 -- Where a step is open, the lines of its unit are there.
-step_holds : (version : ℕ) (all : List Part) (name : List ℕ) (inside : List UnitPart) (inner : Inner) (rest : List ℕ) → GoesAlong (holding version all (InStep name inside inner)) rest → HoldUnit inside (drop (text_size all) rest)
+step_holds : (version : ℕ) (all : List Part) (name : List ℕ) (inside : List UnitPart) (inner : Inner) (rest : List ℕ)
+    → GoesAlong (holding version all (InStep name inside inner)) rest → HoldUnit inside (drop (text_size all) rest)
 step_holds version all name inside inner rest along =
     let same = along.behind in
     let long = length-append (flat_map unit_part_forms inside) (form.Step ∷ around_forms inner.around ++ flat_map line_forms inner.lines) in
     record { long = omega (arith, same, long); enough = omega (arith, same, long, length-drop 1 (drop (text_size all) rest)) }
 
 -- The lines of a step that ends are those behind the parts, and this one.
-step_length : (version : ℕ) (all : List Part) (name : List ℕ) (inside : List UnitPart) (inner : Inner) (some : LineForm) (number : ℕ) (rest : List ℕ) → GoesAlong (holding version all (InStep name inside inner)) rest → nested_forms (holding version all (InUnit name (inside ++ (parts.Step inner.lines ∷ [])))) ≡ nested_forms (holding version all (InStep name inside inner)) ++ (some ∷ []) → length (behind_parts inside (drop (text_size all) rest) ++ (number ∷ [])) ≡ length (unit_part_forms (parts.Step inner.lines))
+step_length : (version : ℕ) (all : List Part) (name : List ℕ) (inside : List UnitPart) (inner : Inner) (some : LineForm) (number : ℕ) (rest : List ℕ)
+    → GoesAlong (holding version all (InStep name inside inner)) rest
+    → nested_forms (holding version all (InUnit name (inside ++ (parts.Step inner.lines ∷ []))))
+    ≡ nested_forms (holding version all (InStep name inside inner)) ++ (some ∷ [])
+    → length (behind_parts inside (drop (text_size all) rest) ++ (number ∷ [])) ≡ length (unit_part_forms (parts.Step inner.lines))
 step_length version all name inside inner some number rest along grows =
     let part = parts.Step inner.lines in
     let behind = drop (text_size all) rest in
     let before = text_forms version all in
     let blocks : length (open_forms (InUnit name (inside ++ (part ∷ [])))) ≡ length (open_forms (InStep name inside inner)) + 1 =
-    omega (arith, ap length grows, length-append before (open_forms (InUnit name (inside ++ (part ∷ [])))), length-append before (open_forms (InStep name inside inner)), length-append (nested_forms (holding version all (InStep name inside inner))) (some ∷ [])) in
+    omega (
+      arith,
+      ap length grows,
+      length-append before (open_forms (InUnit name (inside ++ (part ∷ [])))),
+      length-append before (open_forms (InStep name inside inner)),
+      length-append (nested_forms (holding version all (InStep name inside inner))) (some ∷ []),
+    ) in
     let size : unit_size (inside ++ (part ∷ [])) ≡ unit_size inside + length (unit_part_forms part) =
-    ap length (flat_map-append unit_part_forms inside (part ∷ [])) ∙ length-append (flat_map unit_part_forms inside) (unit_part_forms part ++ []) ∙ ap (λ own. unit_size inside + length own) (append-nil (unit_part_forms part)) in
+    ap length (flat_map-append unit_part_forms inside (part ∷ [])) ∙ length-append (flat_map unit_part_forms inside) (unit_part_forms part ++ [])
+    ∙ ap (λ own. unit_size inside + length own) (append-nil (unit_part_forms part)) in
     let same = along.behind in
     let hold = (step_holds version all name inside inner rest along).enough in
-    omega (arith, blocks, size, same, hold, length-append (behind_parts inside behind) (number ∷ []), length-drop 1 behind, length-drop (unit_size inside) (drop 1 behind))
+    omega (
+      arith,
+      blocks,
+      size,
+      same,
+      hold,
+      length-append (behind_parts inside behind) (number ∷ []),
+      length-drop 1 behind,
+      length-drop (unit_size inside) (drop 1 behind),
+    )
 
 -- A line in a step is collected, be it one more of its lines or its `end`.
-step_more_by : (version : ℕ) (all : List Part) (name : List ℕ) (inside : List UnitPart) (inner : Inner) (some : LineForm) (next : Option Inner) → nested_forms (nesting.in_step (holding version all (InStep name inside inner)) name inside inner.lines next) ≡ nested_forms (holding version all (InStep name inside inner)) ++ (some ∷ []) → (header number : ℕ) (rest : List ℕ) → GoesAlong (holding version all (InStep name inside inner)) rest → with_unit (whole_numbers header all rest) (with_step_lines (open_unit inside (drop (text_size all) rest)) (behind_parts inside (drop (text_size all) rest) ++ (number ∷ []))) ≡ numbers_of (nesting.in_step (holding version all (InStep name inside inner)) name inside inner.lines next) (header ∷ rest ++ (number ∷ []))
+step_more_by : (version : ℕ) (all : List Part) (name : List ℕ) (inside : List UnitPart) (inner : Inner) (some : LineForm) (next : Option Inner)
+    → nested_forms (nesting.in_step (holding version all (InStep name inside inner)) name inside inner.lines next)
+    ≡ nested_forms (holding version all (InStep name inside inner)) ++ (some ∷ [])
+    → (header number : ℕ) (rest : List ℕ) → GoesAlong (holding version all (InStep name inside inner)) rest
+    → with_unit (whole_numbers header all rest)
+    (with_step_lines (open_unit inside (drop (text_size all) rest)) (behind_parts inside (drop (text_size all) rest) ++ (number ∷ [])))
+    ≡ numbers_of (nesting.in_step (holding version all (InStep name inside inner)) name inside inner.lines next) (header ∷ rest ++ (number ∷ []))
 step_more_by version all name inside inner some (Some next) grows header number rest along =
     sym (step_goes_on version all name inside next header number rest along.enough (step_holds version all name inside inner rest along))
 step_more_by version all name inside inner some None grows header number rest along =
-    sym (unit_part_ends version all name inside (parts.Step inner.lines) header number rest along.enough (step_holds version all name inside inner rest along) (step_length version all name inside inner some number rest along grows))
+    sym (unit_part_ends version all name inside (parts.Step inner.lines) header number rest along.enough (step_holds version all name inside inner rest along)
+    (step_length version all name inside inner some number rest along grows))
 
 -- A line in a step is collected.
-step_more : (version : ℕ) (all : List Part) (name : List ℕ) (inside : List UnitPart) (inner : Inner) (some : LineForm) → IsHeld (holding version all (InStep name inside inner)) some → IsCollected (holding version all (InStep name inside inner)) some
+step_more : (version : ℕ) (all : List Part) (name : List ℕ) (inside : List UnitPart) (inner : Inner) (some : LineForm)
+    → IsHeld (holding version all (InStep name inside inner)) some → IsCollected (holding version all (InStep name inside inner)) some
 step_more version all name inside inner some is header number rest along =
     let behind = drop (text_size all) rest in
     let unit = open_unit inside behind in
     ap (λ lines. with_unit (whole_numbers header all rest) (record unit { step = lines })) (append_assoc unit.step (behind_parts inside behind) (number ∷ []))
-    ∙ step_more_by version all name inside inner some (and_step_form inner some) (adds (holding version all (InStep name inside inner)) some is) header number rest along
+    ∙ step_more_by version all name inside inner some (and_step_form inner some)
+    (adds (holding version all (InStep name inside inner)) some is) header number rest along
 
 -- ---- One line more: in an instance
 
@@ -495,7 +611,10 @@ abbrev with_instances : Numbers → List ℕ → Numbers
 with_instances numbers lines = record numbers { instances = lines }
 
 -- A line of an instance that does not end it is collected.
-instance_goes_on : (version : ℕ) (all : List Part) (instance next : Instance) (header number : ℕ) (rest : List ℕ) → GoesAlong (holding version all (InInstance instance)) rest → instance_line (numbers_of (holding version all (InInstance instance)) (header ∷ rest)) number ≡ numbers_of (holding version all (InInstance next)) (header ∷ rest ++ (number ∷ []))
+instance_goes_on : (version : ℕ) (all : List Part) (instance next : Instance) (header number : ℕ) (rest : List ℕ)
+    → GoesAlong (holding version all (InInstance instance)) rest
+    → instance_line (numbers_of (holding version all (InInstance instance)) (header ∷ rest)) number
+    ≡ numbers_of (holding version all (InInstance next)) (header ∷ rest ++ (number ∷ []))
 instance_goes_on version all instance next header number rest along =
     let base = whole_numbers header all rest in
     ap (with_instances base) (append_assoc base.instances (drop (text_size all) rest) (number ∷ []))
@@ -508,10 +627,12 @@ instance_ends version all instance header number rest along =
     let behind = drop (text_size all) rest in
     let same = along.behind in
     ap (with_instances base) (append_assoc base.instances behind (number ∷ []))
-    ∙ sym (part_more version all (parts.HasInstance instance) header number rest along.enough (omega (arith, same, length-append behind (number ∷ []), length-append (map form.Setting instance.settings) (form.End ∷ []))))
+    ∙ sym (part_more version all (parts.HasInstance instance) header number rest along.enough
+    (omega (arith, same, length-append behind (number ∷ []), length-append (map form.Setting instance.settings) (form.End ∷ []))))
 
 -- A line in an instance is collected.
-instance_more : (version : ℕ) (all : List Part) (instance : Instance) (some : LineForm) → IsHeld (holding version all (InInstance instance)) some → IsCollected (holding version all (InInstance instance)) some
+instance_more : (version : ℕ) (all : List Part) (instance : Instance) (some : LineForm) → IsHeld (holding version all (InInstance instance)) some
+    → IsCollected (holding version all (InInstance instance)) some
 instance_more version all instance (form.Header other) is header number rest along = absurd (is.no_header other refl)
 instance_more version all instance (form.Unit other) is header number rest along = let held = is.held in absurd (cc)
 instance_more version all instance (form.Resolution decimals) is header number rest along = let held = is.held in absurd (cc)
@@ -543,25 +664,30 @@ instance_more version all instance (form.Sample port) is header number rest alon
 -- ---- One line more
 
 -- A line in any block is collected.
-more_in : (version : ℕ) (all : List Part) (block : Open) (some : LineForm) → IsHeld (holding version all block) some → IsCollected (holding version all block) some
+more_in : (version : ℕ) (all : List Part) (block : Open) (some : LineForm) → IsHeld (holding version all block) some
+    → IsCollected (holding version all block) some
 more_in version all AtTop some is = top_more version all some is
 more_in version all (InUnit name inside) some is = unit_more version all name inside some is
 more_in version all (InStep name inside inner) some is = step_more version all name inside inner some is
 more_in version all (InInstance instance) some is = instance_more version all instance some is
 
 -- A line that may stand there is collected as one line more of what is nested.
-pub numbers_more : (nested : Nested) (some : LineForm) (numbers : List ℕ) (number : ℕ) → IsHeld nested some → length numbers ≡ length (nested_forms nested) → with_line (numbers_of nested numbers) (place_of nested.block) some number ≡ numbers_of (and_form nested some) (numbers ++ (number ∷ []))
+pub numbers_more : (nested : Nested) (some : LineForm) (numbers : List ℕ) (number : ℕ) → IsHeld nested some → length numbers ≡ length (nested_forms nested)
+    → with_line (numbers_of nested numbers) (place_of nested.block) some number ≡ numbers_of (and_form nested some) (numbers ++ (number ∷ []))
 numbers_more nested some [] number is same = absurd (omega (arith, same))
-numbers_more nested some (header ∷ rest) number is same = more_in nested.version nested.parts nested.block some is header number rest (goes_along nested header rest same)
+numbers_more nested some (header ∷ rest) number is same =
+    more_in nested.version nested.parts nested.block some is header number rest (goes_along nested header rest same)
 
 -- The numbers still go along with the lines.
-pub lengths_more : (nested : Nested) (some : LineForm) (numbers : List ℕ) (number : ℕ) → IsHeld nested some → length numbers ≡ length (nested_forms nested) → length (numbers ++ (number ∷ [])) ≡ length (nested_forms (and_form nested some))
+pub lengths_more : (nested : Nested) (some : LineForm) (numbers : List ℕ) (number : ℕ) → IsHeld nested some → length numbers ≡ length (nested_forms nested)
+    → length (numbers ++ (number ∷ [])) ≡ length (nested_forms (and_form nested some))
 lengths_more nested some numbers number is same =
     omega (arith, same, ap length (adds nested some is), length-append numbers (number ∷ []), length-append (nested_forms nested) (some ∷ []))
 
 -- ---- Marks
 
 -- A mark more is a line more of its group.
-pub marks_more : (numbers : Numbers) (marks : List Mark) (group : Option Group) (number : ℕ) → with_marks numbers (marks ++ marks_of group number) ≡ with_group (with_marks numbers marks) group number
+pub marks_more : (numbers : Numbers) (marks : List Mark) (group : Option Group) (number : ℕ)
+    → with_marks numbers (marks ++ marks_of group number) ≡ with_group (with_marks numbers marks) group number
 marks_more numbers marks None number = ap (with_marks numbers) (append-nil marks)
 marks_more numbers marks (Some group) number = fold-append with_mark numbers marks (marks_of (Some group) number)

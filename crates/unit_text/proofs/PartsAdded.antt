@@ -66,7 +66,8 @@ either_inside (parts.Max value) (parts.Max other) unit = refl
 either_inside (parts.Step lines) (parts.Step other) unit = refl
 either_inside _ _ unit = refl
 
-pub unit_and_part : (name : List ℕ) (inside : List UnitPart) (last : UnitPart) → unit_of name (inside ++ (last ∷ [])) ≡ with_last_inside last (unit_of name inside)
+pub unit_and_part : (name : List ℕ) (inside : List UnitPart) (last : UnitPart)
+    → unit_of name (inside ++ (last ∷ [])) ≡ with_last_inside last (unit_of name inside)
 unit_and_part name [] (parts.Resolution decimals) = refl
 unit_and_part name [] _ = refl
 unit_and_part name (one ∷ inside) last = ap (with_unit_part one) (unit_and_part name inside last) ∙ either_inside one last (unit_of name inside)

@@ -1,5 +1,6 @@
 -- Reading goes along the lines as the definitions of texts have it.
-use Rattle.std.proofs.Common.{◌≡◌, cond, ℕ, suc, ◌+◌, ◌<◌, ◌≤◌, ◌==◌, Bool, true, false, List, [], ◌∷◌, ◌++◌, append_assoc, map, length, Option, Some, None, Result, Ok, Err, ◌⊎◌, inl, inr, refl, ap, sym, subst, ◌∙◌, arith}
+use Rattle.std.proofs.Common.{◌≡◌, cond, ℕ, suc, ◌+◌, ◌<◌, ◌≤◌, ◌==◌, Bool, true, false, List, [], ◌∷◌, ◌++◌, append_assoc, map, length, Option, Some, None}
+use Rattle.std.proofs.Common.{Result, Ok, Err, ◌⊎◌, inl, inr, refl, ap, sym, subst, ◌∙◌, arith}
 use Rattle.std.specs.Prelude.{◌&&◌, not, IsTrue}
 use Rattle.std.specs.Result.{IsErrAnd}
 use Rattle.std.specs.List.{AllByRecursion, enumerate_from, filter, list_all}
@@ -19,9 +20,11 @@ use Rattle.unit_tree.specs.declared.line_form.LineForm.{LineForm}
 use Rattle.unit_tree.specs.declared.line_form.LineForm.TheVariants as form
 use Rattle.unit_tree.specs.declared.system.System.{System}
 use Rattle.unit_text.specs.Drafts.{bare_draft, with_form, whole_by, whole_system}
-use Rattle.unit_text.specs.Nesting.{Open, AtTop, InUnit, InStep, InInstance, Inner, Nested, headed_by, and_step_form, in_step, and_form_in, and_form, nested_forms, blocks_of}
+use Rattle.unit_text.specs.Nesting.{Open, AtTop, InUnit, InStep, InInstance, Inner, Nested, headed_by, and_step_form, in_step, and_form_in, and_form}
+use Rattle.unit_text.specs.Nesting.{nested_forms, blocks_of}
 use Rattle.unit_text.specs.Numbering.{place_in, place_of, group_of, bare_numbers, with_group, with_line, marks_of, with_marks, in_order}
-use Rattle.unit_text.specs.Reading.{IsWritten, IsHeadless, FirstGives, FormIn, LineGives, WholeGives, blank_rule, FirstAt, HeadsText, HeadBreaks, HeaderGives, AnswersAt, AnswersText}
+use Rattle.unit_text.specs.Reading.{IsWritten, IsHeadless, FirstGives, FormIn, LineGives, WholeGives, blank_rule, FirstAt, HeadsText, HeadBreaks, HeaderGives}
+use Rattle.unit_text.specs.Reading.{AnswersAt, AnswersText}
 use Rattle.text_lines.specs.Seen.{IsClean, TellsOf}
 use Rattle.unit_text.specs.declared.draft.Around.{Around}
 use Rattle.unit_text.specs.declared.draft.Draft.{Draft}
@@ -37,7 +40,8 @@ use Rattle.unit_text.proofs.DraftLaws.{draft_of, open_of, draft_goes}
 use Rattle.unit_text.proofs.NumberLaws.{numbers_of, numbers_begin, numbers_more, lengths_more, numbers_end, marks_more}
 use Rattle.unit_text.proofs.NestingLaws.{is_held, before_next, blocks_are, blocks_around, whole_forms}
 use Rattle.text_laws.proofs.RefusalSteps.{AreUnbroken}
-use Rattle.unit_text.proofs.Walks.{FormsAreKnown, FirstLine, first_is, begins_so, AreBlank, NestTo, BreaksLeast, blank_more, nest_blank, header_begins, line_nests, bytes_break, length_breaks, formless_breaks, place_breaks, first_place_breaks, headless_breaks}
+use Rattle.unit_text.proofs.Walks.{FormsAreKnown, FirstLine, first_is, begins_so, AreBlank, NestTo, BreaksLeast, blank_more, nest_blank, header_begins}
+use Rattle.unit_text.proofs.Walks.{line_nests, bytes_break, length_breaks, formless_breaks, place_breaks, first_place_breaks, headless_breaks}
 use Rattle.list_laws.proofs.Options.{some_same}
 use Rattle.language_laws.proofs.SourceLaws.{version_is}
 
@@ -47,7 +51,8 @@ use Rattle.language_laws.proofs.SourceLaws.{version_is}
 pub source_cut : (rest line behind : List ℕ) → lines_of rest ≡ line ∷ lines_of behind → source_lines rest ≡ without_return line ∷ source_lines behind
 source_cut rest line behind cut = ap (map without_return) cut
 
-pub blank_cut : (rest line behind : List ℕ) → lines_of rest ≡ line ∷ lines_of behind → list_all is_blank_line (source_lines rest) ≡ (is_blank_line (without_return line) && list_all is_blank_line (source_lines behind))
+pub blank_cut : (rest line behind : List ℕ) → lines_of rest ≡ line ∷ lines_of behind
+    → list_all is_blank_line (source_lines rest) ≡ (is_blank_line (without_return line) && list_all is_blank_line (source_lines behind))
 blank_cut rest line behind cut = ap (list_all is_blank_line) (source_cut rest line behind cut)
 
 none_left : (rest : List ℕ) → length rest ≡ 0 → source_lines rest ≡ []
@@ -75,7 +80,8 @@ length_more : (before : List (List ℕ)) (line : List ℕ) → length (before ++
 length_more [] line = refl
 length_more (one ∷ before) line = ap suc (length_more before line)
 
-pub first_at : (text rest line behind : List ℕ) (number : ℕ) → BlankSoFar text rest number → lines_of rest ≡ line ∷ lines_of behind → length behind < length rest → FirstAt text (without_return line) (number + 1) behind
+pub first_at : (text rest line behind : List ℕ) (number : ℕ) → BlankSoFar text rest number → lines_of rest ≡ line ∷ lines_of behind
+    → length behind < length rest → FirstAt text (without_return line) (number + 1) behind
 first_at text rest line behind number so_far cut shorter = record {
   before = so_far.before;
   cut = so_far.cut ∙ ap (λ lines. so_far.before ++ lines) (source_cut rest line behind cut);
@@ -84,17 +90,20 @@ first_at text rest line behind number so_far cut shorter = record {
   within = let within = so_far.within in omega (arith, within, shorter);
 }
 
-pub blank_next : (text rest line behind : List ℕ) (number : ℕ) → BlankSoFar text rest number → lines_of rest ≡ line ∷ lines_of behind → length behind < length rest → IsClean (without_return line) → is_blank_line (without_return line) ≡ true → BlankSoFar text behind (number + 1)
+pub blank_next : (text rest line behind : List ℕ) (number : ℕ) → BlankSoFar text rest number → lines_of rest ≡ line ∷ lines_of behind
+    → length behind < length rest → IsClean (without_return line) → is_blank_line (without_return line) ≡ true → BlankSoFar text behind (number + 1)
 blank_next text rest line behind number so_far cut shorter clean blank = record {
   before = so_far.before ++ (without_return line ∷ []);
-  cut = so_far.cut ∙ ap (λ lines. so_far.before ++ lines) (source_cut rest line behind cut) ∙ sym (append_assoc so_far.before (without_return line ∷ []) (source_lines behind));
+  cut = so_far.cut ∙ ap (λ lines. so_far.before ++ lines) (source_cut rest line behind cut)
+      ∙ sym (append_assoc so_far.before (without_return line ∷ []) (source_lines behind));
   blank = each_more (λ one. IsClean one × (is_blank_line one ≡ true)) so_far.before (without_return line) so_far.blank (clean, blank);
   number_is = let is = so_far.number_is in let more = length_more so_far.before (without_return line) in omega (arith, is, more);
   within = let within = so_far.within in omega (arith, within, shorter);
 }
 
 -- a first written line that gives no version
-pub head_answer : (text line rest : List ℕ) (number : ℕ) (why : TextFault) → FirstAt text line number rest → IsWritten line → AnswersAt number (FirstGives line) (Err why) → HeaderGives text (Err why)
+pub head_answer : (text line rest : List ℕ) (number : ℕ) (why : TextFault) → FirstAt text line number rest → IsWritten line
+    → AnswersAt number (FirstGives line) (Err why) → HeaderGives text (Err why)
 head_answer text line rest number (fault.Line at rule) first is (at_is, gives) =
     inl (record { line = line; rest = rest; first = subst (λ n. FirstAt text line n rest) (sym at_is) first; breaks = inr (is, gives) })
 head_answer text line rest number fault.NoMemory first is gives = tt
@@ -105,11 +114,13 @@ all_are_blank (one ∷ before) all = ap (λ told. told && list_all is_blank_line
 
 pub blank_end : (text rest : List ℕ) (number : ℕ) → BlankSoFar text rest number → length rest ≡ 0 → IsTrue (list_all is_blank_line (source_lines text))
 blank_end text rest number so_far none =
-    ap (list_all is_blank_line) (so_far.cut ∙ ap (λ lines. so_far.before ++ lines) (none_left rest none) ∙ append-nil so_far.before) ∙ all_are_blank so_far.before so_far.blank
+    ap (list_all is_blank_line) (so_far.cut ∙ ap (λ lines. so_far.before ++ lines) (none_left rest none) ∙ append-nil so_far.before)
+    ∙ all_are_blank so_far.before so_far.blank
 
 -- ---- At the header
 
-are_blank : (text done before : List (List ℕ)) → AreBlank text done → AllByRecursion (λ one. IsClean one × (is_blank_line one ≡ true)) before → AreBlank text (done ++ before)
+are_blank : (text done before : List (List ℕ)) → AreBlank text done → AllByRecursion (λ one. IsClean one × (is_blank_line one ≡ true)) before
+    → AreBlank text (done ++ before)
 are_blank text done [] so_far all = subst (AreBlank text) (sym (append-nil done)) so_far
 are_blank text done (one ∷ before) so_far all =
     subst (AreBlank text) (append_assoc done (one ∷ []) before)
@@ -135,15 +146,23 @@ bytes_least text before line rule (inl (is, byte)) = subst (BreaksLeast text bef
 bytes_least text before line rule (inr (is, bytes, long)) = subst (BreaksLeast text before line) (sym is) (length_breaks text before line bytes long)
 
 -- A line that breaks a rule, and the least that it breaks, behind lines that break none.
-refused_at : (text : List ℕ) (before : List (List ℕ)) (line : List ℕ) (later : List (List ℕ)) (number rule : ℕ) → size_of text ≤ text_limit → list_all is_blank_line (source_lines text) ≡ false → source_lines text ≡ before ++ (line ∷ later) → number ≡ suc (length before) → AreUnbroken (source_lines text) [] before → BreaksLeast (source_lines text) before line rule → IsRefused text number rule
+refused_at : (text : List ℕ) (before : List (List ℕ)) (line : List ℕ) (later : List (List ℕ)) (number rule : ℕ) → size_of text ≤ text_limit
+    → list_all is_blank_line (source_lines text) ≡ false → source_lines text ≡ before ++ (line ∷ later) → number ≡ suc (length before)
+    → AreUnbroken (source_lines text) [] before → BreaksLeast (source_lines text) before line rule → IsRefused text number rule
 refused_at text before line later number rule fits some_written cut number_is kept broken =
-    inr (fits, inl (subst (λ at. IsFirstBroken (source_lines text) at rule) (sym number_is) (broken_at (source_lines text) before line later rule (sym cut) some_written kept broken)))
+    inr (
+      fits,
+      inl (subst (λ at. IsFirstBroken (source_lines text) at rule) (sym number_is)
+          (broken_at (source_lines text) before line later rule (sym cut) some_written kept broken)),
+    )
 
 plain_form_in : (text : List (List ℕ)) (line : List ℕ) (some : LineForm) → HasForm some line → is_of_version_2 some ≡ false → HasFormIn text some line
 plain_form_in text line some has plain = record { has_form = has; of_version = λ told. absurd (true≢false (sym told ∙ plain)) }
 
-headless_least : FormsAreKnown → (text before : List (List ℕ)) (line : List ℕ) (rule : ℕ) (first : FirstLine text) → first.line ≡ line → AreBlank text before → IsWritten line → IsHeadless line rule → BreaksLeast text before line rule
-headless_least known text before line rule first same blank is head = subst (BreaksLeast text before line) (sym head.rule_is) (by_version (is_of_version_2 head.some) refl)
+headless_least : FormsAreKnown → (text before : List (List ℕ)) (line : List ℕ) (rule : ℕ) (first : FirstLine text) → first.line ≡ line → AreBlank text before
+    → IsWritten line → IsHeadless line rule → BreaksLeast text before line rule
+headless_least known text before line rule first same blank is head =
+    subst (BreaksLeast text before line) (sym head.rule_is) (by_version (is_of_version_2 head.some) refl)
   where
     none_in : is_of_version_2 head.some ≡ true → ((some : LineForm) × HasFormIn text some line) → ⊥
     none_in told (some, has) =
@@ -152,32 +171,39 @@ headless_least known text before line rule first same blank is head = subst (Bre
         head.no_header 2 (known.one line head.some (form.Header 2) head.has_form (subst (HasForm (form.Header 2)) same (first_is text first begins)))
 
     by_place : is_of_version_2 head.some ≡ false → (may : Bool) → may_stand no_lines head.some ≡ may → BreaksLeast text before line (cond may 7 5)
-    by_place plain true may = headless_breaks known text before line head.some blank is.clean (plain_form_in text line head.some head.has_form plain) may head.no_header
+    by_place plain true may =
+        headless_breaks known text before line head.some blank is.clean (plain_form_in text line head.some head.has_form plain) may head.no_header
     by_place plain false may = first_place_breaks text before line head.some blank is.clean (plain_form_in text line head.some head.has_form plain) may
 
     by_version : (told : Bool) → is_of_version_2 head.some ≡ told → BreaksLeast text before line (cond told 4 (cond (may_stand no_lines head.some) 7 5))
     by_version true told = formless_breaks text before line is.clean is.written (none_in told)
     by_version false plain = by_place plain (may_stand no_lines head.some) refl
 
-first_least : FormsAreKnown → (text before : List (List ℕ)) (line : List ℕ) (rule : ℕ) (first : FirstLine text) → first.line ≡ line → AreBlank text before → IsWritten line → FirstGives line (Err rule) → BreaksLeast text before line rule
+first_least : FormsAreKnown → (text before : List (List ℕ)) (line : List ℕ) (rule : ℕ) (first : FirstLine text) → first.line ≡ line → AreBlank text before
+    → IsWritten line → FirstGives line (Err rule) → BreaksLeast text before line rule
 first_least known text before line rule first same blank is (inl (rule_is, none)) =
     subst (BreaksLeast text before line) (sym rule_is) (formless_breaks text before line is.clean is.written (λ found. none found.0 found.1.has_form))
 first_least known text before line rule first same blank is (inr head) = headless_least known text before line rule first same blank is head
 
-pub head_refused : FormsAreKnown → (text : List ℕ) (number rule : ℕ) → size_of text ≤ text_limit → list_all is_blank_line (source_lines text) ≡ false → HeadBreaks text number rule → IsRefused text number rule
+pub head_refused : FormsAreKnown → (text : List ℕ) (number rule : ℕ) → size_of text ≤ text_limit → list_all is_blank_line (source_lines text) ≡ false
+    → HeadBreaks text number rule → IsRefused text number rule
 head_refused known text number rule fits some_written head =
-    refused_at text head.first.before head.line (source_lines head.rest) number rule fits some_written head.first.cut head.first.number_is blank.kept (by_breaks head.breaks)
+    refused_at text head.first.before head.line (source_lines head.rest) number rule fits some_written head.first.cut head.first.number_is blank.kept
+    (by_breaks head.breaks)
   where
     blank : AreBlank (source_lines text) head.first.before
     blank = blank_before (source_lines text) head.first.before head.first.blank
 
-    by_breaks : TellsOf head.line (told.Broken rule) ⊎ (IsWritten head.line × FirstGives head.line (Err rule)) → BreaksLeast (source_lines text) head.first.before head.line rule
+    by_breaks : TellsOf head.line (told.Broken rule) ⊎ (IsWritten head.line × FirstGives head.line (Err rule))
+        → BreaksLeast (source_lines text) head.first.before head.line rule
     by_breaks (inl tells) = bytes_least (source_lines text) head.first.before head.line rule tells
-    by_breaks (inr (is, gives)) = first_least known (source_lines text) head.first.before head.line rule (first_of text head.line head.rest number head.first is) refl blank is gives
+    by_breaks (inr (is, gives)) =
+        first_least known (source_lines text) head.first.before head.line rule (first_of text head.line head.rest number head.first is) refl blank is gives
 
 -- ---- Numbers of lines
 
-numbers_cut : (before : List (List ℕ)) (line : List ℕ) (from : ℕ) → enumerate_from from (before ++ (line ∷ [])) ≡ enumerate_from from before ++ ((from + length before, line) ∷ [])
+numbers_cut : (before : List (List ℕ)) (line : List ℕ) (from : ℕ)
+    → enumerate_from from (before ++ (line ∷ [])) ≡ enumerate_from from before ++ ((from + length before, line) ∷ [])
 numbers_cut [] line from = let same : from ≡ from + 0 = omega arith in ap (λ number. (number, line) ∷ []) same
 numbers_cut (one ∷ before) line from =
     let same : (from + 1) + length before ≡ from + suc (length before) = omega arith in
@@ -190,20 +216,23 @@ is_written numbered = not (is_blank_line numbered.1)
 abbrev number_in : ℕ × List ℕ → ℕ
 number_in numbered = numbered.0
 
-numbers_more_by : (before : List (List ℕ)) (line : List ℕ) → source_numbers.numbers_of (before ++ (line ∷ [])) ≡ source_numbers.numbers_of before ++ map number_in (filter is_written ((1 + length before, line) ∷ []))
+numbers_more_by : (before : List (List ℕ)) (line : List ℕ)
+    → source_numbers.numbers_of (before ++ (line ∷ [])) ≡ source_numbers.numbers_of before ++ map number_in (filter is_written ((1 + length before, line) ∷ []))
 numbers_more_by before line =
     ap (λ all. map number_in (filter is_written all)) (numbers_cut before line 1)
     ∙ ap (map number_in) (filter-append is_written (enumerate_from 1 before) ((1 + length before, line) ∷ []))
     ∙ map-append number_in (filter is_written (enumerate_from 1 before)) (filter is_written ((1 + length before, line) ∷ []))
 
-numbers_written : (before : List (List ℕ)) (line : List ℕ) → is_blank_line line ≡ false → source_numbers.numbers_of (before ++ (line ∷ [])) ≡ source_numbers.numbers_of before ++ (suc (length before) ∷ [])
+numbers_written : (before : List (List ℕ)) (line : List ℕ) → is_blank_line line ≡ false
+    → source_numbers.numbers_of (before ++ (line ∷ [])) ≡ source_numbers.numbers_of before ++ (suc (length before) ∷ [])
 numbers_written before line is =
     let same : 1 + length before ≡ suc (length before) = omega arith in
     numbers_more_by before line
     ∙ ap (λ told. source_numbers.numbers_of before ++ map number_in (cond (not told) ((1 + length before, line) ∷ []) [])) is
     ∙ ap (λ number. source_numbers.numbers_of before ++ (number ∷ [])) same
 
-numbers_skip : (before : List (List ℕ)) (line : List ℕ) → is_blank_line line ≡ true → source_numbers.numbers_of (before ++ (line ∷ [])) ≡ source_numbers.numbers_of before
+numbers_skip : (before : List (List ℕ)) (line : List ℕ) → is_blank_line line ≡ true
+    → source_numbers.numbers_of (before ++ (line ∷ [])) ≡ source_numbers.numbers_of before
 numbers_skip before line is =
     numbers_more_by before line
     ∙ ap (λ told. source_numbers.numbers_of before ++ map number_in (cond (not told) ((1 + length before, line) ∷ []) [])) is
@@ -213,7 +242,8 @@ none_numbered : (lines : List (List ℕ)) (from : ℕ) → list_all is_blank_lin
 none_numbered [] from blank = refl
 none_numbered (line ∷ lines) from blank =
     let both = and_parts (is_blank_line line) (list_all is_blank_line lines) blank in
-    ap (λ told. map number_in (cond (not told) ((from, line) ∷ filter is_written (enumerate_from (from + 1) lines)) (filter is_written (enumerate_from (from + 1) lines)))) both.0
+    ap (λ told. map number_in
+    (cond (not told) ((from, line) ∷ filter is_written (enumerate_from (from + 1) lines)) (filter is_written (enumerate_from (from + 1) lines)))) both.0
     ∙ none_numbered lines (from + 1) both.1
 
 numbers_blank : (lines : List (List ℕ)) → list_all is_blank_line lines ≡ true → source_numbers.numbers_of lines ≡ []
@@ -235,14 +265,16 @@ pub record Reached (text rest : List ℕ) (header number : ℕ) (draft : Draft) 
   pub begins : BeginsVersion2 (source_lines text) → nested.version ≡ 2
   pub begins_so : nested.version ≡ 2 → BeginsVersion2 (source_lines text)
 
-pub reached_first : FormsAreKnown → (text : List ℕ) (version header : ℕ) (rest : List ℕ) → HeadsText text version header rest → Reached text rest header header (bare_draft version) []
+pub reached_first : FormsAreKnown → (text : List ℕ) (version header : ℕ) (rest : List ℕ) → HeadsText text version header rest
+    → Reached text rest header header (bare_draft version) []
 reached_first known text version header rest head = record {
   before = head.first.before ++ (head.line ∷ []);
   nested = headed_by version;
   cut = head.first.cut ∙ sym (append_assoc head.first.before (head.line ∷ []) (source_lines rest));
   number_is = let is = head.first.number_is in let more = length_more head.first.before head.line in omega (arith, is, more);
   within = head.first.within;
-  nests = header_begins known (source_lines text) head.first.before head.line version (blank_before (source_lines text) head.first.before head.first.blank) head.is_written.clean
+  nests = header_begins known (source_lines text) head.first.before head.line version
+      (blank_before (source_lines text) head.first.before head.first.blank) head.is_written.clean
       (record { has_form = head.is_header; of_version = λ told. begins_by (is_two version told) });
   draft_is = refl;
   numbers_are = sym (ap (numbers_of (headed_by version)) numbered ∙ numbers_begin version header);
@@ -294,14 +326,16 @@ same_place (InStep name inside inner) = refl
 same_place (InInstance instance) = refl
 
 -- What a line of a form does to the draft goes along with whether it may stand.
-may_of : (nested : Nested) (some : LineForm) (next : Option Draft) → are_placed no_lines (nested_forms nested) ≡ true → with_form (draft_of nested) some ≡ next → next ≡ cond (may_stand (before_next nested) some) (Some (draft_of (and_form nested some))) None
+may_of : (nested : Nested) (some : LineForm) (next : Option Draft) → are_placed no_lines (nested_forms nested) ≡ true
+    → with_form (draft_of nested) some ≡ next → next ≡ cond (may_stand (before_next nested) some) (Some (draft_of (and_form nested some))) None
 may_of nested some next placed is = sym is ∙ draft_goes nested some placed
 
 -- What comes of a draft with a form, by what the draft becomes.
 abbrev with_own : Option Group → Draft → Draft × Option Group
 with_own own draft = (draft, own)
 
-with_next : (found : Option Draft) (own : Option Group) (next : Draft) (group : Option Group) → option_map (with_own own) found ≡ Some (next, group) → (found ≡ Some next) × (group ≡ own)
+with_next : (found : Option Draft) (own : Option Group) (next : Draft) (group : Option Group) → option_map (with_own own) found ≡ Some (next, group)
+    → (found ≡ Some next) × (group ≡ own)
 with_next (Some draft) own next group is =
     let same : (draft, own) ≡ (next, group) = some_same (draft, own) (next, group) is in
     (ap (λ (pair : Draft × Option Group). Some (pair.0)) same, sym (ap (λ (pair : Draft × Option Group). pair.1) same))
@@ -311,7 +345,9 @@ without_next : (found : Option Draft) (own : Option Group) → option_map (with_
 without_next (Some draft) own is = absurd (cc)
 without_next None own is = refl
 
-pub reached_next : FormsAreKnown → (text rest line behind : List ℕ) (header number : ℕ) (draft next : Draft) (marks : List Mark) (group : Option Group) → Reached text rest header number draft marks → lines_of rest ≡ line ∷ lines_of behind → length behind < length rest → LineGives draft (without_return line) (Ok (next, group)) → Reached text behind header (number + 1) next (marks ++ marks_of group (number + 1))
+pub reached_next : FormsAreKnown → (text rest line behind : List ℕ) (header number : ℕ) (draft next : Draft) (marks : List Mark) (group : Option Group)
+    → Reached text rest header number draft marks → lines_of rest ≡ line ∷ lines_of behind → length behind < length rest
+    → LineGives draft (without_return line) (Ok (next, group)) → Reached text behind header (number + 1) next (marks ++ marks_of group (number + 1))
 reached_next known text rest line behind header number draft next marks group so_far cut shorter gives = by_gives gives
   where
     source : List ℕ
@@ -326,11 +362,15 @@ reached_next known text rest line behind header number draft next marks group so
     numbers_before : List ℕ
     numbers_before = source_numbers.numbers_of so_far.before
 
-    reached : (nested : Nested) → NestTo lines (so_far.before ++ (source ∷ [])) nested → next ≡ draft_of nested → with_marks (bare_numbers header) all_marks ≡ numbers_of nested (source_numbers.numbers_of (so_far.before ++ (source ∷ []))) → length (source_numbers.numbers_of (so_far.before ++ (source ∷ []))) ≡ length (nested_forms nested) → nested.version ≡ so_far.nested.version → Reached text behind header (number + 1) next all_marks
+    reached : (nested : Nested) → NestTo lines (so_far.before ++ (source ∷ [])) nested → next ≡ draft_of nested
+        → with_marks (bare_numbers header) all_marks ≡ numbers_of nested (source_numbers.numbers_of (so_far.before ++ (source ∷ [])))
+        → length (source_numbers.numbers_of (so_far.before ++ (source ∷ []))) ≡ length (nested_forms nested) → nested.version ≡ so_far.nested.version
+        → Reached text behind header (number + 1) next all_marks
     reached nested nests draft_is numbers_are one_each same = record {
       before = so_far.before ++ (source ∷ []);
       nested = nested;
-      cut = so_far.cut ∙ ap (λ rest. so_far.before ++ rest) (source_cut rest line behind cut) ∙ sym (append_assoc so_far.before (source ∷ []) (source_lines behind));
+      cut = so_far.cut ∙ ap (λ rest. so_far.before ++ rest) (source_cut rest line behind cut)
+          ∙ sym (append_assoc so_far.before (source ∷ []) (source_lines behind));
       number_is = let is = so_far.number_is in let more = length_more so_far.before source in omega (arith, is, more);
       within = let within = so_far.within in omega (arith, within, shorter);
       nests = nests;
@@ -347,7 +387,9 @@ reached_next known text rest line behind header number draft next marks group so
     place_is : place_in draft.block ≡ place_of so_far.nested.block
     place_is = ap (λ (d : Draft). place_in d.block) so_far.draft_is ∙ same_place so_far.nested.block
 
-    by_may : (some : LineForm) → IsWritten source → HasFormIn lines some source → group ≡ group_of (place_in draft.block) some → (may : Bool) → may_stand (before_next so_far.nested) some ≡ may → Some next ≡ cond may (Some (draft_of (and_form so_far.nested some))) None → Reached text behind header (number + 1) next all_marks
+    by_may : (some : LineForm) → IsWritten source → HasFormIn lines some source → group ≡ group_of (place_in draft.block) some → (may : Bool)
+        → may_stand (before_next so_far.nested) some ≡ may → Some next ≡ cond may (Some (draft_of (and_form so_far.nested some))) None
+        → Reached text behind header (number + 1) next all_marks
     by_may some is has group_is true may same =
         let held = is_held so_far.nested some may in
         let numbered = numbers_written so_far.before source is.written in
@@ -378,11 +420,17 @@ reached_next known text rest line behind header number draft next marks group so
     by_gives (inr given) =
         let found = with_next (with_form draft given.some) (group_of (place_in draft.block) given.some) next group given.next_is in
         by_may given.some given.is_written
-        (record { has_form = given.form_in.0; of_version = λ told. so_far.begins_so (sym (draft_version so_far.nested) ∙ sym (ap (λ (d : Draft). d.system.version) so_far.draft_is) ∙ given.form_in.1 told) })
+        (record {
+          has_form = given.form_in.0;
+          of_version =
+              λ told. so_far.begins_so (sym (draft_version so_far.nested) ∙ sym (ap (λ (d : Draft). d.system.version) so_far.draft_is) ∙ given.form_in.1 told);
+        })
         found.1 (may_stand (before_next so_far.nested) given.some) refl
         (may_of so_far.nested given.some (Some next) so_far.nests.placed (subst (λ d. with_form d given.some ≡ Some next) so_far.draft_is found.0))
 
-pub line_refused : FormsAreKnown → (text rest line behind : List ℕ) (header number : ℕ) (draft : Draft) (marks : List Mark) (rule : ℕ) → size_of text ≤ text_limit → list_all is_blank_line (source_lines text) ≡ false → Reached text rest header number draft marks → lines_of rest ≡ line ∷ lines_of behind → LineGives draft (without_return line) (Err rule) → IsRefused text (number + 1) rule
+pub line_refused : FormsAreKnown → (text rest line behind : List ℕ) (header number : ℕ) (draft : Draft) (marks : List Mark) (rule : ℕ)
+    → size_of text ≤ text_limit → list_all is_blank_line (source_lines text) ≡ false → Reached text rest header number draft marks
+    → lines_of rest ≡ line ∷ lines_of behind → LineGives draft (without_return line) (Err rule) → IsRefused text (number + 1) rule
 line_refused known text rest line behind header number draft marks rule fits some_written so_far cut gives =
     refused_at text so_far.before source (source_lines behind) (number + 1) rule fits some_written
     (so_far.cut ∙ ap (λ rest. so_far.before ++ rest) (source_cut rest line behind cut))
@@ -403,29 +451,37 @@ line_refused known text rest line behind header number draft marks rule fits som
         let one = known.one source other.some some other.has_form has.has_form in
         other.of_other (λ told. of_draft ∙ so_far.begins (has.of_version (ap is_of_version_2 (sym one) ∙ told)))
 
-    by_may : (some : LineForm) → IsWritten source → HasFormIn lines some source → (may : Bool) → may_stand (before_next so_far.nested) some ≡ may → None ≡ cond may (Some (draft_of (and_form so_far.nested some))) None → BreaksLeast lines so_far.before source 5
+    by_may : (some : LineForm) → IsWritten source → HasFormIn lines some source → (may : Bool) → may_stand (before_next so_far.nested) some ≡ may
+        → None ≡ cond may (Some (draft_of (and_form so_far.nested some))) None → BreaksLeast lines so_far.before source 5
     by_may some is has true may same = absurd (cc)
     by_may some is has false off same = place_breaks lines so_far.before source so_far.nested some so_far.nests is.clean has off
 
     by_gives : LineGives draft source (Err rule) → BreaksLeast lines so_far.before source rule
     by_gives (inl tells) = bytes_least lines so_far.before source rule tells
-    by_gives (inr (inl (rule_is, is, none))) = subst (BreaksLeast lines so_far.before source) (sym rule_is) (formless_breaks lines so_far.before source is.clean is.written (none_in none))
+    by_gives (inr (inl (rule_is, is, none))) =
+        subst (BreaksLeast lines so_far.before source) (sym rule_is) (formless_breaks lines so_far.before source is.clean is.written (none_in none))
     by_gives (inr (inr (rule_is, given))) =
         subst (BreaksLeast lines so_far.before source) (sym rule_is)
         (by_may given.some given.is_written
         (record { has_form = given.form_in.0; of_version = λ told. so_far.begins_so (sym of_draft ∙ given.form_in.1 told) })
         (may_stand (before_next so_far.nested) given.some) refl
-        (may_of so_far.nested given.some None so_far.nests.placed (subst (λ d. with_form d given.some ≡ None) so_far.draft_is (without_next (with_form draft given.some) (group_of (place_in draft.block) given.some) given.next_is))))
+        (may_of so_far.nested given.some None so_far.nests.placed
+        (subst (λ d. with_form d given.some ≡ None) so_far.draft_is
+        (without_next (with_form draft given.some) (group_of (place_in draft.block) given.some) given.next_is))))
 
 -- ---- At the end
 
-all_read : (text rest : List ℕ) (header number : ℕ) (draft : Draft) (marks : List Mark) (so_far : Reached text rest header number draft marks) → length rest ≡ 0 → so_far.before ≡ source_lines text
-all_read text rest header number draft marks so_far none = sym (so_far.cut ∙ ap (λ lines. so_far.before ++ lines) (none_left rest none) ∙ append-nil so_far.before)
+all_read : (text rest : List ℕ) (header number : ℕ) (draft : Draft) (marks : List Mark) (so_far : Reached text rest header number draft marks)
+    → length rest ≡ 0 → so_far.before ≡ source_lines text
+all_read text rest header number draft marks so_far none =
+    sym (so_far.cut ∙ ap (λ lines. so_far.before ++ lines) (none_left rest none) ∙ append-nil so_far.before)
 
-whole_parts : (nested : Nested) (system : System) → whole_system (draft_of nested) ≡ Some system → (blocks_of nested.block ≡ []) × (system_of nested.version nested.parts ≡ system)
+whole_parts : (nested : Nested) (system : System) → whole_system (draft_of nested) ≡ Some system
+    → (blocks_of nested.block ≡ []) × (system_of nested.version nested.parts ≡ system)
 whole_parts nested system is = by_block nested.block is
   where
-    by_block : (block : Open) → whole_by (system_of nested.version nested.parts) (open_of block) ≡ Some system → (blocks_of block ≡ []) × (system_of nested.version nested.parts ≡ system)
+    by_block : (block : Open) → whole_by (system_of nested.version nested.parts) (open_of block) ≡ Some system
+        → (blocks_of block ≡ []) × (system_of nested.version nested.parts ≡ system)
     by_block AtTop is = (refl, some_same (system_of nested.version nested.parts) system is)
     by_block (InUnit name inside) is = absurd (cc)
     by_block (InStep name inside inner) is = absurd (cc)
@@ -445,7 +501,9 @@ open_parts nested is none = by_block nested.block is none
     by_block (InInstance instance) is none = cc
 
 -- The system of a text whose lines nest to whole parts, and where its canonical lines came from.
-reads_from : (text : List ℕ) (nested : Nested) (numbers : Numbers) → size_of text ≤ text_limit → NestTo (source_lines text) (source_lines text) nested → blocks_of nested.block ≡ [] → numbers ≡ numbers_of nested (source_numbers.numbers_of (source_lines text)) → ReadsFrom text (system_of nested.version nested.parts) (in_order numbers)
+reads_from : (text : List ℕ) (nested : Nested) (numbers : Numbers) → size_of text ≤ text_limit → NestTo (source_lines text) (source_lines text) nested
+    → blocks_of nested.block ≡ [] → numbers ≡ numbers_of nested (source_numbers.numbers_of (source_lines text))
+    → ReadsFrom text (system_of nested.version nested.parts) (in_order numbers)
 unfolding ends_whole
 reads_from text nested numbers fits nests closed is =
     let reads = ends_whole text nested fits nests (whole_forms nested (blocks_are nested ∙ closed)) in
@@ -461,7 +519,9 @@ reads_from text nested numbers fits nests closed is =
         around_is_some (block ∷ others) is = cc
     top_is (InInstance instance) none = absurd (cc)
 
-end_refused : (text rest : List ℕ) (header number : ℕ) (draft : Draft) (marks : List Mark) → size_of text ≤ text_limit → list_all is_blank_line (source_lines text) ≡ false → Reached text rest header number draft marks → length rest ≡ 0 → whole_system draft ≡ None → IsRefused text number 6
+end_refused : (text rest : List ℕ) (header number : ℕ) (draft : Draft) (marks : List Mark) → size_of text ≤ text_limit
+    → list_all is_blank_line (source_lines text) ≡ false → Reached text rest header number draft marks → length rest ≡ 0 → whole_system draft ≡ None
+    → IsRefused text number 6
 end_refused text rest header number draft marks fits some_written so_far none is =
     let lines = all_read text rest header number draft marks so_far none in
     inr (
@@ -471,21 +531,26 @@ end_refused text rest header number draft marks fits some_written so_far none is
           (λ closed. open_parts so_far.nested (subst (λ d. whole_system d ≡ None) so_far.draft_is is) (sym (blocks_are so_far.nested) ∙ closed)))),
     )
 
-pub whole_answer : (text rest : List ℕ) (header number : ℕ) (draft : Draft) (marks : List Mark) (result : Result ReadText TextFault) → size_of text ≤ text_limit → list_all is_blank_line (source_lines text) ≡ false → Reached text rest header number draft marks → length rest ≡ 0 → WholeGives draft header marks number result → AnswersText text result
+pub whole_answer : (text rest : List ℕ) (header number : ℕ) (draft : Draft) (marks : List Mark) (result : Result ReadText TextFault)
+    → size_of text ≤ text_limit → list_all is_blank_line (source_lines text) ≡ false → Reached text rest header number draft marks → length rest ≡ 0
+    → WholeGives draft header marks number result → AnswersText text result
 whole_answer text rest header number draft marks (Ok given) fits some_written so_far none gives =
     let whole = whole_parts so_far.nested given.system (subst (λ d. whole_system d ≡ Some given.system) so_far.draft_is gives.0) in
     let lines = all_read text rest header number draft marks so_far none in
     subst (λ system. ReadsFrom text system given.lines) whole.1
     (subst (ReadsFrom text (system_of so_far.nested.version so_far.nested.parts)) (sym gives.1)
-    (reads_from text so_far.nested (with_marks (bare_numbers header) marks) fits (subst (λ before. NestTo (source_lines text) before so_far.nested) lines so_far.nests) whole.0
+    (reads_from text so_far.nested (with_marks (bare_numbers header) marks) fits
+    (subst (λ before. NestTo (source_lines text) before so_far.nested) lines so_far.nests) whole.0
     (so_far.numbers_are ∙ ap (λ before. numbers_of so_far.nested (source_numbers.numbers_of before)) lines)))
 whole_answer text rest header number draft marks (Err (fault.Line line rule)) fits some_written so_far none (is, line_is, rule_is) =
-    subst (λ at. IsRefused text at rule) (sym line_is) (subst (IsRefused text number) (sym rule_is) (end_refused text rest header number draft marks fits some_written so_far none is))
+    subst (λ at. IsRefused text at rule) (sym line_is)
+    (subst (IsRefused text number) (sym rule_is) (end_refused text rest header number draft marks fits some_written so_far none is))
 whole_answer text rest header number draft marks (Err fault.NoMemory) fits some_written so_far none gives = tt
 
 -- ---- Texts without a written line
 
-pub blank_refused : (text : List ℕ) → size_of text ≤ text_limit → IsTrue (list_all is_blank_line (source_lines text)) → IsRefused text 1 (blank_rule (source_lines text))
+pub blank_refused : (text : List ℕ) → size_of text ≤ text_limit → IsTrue (list_all is_blank_line (source_lines text))
+    → IsRefused text 1 (blank_rule (source_lines text))
 blank_refused text fits blank = inr (fits, inl (blank_is_refused (source_lines text) blank))
 
 pub long_refused : (text : List ℕ) → text_limit < size_of text → IsRefused text 1 2
@@ -493,7 +558,8 @@ long_refused text long = inl (long, refl, refl)
 
 -- ---- Errors that are handed on
 
-pub header_error : FormsAreKnown → (text : List ℕ) (why : TextFault) (result : Result ReadText TextFault) → size_of text ≤ text_limit → list_all is_blank_line (source_lines text) ≡ false → HeaderGives text (Err why) → IsErrAnd result (λ found. found ≡ why) → AnswersText text result
+pub header_error : FormsAreKnown → (text : List ℕ) (why : TextFault) (result : Result ReadText TextFault) → size_of text ≤ text_limit
+    → list_all is_blank_line (source_lines text) ≡ false → HeaderGives text (Err why) → IsErrAnd result (λ found. found ≡ why) → AnswersText text result
 header_error known text why (Ok read) fits some_written gives is = absurd is
 header_error known text (fault.Line line rule) (Err found) fits some_written gives is = subst (λ one. AnswersText text (Err one)) (sym is) (by_gives gives)
   where
@@ -502,9 +568,15 @@ header_error known text (fault.Line line rule) (Err found) fits some_written giv
     by_gives (inr blank) = absurd (true≢false (sym blank ∙ some_written))
 header_error known text fault.NoMemory (Err found) fits some_written gives is = subst (λ one. AnswersText text (Err one)) (sym is) tt
 
-pub line_error : FormsAreKnown → (text rest line behind : List ℕ) (header number : ℕ) (draft : Draft) (marks : List Mark) (why : TextFault) (result : Result ReadText TextFault) → size_of text ≤ text_limit → list_all is_blank_line (source_lines text) ≡ false → Reached text rest header number draft marks → lines_of rest ≡ line ∷ lines_of behind → AnswersAt (number + 1) (LineGives draft (without_return line)) (Err why) → IsErrAnd result (λ found. found ≡ why) → AnswersText text result
+pub line_error : FormsAreKnown
+    → (text rest line behind : List ℕ) (header number : ℕ) (draft : Draft) (marks : List Mark) (why : TextFault) (result : Result ReadText TextFault)
+    → size_of text ≤ text_limit → list_all is_blank_line (source_lines text) ≡ false → Reached text rest header number draft marks
+    → lines_of rest ≡ line ∷ lines_of behind → AnswersAt (number + 1) (LineGives draft (without_return line)) (Err why)
+    → IsErrAnd result (λ found. found ≡ why) → AnswersText text result
 line_error known text rest line behind header number draft marks why (Ok read) fits some_written so_far cut gives is = absurd is
 line_error known text rest line behind header number draft marks (fault.Line at rule) (Err found) fits some_written so_far cut gives is =
     subst (λ one. AnswersText text (Err one)) (sym is)
-    (subst (λ n. IsRefused text n rule) (sym gives.0) (line_refused known text rest line behind header number draft marks rule fits some_written so_far cut gives.1))
-line_error known text rest line behind header number draft marks fault.NoMemory (Err found) fits some_written so_far cut gives is = subst (λ one. AnswersText text (Err one)) (sym is) tt
+    (subst (λ n. IsRefused text n rule) (sym gives.0)
+    (line_refused known text rest line behind header number draft marks rule fits some_written so_far cut gives.1))
+line_error known text rest line behind header number draft marks fault.NoMemory (Err found) fits some_written so_far cut gives is =
+    subst (λ one. AnswersText text (Err one)) (sym is) tt

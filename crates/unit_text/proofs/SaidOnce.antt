@@ -33,7 +33,8 @@ none_of_two : (test : LineForm → Bool) (xs ys : List LineForm) → list_any te
 none_of_two test xs ys none none_too = list_any-append test xs ys ∙ ap (λ told. told || list_any test ys) none ∙ none_too
 
 -- a line in front that does not pass
-none_first : (test : LineForm → Bool) (first : LineForm) (lines : List LineForm) → test first ≡ false → list_any test lines ≡ false → list_any test (first ∷ lines) ≡ false
+none_first : (test : LineForm → Bool) (first : LineForm) (lines : List LineForm) → test first ≡ false → list_any test lines ≡ false
+    → list_any test (first ∷ lines) ≡ false
 none_first test first lines is none = ap (λ told. told || list_any test lines) is ∙ none
 
 abbrev HasNone : (LineForm → Bool) → Line → Type 0
@@ -51,20 +52,25 @@ none_joined test (one ∷ lines) = none_of_two test (line_forms one.0) (joined (
 
 none_node : (test : LineForm → Bool) → IsApart test → (y : Line-F (Bare test)) → HasNone test (roll-Line (map-Line (Bare test) Line (bare_line test) y))
 none_node test apart (Line-F.Assign target value) =
-    subst (HasNone test) (sym (rolls-Assign target value)) (ap (list_any test) (fold-Assign (List LineForm) block_forms target value) ∙ none_first test (form.Assign target value) [] (apart (form.Assign target value) refl) refl)
+    subst (HasNone test) (sym (rolls-Assign target value))
+    (ap (list_any test) (fold-Assign (List LineForm) block_forms target value)
+    ∙ none_first test (form.Assign target value) [] (apart (form.Assign target value) refl) refl)
 none_node test apart (Line-F.Accept value) =
-    subst (HasNone test) (sym (rolls-Accept value)) (ap (list_any test) (fold-Accept (List LineForm) block_forms value) ∙ none_first test (form.Accept value) [] (apart (form.Accept value) refl) refl)
+    subst (HasNone test) (sym (rolls-Accept value))
+    (ap (list_any test) (fold-Accept (List LineForm) block_forms value) ∙ none_first test (form.Accept value) [] (apart (form.Accept value) refl) refl)
 none_node test apart (Line-F.Repeat count body) =
     subst (HasNone test) (sym (rolls-Repeat count (map (bare_line test) body)))
     (ap (list_any test) (fold-Repeat (List LineForm) block_forms count (map (bare_line test) body))
     ∙ none_first test (form.Repeat count) (joined (map line_forms (map (bare_line test) body)) ++ (form.End ∷ [])) (apart (form.Repeat count) refl)
-    (none_of_two test (joined (map line_forms (map (bare_line test) body))) (form.End ∷ []) (none_joined test body) (none_first test form.End [] (apart form.End refl) refl)))
+    (none_of_two test (joined (map line_forms (map (bare_line test) body))) (form.End ∷ []) (none_joined test body)
+    (none_first test form.End [] (apart form.End refl) refl)))
 none_node test apart (Line-F.If condition then_lines None) =
     let lines = joined (map line_forms (map (bare_line test) then_lines)) in
     subst (HasNone test) (sym (rolls-If condition (map (bare_line test) then_lines) None))
     (ap (list_any test) (fold-If (List LineForm) block_forms condition (map (bare_line test) then_lines) None)
     ∙ none_first test (form.If condition) ((lines ++ []) ++ (form.End ∷ [])) (apart (form.If condition) refl)
-    (none_of_two test (lines ++ []) (form.End ∷ []) (none_of_two test lines [] (none_joined test then_lines) refl) (none_first test form.End [] (apart form.End refl) refl)))
+    (none_of_two test (lines ++ []) (form.End ∷ []) (none_of_two test lines [] (none_joined test then_lines) refl)
+    (none_first test form.End [] (apart form.End refl) refl)))
 none_node test apart (Line-F.If condition then_lines (Some else_lines)) =
     let lines = joined (map line_forms (map (bare_line test) then_lines)) in
     let others = joined (map line_forms (map (bare_line test) else_lines)) in
@@ -72,21 +78,25 @@ none_node test apart (Line-F.If condition then_lines (Some else_lines)) =
     (ap (list_any test) (fold-If (List LineForm) block_forms condition (map (bare_line test) then_lines) (Some (map (bare_line test) else_lines)))
     ∙ none_first test (form.If condition) ((lines ++ (form.Else ∷ others)) ++ (form.End ∷ [])) (apart (form.If condition) refl)
     (none_of_two test (lines ++ (form.Else ∷ others)) (form.End ∷ [])
-    (none_of_two test lines (form.Else ∷ others) (none_joined test then_lines) (none_first test form.Else others (apart form.Else refl) (none_joined test else_lines)))
+    (none_of_two test lines (form.Else ∷ others) (none_joined test then_lines)
+    (none_first test form.Else others (apart form.Else refl) (none_joined test else_lines)))
     (none_first test form.End [] (apart form.End refl) refl)))
 
 none_in_line : (test : LineForm → Bool) → IsApart test → (some : Line) → HasNone test some
 none_in_line test apart = ind-Line (HasNone test) (λ x y is. subst (λ z. HasNone test (roll-Line z)) is (none_node test apart y))
 
-none_in_all : {A : Type 0} (test : LineForm → Bool) (forms : A → List LineForm) → ((one : A) → list_any test (forms one) ≡ false) → (all : List A) → list_any test (flat_map forms all) ≡ false
+none_in_all : {A : Type 0} (test : LineForm → Bool) (forms : A → List LineForm) → ((one : A) → list_any test (forms one) ≡ false) → (all : List A)
+    → list_any test (flat_map forms all) ≡ false
 none_in_all test forms none [] = refl
 none_in_all test forms none (one ∷ all) = none_of_two test (forms one) (flat_map forms all) (none one) (none_in_all test forms none all)
 
 -- the lines of a step, with its own and its `end`
-none_in_step : (test : LineForm → Bool) → IsApart test → (lines : List Line) → test form.Step ≡ false → list_any test (unit_part_forms (parts.Step lines)) ≡ false
+none_in_step : (test : LineForm → Bool) → IsApart test → (lines : List Line) → test form.Step ≡ false
+    → list_any test (unit_part_forms (parts.Step lines)) ≡ false
 none_in_step test apart lines step =
     none_first test form.Step (flat_map line_forms lines ++ (form.End ∷ [])) step
-    (none_of_two test (flat_map line_forms lines) (form.End ∷ []) (none_in_all test line_forms (none_in_line test apart) lines) (none_first test form.End [] (apart form.End refl) refl))
+    (none_of_two test (flat_map line_forms lines) (form.End ∷ []) (none_in_all test line_forms (none_in_line test apart) lines)
+    (none_first test form.End [] (apart form.End refl) refl))
 
 -- ---- In a text
 
@@ -134,19 +144,24 @@ record IsOfText (test : LineForm → Bool) : Type 0 where
   instance : (name unit : List ℕ) → test (form.Instance name unit) ≡ false
   setting : (setting : Setting) → test (form.Setting setting) ≡ false
 
-none_in_unit : (test : LineForm → Bool) → IsOfText test → (name : List ℕ) (inside : List UnitPart) → list_any test (part_forms (parts.HasUnit name inside)) ≡ false
+none_in_unit : (test : LineForm → Bool) → IsOfText test → (name : List ℕ) (inside : List UnitPart)
+    → list_any test (part_forms (parts.HasUnit name inside)) ≡ false
 none_in_unit test is name inside =
     none_first test (form.Unit name) (flat_map unit_part_forms inside ++ (form.End ∷ [])) (is.unit name)
-    (none_of_two test (flat_map unit_part_forms inside) (form.End ∷ []) (none_in_all test unit_part_forms is.in_unit inside) (none_first test form.End [] (is.apart form.End refl) refl))
+    (none_of_two test (flat_map unit_part_forms inside) (form.End ∷ []) (none_in_all test unit_part_forms is.in_unit inside)
+    (none_first test form.End [] (is.apart form.End refl) refl))
 
 none_in_settings : (test : LineForm → Bool) → IsOfText test → (settings : List Setting) → list_any test (map form.Setting settings) ≡ false
 none_in_settings test is [] = refl
-none_in_settings test is (setting ∷ settings) = none_first test (form.Setting setting) (map form.Setting settings) (is.setting setting) (none_in_settings test is settings)
+none_in_settings test is (setting ∷ settings) =
+    none_first test (form.Setting setting) (map form.Setting settings) (is.setting setting) (none_in_settings test is settings)
 
 none_in_instance : (test : LineForm → Bool) → IsOfText test → (instance : Instance) → list_any test (part_forms (parts.HasInstance instance)) ≡ false
 none_in_instance test is instance =
-    none_first test (form.Instance instance.name instance.unit) (map form.Setting instance.settings ++ (form.End ∷ [])) (is.instance instance.name instance.unit)
-    (none_of_two test (map form.Setting instance.settings) (form.End ∷ []) (none_in_settings test is instance.settings) (none_first test form.End [] (is.apart form.End refl) refl))
+    none_first test (form.Instance instance.name instance.unit) (map form.Setting instance.settings ++ (form.End ∷ []))
+    (is.instance instance.name instance.unit)
+    (none_of_two test (map form.Setting instance.settings) (form.End ∷ []) (none_in_settings test is instance.settings)
+    (none_first test form.End [] (is.apart form.End refl) refl))
 
 apart_stop : IsApart is_stop
 apart_stop (form.Stop seconds) is = absurd (cc)
@@ -171,7 +186,8 @@ stop_in version (parts.HasInstance instance ∷ all) =
 stop_in version (parts.Stop seconds ∷ all) = refl
 stop_in version (_ ∷ all) = stop_in version all
 
-pub stop_said : (version : ℕ) (all : List Part) (seconds : Literal) → list_any (are_alike (form.Stop seconds)) (text_forms version all) ≡ is_some (system_of version all).stop
+pub stop_said : (version : ℕ) (all : List Part) (seconds : Literal)
+    → list_any (are_alike (form.Stop seconds)) (text_forms version all) ≡ is_some (system_of version all).stop
 stop_said version all seconds = any_alike (are_alike (form.Stop seconds)) is_stop (like_stop seconds) (text_forms version all) ∙ stop_in version all
 
 apart_longest : IsApart is_longest
@@ -197,8 +213,10 @@ longest_in version (parts.HasInstance instance ∷ all) =
 longest_in version (parts.Longest seconds ∷ all) = refl
 longest_in version (_ ∷ all) = longest_in version all
 
-pub longest_said : (version : ℕ) (all : List Part) (seconds : Literal) → list_any (are_alike (form.Longest seconds)) (text_forms version all) ≡ is_some (system_of version all).longest
-longest_said version all seconds = any_alike (are_alike (form.Longest seconds)) is_longest (like_longest seconds) (text_forms version all) ∙ longest_in version all
+pub longest_said : (version : ℕ) (all : List Part) (seconds : Literal)
+    → list_any (are_alike (form.Longest seconds)) (text_forms version all) ≡ is_some (system_of version all).longest
+longest_said version all seconds = any_alike (are_alike (form.Longest seconds)) is_longest (like_longest seconds) (text_forms version all)
+    ∙ longest_in version all
 
 apart_zero : IsApart is_zero
 apart_zero (form.Zero count) is = absurd (cc)
@@ -223,7 +241,8 @@ zero_in version (parts.HasInstance instance ∷ all) =
 zero_in version (parts.Zero count ∷ all) = refl
 zero_in version (_ ∷ all) = zero_in version all
 
-pub zero_said : (version : ℕ) (all : List Part) (count : ℕ) → list_any (are_alike (form.Zero count)) (text_forms version all) ≡ is_some (system_of version all).zero
+pub zero_said : (version : ℕ) (all : List Part) (count : ℕ)
+    → list_any (are_alike (form.Zero count)) (text_forms version all) ≡ is_some (system_of version all).zero
 zero_said version all count = any_alike (are_alike (form.Zero count)) is_zero (like_zero count) (text_forms version all) ∙ zero_in version all
 
 apart_rows : IsApart is_rows
@@ -249,7 +268,8 @@ rows_in version (parts.HasInstance instance ∷ all) =
 rows_in version (parts.Rows count ∷ all) = refl
 rows_in version (_ ∷ all) = rows_in version all
 
-pub rows_said : (version : ℕ) (all : List Part) (count : ℕ) → list_any (are_alike (form.Rows count)) (text_forms version all) ≡ is_some (system_of version all).rows
+pub rows_said : (version : ℕ) (all : List Part) (count : ℕ)
+    → list_any (are_alike (form.Rows count)) (text_forms version all) ≡ is_some (system_of version all).rows
 rows_said version all count = any_alike (are_alike (form.Rows count)) is_rows (like_rows count) (text_forms version all) ∙ rows_in version all
 
 -- ---- In a unit
@@ -287,7 +307,8 @@ resolution_in name [] = refl
 resolution_in name (parts.Resolution decimals ∷ inside) = refl
 resolution_in name (parts.Step lines ∷ inside) =
     list_any-append is_resolution (unit_part_forms (parts.Step lines)) (flat_map unit_part_forms inside)
-    ∙ ap (λ told. told || list_any is_resolution (flat_map unit_part_forms inside)) (none_in_step is_resolution apart_resolution lines refl) ∙ resolution_in name inside
+    ∙ ap (λ told. told || list_any is_resolution (flat_map unit_part_forms inside)) (none_in_step is_resolution apart_resolution lines refl)
+    ∙ resolution_in name inside
 resolution_in name (_ ∷ inside) = resolution_in name inside
 
 apart_max : IsApart is_max
@@ -302,11 +323,13 @@ max_in name (parts.Step lines ∷ inside) =
     ∙ ap (λ told. told || list_any is_max (flat_map unit_part_forms inside)) (none_in_step is_max apart_max lines refl) ∙ max_in name inside
 max_in name (_ ∷ inside) = max_in name inside
 
-pub resolution_said : (name : List ℕ) (inside : List UnitPart) (decimals : ℕ) → list_any (are_alike (form.Resolution decimals)) (flat_map unit_part_forms inside) ≡ is_some (unit_of name inside).resolution
+pub resolution_said : (name : List ℕ) (inside : List UnitPart) (decimals : ℕ)
+    → list_any (are_alike (form.Resolution decimals)) (flat_map unit_part_forms inside) ≡ is_some (unit_of name inside).resolution
 resolution_said name inside decimals =
     any_alike (are_alike (form.Resolution decimals)) is_resolution (like_resolution decimals) (flat_map unit_part_forms inside) ∙ resolution_in name inside
 
-pub max_said : (name : List ℕ) (inside : List UnitPart) (value : Expr) → list_any (are_alike (form.Max value)) (flat_map unit_part_forms inside) ≡ is_some (unit_of name inside).max
+pub max_said : (name : List ℕ) (inside : List UnitPart) (value : Expr)
+    → list_any (are_alike (form.Max value)) (flat_map unit_part_forms inside) ≡ is_some (unit_of name inside).max
 max_said name inside value = any_alike (are_alike (form.Max value)) is_max (like_max value) (flat_map unit_part_forms inside) ∙ max_in name inside
 
 step_in : (name : List ℕ) (inside : List UnitPart) → list_any is_step (flat_map unit_part_forms inside) ≡ is_some (unit_of name inside).step
@@ -331,7 +354,9 @@ no_unit_inside (parts.Step lines) = none_in_step opens_unit apart_unit lines ref
 no_unit_inside _ = refl
 
 -- Behind the line of a unit, and lines that its parts have.
-pub unit_before : (front : List LineForm) (name : List ℕ) (inside : List UnitPart) → (and_lines no_lines (front ++ (form.Unit name ∷ flat_map unit_part_forms inside))).in_unit ≡ flat_map unit_part_forms inside
+pub unit_before : (front : List LineForm) (name : List ℕ) (inside : List UnitPart)
+    → (and_lines no_lines (front ++ (form.Unit name ∷ flat_map unit_part_forms inside))).in_unit ≡ flat_map unit_part_forms inside
 unit_before front name inside =
     ap (λ (before : Before). before.in_unit) (fold-append and_line no_lines front (form.Unit name ∷ flat_map unit_part_forms inside))
-    ∙ all_in_unit (flat_map unit_part_forms inside) (and_line (and_lines no_lines front) (form.Unit name)) (none_in_all opens_unit unit_part_forms no_unit_inside inside)
+    ∙ all_in_unit (flat_map unit_part_forms inside) (and_line (and_lines no_lines front) (form.Unit name))
+    (none_in_all opens_unit unit_part_forms no_unit_inside inside)

@@ -1,5 +1,6 @@
 -- A text along its lines: what its lines so far nest to, while none of them breaks a rule, and the first that does.
-use Rattle.std.proofs.Common.{◌≡◌, ℕ, ◌<◌, ◌≤◌, Bool, true, false, not, List, [], ◌∷◌, ◌++◌, append_assoc, length, ◌⊎◌, inl, inr, refl, ap, sym, subst, ◌∙◌, arith}
+use Rattle.std.proofs.Common.{◌≡◌, ℕ, ◌<◌, ◌≤◌, Bool, true, false, not, List, [], ◌∷◌, ◌++◌, append_assoc, length, ◌⊎◌, inl, inr, refl, ap, sym, subst, ◌∙◌}
+use Rattle.std.proofs.Common.{arith}
 use Rattle.std.specs.Prelude.{◌&&◌, nat_le}
 use Rattle.std.specs.List.{AllZip, filter, list_all}
 use Rattle.std.proofs.lemmas.Bool.{and_parts, cases_Bool, cases_eq, true≢false}
@@ -107,7 +108,8 @@ first_line (line ∷ lines) is = elim (cases_Bool (is_blank_line line)) [
   | inl blank ↦ behind_blank line lines blank (first_line lines (subst (λ b. (b && list_all is_blank_line lines) ≡ false) blank is))
 ]
 
-same_first : (before other : List (List ℕ)) (line next : List ℕ) (later rest : List (List ℕ)) → before ++ (line ∷ later) ≡ other ++ (next ∷ rest) → list_all is_blank_line before ≡ true → list_all is_blank_line other ≡ true → is_blank_line line ≡ false → is_blank_line next ≡ false → line ≡ next
+same_first : (before other : List (List ℕ)) (line next : List ℕ) (later rest : List (List ℕ)) → before ++ (line ∷ later) ≡ other ++ (next ∷ rest)
+    → list_all is_blank_line before ≡ true → list_all is_blank_line other ≡ true → is_blank_line line ≡ false → is_blank_line next ≡ false → line ≡ next
 same_first [] [] line next later rest is blank blank_too here there = cc
 same_first [] (y ∷ other) line next later rest is blank blank_too here there =
     let same : line ≡ y = cc in
@@ -126,7 +128,9 @@ same_first (x ∷ before) (y ∷ other) line next later rest is blank blank_too 
 -- the first line that is not blank is that of the definition
 pub first_is : (lines : List (List ℕ)) (first : FirstLine lines) → BeginsVersion2 lines → HasForm (form.Header 2) first.line
 first_is lines first begins =
-    let same = same_first begins.before first.before begins.line first.line begins.later first.later (sym begins.cut ∙ first.cut) begins.before_is_blank first.before_is_blank (written begins.line (form.Header 2) begins.is_header) first.is_written in
+    let same =
+    same_first begins.before first.before begins.line first.line begins.later first.later
+    (sym begins.cut ∙ first.cut) begins.before_is_blank first.before_is_blank (written begins.line (form.Header 2) begins.is_header) first.is_written in
     subst (HasForm (form.Header 2)) same begins.is_header
 
 pub begins_so : (lines : List (List ℕ)) (first : FirstLine lines) → HasForm (form.Header 2) first.line → BeginsVersion2 lines
@@ -185,7 +189,8 @@ form_in known text version line = elim (known.form_of line) [
     | inr plain ↦ inl (some, record { has_form = has; of_version = λ told. absurd (true≢false (sym told ∙ plain)) })
     | inl told ↦ elim version [
       | inl begins ↦ inl (some, record { has_form = has; of_version = λ _. begins })
-      | inr other ↦ inr (λ found. other (found.1.of_version (subst (λ one. is_of_version_2 one ≡ true) (known.one line some found.0 has found.1.has_form) told)))
+      | inr other ↦
+          inr (λ found. other (found.1.of_version (subst (λ one. is_of_version_2 one ≡ true) (known.one line some found.0 has found.1.has_form) told)))
     ]
   ]
 ]
@@ -195,33 +200,41 @@ one_in known text one other line has has_too = known.one line one other has.has_
 
 -- ---- Forms of lines
 
-zip_same : {A B : Type 0} (R : A → B → Type 0) → ((x y : A) (z : B) → R x z → R y z → x ≡ y) → (xs ys : List A) (zs : List B) → AllZip R xs zs → AllZip R ys zs → xs ≡ ys
+zip_same : {A B : Type 0} (R : A → B → Type 0) → ((x y : A) (z : B) → R x z → R y z → x ≡ y) → (xs ys : List A) (zs : List B) → AllZip R xs zs
+    → AllZip R ys zs → xs ≡ ys
 zip_same R one [] [] [] all too = refl
 zip_same R one [] (y ∷ ys) [] all too = absurd too
 zip_same R one (x ∷ xs) ys [] all too = absurd all
 zip_same R one [] ys (z ∷ zs) all too = absurd all
 zip_same R one (x ∷ xs) [] (z ∷ zs) all too = absurd too
-zip_same R one (x ∷ xs) (y ∷ ys) (z ∷ zs) all too = ap (λ first. first ∷ xs) (one x y z all.0 too.0) ∙ ap (λ rest. y ∷ rest) (zip_same R one xs ys zs all.1 too.1)
+zip_same R one (x ∷ xs) (y ∷ ys) (z ∷ zs) all too = ap (λ first. first ∷ xs) (one x y z all.0 too.0)
+    ∙ ap (λ rest. y ∷ rest) (zip_same R one xs ys zs all.1 too.1)
 
-pub same_forms : FormsAreKnown → (text lines : List (List ℕ)) (forms others : List LineForm) → HaveForms text forms lines → HaveForms text others lines → forms ≡ others
+pub same_forms : FormsAreKnown → (text lines : List (List ℕ)) (forms others : List LineForm) → HaveForms text forms lines → HaveForms text others lines
+    → forms ≡ others
 same_forms known text lines forms others = zip_same (HasFormIn text) (one_in known text) forms others (filter is_written lines)
 
-zip_more : {A B : Type 0} (R : A → B → Type 0) (xs more : List A) (ys others : List B) → AllZip R xs ys → AllZip R more others → AllZip R (xs ++ more) (ys ++ others)
+zip_more : {A B : Type 0} (R : A → B → Type 0) (xs more : List A) (ys others : List B) → AllZip R xs ys → AllZip R more others
+    → AllZip R (xs ++ more) (ys ++ others)
 zip_more R [] more [] others all rest = rest
 zip_more R [] more (y ∷ ys) others all rest = absurd all
 zip_more R (x ∷ xs) more [] others all rest = absurd all
 zip_more R (x ∷ xs) more (y ∷ ys) others all rest = (all.0, zip_more R xs more ys others all.1 rest)
 
-pub forms_more : (text before : List (List ℕ)) (line : List ℕ) (forms : List LineForm) (some : LineForm) → HaveForms text forms before → HasFormIn text some line → HaveForms text (forms ++ (some ∷ [])) (before ++ (line ∷ []))
+pub forms_more : (text before : List (List ℕ)) (line : List ℕ) (forms : List LineForm) (some : LineForm) → HaveForms text forms before
+    → HasFormIn text some line → HaveForms text (forms ++ (some ∷ [])) (before ++ (line ∷ []))
 forms_more text before line forms some have has =
     let here : filter is_written (line ∷ []) ≡ line ∷ [] = rw (written line some has.has_form) refl in
     subst (AllZip (HasFormIn text) (forms ++ (some ∷ []))) (sym (filter-append is_written before (line ∷ [])))
-    (zip_more (HasFormIn text) forms (some ∷ []) (filter is_written before) (filter is_written (line ∷ [])) have (subst (AllZip (HasFormIn text) (some ∷ [])) (sym here) (has, tt)))
+    (zip_more (HasFormIn text) forms (some ∷ []) (filter is_written before) (filter is_written (line ∷ [])) have
+    (subst (AllZip (HasFormIn text) (some ∷ [])) (sym here) (has, tt)))
 
-pub forms_blank : (text before : List (List ℕ)) (line : List ℕ) (forms : List LineForm) → HaveForms text forms before → is_blank_line line ≡ true → HaveForms text forms (before ++ (line ∷ []))
+pub forms_blank : (text before : List (List ℕ)) (line : List ℕ) (forms : List LineForm) → HaveForms text forms before → is_blank_line line ≡ true
+    → HaveForms text forms (before ++ (line ∷ []))
 forms_blank text before line forms have blank =
     let none : filter is_written (line ∷ []) ≡ [] = rw blank refl in
-    subst (AllZip (HasFormIn text) forms) (sym (filter-append is_written before (line ∷ []) ∙ ap (λ rest. filter is_written before ++ rest) none ∙ append-nil (filter is_written before))) have
+    subst (AllZip (HasFormIn text) forms)
+    (sym (filter-append is_written before (line ∷ []) ∙ ap (λ rest. filter is_written before ++ rest) none ∙ append-nil (filter is_written before))) have
 
 pub blank_have_none : (text lines : List (List ℕ)) → list_all is_blank_line lines ≡ true → HaveForms text [] lines
 blank_have_none text lines blank = subst (AllZip (HasFormIn text) []) (sym (none_written lines blank)) tt
@@ -245,12 +258,14 @@ pub record NestTo (text before : List (List ℕ)) (nested : Nested) : Type 0 whe
   pub forms : HaveForms text (nested_forms nested) before
   pub placed : are_placed no_lines (nested_forms nested) ≡ true
 
-are_more : (text done before : List (List ℕ)) (line : List ℕ) → AreUnbroken text done before → IsUnbroken text (done ++ before) line → AreUnbroken text done (before ++ (line ∷ []))
+are_more : (text done before : List (List ℕ)) (line : List ℕ) → AreUnbroken text done before → IsUnbroken text (done ++ before) line
+    → AreUnbroken text done (before ++ (line ∷ []))
 are_more text done [] line kept is = (subst (λ d. IsUnbroken text d line) (append-nil done) is, tt)
 are_more text done (first ∷ before) line kept is =
     (kept.0, are_more text (done ++ (first ∷ [])) before line kept.1 (subst (λ d. IsUnbroken text d line) (sym (append_assoc done (first ∷ []) before)) is))
 
-all_more : (test : List ℕ → Bool) (before : List (List ℕ)) (line : List ℕ) → list_all test before ≡ true → test line ≡ true → list_all test (before ++ (line ∷ [])) ≡ true
+all_more : (test : List ℕ → Bool) (before : List (List ℕ)) (line : List ℕ) → list_all test before ≡ true → test line ≡ true
+    → list_all test (before ++ (line ∷ [])) ≡ true
 all_more test [] line all is = ap (λ here. here && true) is
 all_more test (first ∷ before) line all is =
     let both = and_parts (test first) (list_all test before) all in
@@ -260,7 +275,8 @@ not_all_more : (test : List ℕ → Bool) (before more : List (List ℕ)) → li
 not_all_more test [] more is = absurd (true≢false is)
 not_all_more test (first ∷ before) more is = elim (cases_Bool (test first)) [
   | inr here ↦ ap (λ told. told && list_all test (before ++ more)) here
-  | inl here ↦ ap (λ told. told && list_all test (before ++ more)) here ∙ not_all_more test before more (sym (ap (λ told. told && list_all test before) here) ∙ is)
+  | inl here ↦ ap (λ told. told && list_all test (before ++ more)) here
+      ∙ not_all_more test before more (sym (ap (λ told. told && list_all test before) here) ∙ is)
 ]
 
 not_last : (test : List ℕ → Bool) (before : List (List ℕ)) (line : List ℕ) → test line ≡ false → list_all test (before ++ (line ∷ [])) ≡ false
@@ -283,14 +299,16 @@ blank_unbroken text before line clean blank =
     (λ off. blank_has_none line off.some blank off.has_form.has_form)
     (λ lacks. true≢false (sym blank ∙ lacks.is_first))
 
-pub blank_more : (text before : List (List ℕ)) (line : List ℕ) → AreBlank text before → IsClean line → is_blank_line line ≡ true → AreBlank text (before ++ (line ∷ []))
+pub blank_more : (text before : List (List ℕ)) (line : List ℕ) → AreBlank text before → IsClean line → is_blank_line line ≡ true
+    → AreBlank text (before ++ (line ∷ []))
 blank_more text before line so_far clean blank = record {
   kept = are_more text [] before line so_far.kept (blank_unbroken text before line clean blank);
   short = all_more (λ line. nat_le (length line) line_limit) before line so_far.short (short_is line clean.short);
   blank = all_more is_blank_line before line so_far.blank blank;
 }
 
-pub nest_blank : (text before : List (List ℕ)) (line : List ℕ) (nested : Nested) → NestTo text before nested → IsClean line → is_blank_line line ≡ true → NestTo text (before ++ (line ∷ [])) nested
+pub nest_blank : (text before : List (List ℕ)) (line : List ℕ) (nested : Nested) → NestTo text before nested → IsClean line → is_blank_line line ≡ true
+    → NestTo text (before ++ (line ∷ [])) nested
 nest_blank text before line nested so_far clean blank = record {
   kept = are_more text [] before line so_far.kept (blank_unbroken text before line clean blank);
   short = all_more (λ line. nat_le (length line) line_limit) before line so_far.short (short_is line clean.short);
@@ -301,14 +319,16 @@ nest_blank text before line nested so_far clean blank = record {
 
 -- ---- A line that keeps the rules
 
-placed_more : (forms : List LineForm) (before : Before) (some : LineForm) → are_placed before forms ≡ true → may_stand (and_lines before forms) some ≡ true → are_placed before (forms ++ (some ∷ [])) ≡ true
+placed_more : (forms : List LineForm) (before : Before) (some : LineForm) → are_placed before forms ≡ true → may_stand (and_lines before forms) some ≡ true
+    → are_placed before (forms ++ (some ∷ [])) ≡ true
 placed_more [] before some placed may = ap (λ told. told && true) may
 placed_more (first ∷ forms) before some placed may =
     let both = and_parts (may_stand before first) (are_placed (and_line before first) forms) placed in
     ap (λ told. told && are_placed (and_line before first) (forms ++ (some ∷ []))) both.0 ∙ placed_more forms (and_line before first) some both.1 may
 
 -- The header of a text is its first line that is not blank.
-pub header_begins : FormsAreKnown → (text before : List (List ℕ)) (line : List ℕ) (version : ℕ) → AreBlank text before → IsClean line → HasFormIn text (form.Header version) line → NestTo text (before ++ (line ∷ [])) (headed_by version)
+pub header_begins : FormsAreKnown → (text before : List (List ℕ)) (line : List ℕ) (version : ℕ) → AreBlank text before → IsClean line
+    → HasFormIn text (form.Header version) line → NestTo text (before ++ (line ∷ [])) (headed_by version)
 header_begins known text before line version so_far clean has = record {
   kept = are_more text [] before line so_far.kept (unbroken text before line clean.bytes clean.short
       (λ none. none.1 (form.Header version) has)
@@ -323,7 +343,8 @@ header_begins known text before line version so_far clean has = record {
   placed = refl;
 }
 
-pub line_nests : FormsAreKnown → (text before : List (List ℕ)) (line : List ℕ) (nested : Nested) (some : LineForm) → NestTo text before nested → IsClean line → HasFormIn text some line → may_stand (before_next nested) some ≡ true → NestTo text (before ++ (line ∷ [])) (and_form nested some)
+pub line_nests : FormsAreKnown → (text before : List (List ℕ)) (line : List ℕ) (nested : Nested) (some : LineForm) → NestTo text before nested → IsClean line
+    → HasFormIn text some line → may_stand (before_next nested) some ≡ true → NestTo text (before ++ (line ∷ [])) (and_form nested some)
 line_nests known text before line nested some so_far clean has may = record {
   kept = are_more text [] before line so_far.kept (unbroken text before line clean.bytes clean.short
       (λ none. none.1 some has)
@@ -351,34 +372,45 @@ pub record BreaksLeast (text before : List (List ℕ)) (line : List ℕ) (rule :
 pub bytes_break : (text before : List (List ℕ)) (line : List ℕ) → has_forbidden_byte line ≡ true → BreaksLeast text before line 1
 bytes_break text before line told = record {
   breaks = inl (refl, told);
-  is_least = least text 1 before line (omega arith) (λ more. absurd (omega (arith, more))) (λ more. absurd (omega (arith, more))) (λ more. absurd (omega (arith, more))) (λ more. absurd (omega (arith, more)));
+  is_least =
+      least text 1 before line (omega arith) (λ more. absurd (omega (arith, more))) (λ more. absurd (omega (arith, more)))
+      (λ more. absurd (omega (arith, more))) (λ more. absurd (omega (arith, more)));
 }
 
 pub length_breaks : (text before : List (List ℕ)) (line : List ℕ) → has_forbidden_byte line ≡ false → line_limit < length line → BreaksLeast text before line 3
 length_breaks text before line bytes long = record {
   breaks = inr (inl (refl, long));
-  is_least = least text 3 before line (omega arith) (λ _. bytes) (λ more. absurd (omega (arith, more))) (λ more. absurd (omega (arith, more))) (λ more. absurd (omega (arith, more)));
+  is_least =
+      least text 3 before line (omega arith) (λ _. bytes) (λ more. absurd (omega (arith, more))) (λ more. absurd (omega (arith, more)))
+      (λ more. absurd (omega (arith, more)));
 }
 
-pub formless_breaks : (text before : List (List ℕ)) (line : List ℕ) → IsClean line → is_blank_line line ≡ false → (((some : LineForm) × HasFormIn text some line) → ⊥) → BreaksLeast text before line 4
+pub formless_breaks : (text before : List (List ℕ)) (line : List ℕ) → IsClean line → is_blank_line line ≡ false
+    → (((some : LineForm) × HasFormIn text some line) → ⊥) → BreaksLeast text before line 4
 formless_breaks text before line clean is none = record {
   breaks = inr (inr (inl (refl, (is, λ some has. none (some, has)))));
-  is_least = least text 4 before line (omega arith) (λ _. clean.bytes) (λ _. clean.short) (λ more. absurd (omega (arith, more))) (λ more. absurd (omega (arith, more)));
+  is_least =
+      least text 4 before line (omega arith) (λ _. clean.bytes) (λ _. clean.short) (λ more. absurd (omega (arith, more)))
+      (λ more. absurd (omega (arith, more)));
 }
 
-misplaced : (text before : List (List ℕ)) (line : List ℕ) (forms : List LineForm) (some : LineForm) → HaveForms text forms before → IsClean line → HasFormIn text some line → may_stand (and_lines no_lines forms) some ≡ false → BreaksLeast text before line 5
+misplaced : (text before : List (List ℕ)) (line : List ℕ) (forms : List LineForm) (some : LineForm) → HaveForms text forms before → IsClean line
+    → HasFormIn text some line → may_stand (and_lines no_lines forms) some ≡ false → BreaksLeast text before line 5
 misplaced text before line forms some have clean has off = record {
   breaks = inr (inr (inr (inl (refl, record { forms = forms; some = some; lines = have; has_form = has; misplaced = off }))));
   is_least = least text 5 before line (omega arith) (λ _. clean.bytes) (λ _. clean.short) (λ _ none. none.1 some has) (λ more. absurd (omega (arith, more)));
 }
 
-pub place_breaks : (text before : List (List ℕ)) (line : List ℕ) (nested : Nested) (some : LineForm) → NestTo text before nested → IsClean line → HasFormIn text some line → may_stand (before_next nested) some ≡ false → BreaksLeast text before line 5
+pub place_breaks : (text before : List (List ℕ)) (line : List ℕ) (nested : Nested) (some : LineForm) → NestTo text before nested → IsClean line
+    → HasFormIn text some line → may_stand (before_next nested) some ≡ false → BreaksLeast text before line 5
 place_breaks text before line nested some so_far clean has off = misplaced text before line (nested_forms nested) some so_far.forms clean has off
 
-pub first_place_breaks : (text before : List (List ℕ)) (line : List ℕ) (some : LineForm) → AreBlank text before → IsClean line → HasFormIn text some line → may_stand no_lines some ≡ false → BreaksLeast text before line 5
+pub first_place_breaks : (text before : List (List ℕ)) (line : List ℕ) (some : LineForm) → AreBlank text before → IsClean line → HasFormIn text some line
+    → may_stand no_lines some ≡ false → BreaksLeast text before line 5
 first_place_breaks text before line some so_far clean has off = misplaced text before line [] some (blank_have_none text before so_far.blank) clean has off
 
-pub headless_breaks : FormsAreKnown → (text before : List (List ℕ)) (line : List ℕ) (some : LineForm) → AreBlank text before → IsClean line → HasFormIn text some line → may_stand no_lines some ≡ true → ((version : ℕ) → some ≡ form.Header version → ⊥) → BreaksLeast text before line 7
+pub headless_breaks : FormsAreKnown → (text before : List (List ℕ)) (line : List ℕ) (some : LineForm) → AreBlank text before → IsClean line
+    → HasFormIn text some line → may_stand no_lines some ≡ true → ((version : ℕ) → some ≡ form.Header version → ⊥) → BreaksLeast text before line 7
 headless_breaks known text before line some so_far clean has may other = record {
   breaks = inr (inr (inr (inr (
     refl,

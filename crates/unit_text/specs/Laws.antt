@@ -11,7 +11,8 @@ use Rattle.unit_tree.specs.declared.system.System.{System}
 -- A text is written with one version and one list of parts at most, and so says one system at most.
 abbrev pub HasOneReading : List ℕ → Type 0
 HasOneReading text =
-    (version by : ℕ) (one other : List Part) → HaveForms (source_lines text) (text_forms version one) (source_lines text) → HaveForms (source_lines text) (text_forms by other) (source_lines text) → (version ≡ by) × (one ≡ other)
+    (version by : ℕ) (one other : List Part) → HaveForms (source_lines text) (text_forms version one) (source_lines text)
+    → HaveForms (source_lines text) (text_forms by other) (source_lines text) → (version ≡ by) × (one ≡ other)
 
 abbrev pub SaysOneSystem : List ℕ → Type 0
 SaysOneSystem text = (one other : System) → Reads text one → Reads text other → one ≡ other
@@ -34,4 +35,5 @@ EveryTextIsAnsweredOnce = (text : List ℕ) → IsAnsweredOnce text
 -- open at the end, are the lines of some parts.
 abbrev pub NestingIsByParts : Type 0
 NestingIsByParts =
-    (version : ℕ) (forms : List LineForm) → IsTrue (are_placed no_lines (form.Header version ∷ forms)) → (open_blocks (form.Header version ∷ forms) ≡ []) ↔ ((parts : List Part) × (form.Header version ∷ forms ≡ text_forms version parts))
+    (version : ℕ) (forms : List LineForm) → IsTrue (are_placed no_lines (form.Header version ∷ forms))
+    → (open_blocks (form.Header version ∷ forms) ≡ []) ↔ ((parts : List Part) × (form.Header version ∷ forms ≡ text_forms version parts))

@@ -117,7 +117,8 @@ in_unit_group unit _ number = unit
 -- The numbers of a unit in canonical order, without its `end`.
 abbrev pub unit_in_order : UnitNumbers → List ℕ
 unit_in_order unit =
-    joined (unit.head ∷ unit.resolution ∷ unit.params ∷ unit.states ∷ unit.locals ∷ unit.inputs ∷ unit.events_in ∷ unit.outputs ∷ unit.events_out ∷ unit.max ∷ unit.step ∷ [])
+    joined (unit.head ∷ unit.resolution ∷ unit.params ∷ unit.states ∷ unit.locals ∷ unit.inputs ∷ unit.events_in ∷ unit.outputs ∷ unit.events_out ∷ unit.max
+    ∷ unit.step ∷ [])
 
 -- The `end` of a unit: its lines join those of the units before it.
 abbrev pub unit_end : Numbers → ℕ → Numbers
@@ -165,4 +166,5 @@ with_marks numbers marks = fold with_mark numbers marks
 -- All numbers in canonical order, where no unit is open.
 abbrev pub in_order : Numbers → List ℕ
 in_order numbers =
-    joined (numbers.header ∷ numbers.units ∷ numbers.instances ∷ numbers.wires ∷ numbers.stop ∷ numbers.longest ∷ numbers.zero ∷ numbers.rows ∷ numbers.samples ∷ [])
+    joined (numbers.header ∷ numbers.units ∷ numbers.instances ∷ numbers.wires ∷ numbers.stop ∷ numbers.longest ∷ numbers.zero ∷ numbers.rows
+    ∷ numbers.samples ∷ [])

@@ -5,7 +5,9 @@ use Rattle.text_lines.proofs.LineEnds.{without_last, without_none}
 use Rattle.text_lines.proofs.lines.without_return.Goals as goal
 
 pub returns-in-Some : goal.returns-in-Some
-returns-in-Some c = sym (ap without_return c.in-Some.ensures.cases.0 ∙ without_last c.in-Some.front.now c.in-Some.last.now (eq-eqb c.in-Some.last.now 13 c.if-last-eq-RETURN.true))
+returns-in-Some c =
+    sym (ap without_return c.in-Some.ensures.cases.0
+    ∙ without_last c.in-Some.front.now c.in-Some.last.now (eq-eqb c.in-Some.last.now 13 c.if-last-eq-RETURN.true))
 
 pub returns-in_default : goal.returns-in_default
 returns-in_default c =

@@ -15,6 +15,9 @@ pub returns-in-Err : goal.returns-in-Err
 returns-in-Err c =
     let first : FirstAt c.args.text.now c.without_return-line.result.now (c.loop-rest.number + 1) c.cut_line.result.1.now =
     subst (λ line. FirstAt c.args.text.now line (c.loop-rest.number + 1) c.cut_line.result.1.now) (sym c.without_return-line.ensures)
-    (first_at c.args.text.now c.loop-rest.rest.now c.cut_line.result.0.now c.cut_line.result.1.now c.loop-rest.number c.loop-rest.invariant c.cut_line.ensures.cut c.cut_line.ensures.shorter) in
+    (first_at c.args.text.now c.loop-rest.rest.now c.cut_line.result.0.now c.cut_line.result.1.now c.loop-rest.number c.loop-rest.invariant
+    c.cut_line.ensures.cut c.cut_line.ensures.shorter)
+    in
     let tells : TellsOf c.without_return-line.result.now told.Written = c.in-Written.ensures in
-    head_answer c.args.text.now c.without_return-line.result.now c.cut_line.result.1.now (c.loop-rest.number + 1) c.in-Err.fault first (record { clean = tells.0; written = tells.1 }) c.in-Err.ensures
+    head_answer c.args.text.now c.without_return-line.result.now c.cut_line.result.1.now (c.loop-rest.number + 1) c.in-Err.fault first
+    (record { clean = tells.0; written = tells.1 }) c.in-Err.ensures
