@@ -1,5 +1,13 @@
-"""What the checks of the gate share: how they tell of failures, and what they read."""
+"""What the checks of the gate share: the program that they try, how they tell of failures, and what they read."""
+import os
 import re
+import sys
+
+ROOT = os.path.join(os.path.dirname(os.path.abspath(__file__)), "..")
+BUILT = "crates/cosim_app/out/cosim_app"
+
+# The note on words that have no form.
+USAGE = "cosim: usage\n"
 
 # How much of a line is told, in characters.
 LONGEST_TOLD = 200
@@ -23,6 +31,25 @@ class Tally:
             print(f"FAILED {name}: {'; '.join(differences)}")
         else:
             self.passed += 1
+
+    def finish(self):
+        """Tells how many passed and failed, and ends the process: by status 1 where one failed."""
+        print(f"{self.passed} passed, {self.failed} failed")
+        sys.exit(1 if self.failed else 0)
+
+
+def find_program(words, document):
+    """The program that is named by the words, or the one that was built. Goes to the folder of the repository. Ends the
+    process where there are more words, or there is no program."""
+    if len(words) > 1:
+        print(document)
+        sys.exit(2)
+    program = os.path.abspath(words[0] if words else os.path.join(ROOT, BUILT))
+    if not os.access(program, os.X_OK):
+        print(f"there is no program {program}")
+        sys.exit(1)
+    os.chdir(ROOT)
+    return program
 
 
 def tell(got, wanted):

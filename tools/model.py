@@ -1,4 +1,4 @@
-"""Asks the program about a model, and reads the canonical text that `print` puts."""
+"""Asks the program about a model, reads the canonical text that `print` puts, and puts what a tool has to say."""
 import os
 import re
 import subprocess
@@ -11,8 +11,9 @@ ROOT = os.path.dirname(os.path.dirname(os.path.realpath(__file__)))
 # The program that is asked: the one that the environment names, or else ./cosim, which builds it where it isn't there.
 PROGRAM = os.environ.get("COSIM") or os.path.join(ROOT, "cosim")
 
-# The status where there is no program to ask, as of ./cosim.
+# The statuses where there is no program to ask, and where the output can't be written, as of ./cosim.
 NO_PROGRAM = 69
+WRITE_FAULT = 5
 
 LINE_OF_PORT = re.compile(r"(event )?(input|output) (\w+):[^=]*?(?:=(.*))?")
 LINE_OF_INSTANCE = re.compile(r"instance (\w+):(\w+)")
@@ -94,6 +95,18 @@ def read(canonical):
     return Model(units, list(ports.values()), connections, samples)
 
 
+def put(text):
+    """Puts a text and a line feed on standard output. Where that fails it ends the tool, quietly if the reader has left."""
+    try:
+        with open(1, "w", errors="backslashreplace", closefd=False) as output:
+            output.write(text + "\n")
+    except BrokenPipeError:
+        sys.exit(WRITE_FAULT)
+    except OSError as error:
+        print(f"the output can't be written: {error.strerror}", file=sys.stderr)
+        sys.exit(WRITE_FAULT)
+
+
 def main(document, words, tell):
     """Reads a model from standard input and puts the lines that `tell` gives for it. Answers the status."""
     if words:
@@ -103,5 +116,5 @@ def main(document, words, tell):
     if answer.line is not None:
         print(f"cosim: line {answer.line}: rule {answer.rule}", file=sys.stderr)
     if answer.status == 0:
-        print("\n".join(tell(read(answer.output))))
+        put("\n".join(tell(read(answer.output))))
     return answer.status

@@ -2,8 +2,8 @@
 # The sources of the program, for the scripts that build it, keep it or compare it: they set `here` to the folder of the
 # repository, by its full path, and read this file.
 
-# What a build makes; what is kept in the repository; and the checksum of the sources that the kept one was built from,
-# with the kit that built it on the line behind.
+# What a build makes; what is kept in the repository; and the file with three lines on the kept one: the checksum of the
+# sources that it was built from, the kit that built it, and its own checksum.
 built=$here/crates/cosim_app/out/cosim_app
 kept=$here/bin/cosim-x86_64-linux
 kept_from=$here/bin/sources.sha256
@@ -56,16 +56,21 @@ why_build() {
   fi
 }
 
+# Puts the checksum of standard input.
+sum_input() {
+  local sum
+  sum=$(sha256sum) && echo "${sum%% *}"
+}
+
 # Puts one checksum of all sources, by path and content, in an order that no setting of the machine changes.
 sum_sources() (
   cd "$here" || exit
-  sum=$(find_sources -print0 | LC_ALL=C sort -z | xargs -0 sha256sum | sha256sum)
-  echo "${sum%% *}"
+  find_sources -print0 | LC_ALL=C sort -z | xargs -0 sha256sum | sum_input
 )
 
-# Puts what is kept beside the program: the checksum of the sources, and the kit that is on this machine.
-tell_sources() {
-  is_kit_there && sum_sources && rt version
+# Puts the lines that are kept beside the program that was built, by the kit that is on this machine.
+tell_built() {
+  is_kit_there && sum_sources && rt version && sum_input <"$built"
 }
 
 is_kit_there() {
