@@ -11,7 +11,7 @@ use Rattle.fixed_words.specs.Operations.{Outcome}
 use Rattle.fixed_words.specs.Types.{lowest, highest, is_between, is_word_of}
 use Rattle.fixed_words.specs.declared.types.Ty.{Ty}
 use Rattle.port_solve.specs.Solved.{HaveStates, HaveInputs, word_in, ports_told}
-use Rattle.port_solve.specs.Sound.{types_of_places, Suits, IsSoundMember, IsSound}
+use Rattle.port_solve.specs.Sound.{types_of_places, Suits, IsSoundMember, IsSound, IsWordOf}
 use Rattle.port_solve.specs.Steps.{with_words, all_with, set_from, asked, word_asked, fault_asked, FitsFeeds, fault_there}
 use Rattle.unit_tree.specs.Components.{start_word, get_of}
 use Rattle.unit_tree.specs.Compositions.{InputSource, Start, AtPlace, Member, Composition}
@@ -167,7 +167,7 @@ get_same_place [] k y within = absurd (omega (arith, within))
 get_same_place (x ∷ xs) zero y within = refl
 get_same_place (x ∷ xs) (suc k) y within = get_same_place xs k y (omega (arith, within))
 
-get_other : {A : Type 0} (xs : List A) (k j : ℕ) (y : A) → (j ≡ k → ⊥) → slice_get (set xs k y) j ≡ slice_get xs j
+pub get_other : {A : Type 0} (xs : List A) (k j : ℕ) (y : A) → (j ≡ k → ⊥) → slice_get (set xs k y) j ≡ slice_get xs j
 get_other [] k j y differ = refl
 get_other (x ∷ xs) zero zero y differ = absurd (differ refl)
 get_other (x ∷ xs) zero (suc j) y differ = refl
@@ -189,10 +189,7 @@ HasState member state = length state ≡ length member.component.unit.states
 abbrev pub HasWords : Member → List ℤ → Type 0
 HasWords member words = length words ≡ length member.component.unit.inputs
 
-module _ (run : Composition) (states : List (List ℤ)) (sound : IsSound run) (have : HaveStates run states) where
-  abbrev pub one_state : length states ≡ length run.members
-  one_state = one_each HasState run.members states have
-
+module _ (run : Composition) (sound : IsSound run) where
   pub sound_member : (instance : ℕ) (member : Member) → slice_get run.members instance ≡ Some member → IsSoundMember (types_of_places run) member
   sound_member instance member is = each_has (IsSoundMember (types_of_places run)) run.members member sound (has_at run.members instance member is)
 
@@ -228,18 +225,29 @@ module _ (run : Composition) (states : List (List ℤ)) (sound : IsSound run) (h
       record { input = of.input; is_there = of.is_there; fits = of.suits }
 
   -- A word of the type of an output is one for each input that it feeds.
-  feed_fits : (at : InputAt) (place : ℕ) (ty : Ty) (word : ℤ) → source_at run at ≡ Some (AtPlace place) → slice_get (types_of_places run) place ≡ Some ty → is_word_of ty word ≡ true → IsInputWord run at.instance at.input word
-  feed_fits at place ty word is type_there fits =
+  pub feed_fits : (at : InputAt) (place : ℕ) (word : ℤ) → source_at run at ≡ Some (AtPlace place) → IsWordOf run place word
+      → IsInputWord run at.instance at.input word
+  feed_fits at place word is fits =
       let of = input_of at (AtPlace place) is in
-      let same : ty ≡ of.suits.0 = some_same ty of.suits.0 (sym type_there ∙ of.suits.1) in
       record {
         input = of.input;
         is_there = of.is_there;
-        fits = is_between_same of.suits.0 of.input.ty word of.suits.2.0 of.suits.2.1 (subst (λ t. is_word_of t word ≡ true) same fits);
+        fits =
+            is_between_same of.suits.0 of.input.ty word of.suits.2.0 of.suits.2.1
+            (subst (λ found. IfSome found (λ ty. is_word_of ty word ≡ true)) of.suits.1 fits);
       }
-    where
-      some_same : (one other : Ty) → Some one ≡ Some other → one ≡ other
-      some_same one other is = cc
+
+module _ (run : Composition) (states : List (List ℤ)) (sound : IsSound run) (have : HaveStates run states) where
+  abbrev pub one_state : length states ≡ length run.members
+  one_state = one_each HasState run.members states have
+
+  -- An output can be asked where there are words for all inputs.
+  pub can_be_asked : (inputs : List (List ℤ)) (place : ℕ) (route : Route) → HaveInputs run inputs → slice_get (routes_of run).outputs place ≡ Some route
+      → IsSome (given_by run states inputs route.instance route.output)
+  can_be_asked inputs place route shape is_route =
+      let at = outlet_of run states place route one_state is_route in
+      let words = zip_at HasWords run.members inputs route.instance at.outlet.standing.0 shape at.member in
+      rw (given_is run states place route at inputs words.other words.is) refl
 
   -- ---- The next output
 
@@ -257,7 +265,7 @@ module _ (run : Composition) (states : List (List ℤ)) (sound : IsSound run) (h
     output = outlet.output
 
     abbrev member_sound : IsSoundMember (types_of_places run) member
-    member_sound = sound_member route.instance member at.member
+    member_sound = sound_member run sound route.instance member at.member
 
     needs_are : needs_at run place ≡ needs_of outlet
     needs_are = needs_here run states place outlet one_state at.is
@@ -288,7 +296,7 @@ module _ (run : Composition) (states : List (List ℤ)) (sound : IsSound run) (h
 
     -- The output can be asked.
     pub is_given : IsSome (given_by run states inputs route.instance route.output)
-    is_given = rw given refl
+    is_given = can_be_asked inputs place route is_front.shape is_route
 
     word_of_input : (k : ℕ) (source : InputSource) (word : ℤ) → slice_get member.sources k ≡ Some source → Known right front source word → get_or actual k (pos 0) ≡ word
     word_of_input k source word there is_known =
@@ -349,8 +357,10 @@ module _ (run : Composition) (states : List (List ℤ)) (sound : IsSound run) (h
         let is_ok = ok_there (given_at right outlet) word is in
         let seen = mapped (λ all. get_of member.component outlet.standing.1 all output) (inputs_for right outlet) (Ok word) is_ok in
         let fits = get_fits member.component outlet.standing.1 seen.one output word seen.made in
+        let fits_there : IsWordOf run place word =
+        subst (λ found. IfSome found (λ ty. is_word_of ty word ≡ true)) (sym (type_is run states place outlet one_state at.is)) fits in
         subst (AllByRecursion (λ a. IsInputWord run a.instance a.input word)) (sym at.feeds)
-        (all_has (λ a. IsInputWord run a.instance a.input word) (feeds_of run place) (λ a has. feed_fits a place output.ty word (feed_is run place a has) (type_is run states place outlet one_state at.is) fits))
+        (all_has (λ a. IsInputWord run a.instance a.input word) (feeds_of run place) (λ a has. feed_fits run sound a place word (feed_is run place a has) fits_there))
 
     by_word : (word : Option ℤ) → word_at right outlet ≡ word → IfSome word (λ w. AllByRecursion (λ a. IsInputWord run a.instance a.input w) route.feeds)
     by_word None is = tt
@@ -426,7 +436,8 @@ module _ (run : Composition) (states : List (List ℤ)) (sound : IsSound run) (h
 
         some_fed : (a : InputAt) (source : InputSource) (word : ℤ) → source_at run a ≡ Some source → Known right (front ++ (place ∷ [])) source word → word_in (with_words inputs (all_with v route.feeds)) a ≡ word
         some_fed a source word is is_known =
-            word_after run same_sources a source is word (all_with v route.feeds) inputs is_front.shape (agrees a source word is is_known) (before a source word is is_known)
+            word_after run (same_sources run sound) a source is word (all_with v route.feeds) inputs is_front.shape (agrees a source word is is_known)
+            (before a source word is is_known)
 
       fed_by : (word : Option ℤ) → word_at right outlet ≡ word → (a : InputAt) (source : InputSource) (w : ℤ) → source_at run a ≡ Some source → Known right (front ++ (place ∷ [])) source w → word_in (with_words inputs (sets word)) a ≡ w
       fed_by None is = none_fed is

@@ -4,6 +4,7 @@ pub mod InputPlaces
 pub mod InputsSet
 pub mod JudgedFacts
 pub mod LinkedSystems
+pub mod OneByOne
 pub mod OrderLoop
 pub mod OutputPlaces
 pub mod PlainLinks

@@ -24,6 +24,30 @@ numbered_as instance member counted = record { instance = instance; output = cou
 abbrev outlet_as : ℕ → Standing → ℕ × Output → Outlet
 outlet_as instance standing counted = record { standing = standing; instance = instance; output = counted.1; number = counted.0 }
 
+-- ---- Routes by their places
+
+module _ (run : Composition) where
+  record NumberedAt (from : ℕ) (all : List Numbered) (k : ℕ) (route : Route) : Type 0 where
+    numbered : Numbered
+    is : slice_get all k ≡ Some numbered
+    routed : route ≡ route_at run (from + k, numbered)
+
+  numbered_at : (from : ℕ) (all : List Numbered) (k : ℕ) (route : Route) → slice_get (map (route_at run) (enumerate_from from all)) k ≡ Some route
+      → NumberedAt from all k route
+  numbered_at from [] k route is = absurd (cc)
+  numbered_at from (first ∷ all) zero route is =
+      let same : route_at run (from, first) ≡ route = cc in
+      record { numbered = first; is = refl; routed = sym same ∙ ap (λ n. route_at run (n, first)) (omega arith) }
+  numbered_at from (first ∷ all) (suc k) route is =
+      let later = numbered_at (from + 1) all k route is in
+      record { numbered = later.numbered; is = later.is; routed = later.routed ∙ ap (λ n. route_at run (n, later.numbered)) (omega arith) }
+
+  -- The inputs that the route at a place feeds are those that are connected to it.
+  pub feeds_there : (place : ℕ) (route : Route) → slice_get (routes_of run).outputs place ≡ Some route → route.feeds ≡ feeds_of run place
+  feeds_there place route is =
+      let at = numbered_at 0 (flat_map outputs_in (enumerate_from 0 run.members)) place route is in
+      ap (λ (r : Route). r.feeds) at.routed ∙ ap (feeds_of run) (omega arith)
+
 module _ (run : Composition) (states : List (List ℤ)) where
   pub record Matches (numbered : Numbered) (outlet : Outlet) : Type 0 where
     pub instance : outlet.instance ≡ numbered.instance
@@ -59,20 +83,6 @@ module _ (run : Composition) (states : List (List ℤ)) where
 
   -- ---- The outlet of a route
 
-  record NumberedAt (from : ℕ) (all : List Numbered) (k : ℕ) (route : Route) : Type 0 where
-    numbered : Numbered
-    is : slice_get all k ≡ Some numbered
-    routed : route ≡ route_at run (from + k, numbered)
-
-  numbered_at : (from : ℕ) (all : List Numbered) (k : ℕ) (route : Route) → slice_get (map (route_at run) (enumerate_from from all)) k ≡ Some route → NumberedAt from all k route
-  numbered_at from [] k route is = absurd (cc)
-  numbered_at from (first ∷ all) zero route is =
-      let same : route_at run (from, first) ≡ route = cc in
-      record { numbered = first; is = refl; routed = sym same ∙ ap (λ n. route_at run (n, first)) (omega arith) }
-  numbered_at from (first ∷ all) (suc k) route is =
-      let later = numbered_at (from + 1) all k route is in
-      record { numbered = later.numbered; is = later.is; routed = later.routed ∙ ap (λ n. route_at run (n, later.numbered)) (omega arith) }
-
   -- The output at a place, with its route.
   pub record OutletAt (place : ℕ) (route : Route) : Type 0 where
     pub outlet : Outlet
@@ -87,7 +97,7 @@ module _ (run : Composition) (states : List (List ℤ)) where
 
   pub outlet_of : (place : ℕ) (route : Route) → length states ≡ length run.members → slice_get (routes_of run).outputs place ≡ Some route → OutletAt place route
   outlet_of place route same is =
-      let at = numbered_at 0 (flat_map outputs_in (enumerate_from 0 run.members)) place route is in
+      let at = numbered_at run 0 (flat_map outputs_in (enumerate_from 0 run.members)) place route is in
       let beside = zip_at Matches (flat_map outputs_in (enumerate_from 0 run.members)) (outlets run states) place at.numbered (sides same) at.is in
       let matched = beside.related in
       let routed : route ≡ route_at run (place, at.numbered) = at.routed ∙ ap (λ n. route_at run (n, at.numbered)) (omega arith) in

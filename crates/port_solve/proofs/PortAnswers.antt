@@ -29,9 +29,9 @@ use Rattle.list_laws.proofs.Members.{Has, at_place, all_has}
 
 -- ---- Start words
 
-module _ (run : Composition) (states : List (List ℤ)) (sound : IsSound run) (have : HaveStates run states) where
+module _ (run : Composition) (sound : IsSound run) where
   pub starts_fit : AllByRecursion (λ start. IsInputWord run start.at.instance start.at.input start.word) (routes_of run).starts
-  starts_fit = all_has _ (routes_of run).starts (λ start has. start_fits run states sound have start.at start.word (start_is run start has))
+  starts_fit = all_has _ (routes_of run).starts (λ start has. start_fits run sound start.at start.word (start_is run start has))
 
   module _ (inputs : List (List ℤ)) (shape : HaveInputs run inputs) where
     agrees : (at : InputAt) (word : ℤ) → source_at run at ≡ Some (Start word) → (start : StartWord) → Has (routes_of run).starts start → start.at ≡ at → start.word ≡ word
@@ -43,7 +43,8 @@ module _ (run : Composition) (states : List (List ℤ)) (sound : IsSound run) (h
     its_start : (at : InputAt) (source : InputSource) → Has (inputs_of run) (at, source) → HasItsWord [] (with_words inputs (routes_of run).starts) (at, source)
     its_start at (Start word) has =
         let is = source_is run at (Start word) has in
-        word_after run (same_sources run states sound have) at (Start word) is word (routes_of run).starts inputs shape (agrees at word is) (inr (record { at = at; word = word }, has_start run at word is, refl))
+        word_after run (same_sources run sound) at (Start word) is word (routes_of run).starts inputs shape (agrees at word is)
+        (inr (record { at = at; word = word }, has_start run at word is, refl))
     its_start at (AtPlace place) has = tt
 
     pub start_words : HaveTheirWords run [] (with_words inputs (routes_of run).starts)

@@ -99,7 +99,7 @@ module _ (run : Composition) (states : List (List ℤ)) (sound : IsSound run) (h
   source_word : (member : Member) (instance k : ℕ) (source : InputSource) → slice_get run.members instance ≡ Some member → slice_get member.sources k ≡ Some source → (word : ℤ) × (input_word told source ≡ Some word)
   source_word member instance k (Start word) member_is is = (word, refl)
   source_word member instance k (AtPlace place) member_is is =
-      let member_sound = sound_member run states sound have instance member member_is in
+      let member_sound = sound_member run sound instance member member_is in
       let within : k < length member.component.unit.inputs = omega (arith, slice_get_within member.sources k (AtPlace place) is, member_sound.sources) in
       let input = at_place member.component.unit.inputs k within in
       let suits = suits_at (types_of_places run) member.component.unit.inputs member.sources k input.0 (AtPlace place) member_sound.suits input.1 is in
@@ -109,7 +109,7 @@ module _ (run : Composition) (states : List (List ℤ)) (sound : IsSound run) (h
 
   module _ (instance : ℕ) (member : Member) (member_is : slice_get run.members instance ≡ Some member) (words : List ℤ) (words_are : slice_get inputs instance ≡ Some words) (same : length words ≡ length member.component.unit.inputs) where
     member_sound : IsSoundMember (types_of_places run) member
-    member_sound = sound_member run states sound have instance member member_is
+    member_sound = sound_member run sound instance member member_is
 
     word_is : (k : ℕ) (source : InputSource) → slice_get member.sources k ≡ Some source → get_or words k (pos 0) ≡ unwrap_or (input_word told source) (pos 0)
     word_is k source is =

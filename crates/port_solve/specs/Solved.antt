@@ -1,9 +1,11 @@
 -- Solved ports: what is asked of components whose ports are to be solved, and what is told of the answer.
-use Rattle.std.specs.Prelude.{◌≡◌, Bool, ℤ, pos, List, [], map, length, zip, slice_index_or, if◌then◌else◌, Option, Some, None, IfSome, Result, Ok, Err}
+use Rattle.std.specs.Prelude.{◌≡◌, ℕ, Bool, ℤ, pos, List, [], map, length, zip, slice_get, slice_index_or, if◌then◌else◌, Option, Some, None, IfSome, Result, Ok, Err}
 use Rattle.std.specs.List.{AllByRecursion, AllZip}
+use Rattle.std.specs.Option.{option_and_then}
+use Rattle.fixed_words.specs.Operations.{Outcome}
 use Rattle.port_solve.specs.declared.solving.PortFault.{PortFault}
 use Rattle.unit_tree.specs.Compositions.{InputSource, Composition}
-use Rattle.unit_tree.specs.Ports.{Ports, input_word}
+use Rattle.unit_tree.specs.Ports.{Ports, input_word, given_at, outlets}
 use Rattle.unit_tree.specs.Routes.{inputs_of}
 use Rattle.unit_tree.specs.declared.ending.Ending.{Ending}
 use Rattle.unit_tree.specs.declared.ending.Ending.TheVariants.{UnitFault}
@@ -40,6 +42,10 @@ port_told (known, word) = if known then Some word else None
 
 abbrev pub ports_told : List Bool → List ℤ → Ports
 ports_told known words = map port_told (zip known words)
+
+-- What the output at a place gives, where each input in its needs has a word.
+abbrev pub given_there : Composition → List (List ℤ) → Ports → ℕ → Option Outcome
+given_there run states ports place = option_and_then (given_at ports) (slice_get (outlets run states) place)
 
 -- The end of a run that an answer tells.
 abbrev pub ending_told : Result (Unit {0}) PortFault → Option Ending

@@ -1,6 +1,6 @@
 -- Sound runs: connections give words of the type that is asked for, and outputs use the inputs in their needs alone. What is
 -- run of a well-formed system is sound.
-use Rattle.std.specs.Prelude.{◌≡◌, true, false, List, map, length, zip, slice_get, Some}
+use Rattle.std.specs.Prelude.{◌≡◌, ℕ, true, false, ℤ, List, map, length, zip, slice_get, Some, IfSome}
 use Rattle.std.specs.List.{AllByRecursion, flat_map}
 use Rattle.fixed_words.specs.Types.{lowest, highest, is_word_of}
 use Rattle.fixed_words.specs.declared.types.Ty.{Ty}
@@ -13,6 +13,10 @@ use Rattle.unit_tree.specs.declared.unit.Input.{Input}
 -- The types of all outputs by their places.
 abbrev pub types_of_places : Composition → List Ty
 types_of_places run = flat_map (λ member. map (λ output. output.ty) member.component.unit.outputs) run.members
+
+-- The word is one of the type of the output at a place.
+abbrev pub IsWordOf : Composition → ℕ → ℤ → Type 0
+IsWordOf run place word = IfSome (slice_get (types_of_places run) place) (λ ty. is_word_of ty word ≡ true)
 
 -- Two types have the same words.
 abbrev pub HaveSameWords : Ty → Ty → Type 0

@@ -6,8 +6,8 @@ ghost use Rattle.unit_tree.specs.Given.{IsInputWord};
 
 use unit_tree::{Gets, InputAt, StartWord};
 
-/// Sets inputs that nothing is connected to, each to its start word.
-pub(crate) fn set_starts<G: Gets>(gets: &mut G, starts: &[StartWord])
+/// Sets inputs, each to its word.
+pub(crate) fn set_words<G: Gets>(gets: &mut G, starts: &[StartWord])
     requires { AllByRecursion (λ start. IsInputWord (run_of (G.system gets.old)) start.at.instance start.at.input start.word) starts.now }
     ensures inputs { G.inputs gets.new ≡ with_words (G.inputs gets.old) starts.now }
     ensures states { G.states gets.new ≡ G.states gets.old }
@@ -18,8 +18,8 @@ pub(crate) fn set_starts<G: Gets>(gets: &mut G, starts: &[StartWord])
     }
 }
 
-/// Sets the inputs that an output feeds to its word.
-pub(crate) fn feed<G: Gets>(gets: &mut G, feeds: &[InputAt], word: i64)
+/// Sets inputs to one word.
+pub(crate) fn set_all<G: Gets>(gets: &mut G, feeds: &[InputAt], word: i64)
     requires { AllByRecursion (λ at. IsInputWord (run_of (G.system gets.old)) at.instance at.input word) feeds.now }
     ensures inputs { G.inputs gets.new ≡ with_words (G.inputs gets.old) (all_with word feeds.now) }
     ensures states { G.states gets.new ≡ G.states gets.old }

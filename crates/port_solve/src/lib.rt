@@ -4,14 +4,19 @@
 //! and takes no memory: an `Order` has the routes of all ports as numbers. [`PortFault`] is the fault of the first output, by
 //! instance and then by declaration, that faults by itself.
 //!
-//! The layer above uses these two. What ports are right, and which fault is a run's, stands in `unit_tree`: `Ports` (port
+//! Who has words of some outputs from elsewhere solves ports one by one: [`set_starts`] once, then [`ask`] of an output, and [`feed`]
+//! with each word that comes to be known, in any order.
+//!
+//! The layer above uses these. What ports are right, and which fault is a run's, stands in `unit_tree`: `Ports` (port
 //! assignment), `Routes` (ports by numbers) and `Given` (calls of components by numbers). `specs/Solved.antt` says what is
 //! asked of the components, and how the answer is told; `specs/Sound.antt` what is known of the connections of a judged
 //! system; `specs/Steps.antt`, which need not be believed, how it is gone about.
 #![tactic(auto)]
 
 mod inputs;
+mod one_by_one;
 mod outputs;
 mod solving;
 
+pub use one_by_one::{ask, feed, set_starts};
 pub use solving::{PortFault, solve};

@@ -5,7 +5,7 @@ ghost use Rattle.port_solve.specs.Steps.{with_words, set_from, asked, word_asked
 ghost use Rattle.unit_tree.specs.Compositions.{run_of};
 ghost use Rattle.unit_tree.specs.Given.{given_by};
 
-use crate::inputs::feed;
+use crate::inputs::set_all;
 use fixed_words::Fault;
 use unit_tree::{Gets, Route};
 
@@ -34,7 +34,11 @@ fn are_known(known: &[bool], places: &[u32]) -> bool
 }
 
 /// What an output gives, where all that it needs are known.
-fn outcome<G: Gets>(gets: &mut G, route: &Route, known: &[bool]) -> Option<Result<i64, Fault>>
+pub(crate) fn outcome<G: Gets>(
+    gets: &mut G,
+    route: &Route,
+    known: &[bool],
+) -> Option<Result<i64, Fault>>
     requires { IsSome (given_by (run_of (G.system gets.old)) (G.states gets.old) (G.inputs gets.old) route.now.instance route.now.output) }
     ensures outcome { result ≡ asked (run_of (G.system gets.old)) (G.states gets.old) (G.inputs gets.old) known.now route.now }
     ensures inputs { G.inputs gets.new ≡ G.inputs gets.old }
@@ -73,7 +77,7 @@ pub(crate) fn work_out<G: Gets>(
         Some(Ok(word)) => {
             ports[place as usize] = word;
             known[place as usize] = true;
-            feed(gets, route.feeds.as_slice(), word);
+            set_all(gets, route.feeds.as_slice(), word);
             None
         }
         Some(Err(fault)) => {

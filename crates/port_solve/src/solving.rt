@@ -9,7 +9,7 @@ ghost use Rattle.unit_tree.specs.Negotiation.{all_inputs};
 ghost use Rattle.unit_tree.specs.Ports.{IsAssignment, port_fault};
 ghost use Rattle.unit_tree.specs.Routes.{IsOrderOf};
 
-use crate::inputs::set_starts;
+use crate::one_by_one::set_starts;
 use crate::outputs::{Faulted, note, work_out};
 use fixed_words::Fault;
 use unit_tree::{Checked, Gets, Order, Routes};
@@ -97,10 +97,9 @@ pub fn solve<G: Gets>(
 {
     // What a judged system keeps is known by the clauses of this call alone.
     let _ = checked.system();
-    let routes = order.routes();
-    set_starts(gets, routes.starts.as_slice());
+    set_starts(order, checked, gets);
     match work_out_all(gets, order, ports, known) {
         None => Ok(()),
-        Some(faulted) => Err(fault_at(routes, faulted)),
+        Some(faulted) => Err(fault_at(order.routes(), faulted)),
     }
 }

@@ -10,7 +10,7 @@ use Rattle.fixed_words.specs.Operations.{Outcome}
 use Rattle.port_solve.specs.Solved.{HaveStates, HaveInputs}
 use Rattle.trace_units.specs.Members.{IsRunOf, RunMembers, states_of, inputs_of}
 use Rattle.code_units.specs.Calls.{output_by}
-use Rattle.unit_exec.specs.Images.{Compiled, IsImageOf}
+use Rattle.unit_exec.specs.Images.{Compiled, IsImageOf, start_inputs_of}
 use Rattle.unit_exec.specs.Running.{Running, opened}
 use Rattle.unit_tree.specs.Components.{Component, get_of, initial}
 use Rattle.unit_tree.specs.Compositions.{Member, Composition}
@@ -256,3 +256,12 @@ all_states (member ∷ members) [] all = absurd all
 all_states (member ∷ members) (unit ∷ units) all =
     let first : unit.state ≡ initial member.component = ap (λ (u : Running). u.state) all.0.is ∙ all.0.is_image.starts in
     ap (λ state. state ∷ states_of units) first ∙ ap (λ states. initial member.component ∷ states) (all_states members units all.1)
+
+pub all_inputs : (members : List Member) (units : List Running) → AllZip Starts members units
+    → inputs_of units ≡ map (λ member. start_inputs_of member.component.unit) members
+all_inputs [] [] all = refl
+all_inputs [] (unit ∷ units) all = absurd all
+all_inputs (member ∷ members) [] all = absurd all
+all_inputs (member ∷ members) (unit ∷ units) all =
+    let first : unit.inputs ≡ start_inputs_of member.component.unit = ap (λ (u : Running). u.inputs) all.0.is ∙ all.0.is_image.inputs_start in
+    ap (λ words. words ∷ inputs_of units) first ∙ ap (λ words. start_inputs_of member.component.unit ∷ words) (all_inputs members units all.1)

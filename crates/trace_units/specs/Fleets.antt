@@ -1,15 +1,20 @@
 -- The units of a plan as they stand: what contracts see of them, and what one of them does.
-use Rattle.std.specs.Prelude.{◌≡◌, ℕ, ℤ, List, [], slice_get, slice_set, slice_index_or, Some, Result, Ok, Err}
+use Rattle.std.specs.Prelude.{◌≡◌, ℕ, ℤ, List, [], map, slice_get, slice_set, slice_index_or, Some, Result, Ok, Err}
 use Rattle.fixed_words.specs.declared.types.Fault.{Fault}
 use Rattle.trace_plan.specs.Plans.{Planned}
+use Rattle.unit_exec.specs.Images.{start_inputs_of}
 use Rattle.unit_tree.specs.Components.{step_of}
-use Rattle.unit_tree.specs.Compositions.{Member}
+use Rattle.unit_tree.specs.Compositions.{Member, Composition}
 
 -- A plan, and the state of each instance and the words of its inputs.
 pub record Fleet : Type 0 where
   pub plan : Planned
   pub states : List (List ℤ)
   pub inputs : List (List ℤ)
+
+-- The start words of all inputs.
+abbrev pub start_inputs : Composition → List (List ℤ)
+start_inputs run = map (λ member. start_inputs_of member.component.unit) run.members
 
 -- The fact holds of the member, the state and the inputs of the instance with a number.
 abbrev pub ForUnit : Fleet → ℕ → (Member → List ℤ → List ℤ → Type 0) → Type 0

@@ -1,6 +1,6 @@
 ghost use Rattle.std.specs.Prelude.{◌≡◌, ◌≤◌, ◌<◌, ◌+◌, ◌^◌, length, slice_get, slice_index_or, [], Some, IfOk};
 ghost use Rattle.port_solve.specs.Solved.{HaveStates, HaveInputs};
-ghost use Rattle.trace_units.specs.Fleets.{ForUnit, Steps, with_state};
+ghost use Rattle.trace_units.specs.Fleets.{ForUnit, Steps, start_inputs, with_state};
 ghost use Rattle.unit_tree.specs.Components.{max_of};
 ghost use Rattle.unit_tree.specs.Compositions.{run_of};
 ghost use Rattle.unit_tree.specs.Successor.{first_position};
@@ -54,10 +54,11 @@ impl Gets for Units {
 }
 
 impl Units {
-    /// The units of a plan at their start.
+    /// The units of a plan at their start: with the start words of their states and inputs.
     pub fn new(alloc: Global, plan: Arc<Plan>) -> Result<Units, NoMemory>
         ensures plan { IfOk result (λ units. units.plan ≡ plan.value) }
         ensures states { IfOk result (λ units. units.states ≡ (first_position plan.value.run).states) }
+        ensures inputs { IfOk result (λ units. units.inputs ≡ start_inputs plan.value.run) }
     {
         // By this call's clause the plan's run is what is run of its system.
         let _checked = plan.checked();

@@ -6,8 +6,8 @@ use Rattle.port_solve.specs.Solved.{ports_told}
 use Rattle.port_solve.proofs.InputsSet.{told_known, told_unknown}
 use Rattle.port_solve.proofs.outputs.work_out.Goals as goal
 
-pub feed-requires : goal.feed-requires
-feed-requires g c =
+pub set_all-requires : goal.set_all-requires
+set_all-requires g c =
     let fits : FitsSigned w64 c.in-Some-Ok.word = search rules in
     let is = rw c.in-Some-Ok.field-0-is at c.in-Some-Ok.ensures.outcome in
     let all = rw (← ap (option_and_then result_ok) is) at c.requires.fits in

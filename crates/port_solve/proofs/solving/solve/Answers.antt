@@ -1,19 +1,8 @@
-use Rattle.std.proofs.Common.{◌≡◌, ◌∙◌, length, ap}
-use Rattle.port_solve.proofs.PortAnswers.{starts_fit, start_words, fault_within, fault_is_told, none_told, all_are_known, inputs_are}
-use Rattle.port_solve.proofs.SetWords.{shape_after}
+use Rattle.std.proofs.Common.{◌≡◌, ◌∙◌, length}
+use Rattle.port_solve.proofs.PortAnswers.{fault_within, fault_is_told, none_told, all_are_known, inputs_are}
 use Rattle.port_solve.proofs.SoundRuns.{runs_are_sound}
 use Rattle.port_solve.proofs.solving.solve.Goals as goal
 use Rattle.unit_tree.specs.Compositions.{run_of}
-use Rattle.unit_tree.specs.Routes.{routes_of}
-
-pub set_starts-requires : goal.set_starts-requires
-set_starts-requires g c =
-    let checked = c.args.checked.now in
-    let run = run_of checked in
-    let states = g.G.Gets.states c.args.gets.now in
-    let sound = runs_are_sound checked c.system.ensures.ranged c.system.ensures.well_formed in
-    let starts_are = c.as_slice.ensures ∙ ap (λ r. r.starts) (c.routes-routes.ensures.routes ∙ c.requires.order.routes) in
-    rw (c.requires.system, starts_are) (starts_fit run states sound c.requires.states)
 
 pub work_out_all-requires-clause-sound : goal.work_out_all-requires-clause-sound
 work_out_all-requires-clause-sound g c =
@@ -22,26 +11,6 @@ work_out_all-requires-clause-sound g c =
     let states = g.G.Gets.states c.args.gets.now in
     let sound = runs_are_sound checked c.system.ensures.ranged c.system.ensures.well_formed in
     rw (c.set_starts.ensures.system, c.requires.system) sound
-
-pub work_out_all-requires-clause-inputs : goal.work_out_all-requires-clause-inputs
-work_out_all-requires-clause-inputs g c =
-    let checked = c.args.checked.now in
-    let run = run_of checked in
-    let states = g.G.Gets.states c.args.gets.now in
-    let sound = runs_are_sound checked c.system.ensures.ranged c.system.ensures.well_formed in
-    let starts_are = c.as_slice.ensures ∙ ap (λ r. r.starts) (c.routes-routes.ensures.routes ∙ c.requires.order.routes) in
-    let inputs = rw starts_are at c.set_starts.ensures.inputs in
-    rw (c.set_starts.ensures.system, c.requires.system, inputs) (shape_after run (routes_of run).starts (g.G.Gets.inputs c.args.gets.now) c.requires.inputs)
-
-pub work_out_all-requires-clause-starts : goal.work_out_all-requires-clause-starts
-work_out_all-requires-clause-starts g c =
-    let checked = c.args.checked.now in
-    let run = run_of checked in
-    let states = g.G.Gets.states c.args.gets.now in
-    let sound = runs_are_sound checked c.system.ensures.ranged c.system.ensures.well_formed in
-    let starts_are = c.as_slice.ensures ∙ ap (λ r. r.starts) (c.routes-routes.ensures.routes ∙ c.requires.order.routes) in
-    let inputs = rw starts_are at c.set_starts.ensures.inputs in
-    rw (c.set_starts.ensures.system, c.requires.system, inputs) (start_words run states sound c.requires.states (g.G.Gets.inputs c.args.gets.now) c.requires.inputs)
 
 pub fault_at-requires : goal.fault_at-requires
 fault_at-requires g c =
@@ -55,7 +24,8 @@ fault_at-requires g c =
     let first = rw (system_is, c.set_starts.ensures.states) at e.first in
     let known_count : length c.work_out_all.new.known ≡ length c.args.order.now.routes.outputs = c.work_out_all.auto.known ∙ c.requires.known in
     let words_count : length c.work_out_all.new.ports ≡ length c.args.order.now.routes.outputs = c.work_out_all.auto.ports ∙ c.requires.ports in
-    rw c.routes-routes.ensures.routes (fault_within run states sound c.requires.states c.args.order.now c.requires.order c.work_out_all.new.known c.work_out_all.new.ports known_count words_count right c.in-Some.faulted first)
+    rw c.routes.ensures.routes
+    (fault_within run states sound c.requires.states c.args.order.now c.requires.order c.work_out_all.new.known c.work_out_all.new.ports known_count words_count right c.in-Some.faulted first)
 
 pub returns-in-None-clause-fault : goal.returns-in-None-clause-fault
 returns-in-None-clause-fault g c =
@@ -111,4 +81,5 @@ returns-in-Some-clause-fault g c =
     let first = rw (system_is, c.set_starts.ensures.states) at e.first in
     let known_count : length c.work_out_all.new.known ≡ length c.args.order.now.routes.outputs = c.work_out_all.auto.known ∙ c.requires.known in
     let words_count : length c.work_out_all.new.ports ≡ length c.args.order.now.routes.outputs = c.work_out_all.auto.ports ∙ c.requires.ports in
-    fault_is_told run states sound c.requires.states c.args.order.now c.requires.order c.work_out_all.new.known c.work_out_all.new.ports known_count words_count right c.in-Some.faulted c.fault_at.result first (rw c.routes-routes.ensures.routes at c.fault_at.ensures)
+    fault_is_told run states sound c.requires.states c.args.order.now c.requires.order c.work_out_all.new.known c.work_out_all.new.ports known_count words_count right c.in-Some.faulted c.fault_at.result first
+    (rw c.routes.ensures.routes at c.fault_at.ensures)

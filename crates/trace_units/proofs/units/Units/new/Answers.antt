@@ -1,7 +1,7 @@
 use Rattle.std.proofs.Common.{◌≡◌, ◌∙◌, ◌<◌, ◌≤◌, ◌++◌, ◌∷◌, [], ◌+◌, Some, length, ap, sym, subst}
 use Rattle.std.specs.Prelude.{slice_get}
 use Rattle.trace_plan.specs.Plans.{Planned, ForMember}
-use Rattle.trace_units.proofs.FleetLaws.{IsFront, one_more, all_start, all_run, all_states}
+use Rattle.trace_units.proofs.FleetLaws.{IsFront, one_more, all_start, all_run, all_states, all_inputs}
 use Rattle.unit_exec.specs.Images.{IsImageOf}
 use Rattle.unit_exec.specs.Running.{opened}
 use Rattle.unit_tree.specs.Compositions.{Member, run_of}
@@ -34,3 +34,11 @@ returns-clause-states c =
     let past : length c.args.plan.value.run.members ≤ c.loop-instance.instance =
     subst (λ (plan : Planned). length plan.run.members ≤ c.loop-instance.instance) c.deref-2.ensures (subst (λ count. count ≤ c.loop-instance.instance) c.instances-instance-end.ensures.count c.loop-instance-test.false) in
     all_states c.args.plan.value.run.members c.loop-instance.list.items (all_start c.args.plan.value.run.members c.loop-instance.instance c.loop-instance.list.items past c.loop-instance.invariant)
+
+pub returns-clause-inputs : goal.returns-clause-inputs
+returns-clause-inputs c =
+    let past : length c.args.plan.value.run.members ≤ c.loop-instance.instance =
+    subst (λ (plan : Planned). length plan.run.members ≤ c.loop-instance.instance) c.deref-2.ensures
+    (subst (λ count. count ≤ c.loop-instance.instance) c.instances-instance-end.ensures.count c.loop-instance-test.false) in
+    all_inputs c.args.plan.value.run.members c.loop-instance.list.items
+    (all_start c.args.plan.value.run.members c.loop-instance.instance c.loop-instance.list.items past c.loop-instance.invariant)

@@ -3,7 +3,7 @@ use Rattle.std.specs.List.{AllByRecursion}
 use Rattle.port_solve.specs.Steps.{with_words, all_with}
 use Rattle.unit_tree.specs.Compositions.{run_of}
 use Rattle.unit_tree.specs.Given.{IsInputWord}
-use Rattle.port_solve.proofs.inputs.feed.Given as goal
+use Rattle.port_solve.proofs.inputs.set_all.Given as goal
 
 abbrev pub invariant-loop-at : goal.invariant-loop-at
 invariant-loop-at g l = record {

@@ -3,7 +3,7 @@ use Rattle.std.specs.List.{AllByRecursion}
 use Rattle.port_solve.specs.Steps.{with_words}
 use Rattle.unit_tree.specs.Compositions.{run_of}
 use Rattle.unit_tree.specs.Given.{IsInputWord}
-use Rattle.port_solve.proofs.inputs.set_starts.Given as goal
+use Rattle.port_solve.proofs.inputs.set_words.Given as goal
 
 abbrev pub invariant-loop-start : goal.invariant-loop-start
 invariant-loop-start g l = record {

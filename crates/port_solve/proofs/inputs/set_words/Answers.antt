@@ -1,7 +1,7 @@
 use Rattle.std.proofs.Common.{◌<◌, ◌∙◌, length, pos, get_or, rules, w64, FitsSigned}
 use Rattle.std.proofs.lemmas.Int.{to_z-of_z}
 use Rattle.port_solve.proofs.InputsSet.{all_left, one_set}
-use Rattle.port_solve.proofs.inputs.set_starts.Goals as goal
+use Rattle.port_solve.proofs.inputs.set_words.Goals as goal
 use Rattle.unit_tree.specs.declared.order.StartWord.{StartWord}
 
 pub loop-start-preserved : goal.loop-start-preserved

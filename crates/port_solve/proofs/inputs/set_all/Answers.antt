@@ -1,6 +1,6 @@
 use Rattle.std.proofs.Common.{◌<◌, ◌∙◌, length}
 use Rattle.port_solve.proofs.InputsSet.{all_left, one_fed}
-use Rattle.port_solve.proofs.inputs.feed.Goals as goal
+use Rattle.port_solve.proofs.inputs.set_all.Goals as goal
 use Rattle.unit_tree.specs.declared.order.InputAt.{InputAt}
 
 pub loop-at-preserved : goal.loop-at-preserved

@@ -1,0 +1,78 @@
+//! Ports one by one, for who has words of some outputs from elsewhere.
+ghost use Rattle.std.specs.Prelude.{◌≡◌, ◌<◌, ℤ, List, [], length, slice_set, Some};
+ghost use Rattle.port_solve.specs.Solved.{HaveStates, HaveInputs, HaveTheirWords, ports_told, given_there};
+ghost use Rattle.port_solve.specs.Sound.{IsWordOf};
+ghost use Rattle.unit_tree.specs.Compositions.{run_of};
+ghost use Rattle.unit_tree.specs.Ports.{Ports};
+ghost use Rattle.unit_tree.specs.Routes.{IsOrderOf};
+
+use crate::inputs::{set_all, set_words};
+use crate::outputs::outcome;
+use fixed_words::Fault;
+use unit_tree::{Checked, Gets, Order};
+
+/// Sets each input that nothing is connected to, to its start word. Inputs then have their words as far as none of an output is
+/// known.
+pub fn set_starts<G: Gets>(order: &Order, checked: &Checked, gets: &mut G)
+    requires order { IsOrderOf (run_of checked.now) order.now }
+    requires system { G.system gets.old ≡ checked.now }
+    requires inputs { HaveInputs (run_of checked.now) (G.inputs gets.old) }
+    ensures words { HaveTheirWords (run_of checked.now) [] (G.inputs gets.new) }
+    ensures inputs { HaveInputs (run_of checked.now) (G.inputs gets.new) }
+    ensures states { G.states gets.new ≡ G.states gets.old }
+    ensures system { G.system gets.new ≡ G.system gets.old }
+{
+    // What a judged system keeps is known by the clauses of this call alone.
+    let _ = checked.system();
+    set_words(gets, order.routes().starts.as_slice());
+}
+
+/// Asks the output at a place for its word. The answer is none where one that it needs is not known.
+///
+/// `known` tells of each output whether its word is, by its place. Whatever the known words are: where inputs have them, the answer
+/// is the one that these words ask for.
+pub fn ask<G: Gets>(
+    order: &Order,
+    checked: &Checked,
+    gets: &mut G,
+    place: u32,
+    known: &[bool],
+) -> Option<Result<i64, Fault>>
+    requires order { IsOrderOf (run_of checked.now) order.now }
+    requires system { G.system gets.old ≡ checked.now }
+    requires states { HaveStates (run_of checked.now) (G.states gets.old) }
+    requires inputs { HaveInputs (run_of checked.now) (G.inputs gets.old) }
+    requires place { place < length order.now.routes.outputs }
+    ensures given { (words : List ℤ) → length words ≡ length known.now → HaveTheirWords (run_of checked.now) (ports_told known.now words) (G.inputs gets.old)
+        → result ≡ given_there (run_of checked.now) (G.states gets.old) (ports_told known.now words) place }
+    ensures inputs { G.inputs gets.new ≡ G.inputs gets.old }
+    ensures states { G.states gets.new ≡ G.states gets.old }
+    ensures system { G.system gets.new ≡ G.system gets.old }
+{
+    // What a judged system keeps is known by the clauses of this call alone.
+    let _ = checked.system();
+    outcome(
+        gets,
+        &order.routes().outputs.as_slice()[place as usize],
+        known,
+    )
+}
+
+/// Takes in a word of the output at a place: the inputs that it feeds are set to it. Where inputs had the words of some ports, they
+/// have those of the ports with this word more.
+pub fn feed<G: Gets>(order: &Order, checked: &Checked, gets: &mut G, place: u32, word: i64)
+    requires order { IsOrderOf (run_of checked.now) order.now }
+    requires system { G.system gets.old ≡ checked.now }
+    requires inputs { HaveInputs (run_of checked.now) (G.inputs gets.old) }
+    requires place { place < length order.now.routes.outputs }
+    requires word { IsWordOf (run_of checked.now) place word }
+    ensures words { (ports : Ports) → HaveTheirWords (run_of checked.now) ports (G.inputs gets.old) → HaveTheirWords (run_of checked.now) (slice_set ports place (Some word)) (G.inputs gets.new) }
+    ensures inputs { HaveInputs (run_of checked.now) (G.inputs gets.new) }
+    ensures states { G.states gets.new ≡ G.states gets.old }
+    ensures system { G.system gets.new ≡ G.system gets.old }
+{
+    // What a judged system keeps is known by the clauses of this call alone.
+    let _ = checked.system();
+    let route = &order.routes().outputs.as_slice()[place as usize];
+    set_all(gets, route.feeds.as_slice(), word);
+}
