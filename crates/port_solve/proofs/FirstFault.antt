@@ -1,5 +1,6 @@
 -- The first fault by place is the port fault.
-use Rattle.std.proofs.Common.{◌≡◌, ◌∙◌, ℕ, zero, suc, ◌<◌, ◌≤◌, Bool, true, false, cond, ℤ, List, [], ◌∷◌, ◌++◌, map, length, Option, Some, None, inl, inr, refl, ap, sym, arith}
+use Rattle.std.proofs.Common.{◌≡◌, ◌∙◌, ℕ, zero, suc, ◌<◌, ◌≤◌, Bool, true, false, cond, ℤ, List, [], ◌∷◌, ◌++◌, map, length, Option, Some, None, inl, inr}
+use Rattle.std.proofs.Common.{refl, ap, sym, arith}
 use Rattle.std.proofs.lemmas.Bool.Decides.{nat_tests}
 use Rattle.std.proofs.lemmas.Option.{slice_get-map, slice_get_within}
 use Rattle.std.specs.Prelude.{slice_get, nat_lt}
@@ -43,11 +44,14 @@ module _ (run : Composition) (states : List (List ℤ)) (right : Ports) where
   weaker [] bound all = tt
   weaker (place ∷ places) bound all = ((λ lower. all.0), weaker places bound all.1)
 
-  nearer : (places : List ℕ) (bound near : ℕ) → near ≤ bound → AllByRecursion (λ place. place < bound → NoFault place) places → AllByRecursion (λ place. place < near → NoFault place) places
+  nearer : (places : List ℕ) (bound near : ℕ) → near ≤ bound → AllByRecursion (λ place. place < bound → NoFault place) places
+      → AllByRecursion (λ place. place < near → NoFault place) places
   nearer [] bound near at_most all = tt
   nearer (place ∷ places) bound near at_most all = ((λ lower. all.0 (omega (arith, lower, at_most))), nearer places bound near at_most all.1)
 
-  noted_by : (told : Bool) (front : List ℕ) (place : ℕ) (first : Faulted) (fault : Fault) → nat_lt first.place place ≡ told → fault_there run states right place ≡ Some fault → IsFirst run states right front (Some first) → IsFirst run states right (front ++ (place ∷ [])) (cond told (Some first) (Some (record { place = place; fault = fault })))
+  noted_by : (told : Bool) (front : List ℕ) (place : ℕ) (first : Faulted) (fault : Fault) → nat_lt first.place place ≡ told
+      → fault_there run states right place ≡ Some fault → IsFirst run states right front (Some first)
+      → IsFirst run states right (front ++ (place ∷ [])) (cond told (Some first) (Some (record { place = place; fault = fault })))
   noted_by true front place first fault lower is was = (
     in_longer front place first.place was.0,
     was.1,
@@ -56,10 +60,12 @@ module _ (run : Composition) (states : List (List ℤ)) (right : Ports) where
   noted_by false front place first fault lower is was = (
     at_end front place,
     is,
-    all_behind (λ q. q < place → NoFault q) front place (nearer front first.place place (not_below first.place place lower) was.2) (λ above. absurd (omega (arith, above))),
+    all_behind (λ q. q < place → NoFault q) front place (nearer front first.place place (not_below first.place place lower) was.2)
+        (λ above. absurd (omega (arith, above))),
   )
 
-  pub first_noted : (front : List ℕ) (place : ℕ) (first : Option Faulted) (fault : Option Fault) → fault_there run states right place ≡ fault → IsFirst run states right front first → IsFirst run states right (front ++ (place ∷ [])) (noted first place fault)
+  pub first_noted : (front : List ℕ) (place : ℕ) (first : Option Faulted) (fault : Option Fault) → fault_there run states right place ≡ fault
+      → IsFirst run states right front first → IsFirst run states right (front ++ (place ∷ [])) (noted first place fault)
   first_noted front place None None is was = all_behind NoFault front place was is
   first_noted front place (Some first) None is was = (
     in_longer front place first.place was.0,
@@ -75,7 +81,8 @@ module _ (run : Composition) (states : List (List ℤ)) (right : Ports) where
 
   -- ---- All outputs
 
-  fault_of : (at : ℕ) (outlet : Outlet) (fault : Option Fault) → slice_get (outlets run states) at ≡ Some outlet → fault_there run states right at ≡ fault → fault_at right outlet ≡ option_map (UnitFault outlet.instance (place.Output outlet.number)) fault
+  fault_of : (at : ℕ) (outlet : Outlet) (fault : Option Fault) → slice_get (outlets run states) at ≡ Some outlet → fault_there run states right at ≡ fault
+      → fault_at right outlet ≡ option_map (UnitFault outlet.instance (place.Output outlet.number)) fault
   fault_of at outlet fault there is =
       ap (option_map (UnitFault outlet.instance (place.Output outlet.number)))
       (sym (ap (option_and_then (λ o. option_and_then result_err (given_at right o))) there) ∙ is)
@@ -85,7 +92,8 @@ none_first [] each = refl
 none_first (None ∷ all) each = none_first all (λ k told is. each (suc k) told is)
 none_first (Some ending ∷ all) each = each 0 (Some ending) refl
 
-first_at : (all : List (Option Ending)) (k : ℕ) (ending : Ending) → slice_get all k ≡ Some (Some ending) → ((j : ℕ) (told : Option Ending) → j < k → slice_get all j ≡ Some told → told ≡ None) → first_some all ≡ Some ending
+first_at : (all : List (Option Ending)) (k : ℕ) (ending : Ending) → slice_get all k ≡ Some (Some ending)
+    → ((j : ℕ) (told : Option Ending) → j < k → slice_get all j ≡ Some told → told ≡ None) → first_some all ≡ Some ending
 first_at [] k ending is each = absurd (cc)
 first_at (Some first ∷ all) zero ending is each = cc
 first_at (None ∷ all) zero ending is each = absurd (cc)
@@ -95,7 +103,8 @@ first_at (Some first ∷ all) (suc k) ending is each = absurd (differ (each 0 (S
     differ : Some first ≡ None → ⊥
     differ is = cc
 
-module _ (run : Composition) (states : List (List ℤ)) (right : Ports) (order : List ℕ) (is_order : IsPlaceOrder run order) (same : length states ≡ length run.members) where
+module _ (run : Composition) (states : List (List ℤ)) (right : Ports) (order : List ℕ) (is_order : IsPlaceOrder run order)
+    (same : length states ≡ length run.members) where
   abbrev faults : List (Option Ending)
   faults = map (fault_at right) (outlets run states)
 
@@ -109,8 +118,10 @@ module _ (run : Composition) (states : List (List ℤ)) (right : Ports) (order :
   pub no_port_fault : IsFirst run states right order None → port_fault run states right ≡ None
   no_port_fault none = none_first faults (λ k told is. none_told k told is (λ among. each_among (NoFault run states right) order k none among))
 
-  pub is_port_fault : (first : Faulted) (outlet : Outlet) → slice_get (outlets run states) first.place ≡ Some outlet → IsFirst run states right order (Some first) → port_fault run states right ≡ Some (UnitFault outlet.instance (place.Output outlet.number) first.fault)
+  pub is_port_fault : (first : Faulted) (outlet : Outlet) → slice_get (outlets run states) first.place ≡ Some outlet
+      → IsFirst run states right order (Some first) → port_fault run states right ≡ Some (UnitFault outlet.instance (place.Output outlet.number) first.fault)
   is_port_fault first outlet there is =
       first_at faults first.place (UnitFault outlet.instance (place.Output outlet.number) first.fault)
-      (slice_get-map (fault_at right) (outlets run states) first.place ∙ ap (option_map (fault_at right)) there ∙ ap Some (fault_of run states right first.place outlet (Some first.fault) there is.1))
+      (slice_get-map (fault_at right) (outlets run states) first.place ∙ ap (option_map (fault_at right)) there
+      ∙ ap Some (fault_of run states right first.place outlet (Some first.fault) there is.1))
       (λ j told lower told_is. none_told j told told_is (λ among. each_among (λ q. q < first.place → NoFault run states right q) order j is.2 among lower))

@@ -1,6 +1,7 @@
 -- A front of an order: the outputs that were worked out so far. What its next output gives, where all that it needs are
 -- known, is what the port assignment says.
-use Rattle.std.proofs.Common.{◌≡◌, ◌∙◌, ℕ, zero, suc, ◌<◌, Bool, true, false, cond, ℤ, pos, List, [], ◌∷◌, ◌++◌, map, length, get_or, set, Option, Some, None, Ok, Err, inl, inr, refl, ap, sym, subst, ◌⊎◌, arith}
+use Rattle.std.proofs.Common.{◌≡◌, ◌∙◌, ℕ, zero, suc, ◌<◌, Bool, true, false, cond, ℤ, pos, List, [], ◌∷◌, ◌++◌, map, length, get_or, set, Option, Some, None}
+use Rattle.std.proofs.Common.{Ok, Err, inl, inr, refl, ap, sym, subst, ◌⊎◌, arith}
 use Rattle.std.proofs.lemmas.Bool.{and_parts}
 use Rattle.std.proofs.lemmas.Option.{get_or_from_slice_get, slice_get_within}
 use Rattle.std.specs.Prelude.{slice_get, zip, IfSome, IsSome}
@@ -17,7 +18,8 @@ use Rattle.unit_tree.specs.Components.{start_word, get_of}
 use Rattle.unit_tree.specs.Compositions.{InputSource, Start, AtPlace, Member, Composition}
 use Rattle.unit_tree.specs.Given.{input_numbered, given_by, IsInputWord}
 use Rattle.unit_tree.specs.Names.{is_among}
-use Rattle.unit_tree.specs.Ports.{Ports, Outlet, IsAmong, IsAssignment, input_word, seen_by, in_front, all_there, inputs_for, given_at, word_at, place_in, place_needed, needs_at}
+use Rattle.unit_tree.specs.Ports.{Ports, Outlet, IsAmong, IsAssignment, input_word, seen_by, in_front, all_there, inputs_for, given_at, word_at, place_in}
+use Rattle.unit_tree.specs.Ports.{place_needed, needs_at}
 use Rattle.unit_tree.specs.Routes.{feeds_of, routes_of}
 use Rattle.run_laws.specs.RunLaws.{AgreeOn}
 use Rattle.unit_tree.specs.WellFormed.{uses_other_input}
@@ -75,26 +77,31 @@ mapped f (Some x) y is = let same : f x ≡ y = cc in record { one = x; is = ref
 
 -- ---- Needs that are known
 
-told_true : (known : List Bool) (words : List ℤ) (place : ℕ) (word : ℤ) → slice_get (ports_told known words) place ≡ Some (Some word) → get_or known place false ≡ true
+told_true : (known : List Bool) (words : List ℤ) (place : ℕ) (word : ℤ) → slice_get (ports_told known words) place ≡ Some (Some word)
+    → get_or known place false ≡ true
 told_true [] words place word is = absurd (cc)
 told_true (k ∷ known) [] place word is = absurd (cc)
 told_true (true ∷ known) (w ∷ words) zero word is = refl
 told_true (false ∷ known) (w ∷ words) zero word is = absurd (cc)
 told_true (k ∷ known) (w ∷ words) (suc place) word is = told_true known words place word is
 
-true_told : (known : List Bool) (words : List ℤ) (place : ℕ) → length known ≡ length words → get_or known place false ≡ true → (word : ℤ) × (slice_get (ports_told known words) place ≡ Some (Some word))
+true_told : (known : List Bool) (words : List ℤ) (place : ℕ) → length known ≡ length words → get_or known place false ≡ true
+    → (word : ℤ) × (slice_get (ports_told known words) place ≡ Some (Some word))
 true_told [] words place same is = absurd (cc)
 true_told (k ∷ known) [] place same is = absurd (omega (arith, same))
 true_told (true ∷ known) (w ∷ words) zero same is = (w, refl)
 true_told (false ∷ known) (w ∷ words) zero same is = absurd (cc)
 true_told (k ∷ known) (w ∷ words) (suc place) same is = true_told known words place (omega (arith, same)) is
 
-all_known : (right : Ports) (known : List Bool) (words : List ℤ) (needs : List ℕ) → AllByRecursion (Agreed (ports_told known words) right) needs → AllByRecursion (Defined right) needs → list_all (λ need. get_or known need false) needs ≡ true
+all_known : (right : Ports) (known : List Bool) (words : List ℤ) (needs : List ℕ) → AllByRecursion (Agreed (ports_told known words) right) needs
+    → AllByRecursion (Defined right) needs → list_all (λ need. get_or known need false) needs ≡ true
 all_known right known words [] agree defined = refl
 all_known right known words (need ∷ needs) agree defined =
     rw (told_true known words need defined.0.0 (agree.0 ∙ defined.0.1)) (all_known right known words needs agree.1 defined.1)
 
-known_defined : (right : Ports) (known : List Bool) (words : List ℤ) (needs : List ℕ) → length known ≡ length words → AllByRecursion (Agreed (ports_told known words) right) needs → list_all (λ need. get_or known need false) needs ≡ true → AllByRecursion (Defined right) needs
+known_defined : (right : Ports) (known : List Bool) (words : List ℤ) (needs : List ℕ) → length known ≡ length words
+    → AllByRecursion (Agreed (ports_told known words) right) needs → list_all (λ need. get_or known need false) needs ≡ true
+    → AllByRecursion (Defined right) needs
 known_defined right known words [] same agree all = tt
 known_defined right known words (need ∷ needs) same agree all =
     let both = and_parts (get_or known need false) (list_all (λ n. get_or known n false) needs) all in
@@ -110,7 +117,8 @@ record FirstThere (seen : Option ℤ) (rest : List (Option ℤ)) (words : List �
   others_are : all_there rest ≡ Some others
   words_are : one ∷ others ≡ words
 
-front_there : (seen : ℤ) (rest : List (Option ℤ)) (words : List ℤ) (later : Option (List ℤ)) → all_there rest ≡ later → in_front seen later ≡ Some words → FirstThere (Some seen) rest words
+front_there : (seen : ℤ) (rest : List (Option ℤ)) (words : List ℤ) (later : Option (List ℤ)) → all_there rest ≡ later → in_front seen later ≡ Some words
+    → FirstThere (Some seen) rest words
 front_there seen rest words None later_is is = absurd (cc)
 front_there seen rest words (Some others) later_is is = record { one = seen; others = others; one_is = refl; others_are = later_is; words_are = cc }
 
@@ -119,24 +127,33 @@ first_there None rest words is = absurd (cc)
 first_there (Some seen) rest words is = front_there seen rest words (all_there rest) refl is
 
 -- Of an input, with whether it is needed.
-defined_one : (right : Ports) (needed : Bool) (source : InputSource) (start one : ℤ) (rest : List ℕ) → cond needed (input_word right source) (Some start) ≡ Some one → AllByRecursion (Defined right) rest → AllByRecursion (Defined right) (cons_option (cond needed (place_in source) None) rest)
+defined_one : (right : Ports) (needed : Bool) (source : InputSource) (start one : ℤ) (rest : List ℕ)
+    → cond needed (input_word right source) (Some start) ≡ Some one → AllByRecursion (Defined right) rest
+    → AllByRecursion (Defined right) (cons_option (cond needed (place_in source) None) rest)
 defined_one right true (Start word) start one rest seen all = all
 defined_one right true (AtPlace place) start one rest seen all = ((one, some_some (slice_get right place) one seen), all)
 defined_one right false source start one rest seen all = all
 
-seen_defined : (right : Ports) (output : Output) (pairs : List (Input × InputSource)) (words : List ℤ) → all_there (map (seen_by right output) pairs) ≡ Some words → AllByRecursion (Defined right) (filter_map (place_needed output) pairs)
+seen_defined : (right : Ports) (output : Output) (pairs : List (Input × InputSource)) (words : List ℤ)
+    → all_there (map (seen_by right output) pairs) ≡ Some words → AllByRecursion (Defined right) (filter_map (place_needed output) pairs)
 seen_defined right output [] words is = tt
 seen_defined right output ((input, source) ∷ pairs) words is =
     let first = first_there (seen_by right output (input, source)) (map (seen_by right output) pairs) words is in
-    defined_one right (is_among output.needs input.name) source (start_word input.ty input.start) first.one (filter_map (place_needed output) pairs) first.one_is (seen_defined right output pairs first.others first.others_are)
+    defined_one right (is_among output.needs input.name) source (start_word input.ty input.start) first.one
+    (filter_map (place_needed output) pairs) first.one_is (seen_defined right output pairs first.others first.others_are)
 
-agree_one : (right : Ports) (front : List ℕ) (needed : Bool) (source : InputSource) (start one word : ℤ) (rest : List ℕ) → cond needed (input_word right source) (Some start) ≡ Some one → AllByRecursion (IsAmong front) (cons_option (cond needed (place_in source) None) rest) → ((w : ℤ) → Known right front source w → word ≡ w) → (needed ≡ true → one ≡ word) × AllByRecursion (IsAmong front) rest
+agree_one : (right : Ports) (front : List ℕ) (needed : Bool) (source : InputSource) (start one word : ℤ) (rest : List ℕ)
+    → cond needed (input_word right source) (Some start) ≡ Some one → AllByRecursion (IsAmong front) (cons_option (cond needed (place_in source) None) rest)
+    → ((w : ℤ) → Known right front source w → word ≡ w) → (needed ≡ true → one ≡ word) × AllByRecursion (IsAmong front) rest
 agree_one right front true (Start begin) start one word rest seen among at = (λ is. sym (at one (cc)), among)
-agree_one right front true (AtPlace place) start one word rest seen among at = (λ is. sym (at one (among.0, some_some (slice_get right place) one seen)), among.1)
+agree_one right front true (AtPlace place) start one word rest seen among at =
+    (λ is. sym (at one (among.0, some_some (slice_get right place) one seen)), among.1)
 agree_one right front false source start one word rest seen among at = (λ is. absurd (cc), among)
 
-agree_along : (right : Ports) (front : List ℕ) (output : Output) (inputs : List Input) (sources : List InputSource) (seen words : List ℤ) → length sources ≡ length inputs → length words ≡ length inputs
-    → all_there (map (seen_by right output) (zip inputs sources)) ≡ Some seen → AllByRecursion (IsAmong front) (filter_map (place_needed output) (zip inputs sources))
+agree_along : (right : Ports) (front : List ℕ) (output : Output) (inputs : List Input) (sources : List InputSource) (seen words : List ℤ)
+    → length sources ≡ length inputs → length words ≡ length inputs
+    → all_there (map (seen_by right output) (zip inputs sources)) ≡ Some seen
+    → AllByRecursion (IsAmong front) (filter_map (place_needed output) (zip inputs sources))
     → ((k : ℕ) (source : InputSource) (word : ℤ) → slice_get sources k ≡ Some source → Known right front source word → get_or words k (pos 0) ≡ word)
     → AgreeOn output.needs inputs seen words
 agree_along right front output [] sources [] [] same_sources same_words is among at = tt
@@ -147,13 +164,18 @@ agree_along right front output (input ∷ inputs) [] seen words same_sources sam
 agree_along right front output (input ∷ inputs) (source ∷ sources) seen [] same_sources same_words is among at = absurd (omega (arith, same_words))
 agree_along right front output (input ∷ inputs) (source ∷ sources) seen (word ∷ words) same_sources same_words is among at =
     let first = first_there (seen_by right output (input, source)) (map (seen_by right output) (zip inputs sources)) seen is in
-    let here = agree_one right front (is_among output.needs input.name) source (start_word input.ty input.start) first.one word (filter_map (place_needed output) (zip inputs sources)) first.one_is among (λ w known. at 0 source w refl known) in
-    let rest = agree_along right front output inputs sources first.others words (omega (arith, same_sources)) (omega (arith, same_words)) first.others_are here.1 (λ k s w there known. at (suc k) s w there known) in
+    let here =
+    agree_one right front (is_among output.needs input.name) source (start_word input.ty input.start) first.one word
+    (filter_map (place_needed output) (zip inputs sources)) first.one_is among (λ w known. at 0 source w refl known) in
+    let rest =
+    agree_along right front output inputs sources first.others words (omega (arith, same_sources)) (omega (arith, same_words)) first.others_are here.1
+    (λ k s w there known. at (suc k) s w there known) in
     subst (λ all. AgreeOn output.needs (input ∷ inputs) all (word ∷ words)) first.words_are (here.0, rest)
 
 -- ---- The next output
 
-pub suits_at : (types : List Ty) (inputs : List Input) (sources : List InputSource) (k : ℕ) (input : Input) (source : InputSource) → AllByRecursion (Suits types) (zip inputs sources) → slice_get inputs k ≡ Some input → slice_get sources k ≡ Some source → Suits types (input, source)
+pub suits_at : (types : List Ty) (inputs : List Input) (sources : List InputSource) (k : ℕ) (input : Input) (source : InputSource)
+    → AllByRecursion (Suits types) (zip inputs sources) → slice_get inputs k ≡ Some input → slice_get sources k ≡ Some source → Suits types (input, source)
 suits_at types [] sources k input source all input_is source_is = absurd (cc)
 suits_at types (i ∷ inputs) [] k input source all input_is source_is = absurd (cc)
 suits_at types (i ∷ inputs) (s ∷ sources) zero input source all input_is source_is =
@@ -193,7 +215,8 @@ module _ (run : Composition) (sound : IsSound run) where
   pub sound_member : (instance : ℕ) (member : Member) → slice_get run.members instance ≡ Some member → IsSoundMember (types_of_places run) member
   sound_member instance member is = each_has (IsSoundMember (types_of_places run)) run.members member sound (has_at run.members instance member is)
 
-  pub same_sources : (instance : ℕ) (member : Member) → slice_get run.members instance ≡ Some member → length member.sources ≡ length member.component.unit.inputs
+  pub same_sources : (instance : ℕ) (member : Member) → slice_get run.members instance ≡ Some member
+      → length member.sources ≡ length member.component.unit.inputs
   same_sources instance member is = (sound_member instance member is).sources
 
   -- ---- Words for inputs
@@ -203,7 +226,8 @@ module _ (run : Composition) (sound : IsSound run) where
     is_there : input_numbered run at.instance at.input ≡ Some input
     suits : Suits (types_of_places run) (input, source)
 
-  input_by : (at : InputAt) (source : InputSource) (found : Option Member) → slice_get run.members at.instance ≡ found → option_and_then (λ (member : Member). slice_get member.sources at.input) found ≡ Some source → InputOf at source
+  input_by : (at : InputAt) (source : InputSource) (found : Option Member) → slice_get run.members at.instance ≡ found
+      → option_and_then (λ (member : Member). slice_get member.sources at.input) found ≡ Some source → InputOf at source
   input_by at source None found is = absurd (cc)
   input_by at source (Some member) found is =
       let member_sound = sound_member at.instance member found in
@@ -251,7 +275,9 @@ module _ (run : Composition) (states : List (List ℤ)) (sound : IsSound run) (h
 
   -- ---- The next output
 
-  module _ (right : Ports) (front : List ℕ) (known : List Bool) (words : List ℤ) (inputs : List (List ℤ)) (is_front : IsFront run right front (ports_told known words) inputs) (same : length known ≡ length words) (place : ℕ) (route : Route) (is_route : slice_get (routes_of run).outputs place ≡ Some route) (behind : AllByRecursion (IsAmong front) (needs_at run place)) where
+  module _ (right : Ports) (front : List ℕ) (known : List Bool) (words : List ℤ) (inputs : List (List ℤ))
+      (is_front : IsFront run right front (ports_told known words) inputs) (same : length known ≡ length words) (place : ℕ) (route : Route)
+      (is_route : slice_get (routes_of run).outputs place ≡ Some route) (behind : AllByRecursion (IsAmong front) (needs_at run place)) where
     abbrev pub at : OutletAt run states place route
     at = outlet_of run states place route one_state is_route
 
@@ -298,17 +324,23 @@ module _ (run : Composition) (states : List (List ℤ)) (sound : IsSound run) (h
     pub is_given : IsSome (given_by run states inputs route.instance route.output)
     is_given = can_be_asked inputs place route is_front.shape is_route
 
-    word_of_input : (k : ℕ) (source : InputSource) (word : ℤ) → slice_get member.sources k ≡ Some source → Known right front source word → get_or actual k (pos 0) ≡ word
+    word_of_input : (k : ℕ) (source : InputSource) (word : ℤ) → slice_get member.sources k ≡ Some source → Known right front source word
+        → get_or actual k (pos 0) ≡ word
     word_of_input k source word there is_known =
-        let source_is : source_at run (record { instance = route.instance; input = k }) ≡ Some source = ap (option_and_then (λ (m : Member). slice_get m.sources k)) at.member ∙ there in
+        let source_is : source_at run (record { instance = route.instance; input = k }) ≡ Some source =
+        ap (option_and_then (λ (m : Member). slice_get m.sources k)) at.member
+        ∙ there in
         sym (ap (λ ws. get_or ws k (pos 0)) (get_or_from_slice_get inputs route.instance actual [] words_there.is))
         ∙ is_front.fed (record { instance = route.instance; input = k }) source word source_is is_known
 
-    same_given : (seen : List ℤ) → inputs_for right outlet ≡ Some seen → get_of member.component outlet.standing.1 seen output ≡ get_of member.component outlet.standing.1 actual output
+    same_given : (seen : List ℤ) → inputs_for right outlet ≡ Some seen
+        → get_of member.component outlet.standing.1 seen output ≡ get_of member.component outlet.standing.1 actual output
     same_given seen is =
         get_same member.component outlet.standing.1 seen actual output member_sound.params state_length
-        (agree_along right front output member.component.unit.inputs member.sources seen actual member_sound.sources words_there.related is needs_behind word_of_input)
-        (each_has (λ (o : Output). uses_other_input member.component.unit o.needs o.value ≡ false) member.component.unit.outputs output member_sound.needs (has_at member.component.unit.outputs route.output output at.output))
+        (agree_along right front output member.component.unit.inputs member.sources seen actual member_sound.sources words_there.related is needs_behind
+        word_of_input)
+        (each_has (λ (o : Output). uses_other_input member.component.unit o.needs o.value ≡ false) member.component.unit.outputs output member_sound.needs
+        (has_at member.component.unit.outputs route.output output at.output))
 
     abbrev are_known : Bool
     are_known = list_all (λ need. get_or known need false) route.needs
@@ -360,7 +392,8 @@ module _ (run : Composition) (states : List (List ℤ)) (sound : IsSound run) (h
         let fits_there : IsWordOf run place word =
         subst (λ found. IfSome found (λ ty. is_word_of ty word ≡ true)) (sym (type_is run states place outlet one_state at.is)) fits in
         subst (AllByRecursion (λ a. IsInputWord run a.instance a.input word)) (sym at.feeds)
-        (all_has (λ a. IsInputWord run a.instance a.input word) (feeds_of run place) (λ a has. feed_fits run sound a place word (feed_is run place a has) fits_there))
+        (all_has (λ a. IsInputWord run a.instance a.input word) (feeds_of run place)
+        (λ a has. feed_fits run sound a place word (feed_is run place a has) fits_there))
 
     by_word : (word : Option ℤ) → word_at right outlet ≡ word → IfSome word (λ w. AllByRecursion (λ a. IsInputWord run a.instance a.input w) route.feeds)
     by_word None is = tt
@@ -368,7 +401,9 @@ module _ (run : Composition) (states : List (List ℤ)) (sound : IsSound run) (h
 
     -- The inputs that it feeds may be set to its word.
     pub fits_feeds : FitsFeeds run route.feeds (word_asked run states inputs known route)
-    fits_feeds = subst (λ word. IfSome word (λ w. AllByRecursion (λ a. IsInputWord run a.instance a.input w) route.feeds)) (sym word_is) (by_word (word_at right outlet) refl)
+    fits_feeds =
+        subst (λ word. IfSome word (λ w. AllByRecursion (λ a. IsInputWord run a.instance a.input w) route.feeds)) (sym word_is)
+        (by_word (word_at right outlet) refl)
 
     -- ---- The front with it
 
@@ -379,7 +414,8 @@ module _ (run : Composition) (states : List (List ℤ)) (sound : IsSound run) (h
       abbrev now : Ports
       now = set (ports_told known words) place (word_at right outlet)
 
-      still_agree : (some : List ℕ) → AllByRecursion (Agreed (ports_told known words) right) some → (IsAmong some place → ⊥) → AllByRecursion (Agreed now right) some
+      still_agree : (some : List ℕ) → AllByRecursion (Agreed (ports_told known words) right) some → (IsAmong some place → ⊥)
+          → AllByRecursion (Agreed now right) some
       still_agree [] all not_there = tt
       still_agree (first ∷ some) all not_there = (
         get_other (ports_told known words) place first (word_at right outlet) (λ is. not_there (inl is)) ∙ all.0,
@@ -395,7 +431,8 @@ module _ (run : Composition) (states : List (List ℤ)) (sound : IsSound run) (h
       sets word = set_from word route.feeds
 
       -- Where it has no word, nothing changes.
-      none_fed : word_at right outlet ≡ None → (a : InputAt) (source : InputSource) (word : ℤ) → source_at run a ≡ Some source → Known right (front ++ (place ∷ [])) source word → word_in inputs a ≡ word
+      none_fed : word_at right outlet ≡ None → (a : InputAt) (source : InputSource) (word : ℤ) → source_at run a ≡ Some source
+          → Known right (front ++ (place ∷ [])) source word → word_in inputs a ≡ word
       none_fed none a (Start start) word is is_known = is_front.fed a (Start start) word is is_known
       none_fed none a (AtPlace q) word is is_known = elim (among_either front place q is_known.0) [
         | inl there ↦ is_front.fed a (AtPlace q) word is (there, is_known.1)
@@ -412,7 +449,8 @@ module _ (run : Composition) (states : List (List ℤ)) (sound : IsSound run) (h
             some_same : Some (Some v) ≡ Some (Some word) → v ≡ word
             some_same is = cc
 
-        before : (a : InputAt) (source : InputSource) (word : ℤ) → source_at run a ≡ Some source → Known right (front ++ (place ∷ [])) source word → (word_in inputs a ≡ word) ⊎ ((start : StartWord) × Has (all_with v route.feeds) start × (start.at ≡ a))
+        before : (a : InputAt) (source : InputSource) (word : ℤ) → source_at run a ≡ Some source → Known right (front ++ (place ∷ [])) source word
+            → (word_in inputs a ≡ word) ⊎ ((start : StartWord) × Has (all_with v route.feeds) start × (start.at ≡ a))
         before a (Start start) word is is_known = inl (is_front.fed a (Start start) word is is_known)
         before a (AtPlace q) word is is_known = elim (among_either front place q is_known.0) [
           | inl there ↦ inl (is_front.fed a (AtPlace q) word is (there, is_known.1))
@@ -422,7 +460,8 @@ module _ (run : Composition) (states : List (List ℤ)) (sound : IsSound run) (h
               inr (record { at = a; word = v }, has_map (λ x. record { at = x; word = v }) route.feeds a has, refl)
         ]
 
-        agrees : (a : InputAt) (source : InputSource) (word : ℤ) → source_at run a ≡ Some source → Known right (front ++ (place ∷ [])) source word → (start : StartWord) → Has (all_with v route.feeds) start → start.at ≡ a → start.word ≡ word
+        agrees : (a : InputAt) (source : InputSource) (word : ℤ) → source_at run a ≡ Some source → Known right (front ++ (place ∷ [])) source word
+            → (start : StartWord) → Has (all_with v route.feeds) start → start.at ≡ a → start.word ≡ word
         agrees a source word is is_known start has same_at =
             let from = map_has (λ x. record { at = x; word = v }) route.feeds start has in
             let fed = feed_is run place from.one (subst (λ feeds. Has feeds from.one) at.feeds from.has) in
@@ -434,12 +473,14 @@ module _ (run : Composition) (states : List (List ℤ)) (sound : IsSound run) (h
             some_same : Some source ≡ Some (AtPlace place) → source ≡ AtPlace place
             some_same is = cc
 
-        some_fed : (a : InputAt) (source : InputSource) (word : ℤ) → source_at run a ≡ Some source → Known right (front ++ (place ∷ [])) source word → word_in (with_words inputs (all_with v route.feeds)) a ≡ word
+        some_fed : (a : InputAt) (source : InputSource) (word : ℤ) → source_at run a ≡ Some source → Known right (front ++ (place ∷ [])) source word
+            → word_in (with_words inputs (all_with v route.feeds)) a ≡ word
         some_fed a source word is is_known =
             word_after run (same_sources run sound) a source is word (all_with v route.feeds) inputs is_front.shape (agrees a source word is is_known)
             (before a source word is is_known)
 
-      fed_by : (word : Option ℤ) → word_at right outlet ≡ word → (a : InputAt) (source : InputSource) (w : ℤ) → source_at run a ≡ Some source → Known right (front ++ (place ∷ [])) source w → word_in (with_words inputs (sets word)) a ≡ w
+      fed_by : (word : Option ℤ) → word_at right outlet ≡ word → (a : InputAt) (source : InputSource) (w : ℤ) → source_at run a ≡ Some source
+          → Known right (front ++ (place ∷ [])) source w → word_in (with_words inputs (sets word)) a ≡ w
       fed_by None is = none_fed is
       fed_by (Some v) is = some_fed v is
 
@@ -451,7 +492,8 @@ module _ (run : Composition) (states : List (List ℤ)) (sound : IsSound run) (h
       }
 
       -- With what is told of it, and what is set from it.
-      pub next_front : (told : Ports) (later : List (List ℤ)) → told ≡ set (ports_told known words) place (word_asked run states inputs known route) → later ≡ with_words inputs (set_from (word_asked run states inputs known route) route.feeds) → IsFront run right (front ++ (place ∷ [])) told later
+      pub next_front : (told : Ports) (later : List (List ℤ)) → told ≡ set (ports_told known words) place (word_asked run states inputs known route)
+          → later ≡ with_words inputs (set_from (word_asked run states inputs known route) route.feeds) → IsFront run right (front ++ (place ∷ [])) told later
       next_front told later told_is later_is =
           let told_right : now ≡ told = sym (told_is ∙ ap (set (ports_told known words) place) word_is) in
           let later_right : with_words inputs (sets (word_at right outlet)) ≡ later = sym (later_is ∙ ap (λ word. with_words inputs (sets word)) word_is) in

@@ -28,7 +28,8 @@ counted from (first ∷ xs) number x (inr has) =
     let later = counted (from + 1) xs number x has in
     record { k = suc later.k; number_is = later.number_is ∙ omega arith; is = later.is }
 
-pub has_counted : {A : Type 0} (from : ℕ) (xs : List A) (k number : ℕ) (x : A) → number ≡ from + k → slice_get xs k ≡ Some x → Has (enumerate_from from xs) (number, x)
+pub has_counted : {A : Type 0} (from : ℕ) (xs : List A) (k number : ℕ) (x : A) → number ≡ from + k → slice_get xs k ≡ Some x
+    → Has (enumerate_from from xs) (number, x)
 has_counted from [] k number x number_is is = absurd (cc)
 has_counted from (first ∷ xs) zero number x number_is is =
     let same : first ≡ x = cc in
@@ -54,7 +55,8 @@ pub record Kept {A B : Type 0} (f : A → Option B) (xs : List A) (y : B) : Type
   pub has : Has xs one
   pub is : f one ≡ Some y
 
-kept_of : {A B : Type 0} (f : A → Option B) (first : A) (xs : List A) (y : B) (told : Option B) → f first ≡ told → (Has (filter_map f xs) y → Kept f xs y) → Has (cons_option told (filter_map f xs)) y → Kept f (first ∷ xs) y
+kept_of : {A B : Type 0} (f : A → Option B) (first : A) (xs : List A) (y : B) (told : Option B) → f first ≡ told → (Has (filter_map f xs) y → Kept f xs y)
+    → Has (cons_option told (filter_map f xs)) y → Kept f (first ∷ xs) y
 kept_of f first xs y None told later has = let from = later has in record { one = from.one; has = inr from.has; is = from.is }
 kept_of f first xs y (Some z) told later (inl same) = record { one = first; has = inl refl; is = told ∙ ap Some same }
 kept_of f first xs y (Some z) told later (inr has) = let from = later has in record { one = from.one; has = inr from.has; is = from.is }
@@ -80,14 +82,16 @@ source_is run at source has =
     let from = flat_has inputs_in (enumerate_from 0 run.members) (at, source) has in
     of_member from.one.0 from.one.1 (counted 0 run.members from.one.0 from.one.1 from.has) from.inside
   where
-    of_pair : (instance : ℕ) (member : Member) (numbered : ℕ × InputSource) → slice_get run.members instance ≡ Some member → slice_get member.sources numbered.0 ≡ Some numbered.1 → pair_as instance numbered ≡ (at, source) → source_at run at ≡ Some source
+    of_pair : (instance : ℕ) (member : Member) (numbered : ℕ × InputSource) → slice_get run.members instance ≡ Some member
+        → slice_get member.sources numbered.0 ≡ Some numbered.1 → pair_as instance numbered ≡ (at, source) → source_at run at ≡ Some source
     of_pair instance member numbered member_is there is =
         ap (source_at run) (sym (ap (λ (p : InputAt × InputSource). p.0) is))
         ∙ ap (option_and_then (λ (m : Member). slice_get m.sources numbered.0)) member_is
         ∙ there
         ∙ ap (λ (p : InputAt × InputSource). Some p.1) is
 
-    of_member : (instance : ℕ) (member : Member) → Counted 0 run.members instance member → Has (inputs_in (instance, member)) (at, source) → source_at run at ≡ Some source
+    of_member : (instance : ℕ) (member : Member) → Counted 0 run.members instance member → Has (inputs_in (instance, member)) (at, source)
+        → source_at run at ≡ Some source
     of_member instance member found inside =
         let pair = map_has (pair_as instance) (enumerate_from 0 member.sources) (at, source) inside in
         let there = counted 0 member.sources pair.one.0 pair.one.1 pair.has in
@@ -95,11 +99,14 @@ source_is run at source has =
         let source_there : slice_get member.sources pair.one.0 ≡ Some pair.one.1 = ap (slice_get member.sources) (omega (arith, there.number_is)) ∙ there.is in
         of_pair instance member pair.one member_is source_there pair.is
 
-has_source_by : (run : Composition) (at : InputAt) (source : InputSource) (found : Option Member) → slice_get run.members at.instance ≡ found → option_and_then (λ (member : Member). slice_get member.sources at.input) found ≡ Some source → Has (inputs_of run) (at, source)
+has_source_by : (run : Composition) (at : InputAt) (source : InputSource) (found : Option Member) → slice_get run.members at.instance ≡ found
+    → option_and_then (λ (member : Member). slice_get member.sources at.input) found ≡ Some source → Has (inputs_of run) (at, source)
 has_source_by run at source None found is = absurd (cc)
 has_source_by run at source (Some member) found is =
-    has_flat inputs_in (enumerate_from 0 run.members) (at.instance, member) (at, source) (has_counted 0 run.members at.instance at.instance member (omega arith) found)
-    (has_map (pair_as at.instance) (enumerate_from 0 member.sources) (at.input, source) (has_counted 0 member.sources at.input at.input source (omega arith) is))
+    has_flat inputs_in (enumerate_from 0 run.members) (at.instance, member) (at, source)
+    (has_counted 0 run.members at.instance at.instance member (omega arith) found)
+    (has_map (pair_as at.instance) (enumerate_from 0 member.sources) (at.input, source)
+    (has_counted 0 member.sources at.input at.input source (omega arith) is))
 
 pub has_source : (run : Composition) (at : InputAt) (source : InputSource) → source_at run at ≡ Some source → Has (inputs_of run) (at, source)
 has_source run at source is = has_source_by run at source (slice_get run.members at.instance) refl is
@@ -139,5 +146,6 @@ start_is run start has =
     let both = start_is_by from.one.1 from.one.0 start from.is in
     ap (source_at run) (sym both.0) ∙ source_is run from.one.0 from.one.1 from.has ∙ ap Some both.1
 
-pub has_start : (run : Composition) (at : InputAt) (word : ℤ) → source_at run at ≡ Some (Start word) → Has (routes_of run).starts (record { at = at; word = word })
+pub has_start : (run : Composition) (at : InputAt) (word : ℤ) → source_at run at ≡ Some (Start word)
+    → Has (routes_of run).starts (record { at = at; word = word })
 has_start run at word is = has_kept starts_at (inputs_of run) (at, Start word) (record { at = at; word = word }) (has_source run at (Start word) is) refl

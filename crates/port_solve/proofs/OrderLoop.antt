@@ -19,7 +19,8 @@ use Rattle.port_solve.proofs.SolvedPorts.{IsNext, next_place, told_right, told_c
 use Rattle.port_solve.proofs.FirstFault.{first_noted}
 use Rattle.port_solve.proofs.Fronts.{IsFront, one_state, is_given, fits_feeds, fault_is, next_front}
 
-module _ (run : Composition) (states : List (List ℤ)) (sound : IsSound run) (have : HaveStates run states) (places : List ℕ) (is_order : IsPlaceOrder run places) (routes : List Route) (are_routes : routes ≡ (routes_of run).outputs) where
+module _ (run : Composition) (states : List (List ℤ)) (sound : IsSound run) (have : HaveStates run states) (places : List ℕ)
+    (is_order : IsPlaceOrder run places) (routes : List Route) (are_routes : routes ≡ (routes_of run).outputs) where
   pub route_count : length routes ≡ length (needs_of_places run)
   route_count = ap length are_routes ∙ count_is run
 
@@ -46,7 +47,9 @@ module _ (run : Composition) (states : List (List ℤ)) (sound : IsSound run) (h
     pub in_range : place < length routes
     in_range = omega (arith, next.within, route_count)
 
-    module _ (known : List Bool) (words : List ℤ) (inputs : List (List ℤ)) (front : Front k (ports_told known words) inputs) (known_count : length known ≡ length routes) (words_count : length words ≡ length routes) (route : Route) (route_is : slice_get routes place ≡ Some route) where
+    module _ (known : List Bool) (words : List ℤ) (inputs : List (List ℤ)) (front : Front k (ports_told known words) inputs)
+        (known_count : length known ≡ length routes) (words_count : length words ≡ length routes) (route : Route)
+        (route_is : slice_get routes place ≡ Some route) where
       abbrev is_route : slice_get (routes_of run).outputs place ≡ Some route
       is_route = sym (ap (λ all. slice_get all place) are_routes) ∙ route_is
 
@@ -54,25 +57,34 @@ module _ (run : Composition) (states : List (List ℤ)) (sound : IsSound run) (h
       same_length = known_count ∙ sym words_count
 
       pub asks : IsSome (given_by run states inputs route.instance route.output)
-      asks = is_given run states sound have one.ports (take k places) known words inputs (front one.ports one.is_assignment) same_length place route is_route next.behind
+      asks = is_given run states sound have one.ports (take k places) known words inputs
+          (front one.ports one.is_assignment) same_length place route is_route next.behind
 
       pub fits : FitsFeeds run route.feeds (word_asked run states inputs known route)
-      fits = fits_feeds run states sound have one.ports (take k places) known words inputs (front one.ports one.is_assignment) same_length place route is_route next.behind
+      fits = fits_feeds run states sound have one.ports (take k places) known words inputs
+          (front one.ports one.is_assignment) same_length place route is_route next.behind
 
-      pub front_next : (told : Ports) (later : List (List ℤ)) → told ≡ set (ports_told known words) place (word_asked run states inputs known route) → later ≡ with_words inputs (set_from (word_asked run states inputs known route) route.feeds) → Front (k + 1) told later
+      pub front_next : (told : Ports) (later : List (List ℤ)) → told ≡ set (ports_told known words) place (word_asked run states inputs known route)
+          → later ≡ with_words inputs (set_from (word_asked run states inputs known route) route.feeds) → Front (k + 1) told later
       front_next told later told_is later_is right is_right =
           let in_told : place < length (ports_told known words) = omega (arith, in_range, told_count known words same_length, words_count) in
           subst (λ some. IsFront run right some told later) (sym (take_more places k 0 within))
-          (next_front run states sound have right (take k places) known words inputs (front right is_right) same_length place route is_route next.behind is_right next.apart in_told told later told_is later_is)
+          (next_front run states sound have right (take k places) known words inputs
+          (front right is_right) same_length place route is_route next.behind is_right next.apart in_told told later told_is later_is)
 
-      pub first_next : (first : Option Faulted) (fault : Option Fault) → First k first → fault ≡ fault_asked run states inputs known route → First (k + 1) (noted first place fault)
+      pub first_next : (first : Option Faulted) (fault : Option Fault) → First k first → fault ≡ fault_asked run states inputs known route
+          → First (k + 1) (noted first place fault)
       first_next first fault is_first fault_is_asked right is_right =
-          let there : fault_there run states right place ≡ fault = sym (fault_is_asked ∙ fault_is run states sound have right (take k places) known words inputs (front right is_right) same_length place route is_route next.behind) in
-          subst (λ some. IsFirst run states right some (noted first place fault)) (sym (take_more places k 0 within)) (first_noted run states right (take k places) place first fault there (is_first right is_right))
+          let there : fault_there run states right place ≡ fault =
+          sym (fault_is_asked
+          ∙ fault_is run states sound have right (take k places) known words inputs (front right is_right) same_length place route is_route next.behind) in
+          subst (λ some. IsFirst run states right some (noted first place fault)) (sym (take_more places k 0 within))
+          (first_noted run states right (take k places) place first fault there (is_first right is_right))
 
   -- ---- At the end
 
-  module _ (k : ℕ) (past : length places ≤ k) (known : List Bool) (words : List ℤ) (inputs : List (List ℤ)) (front : Front k (ports_told known words) inputs) (known_count : length known ≡ length routes) (words_count : length words ≡ length routes) where
+  module _ (k : ℕ) (past : length places ≤ k) (known : List Bool) (words : List ℤ) (inputs : List (List ℤ)) (front : Front k (ports_told known words) inputs)
+      (known_count : length known ≡ length routes) (words_count : length words ≡ length routes) where
     abbrev whole : take k places ≡ places
     whole = take_all k places past
 

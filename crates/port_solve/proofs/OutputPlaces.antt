@@ -58,8 +58,10 @@ module _ (run : Composition) (states : List (List ℤ)) where
     pub output : slice_get outlet.standing.0.component.unit.outputs numbered.output ≡ Some outlet.output
 
   one_side : (instance : ℕ) (member : Member) (state : List ℤ) → slice_get run.members instance ≡ Some member → slice_get states instance ≡ Some state
-      → (from : ℕ) (outputs : List Output) → ((k n : ℕ) (output : Output) → n ≡ from + k → slice_get outputs k ≡ Some output → slice_get member.component.unit.outputs n ≡ Some output)
-      → AllZip Matches (map (numbered_as instance member) (enumerate_from from outputs)) (map (outlet_as instance (member, state)) (enumerate_from from outputs))
+      → (from : ℕ) (outputs : List Output)
+      → ((k n : ℕ) (output : Output) → n ≡ from + k → slice_get outputs k ≡ Some output → slice_get member.component.unit.outputs n ≡ Some output)
+      → AllZip Matches (map (numbered_as instance member) (enumerate_from from outputs))
+      (map (outlet_as instance (member, state)) (enumerate_from from outputs))
   one_side instance member state member_is state_is from [] at = tt
   one_side instance member state member_is state_is from (output ∷ outputs) at = (
     record { instance = refl; number = refl; needs = refl; member = member_is; state = state_is; output = at 0 from output (omega arith) refl },
@@ -73,13 +75,17 @@ module _ (run : Composition) (states : List (List ℤ)) where
   sides_from from [] some_states same at_member at_state = tt
   sides_from from (member ∷ members) [] same at_member at_state = absurd (omega (arith, same))
   sides_from from (member ∷ members) (state ∷ some_states) same at_member at_state =
-      zip_append Matches (outputs_in (from, member)) (flat_map outputs_in (enumerate_from (from + 1) members)) (outlets_of (from, (member, state))) (flat_map outlets_of (enumerate_from (from + 1) (zip members some_states)))
-      (one_side from member state (at_member 0 from member (omega arith) refl) (at_state 0 from state (omega arith) refl) 0 member.component.unit.outputs (λ k n output is there. subst (λ m. slice_get member.component.unit.outputs m ≡ Some output) (omega (arith, is)) there))
-      (sides_from (from + 1) members some_states (omega (arith, same)) (λ k n other is there. at_member (suc k) n other (omega (arith, is)) there) (λ k n other is there. at_state (suc k) n other (omega (arith, is)) there))
+      zip_append Matches (outputs_in (from, member)) (flat_map outputs_in (enumerate_from (from + 1) members)) (outlets_of (from, (member, state)))
+      (flat_map outlets_of (enumerate_from (from + 1) (zip members some_states)))
+      (one_side from member state (at_member 0 from member (omega arith) refl) (at_state 0 from state (omega arith) refl) 0 member.component.unit.outputs
+      (λ k n output is there. subst (λ m. slice_get member.component.unit.outputs m ≡ Some output) (omega (arith, is)) there))
+      (sides_from (from + 1) members some_states (omega (arith, same)) (λ k n other is there. at_member (suc k) n other (omega (arith, is)) there)
+      (λ k n other is there. at_state (suc k) n other (omega (arith, is)) there))
 
   sides : length states ≡ length run.members → AllZip Matches (flat_map outputs_in (enumerate_from 0 run.members)) (outlets run states)
   sides same =
-      sides_from 0 run.members states same (λ k n member is there. subst (λ m. slice_get run.members m ≡ Some member) (omega (arith, is)) there) (λ k n state is there. subst (λ m. slice_get states m ≡ Some state) (omega (arith, is)) there)
+      sides_from 0 run.members states same (λ k n member is there. subst (λ m. slice_get run.members m ≡ Some member) (omega (arith, is)) there)
+      (λ k n state is there. subst (λ m. slice_get states m ≡ Some state) (omega (arith, is)) there)
 
   -- ---- The outlet of a route
 
@@ -116,27 +122,34 @@ module _ (run : Composition) (states : List (List ℤ)) where
       }
 
   -- What its component gives of it.
-  pub given_is : (place : ℕ) (route : Route) (at : OutletAt place route) (inputs : List (List ℤ)) (words : List ℤ) → slice_get inputs route.instance ≡ Some words
+  pub given_is : (place : ℕ) (route : Route) (at : OutletAt place route) (inputs : List (List ℤ)) (words : List ℤ)
+      → slice_get inputs route.instance ≡ Some words
       → given_by run states inputs route.instance route.output ≡ Some (get_of at.outlet.standing.0.component at.outlet.standing.1 words at.outlet.output)
   given_is place route at inputs words words_are = rw (at.member, at.state, words_are, at.output) refl
 
 -- ---- Types by places
 
-counted_types : (instance : ℕ) (standing : Standing) (from : ℕ) (outputs : List Output) → map (λ (outlet : Outlet). outlet.output.ty) (map (outlet_as instance standing) (enumerate_from from outputs)) ≡ map (λ (output : Output). output.ty) outputs
+counted_types : (instance : ℕ) (standing : Standing) (from : ℕ) (outputs : List Output)
+    → map (λ (outlet : Outlet). outlet.output.ty) (map (outlet_as instance standing) (enumerate_from from outputs))
+    ≡ map (λ (output : Output). output.ty) outputs
 counted_types instance standing from [] = refl
 counted_types instance standing from (output ∷ outputs) = ap (λ rest. output.ty ∷ rest) (counted_types instance standing (from + 1) outputs)
 
 types_from : (from : ℕ) (members : List Member) (states : List (List ℤ)) → length states ≡ length members
-    → map (λ (outlet : Outlet). outlet.output.ty) (flat_map outlets_of (enumerate_from from (zip members states))) ≡ flat_map (λ member. map (λ (output : Output). output.ty) member.component.unit.outputs) members
+    → map (λ (outlet : Outlet). outlet.output.ty) (flat_map outlets_of (enumerate_from from (zip members states)))
+    ≡ flat_map (λ member. map (λ (output : Output). output.ty) member.component.unit.outputs) members
 types_from from [] states same = refl
 types_from from (member ∷ members) [] same = absurd (omega (arith, same))
 types_from from (member ∷ members) (state ∷ states) same =
-    map-append (λ (outlet : Outlet). outlet.output.ty) (outlets_of (from, (member, state))) (flat_map outlets_of (enumerate_from (from + 1) (zip members states)))
-    ∙ ap (λ front. front ++ map (λ (outlet : Outlet). outlet.output.ty) (flat_map outlets_of (enumerate_from (from + 1) (zip members states)))) (counted_types from (member, state) 0 member.component.unit.outputs)
+    map-append (λ (outlet : Outlet). outlet.output.ty) (outlets_of (from, (member, state)))
+    (flat_map outlets_of (enumerate_from (from + 1) (zip members states)))
+    ∙ ap (λ front. front ++ map (λ (outlet : Outlet). outlet.output.ty) (flat_map outlets_of (enumerate_from (from + 1) (zip members states))))
+    (counted_types from (member, state) 0 member.component.unit.outputs)
     ∙ ap (λ rest. map (λ (output : Output). output.ty) member.component.unit.outputs ++ rest) (types_from (from + 1) members states (omega (arith, same)))
 
 -- The type at a place is that of the output there.
-pub type_is : (run : Composition) (states : List (List ℤ)) (place : ℕ) (outlet : Outlet) → length states ≡ length run.members → slice_get (outlets run states) place ≡ Some outlet → slice_get (types_of_places run) place ≡ Some outlet.output.ty
+pub type_is : (run : Composition) (states : List (List ℤ)) (place : ℕ) (outlet : Outlet) → length states ≡ length run.members
+    → slice_get (outlets run states) place ≡ Some outlet → slice_get (types_of_places run) place ≡ Some outlet.output.ty
 type_is run states place outlet same is =
     ap (λ types. slice_get types place) (sym (types_from 0 run.members states same))
     ∙ slice_get-map (λ (o : Outlet). o.output.ty) (outlets run states) place

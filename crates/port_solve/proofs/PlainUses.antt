@@ -9,13 +9,17 @@ use Rattle.unit_tree.specs.declared.expr.Expr as expr
 use Rattle.unit_tree.specs.declared.expr.Expr.{Expr}
 use Rattle.unit_tree.specs.declared.expr.Expr.TheFolds.{ind-Expr, map-Expr}
 use Rattle.unit_tree.specs.declared.expr.Expr.TheOpen.{Expr-F}
-use Rattle.unit_tree.specs.declared.expr.Expr.TheVariants.{rolls-Number, rolls-Truth, rolls-Var, rolls-Time, rolls-Step, rolls-Unary, rolls-Binary, rolls-Clamp, rolls-Choose, rolls-Absent, rolls-Present}
+use Rattle.unit_tree.specs.declared.expr.Expr.TheVariants.{rolls-Number, rolls-Truth, rolls-Var, rolls-Time, rolls-Step, rolls-Unary, rolls-Binary, rolls-Clamp}
+use Rattle.unit_tree.specs.declared.expr.Expr.TheVariants.{rolls-Choose, rolls-Absent, rolls-Present}
 use Rattle.unit_tree.specs.declared.expr.Expr.TheViews.{roll-Expr}
 use Rattle.unit_tree.specs.declared.expr.BinOp.{BinOp}
 use Rattle.unit_tree.specs.declared.expr.UnOp.{UnOp}
 use Rattle.unit_tree.specs.declared.expr.UnOp.TheVariants as of
-use Rattle.unit_tree.proofs.FoldLemmas.{fold-Number, fold-Truth, fold-Var, fold-Time, fold-Step, fold-Unary, fold-Binary, fold-Clamp, fold-Choose, fold-Absent, fold-Present}
-use Rattle.language_laws.proofs.PlainLemmas.{plain-Number, plain-Truth, plain-Var, plain-Time, plain-Step, plain-Unary, plain-Binary, plain-Clamp, plain-Choose, plain-Absent, plain-Present, choices-Number, choices-Truth, choices-Var, choices-Time, choices-Step, choices-Unary, choices-Binary, choices-Clamp, choices-Choose, choices-Absent, choices-Present}
+use Rattle.unit_tree.proofs.FoldLemmas.{fold-Number, fold-Truth, fold-Var, fold-Time, fold-Step, fold-Unary, fold-Binary, fold-Clamp, fold-Choose, fold-Absent}
+use Rattle.unit_tree.proofs.FoldLemmas.{fold-Present}
+use Rattle.language_laws.proofs.PlainLemmas.{plain-Number, plain-Truth, plain-Var, plain-Time, plain-Step, plain-Unary, plain-Binary, plain-Clamp, plain-Choose}
+use Rattle.language_laws.proofs.PlainLemmas.{plain-Absent, plain-Present, choices-Number, choices-Truth, choices-Var, choices-Time, choices-Step, choices-Unary}
+use Rattle.language_laws.proofs.PlainLemmas.{choices-Binary, choices-Clamp, choices-Choose, choices-Absent, choices-Present}
 
 -- ---- Names in an expression
 
@@ -66,7 +70,8 @@ module _ (Q : List ℕ → Type 0) where
       subst (AllByRecursion Q) (sym (fold-Binary (List (List ℕ)) node_names op left right)) (all_join Q (names_in left) (names_in right) one other)
 
   in-Binary : (op : BinOp) (left right : Expr) → Names Q (expr.Binary op left right) → Names Q left × Names Q right
-  in-Binary op left right all = all_split Q (names_in left) (names_in right) (subst (AllByRecursion Q) (fold-Binary (List (List ℕ)) node_names op left right) all)
+  in-Binary op left right all =
+      all_split Q (names_in left) (names_in right) (subst (AllByRecursion Q) (fold-Binary (List (List ℕ)) node_names op left right) all)
 
   three : (a b c : Expr) → Names Q a → Names Q b → Names Q c → AllByRecursion Q ((names_in a ++ names_in b) ++ names_in c)
   three a b c one two other = all_join Q (names_in a ++ names_in b) (names_in c) (all_join Q (names_in a) (names_in b) one two) other
@@ -78,17 +83,21 @@ module _ (Q : List ℕ → Type 0) where
       (second.0, second.1, first.1)
 
   names-Clamp : (value low high : Expr) → Names Q value → Names Q low → Names Q high → Names Q (expr.Clamp value low high)
-  names-Clamp value low high one two other = subst (AllByRecursion Q) (sym (fold-Clamp (List (List ℕ)) node_names value low high)) (three value low high one two other)
+  names-Clamp value low high one two other =
+      subst (AllByRecursion Q) (sym (fold-Clamp (List (List ℕ)) node_names value low high)) (three value low high one two other)
 
   in-Clamp : (value low high : Expr) → Names Q (expr.Clamp value low high) → Names Q value × Names Q low × Names Q high
   in-Clamp value low high all = of_three value low high (subst (AllByRecursion Q) (fold-Clamp (List (List ℕ)) node_names value low high) all)
 
-  names-Choose : (condition then_part else_part : Expr) → Names Q condition → Names Q then_part → Names Q else_part → Names Q (expr.Choose condition then_part else_part)
+  names-Choose : (condition then_part else_part : Expr) → Names Q condition → Names Q then_part → Names Q else_part
+      → Names Q (expr.Choose condition then_part else_part)
   names-Choose condition then_part else_part one two other =
       subst (AllByRecursion Q) (sym (fold-Choose (List (List ℕ)) node_names condition then_part else_part)) (three condition then_part else_part one two other)
 
-  in-Choose : (condition then_part else_part : Expr) → Names Q (expr.Choose condition then_part else_part) → Names Q condition × Names Q then_part × Names Q else_part
-  in-Choose condition then_part else_part all = of_three condition then_part else_part (subst (AllByRecursion Q) (fold-Choose (List (List ℕ)) node_names condition then_part else_part) all)
+  in-Choose : (condition then_part else_part : Expr) → Names Q (expr.Choose condition then_part else_part)
+      → Names Q condition × Names Q then_part × Names Q else_part
+  in-Choose condition then_part else_part all =
+      of_three condition then_part else_part (subst (AllByRecursion Q) (fold-Choose (List (List ℕ)) node_names condition then_part else_part) all)
 
 -- ---- The plain form of an expression
 
@@ -117,35 +126,47 @@ module _ (Q R : List ℕ → Type 0) (keeps : (name : List ℕ) → Q name → R
       made_as (expr.Clamp (plain_expression value) (plain_expression low) (plain_expression high)) (expr.Clamp value low high) (plain-Clamp value low high)
       (names-Clamp R (plain_expression value) (plain_expression low) (plain_expression high) (on_value parts.0) (on_low parts.1) (on_high parts.2))
 
-  claim-Choose : (condition then_part else_part : Expr) → Claim condition → Claim then_part → Claim else_part → Claim (expr.Choose condition then_part else_part)
+  claim-Choose : (condition then_part else_part : Expr) → Claim condition → Claim then_part → Claim else_part
+      → Claim (expr.Choose condition then_part else_part)
   claim-Choose condition then_part else_part on_condition on_then on_else all =
       let parts = in-Choose Q condition then_part else_part all in
-      made_as (expr.Choose (plain_expression condition) (plain_expression then_part) (plain_expression else_part)) (expr.Choose condition then_part else_part) (plain-Choose condition then_part else_part)
-      (names-Choose R (plain_expression condition) (plain_expression then_part) (plain_expression else_part) (on_condition parts.0) (on_then parts.1) (on_else parts.2))
+      made_as (expr.Choose (plain_expression condition) (plain_expression then_part) (plain_expression else_part)) (expr.Choose condition then_part else_part)
+      (plain-Choose condition then_part else_part)
+      (names-Choose R (plain_expression condition) (plain_expression then_part) (plain_expression else_part) (on_condition parts.0) (on_then parts.1)
+      (on_else parts.2))
 
   node : (y : Expr-F Proved) → Claim (roll-Expr (map-Expr Proved Expr bare y))
-  node (Expr-F.Number number decimals) = subst Claim (sym (rolls-Number number decimals)) (λ all. made_as (expr.Number number decimals) (expr.Number number decimals) (plain-Number number decimals) (names-Number R number decimals))
+  node (Expr-F.Number number decimals) =
+      subst Claim (sym (rolls-Number number decimals))
+      (λ all. made_as (expr.Number number decimals) (expr.Number number decimals) (plain-Number number decimals) (names-Number R number decimals))
   node (Expr-F.Truth told) = subst Claim (sym (rolls-Truth told)) (λ all. made_as (expr.Truth told) (expr.Truth told) (plain-Truth told) (names-Truth R told))
-  node (Expr-F.Var name) = subst Claim (sym (rolls-Var name)) (λ all. made_as (expr.Var name) (expr.Var name) (plain-Var name) (names-Var R name (keeps name (in-Var Q name all))))
+  node (Expr-F.Var name) =
+      subst Claim (sym (rolls-Var name)) (λ all. made_as (expr.Var name) (expr.Var name) (plain-Var name) (names-Var R name (keeps name (in-Var Q name all))))
   node Expr-F.Time = subst Claim (sym rolls-Time) (λ all. made_as expr.Time expr.Time plain-Time (names-Time R))
   node Expr-F.Step = subst Claim (sym rolls-Step) (λ all. made_as expr.Step expr.Step plain-Step (names-Step R))
   node (Expr-F.Unary op arg) =
       subst Claim (sym (rolls-Unary op (bare arg)))
-      (λ all. made_as (expr.Unary op (plain_expression (bare arg))) (expr.Unary op (bare arg)) (plain-Unary op (bare arg)) (names-Unary R op (plain_expression (bare arg)) (arg.1 (in-Unary Q op (bare arg) all))))
+      (λ all. made_as (expr.Unary op (plain_expression (bare arg))) (expr.Unary op (bare arg)) (plain-Unary op (bare arg))
+      (names-Unary R op (plain_expression (bare arg)) (arg.1 (in-Unary Q op (bare arg) all))))
   node (Expr-F.Binary op left right) = subst Claim (sym (rolls-Binary op (bare left) (bare right))) (claim-Binary op (bare left) (bare right) left.1 right.1)
-  node (Expr-F.Clamp value low high) = subst Claim (sym (rolls-Clamp (bare value) (bare low) (bare high))) (claim-Clamp (bare value) (bare low) (bare high) value.1 low.1 high.1)
+  node (Expr-F.Clamp value low high) =
+      subst Claim (sym (rolls-Clamp (bare value) (bare low) (bare high))) (claim-Clamp (bare value) (bare low) (bare high) value.1 low.1 high.1)
   node (Expr-F.Choose condition then_part else_part) =
-      subst Claim (sym (rolls-Choose (bare condition) (bare then_part) (bare else_part))) (claim-Choose (bare condition) (bare then_part) (bare else_part) condition.1 then_part.1 else_part.1)
+      subst Claim (sym (rolls-Choose (bare condition) (bare then_part) (bare else_part)))
+      (claim-Choose (bare condition) (bare then_part) (bare else_part) condition.1 then_part.1 else_part.1)
   node Expr-F.Absent = subst Claim (sym rolls-Absent) (λ all. made_as expr.Absent expr.Absent plain-Absent (names-Absent R))
   node (Expr-F.Present name) =
-      subst Claim (sym (rolls-Present name)) (λ all. made_as (expr.Var (presence_name name)) (expr.Present name) (plain-Present name) (names-Var R (presence_name name) (presence name (in-Present Q name all))))
+      subst Claim (sym (rolls-Present name))
+      (λ all. made_as (expr.Var (presence_name name)) (expr.Present name) (plain-Present name)
+      (names-Var R (presence_name name) (presence name (in-Present Q name all))))
 
   pub plain_names : (value : Expr) → Claim value
   plain_names = ind-Expr Claim (λ x y is. subst (λ z. Claim (roll-Expr z)) is (node y))
 
 -- ---- The choices of an event output
 
-module _ (Q : List ℕ → Type 0) (gap : Expr) (change : Expr → Expr) (on_gap : Names Q gap) (on_change : (other : Expr) → Names Q other → Names Q (change other)) where
+module _ (Q : List ℕ → Type 0) (gap : Expr) (change : Expr → Expr) (on_gap : Names Q gap)
+    (on_change : (other : Expr) → Names Q other → Names Q (change other)) where
   abbrev Chosen : Expr → Type 0
   Chosen value = Names Q value → Names Q (with_choices gap change value)
 
@@ -165,19 +186,24 @@ module _ (Q : List ℕ → Type 0) (gap : Expr) (change : Expr → Expr) (on_gap
       (names-Choose Q condition (with_choices gap change then_part) (with_choices gap change else_part) parts.0 (on_then parts.1) (on_else parts.2))
 
   choice : (y : Expr-F ProvedChoice) → Chosen (roll-Expr (map-Expr ProvedChoice Expr bare_choice y))
-  choice (Expr-F.Number number decimals) = subst Chosen (sym (rolls-Number number decimals)) (changed (expr.Number number decimals) (choices-Number gap change number decimals))
+  choice (Expr-F.Number number decimals) =
+      subst Chosen (sym (rolls-Number number decimals)) (changed (expr.Number number decimals) (choices-Number gap change number decimals))
   choice (Expr-F.Truth told) = subst Chosen (sym (rolls-Truth told)) (changed (expr.Truth told) (choices-Truth gap change told))
   choice (Expr-F.Var name) = subst Chosen (sym (rolls-Var name)) (changed (expr.Var name) (choices-Var gap change name))
   choice Expr-F.Time = subst Chosen (sym rolls-Time) (changed expr.Time (choices-Time gap change))
   choice Expr-F.Step = subst Chosen (sym rolls-Step) (changed expr.Step (choices-Step gap change))
-  choice (Expr-F.Unary op arg) = subst Chosen (sym (rolls-Unary op (bare_choice arg))) (changed (expr.Unary op (bare_choice arg)) (choices-Unary gap change op (bare_choice arg)))
+  choice (Expr-F.Unary op arg) =
+      subst Chosen (sym (rolls-Unary op (bare_choice arg))) (changed (expr.Unary op (bare_choice arg)) (choices-Unary gap change op (bare_choice arg)))
   choice (Expr-F.Binary op left right) =
-      subst Chosen (sym (rolls-Binary op (bare_choice left) (bare_choice right))) (changed (expr.Binary op (bare_choice left) (bare_choice right)) (choices-Binary gap change op (bare_choice left) (bare_choice right)))
+      subst Chosen (sym (rolls-Binary op (bare_choice left) (bare_choice right)))
+      (changed (expr.Binary op (bare_choice left) (bare_choice right)) (choices-Binary gap change op (bare_choice left) (bare_choice right)))
   choice (Expr-F.Clamp value low high) =
       subst Chosen (sym (rolls-Clamp (bare_choice value) (bare_choice low) (bare_choice high)))
-      (changed (expr.Clamp (bare_choice value) (bare_choice low) (bare_choice high)) (choices-Clamp gap change (bare_choice value) (bare_choice low) (bare_choice high)))
+      (changed (expr.Clamp (bare_choice value) (bare_choice low) (bare_choice high))
+      (choices-Clamp gap change (bare_choice value) (bare_choice low) (bare_choice high)))
   choice (Expr-F.Choose condition then_part else_part) =
-      subst Chosen (sym (rolls-Choose (bare_choice condition) (bare_choice then_part) (bare_choice else_part))) (chosen-Choose (bare_choice condition) (bare_choice then_part) (bare_choice else_part) then_part.1 else_part.1)
+      subst Chosen (sym (rolls-Choose (bare_choice condition) (bare_choice then_part) (bare_choice else_part)))
+      (chosen-Choose (bare_choice condition) (bare_choice then_part) (bare_choice else_part) then_part.1 else_part.1)
   choice Expr-F.Absent = subst Chosen (sym rolls-Absent) (λ all. subst (Names Q) (sym (choices-Absent gap change)) on_gap)
   choice (Expr-F.Present name) = subst Chosen (sym (rolls-Present name)) (changed (expr.Present name) (choices-Present gap change name))
 

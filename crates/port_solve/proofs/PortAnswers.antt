@@ -34,7 +34,8 @@ module _ (run : Composition) (sound : IsSound run) where
   starts_fit = all_has _ (routes_of run).starts (λ start has. start_fits run sound start.at start.word (start_is run start has))
 
   module _ (inputs : List (List ℤ)) (shape : HaveInputs run inputs) where
-    agrees : (at : InputAt) (word : ℤ) → source_at run at ≡ Some (Start word) → (start : StartWord) → Has (routes_of run).starts start → start.at ≡ at → start.word ≡ word
+    agrees : (at : InputAt) (word : ℤ) → source_at run at ≡ Some (Start word) → (start : StartWord) → Has (routes_of run).starts start → start.at ≡ at
+        → start.word ≡ word
     agrees at word is start has same = same_start (sym (start_is run start has) ∙ ap (source_at run) same ∙ is)
       where
         same_start : Some (Start start.word) ≡ Some (Start word) → start.word ≡ word
@@ -52,12 +53,15 @@ module _ (run : Composition) (sound : IsSound run) where
 
 -- ---- The answer
 
-among_within : (run : Composition) (before order : List ℕ) (place : ℕ) → IsOrderedAfter run before order → IsAmong order place → place < length (needs_of_places run)
+among_within : (run : Composition) (before order : List ℕ) (place : ℕ) → IsOrderedAfter run before order → IsAmong order place
+    → place < length (needs_of_places run)
 among_within run before [] place ordered among = absurd among
 among_within run before (first ∷ order) place ordered (inl is) = subst (λ p. p < length (needs_of_places run)) is ordered.0
 among_within run before (first ∷ order) place ordered (inr later) = among_within run (before ++ (first ∷ [])) order place ordered.3 later
 
-module _ (run : Composition) (states : List (List ℤ)) (sound : IsSound run) (have : HaveStates run states) (order : Ordered) (is_order : IsOrderOf run order) (known : List Bool) (words : List ℤ) (known_count : length known ≡ length order.routes.outputs) (words_count : length words ≡ length order.routes.outputs) (assigned : IsAssignment run states (ports_told known words)) where
+module _ (run : Composition) (states : List (List ℤ)) (sound : IsSound run) (have : HaveStates run states) (order : Ordered) (is_order : IsOrderOf run order)
+    (known : List Bool) (words : List ℤ) (known_count : length known ≡ length order.routes.outputs) (words_count : length words ≡ length order.routes.outputs)
+    (assigned : IsAssignment run states (ports_told known words)) where
   abbrev told : Ports
   told = ports_told known words
 
@@ -66,7 +70,12 @@ module _ (run : Composition) (states : List (List ℤ)) (sound : IsSound run) (h
 
   pub fault_within : (first : Faulted) → IsFirst run states told order.places (Some first) → first.place < length order.routes.outputs
   fault_within first is =
-      omega (arith, among_within run [] order.places first.place is_order.places.ordered is.0, count_is run, ap (λ routes. length routes.outputs) is_order.routes)
+      omega (
+        arith,
+        among_within run [] order.places first.place is_order.places.ordered is.0,
+        count_is run,
+        ap (λ routes. length routes.outputs) is_order.routes,
+      )
 
   pub fault_is_told : (first : Faulted) (fault : PortFault) → IsFirst run states told order.places (Some first)
       → IfSome (slice_get order.routes.outputs first.place) (λ route. fault ≡ record { instance = route.instance; output = route.output; fault = first.fault })
@@ -74,7 +83,8 @@ module _ (run : Composition) (states : List (List ℤ)) (sound : IsSound run) (h
   fault_is_told first fault is fault_is =
       let here = at_place order.routes.outputs first.place (fault_within first is) in
       let route : Route = here.0 in
-      let fault_at_route : fault ≡ record { instance = route.instance; output = route.output; fault = first.fault } = subst (λ found. IfSome found (λ r. fault ≡ record { instance = r.instance; output = r.output; fault = first.fault })) here.1 fault_is in
+      let fault_at_route : fault ≡ record { instance = route.instance; output = route.output; fault = first.fault } =
+      subst (λ found. IfSome found (λ r. fault ≡ record { instance = r.instance; output = r.output; fault = first.fault })) here.1 fault_is in
       let at = outlet_of run states first.place route same (sym (ap (λ routes. slice_get routes.outputs first.place) is_order.routes) ∙ here.1) in
       is_port_fault run states told order.places is_order.places same first at.outlet at.is is
       ∙ ap (λ instance. Some (UnitFault instance (place.Output at.outlet.number) first.fault)) at.instance

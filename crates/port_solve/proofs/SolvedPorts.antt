@@ -1,5 +1,6 @@
 -- Where all outputs were worked out, the port assignment is told, and the inputs have their words.
-use Rattle.std.proofs.Common.{◌≡◌, ◌∙◌, ℕ, zero, suc, ◌<◌, Bool, true, false, ℤ, pos, List, [], ◌∷◌, ◌++◌, length, take, drop, get_or, Option, Some, None, refl, ap, sym, subst, arith, append_assoc}
+use Rattle.std.proofs.Common.{◌≡◌, ◌∙◌, ℕ, zero, suc, ◌<◌, Bool, true, false, ℤ, pos, List, [], ◌∷◌, ◌++◌, length, take, drop, get_or, Option, Some, None, refl}
+use Rattle.std.proofs.Common.{ap, sym, subst, arith, append_assoc}
 use Rattle.std.proofs.lemmas.List.{length-map, append-nil}
 use Rattle.std.proofs.lemmas.Option.{slice_get-map, slice_get_within, slice_get-get_or, get_or_from_slice_get}
 use Rattle.std.specs.Prelude.{slice_get, is_some, unwrap_or, IfSome}
@@ -23,11 +24,13 @@ use Rattle.list_laws.proofs.Pairs.{zip_at, one_each}
 
 -- ---- Along an order
 
-ordered_from : (run : Composition) (before order : List ℕ) (k : ℕ) → IsOrderedAfter run before order → IsOrderedAfter run (before ++ take k order) (drop k order)
+ordered_from : (run : Composition) (before order : List ℕ) (k : ℕ) → IsOrderedAfter run before order
+    → IsOrderedAfter run (before ++ take k order) (drop k order)
 ordered_from run before order zero ordered = subst (λ front. IsOrderedAfter run front order) (sym (append-nil before)) ordered
 ordered_from run before [] (suc k) ordered = tt
 ordered_from run before (place ∷ order) (suc k) ordered =
-    subst (λ front. IsOrderedAfter run front (drop k order)) (append_assoc before (place ∷ []) (take k order)) (ordered_from run (before ++ (place ∷ [])) order k ordered.3)
+    subst (λ front. IsOrderedAfter run front (drop k order)) (append_assoc before (place ∷ []) (take k order))
+    (ordered_from run (before ++ (place ∷ [])) order k ordered.3)
 
 -- The next place of an order.
 pub record IsNext (run : Composition) (front : List ℕ) (place : ℕ) : Type 0 where
@@ -46,23 +49,30 @@ next_place run order k is_order within = next_of run (take k order) order k with
 -- ---- The start
 
 -- With start words alone the front is empty.
-pub start_front : (run : Composition) (right told : Ports) (inputs : List (List ℤ)) → HaveTheirWords run [] inputs → HaveInputs run inputs → IsFront run right [] told inputs
+pub start_front : (run : Composition) (right told : Ports) (inputs : List (List ℤ)) → HaveTheirWords run [] inputs → HaveInputs run inputs
+    → IsFront run right [] told inputs
 start_front run right told inputs have shape = record { words = tt; fed = fed; shape = shape }
   where
     fed : (at : InputAt) (source : InputSource) (word : ℤ) → source_at run at ≡ Some source → Known right [] source word → word_in inputs at ≡ word
-    fed at (Start start) word is is_known = each_has (HasItsWord [] inputs) (inputs_of run) (at, Start start) have (has_source run at (Start start) is) ∙ is_known
+    fed at (Start start) word is is_known = each_has (HasItsWord [] inputs) (inputs_of run) (at, Start start) have (has_source run at (Start start) is)
+        ∙ is_known
     fed at (AtPlace place) word is is_known = absurd is_known.0
 
 -- ---- The end
 
-module _ (run : Composition) (states : List (List ℤ)) (right told : Ports) (inputs : List (List ℤ)) (order : List ℕ) (is_order : IsPlaceOrder run order) (same_states : length states ≡ length run.members) (is_right : IsAssignment run states right) (is_front : IsFront run right order told inputs) (count : length told ≡ length (needs_of_places run)) where
+module _ (run : Composition) (states : List (List ℤ)) (right told : Ports) (inputs : List (List ℤ)) (order : List ℕ) (is_order : IsPlaceOrder run order)
+    (same_states : length states ≡ length run.members) (is_right : IsAssignment run states right) (is_front : IsFront run right order told inputs)
+    (count : length told ≡ length (needs_of_places run)) where
   right_count : length right ≡ length (needs_of_places run)
   right_count = ap length is_right ∙ (are_equations run states same_states).count right
 
   pub told_right : told ≡ right
-  told_right = same_lists told right (length (needs_of_places run)) count right_count (λ place within. each_among (Agreed told right) order place is_front.words (is_order.all place within))
+  told_right =
+      same_lists told right (length (needs_of_places run)) count right_count
+      (λ place within. each_among (Agreed told right) order place is_front.words (is_order.all place within))
 
-  found_word : (at : InputAt) (place : ℕ) (found : Option (Option ℤ)) → source_at run at ≡ Some (AtPlace place) → slice_get right place ≡ found → IfSome (option_and_then (λ word. word) found) (λ word. word_in inputs at ≡ word)
+  found_word : (at : InputAt) (place : ℕ) (found : Option (Option ℤ)) → source_at run at ≡ Some (AtPlace place) → slice_get right place ≡ found
+      → IfSome (option_and_then (λ word. word) found) (λ word. word_in inputs at ≡ word)
   found_word at place None is there = tt
   found_word at place (Some None) is there = tt
   found_word at place (Some (Some word)) is there =
@@ -73,11 +83,14 @@ module _ (run : Composition) (states : List (List ℤ)) (right told : Ports) (in
   its_word at (AtPlace place) has = found_word at place (slice_get right place) (source_is run at (AtPlace place) has) refl
 
   pub their_words : HaveTheirWords run told inputs
-  their_words = subst (λ ports. HaveTheirWords run ports inputs) (sym told_right) (all_has (HasItsWord right inputs) (inputs_of run) (λ pair has. its_word pair.0 pair.1 has))
+  their_words =
+      subst (λ ports. HaveTheirWords run ports inputs) (sym told_right)
+      (all_has (HasItsWord right inputs) (inputs_of run) (λ pair has. its_word pair.0 pair.1 has))
 
 -- ---- All is known
 
-pub known_all : (known : List Bool) (words : List ℤ) → length known ≡ length words → list_all is_some (ports_told known words) ≡ true → list_all (λ told. told) known ≡ true
+pub known_all : (known : List Bool) (words : List ℤ) → length known ≡ length words → list_all is_some (ports_told known words) ≡ true
+    → list_all (λ told. told) known ≡ true
 known_all [] words same all = refl
 known_all (k ∷ known) [] same all = absurd (omega (arith, same))
 known_all (true ∷ known) (w ∷ words) same all = known_all known words (omega (arith, same)) all
@@ -95,19 +108,30 @@ all_there_at (None ∷ ports) place all within = absurd (cc)
 all_there_at (Some word ∷ ports) zero all within = (word, refl)
 all_there_at (Some word ∷ ports) (suc place) all within = all_there_at ports place all (omega (arith, within))
 
-module _ (run : Composition) (states : List (List ℤ)) (sound : IsSound run) (have : HaveStates run states) (told : Ports) (inputs : List (List ℤ)) (count : length told ≡ length (needs_of_places run)) (all : list_all is_some told ≡ true) (their : HaveTheirWords run told inputs) (shape : HaveInputs run inputs) where
-  source_word : (member : Member) (instance k : ℕ) (source : InputSource) → slice_get run.members instance ≡ Some member → slice_get member.sources k ≡ Some source → (word : ℤ) × (input_word told source ≡ Some word)
+module _ (run : Composition) (states : List (List ℤ)) (sound : IsSound run) (have : HaveStates run states) (told : Ports) (inputs : List (List ℤ))
+    (count : length told ≡ length (needs_of_places run)) (all : list_all is_some told ≡ true) (their : HaveTheirWords run told inputs)
+    (shape : HaveInputs run inputs) where
+  source_word : (member : Member) (instance k : ℕ) (source : InputSource) → slice_get run.members instance ≡ Some member
+      → slice_get member.sources k ≡ Some source → (word : ℤ) × (input_word told source ≡ Some word)
   source_word member instance k (Start word) member_is is = (word, refl)
   source_word member instance k (AtPlace place) member_is is =
       let member_sound = sound_member run sound instance member member_is in
       let within : k < length member.component.unit.inputs = omega (arith, slice_get_within member.sources k (AtPlace place) is, member_sound.sources) in
       let input = at_place member.component.unit.inputs k within in
       let suits = suits_at (types_of_places run) member.component.unit.inputs member.sources k input.0 (AtPlace place) member_sound.suits input.1 is in
-      let in_range : place < length told = omega (arith, slice_get_within (types_of_places run) place suits.0 suits.1, types_count run states (one_state run states sound have), outlets_count run states (one_state run states sound have), count) in
+      let in_range : place < length told =
+      omega (
+        arith,
+        slice_get_within (types_of_places run) place suits.0 suits.1,
+        types_count run states (one_state run states sound have),
+        outlets_count run states (one_state run states sound have),
+        count,
+      ) in
       let there = all_there_at told place all in_range in
       (there.0, ap (option_and_then (λ word. word)) there.1)
 
-  module _ (instance : ℕ) (member : Member) (member_is : slice_get run.members instance ≡ Some member) (words : List ℤ) (words_are : slice_get inputs instance ≡ Some words) (same : length words ≡ length member.component.unit.inputs) where
+  module _ (instance : ℕ) (member : Member) (member_is : slice_get run.members instance ≡ Some member) (words : List ℤ)
+      (words_are : slice_get inputs instance ≡ Some words) (same : length words ≡ length member.component.unit.inputs) where
     member_sound : IsSoundMember (types_of_places run) member
     member_sound = sound_member run sound instance member member_is
 
@@ -122,12 +146,14 @@ module _ (run : Composition) (states : List (List ℤ)) (sound : IsSound run) (h
 
     words_right : words ≡ inputs_at told member
     words_right =
-        same_lists words (inputs_at told member) (length words) refl (length-map member.sources (λ source. unwrap_or (input_word told source) (pos 0)) ∙ member_sound.sources ∙ sym same)
+        same_lists words (inputs_at told member) (length words) refl
+        (length-map member.sources (λ source. unwrap_or (input_word told source) (pos 0)) ∙ member_sound.sources ∙ sym same)
         (λ k within.
         let source = at_place member.sources k (omega (arith, within, same, member_sound.sources)) in
         slice_get-get_or words k (pos 0) within
         ∙ ap Some (word_is k source.0 source.1)
-        ∙ sym (slice_get-map (λ source. unwrap_or (input_word told source) (pos 0)) member.sources k ∙ ap (option_map (λ source. unwrap_or (input_word told source) (pos 0))) source.1))
+        ∙ sym (slice_get-map (λ source. unwrap_or (input_word told source) (pos 0)) member.sources k
+        ∙ ap (option_map (λ source. unwrap_or (input_word told source) (pos 0))) source.1))
 
   pub all_right : inputs ≡ all_inputs run told
   all_right =

@@ -1,5 +1,6 @@
 -- Solved ports: what is asked of components whose ports are to be solved, and what is told of the answer.
-use Rattle.std.specs.Prelude.{◌≡◌, ℕ, Bool, ℤ, pos, List, [], map, length, zip, slice_get, slice_index_or, if◌then◌else◌, Option, Some, None, IfSome, Result, Ok, Err}
+use Rattle.std.specs.Prelude.{◌≡◌, ℕ, Bool, ℤ, pos, List, [], map, length, zip, slice_get, slice_index_or, if◌then◌else◌, Option, Some, None, IfSome, Result}
+use Rattle.std.specs.Prelude.{Ok, Err}
 use Rattle.std.specs.List.{AllByRecursion, AllZip}
 use Rattle.std.specs.Option.{option_and_then}
 use Rattle.fixed_words.specs.Operations.{Outcome}

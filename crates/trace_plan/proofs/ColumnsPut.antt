@@ -1,5 +1,6 @@
 -- Columns that are put one after the other, and the numbers of one.
-use Rattle.std.proofs.Common.{◌≡◌, ◌<◌, ◌^◌, ℕ, ◌+◌, Bool, List, [], ◌∷◌, ◌++◌, map, drop, get_or, length, Option, Some, None, refl, ap, sym, subst, ◌∙◌, append_assoc, append-nil}
+use Rattle.std.proofs.Common.{◌≡◌, ◌<◌, ◌^◌, ℕ, ◌+◌, Bool, List, [], ◌∷◌, ◌++◌, map, drop, get_or, length, Option, Some, None, refl, ap, sym, subst, ◌∙◌}
+use Rattle.std.proofs.Common.{append_assoc, append-nil}
 use Rattle.std.proofs.lemmas.Option.{get_or_from_slice_get, slice_get_within}
 use Rattle.std.specs.Prelude.{slice_get, slice_index_or, IsSome}
 use Rattle.std.specs.List.{filter_map, cons_option, position_or_len}
@@ -24,7 +25,8 @@ use Rattle.unit_tree.specs.declared.unit.Unit.{Unit}
 
 -- ---- The numbers of a column
 
-module _ (system : System) (starts : List ℕ) (port : PortName) (placed : IsPlaced system starts port) (number : ℕ) (instances : List Instance) (instances_are : instances ≡ system.instances) (is : number ≡ position_or_len (λ (i : Instance). bytes_eq i.name port.instance) instances) where
+module _ (system : System) (starts : List ℕ) (port : PortName) (placed : IsPlaced system starts port) (number : ℕ) (instances : List Instance)
+    (instances_are : instances ≡ system.instances) (is : number ≡ position_or_len (λ (i : Instance). bytes_eq i.name port.instance) instances) where
   pub number_is : number ≡ instance_number system port
   number_is = is ∙ ap (position_or_len (λ (i : Instance). bytes_eq i.name port.instance)) instances_are
 
@@ -40,7 +42,8 @@ module _ (system : System) (starts : List ℕ) (port : PortName) (placed : IsPla
     unit_is = ap (unit_of_instance system) one_is ∙ placed.is_unit
 
     -- So is its output.
-    module _ (unit : Unit) (named : Some unit ≡ unit_of_instance system one) (output : ℕ) (outputs : List Output) (outputs_are : outputs ≡ unit.outputs) (output_is : output ≡ position_or_len (λ (o : Output). bytes_eq o.name port.port) outputs) where
+    module _ (unit : Unit) (named : Some unit ≡ unit_of_instance system one) (output : ℕ) (outputs : List Output) (outputs_are : outputs ≡ unit.outputs)
+        (output_is : output ≡ position_or_len (λ (o : Output). bytes_eq o.name port.port) outputs) where
       same_unit : unit ≡ placed.unit
       same_unit = some_same (named ∙ unit_is)
         where
@@ -65,10 +68,19 @@ module _ (system : System) (starts : List ℕ) (port : PortName) (placed : IsPla
       pub output_low : output < 32
       output_low = subst (λ o. o < 32) (sym output_number_is) placed.few_outputs
 
-      pub column_is : (ty : Ty) (event : Bool) → record { instance = number; output = output; place = slice_index_or starts number 0 + output; ty = ty; event = event } ≡ plain_column system port ty event
+      pub column_is : (ty : Ty) (event : Bool)
+          → record { instance = number; output = output; place = slice_index_or starts number 0 + output; ty = ty; event = event }
+          ≡ plain_column system port ty event
       column_is ty event =
           ap (λ n. record { instance = n; output = output; place = slice_index_or starts number 0 + output; ty = ty; event = event }) number_is
-          ∙ ap (λ n. record { instance = instance_number system port; output = n; place = slice_index_or starts number 0 + output; ty = ty; event = event }) output_number_is
+          ∙ ap (λ n. record {
+            instance = instance_number system port;
+            output = n;
+            place = slice_index_or starts number 0 + output;
+            ty = ty;
+            event =
+                event;
+          }) output_number_is
           ∙ ap (λ n. record { instance = instance_number system port; output = output_number system port; place = n; ty = ty; event = event }) place_is
 
   pub start_within : number < length starts
@@ -89,7 +101,9 @@ output_there : (given : Option Port) (told : Ty × Bool) → option_map type_and
 output_there None told is = absurd (cc)
 output_there (Some output) told is = (output, refl)
 
-pub placed_by : (system made : System) (starts : List ℕ) (port : PortName) (told : Ty × Bool) → IsRanged system → IsWellFormed system → made ≡ plain_form system → starts ≡ starts_from (plain_form system) 0 (plain_form system).instances → option_map type_and_event (output_at system port) ≡ Some told → IsPlaced made starts port
+pub placed_by : (system made : System) (starts : List ℕ) (port : PortName) (told : Ty × Bool) → IsRanged system → IsWellFormed system
+    → made ≡ plain_form system → starts ≡ starts_from (plain_form system) 0 (plain_form system).instances
+    → option_map type_and_event (output_at system port) ≡ Some told → IsPlaced made starts port
 placed_by system made starts port told ranged kept made_is starts_are is =
     let output = output_there (output_at system port) told is in
     subst (λ (s : System). IsPlaced s starts port) (sym made_is)
@@ -101,7 +115,10 @@ both_told : (before rest : List Column) (given : Option Column) → (before ++ c
 both_told before rest None = ap (λ all. all ++ rest) (append-nil before)
 both_told before rest (Some column) = append_assoc before (column ∷ []) rest
 
-pub one_put : {A : Type 0} (named : A → PortName) (f : PortName → Option Column) (ports : List A) (place : ℕ) (default : A) → place < length ports → (all before after : List Column) (given : Option Column) → before ++ filter_map f (map named (drop place ports)) ≡ all → given ≡ f (named (get_or ports place default)) → after ≡ before ++ cons_option given [] → after ++ filter_map f (map named (drop (place + 1) ports)) ≡ all
+pub one_put : {A : Type 0} (named : A → PortName) (f : PortName → Option Column) (ports : List A) (place : ℕ) (default : A) → place < length ports
+    → (all before after : List Column) (given : Option Column) → before ++ filter_map f (map named (drop place ports)) ≡ all
+    → given ≡ f (named (get_or ports place default)) → after ≡ before ++ cons_option given []
+    → after ++ filter_map f (map named (drop (place + 1) ports)) ≡ all
 one_put named f ports place default within all before after given so_far told put =
     ap (λ front. front ++ filter_map f (map named (drop (place + 1) ports))) put
     ∙ both_told before (filter_map f (map named (drop (place + 1) ports))) given

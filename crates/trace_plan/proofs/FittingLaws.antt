@@ -1,5 +1,6 @@
 -- What is worked out for one instance after the other is what the members ask.
-use Rattle.std.proofs.Common.{◌≡◌, ◌≤◌, ◌^◌, ◌-◌, ℕ, zero, suc, ◌+◌, ◌<◌, ℤ, pos, List, [], ◌∷◌, ◌++◌, length, map, drop, get_or, true, Some, None, refl, ap, sym, subst, ◌∙◌, arith, append_assoc, append-nil}
+use Rattle.std.proofs.Common.{◌≡◌, ◌≤◌, ◌^◌, ◌-◌, ℕ, zero, suc, ◌+◌, ◌<◌, ℤ, pos, List, [], ◌∷◌, ◌++◌, length, map, drop, get_or, true, Some, None, refl, ap}
+use Rattle.std.proofs.Common.{sym, subst, ◌∙◌, arith, append_assoc, append-nil}
 use Rattle.std.proofs.lemmas.List.{length-map}
 use Rattle.std.proofs.lemmas.Option.{slice_get_read}
 use Rattle.std.specs.Prelude.{slice_get, unwrap_or, cond}
@@ -34,11 +35,13 @@ front_typed : (front behind : List Variable) → AllByRecursion (λ one. AreDeci
 front_typed [] behind all = tt
 front_typed (one ∷ front) behind all = (all.0, front_typed front behind all.1)
 
-of_params : (params : List Param) → AllByRecursion (λ (one : Variable). AreDecimals one.ty) (map (λ (param : Param). variable param.name param.ty) params) → AllByRecursion (λ (param : Param). AreDecimals param.ty) params
+of_params : (params : List Param) → AllByRecursion (λ (one : Variable). AreDecimals one.ty) (map (λ (param : Param). variable param.name param.ty) params)
+    → AllByRecursion (λ (param : Param). AreDecimals param.ty) params
 of_params [] all = tt
 of_params (param ∷ params) all = (all.0, of_params params all.1)
 
-pub params_typed : (system : System) → IsRanged system → IsWellFormed system → (number : ℕ) (unit : Unit) → slice_get (plain_form system).units number ≡ Some unit → AllByRecursion (λ (param : Param). AreDecimals param.ty) unit.params
+pub params_typed : (system : System) → IsRanged system → IsWellFormed system → (number : ℕ) (unit : Unit)
+    → slice_get (plain_form system).units number ≡ Some unit → AllByRecursion (λ (param : Param). AreDecimals param.ty) unit.params
 params_typed system ranged kept number unit is =
     let some_words : List ℤ = map (λ (param : Param). pos 0) unit.params in
     let fits = checked_units system ranged kept number unit is some_words (length-map unit.params (λ (param : Param). pos 0)) in
@@ -48,17 +51,24 @@ params_typed system ranged kept number unit is =
     let locals : List Variable = map (λ local. variable local.name local.ty) unit.locals in
     of_params unit.params (front_typed params states (front_typed (params ++ states) inputs (front_typed ((params ++ states) ++ inputs) locals fits.types)))
 
-pub has_params : (system : System) (number : ℕ) (unit : Unit) (words : List ℤ) → slice_get (plain_form system).units number ≡ Some unit → length words ≡ length unit.params → HasParams system number words
+pub has_params : (system : System) (number : ℕ) (unit : Unit) (words : List ℤ) → slice_get (plain_form system).units number ≡ Some unit
+    → length words ≡ length unit.params → HasParams system number words
 has_params system number unit words at count = subst (λ given. IfSome given (λ (u : Unit). length words ≡ length u.params)) (sym at) count
 
 -- ---- One instance
 
-pub unit_at : (system made : System) (number : ℕ) (unit : Unit) → made ≡ plain_form system → slice_get made.units number ≡ Some unit → slice_get (plain_form system).units number ≡ Some unit
+pub unit_at : (system made : System) (number : ℕ) (unit : Unit) → made ≡ plain_form system → slice_get made.units number ≡ Some unit
+    → slice_get (plain_form system).units number ≡ Some unit
 unit_at system made number unit is at = ap (λ (s : System). slice_get s.units number) (sym is) ∙ at
 
-pub image_of : (system : System) (number : ℕ) (unit : Unit) (settings : List _) (words : List ℤ) (image : Compiled) → slice_get (plain_form system).units number ≡ Some unit → words ≡ map (λ param. start_word param.ty (literal_set settings param)) unit.params → IsCompiled system number words image → IsImageOf (component_with settings unit) image
+pub image_of : (system : System) (number : ℕ) (unit : Unit) (settings : List _) (words : List ℤ) (image : Compiled)
+    → slice_get (plain_form system).units number ≡ Some unit → words ≡ map (λ param. start_word param.ty (literal_set settings param)) unit.params
+    → IsCompiled system number words image → IsImageOf (component_with settings unit) image
 image_of system number unit settings words image at are compiled =
-    let here : IsImageOf (record { unit = unit; params = words }) image = let g : IfSome (Some unit) (λ (u : Unit). IsImageOf (record { unit = u; params = words }) image) = subst (λ given. IfSome given (λ (u : Unit). IsImageOf (record { unit = u; params = words }) image)) at compiled in g in
+    let here : IsImageOf (record { unit = unit; params = words }) image =
+    let g : IfSome (Some unit) (λ (u : Unit). IsImageOf (record { unit = u; params = words }) image) =
+    subst (λ given. IfSome given (λ (u : Unit). IsImageOf (record { unit = u; params = words }) image)) at compiled in
+    g in
     subst (λ params. IsImageOf (record { unit = unit; params = params }) image) are here
 
 pub fits_for : (system : System) (instance : Instance) (unit : Unit) (fitted : Fitted) → unit_named system.units instance.unit ≡ Some unit
@@ -85,14 +95,16 @@ IsFront system instances place all =
 pub none_yet : (system : System) (instances : List Instance) (all : List Fitted) → all ≡ [] → IsFront system instances 0 all
 none_yet system instances all none rest each = subst (λ front. AllZip IsFitted (members_from system instances) (front ++ rest)) (sym none) each
 
-module _ (system : System) (instances : List Instance) (place : ℕ) (instance : Instance) (all : List Fitted) (within : place < length instances) (is : instance ≡ get_or instances place instance) (front : IsFront system instances place all) where
+module _ (system : System) (instances : List Instance) (place : ℕ) (instance : Instance) (all : List Fitted) (within : place < length instances)
+    (is : instance ≡ get_or instances place instance) (front : IsFront system instances place all) where
   from_here : drop place instances ≡ instance ∷ drop (place + 1) instances
   from_here = left instances place instance within ∙ ap (λ first. first ∷ drop (place + 1) instances) (sym is)
 
   abbrev others : List Member
   others = members_from system (drop (place + 1) instances)
 
-  pub one_more : (one : Fitted) → IsFittedFor system instance one → (grown now : List Fitted) → grown ≡ all ++ one ∷ [] → now ≡ grown → IsFront system instances (place + 1) now
+  pub one_more : (one : Fitted) → IsFittedFor system instance one → (grown now : List Fitted) → grown ≡ all ++ one ∷ [] → now ≡ grown
+      → IsFront system instances (place + 1) now
   one_more one fits grown now grown_is now_is rest each =
       subst (AllZip IsFitted (members_from system instances)) (sym (ap (λ some. some ++ rest) (now_is ∙ grown_is) ∙ append_assoc all (one ∷ []) rest))
       (front (one ∷ rest) (subst (λ (some : List Instance). AllZip IsFitted (members_from system some) (one ∷ rest)) (sym from_here)
@@ -110,14 +122,17 @@ drop_past [] (suc k) past = refl
 drop_past (first ∷ all) zero past = absurd (omega (arith, past))
 drop_past (first ∷ all) (suc k) past = drop_past all k (omega (arith, past))
 
-pub all_there : (system : System) (instances : List Instance) (place : ℕ) (all : List Fitted) → length instances ≤ place → IsFront system instances place all → AllZip IsFitted (members_from system instances) all
+pub all_there : (system : System) (instances : List Instance) (place : ℕ) (all : List Fitted) → length instances ≤ place → IsFront system instances place all
+    → AllZip IsFitted (members_from system instances) all
 all_there system instances place all past front =
-    let none : AllZip IsFitted (members_from system (drop place instances)) [] = subst (λ some. AllZip IsFitted (members_from system some) []) (sym (drop_past instances place past)) tt in
+    let none : AllZip IsFitted (members_from system (drop place instances)) [] =
+    subst (λ some. AllZip IsFitted (members_from system some) []) (sym (drop_past instances place past)) tt in
     subst (AllZip IsFitted (members_from system instances)) (append-nil all) (front [] none)
 
 -- ---- The unit of a name
 
-pub named_here : (units : List Unit) (name : List ℕ) (place : ℕ) (unit : Unit) → place < length units → unit ≡ get_or units place unit → unit_named (drop place units) name ≡ unit_named units name → bytes_eq unit.name name ≡ true → IsUnitNamed units name place
+pub named_here : (units : List Unit) (name : List ℕ) (place : ℕ) (unit : Unit) → place < length units → unit ≡ get_or units place unit
+    → unit_named (drop place units) name ≡ unit_named units name → bytes_eq unit.name name ≡ true → IsUnitNamed units name place
 named_here units name place unit within is later named = record {
   unit = unit;
   at = slice_get_read units (length units) place unit refl within is;
@@ -130,10 +145,12 @@ named_here units name place unit within is later named = record {
 
 -- ---- Images that were made
 
-pub made_at : (system : System) (made : List Made) (place unit : ℕ) (params : List ℤ) (one : Made) → place < length made → one ≡ get_or made place one → one.unit ≡ unit → one.params.items ≡ params → AreMade system made → IsCompiled system unit params one.image.value
+pub made_at : (system : System) (made : List Made) (place unit : ℕ) (params : List ℤ) (one : Made) → place < length made → one ≡ get_or made place one
+    → one.unit ≡ unit → one.params.items ≡ params → AreMade system made → IsCompiled system unit params one.image.value
 made_at system [] place unit params one within is same_unit same_params are = absurd (omega (arith, within))
 made_at system (first ∷ made) zero unit params one within is same_unit same_params are =
-    let here : IsCompiled system one.unit one.params.items one.image.value = subst (λ (m : Made). IsCompiled system m.unit m.params.items m.image.value) (sym is) are.0 in
+    let here : IsCompiled system one.unit one.params.items one.image.value =
+    subst (λ (m : Made). IsCompiled system m.unit m.params.items m.image.value) (sym is) are.0 in
     subst (λ n. IsCompiled system n params one.image.value) same_unit (subst (λ xs. IsCompiled system one.unit xs one.image.value) same_params here)
 made_at system (first ∷ made) (suc place) unit params one within is same_unit same_params are =
     made_at system made place unit params one (omega (arith, within)) is same_unit same_params are.1

@@ -42,7 +42,8 @@ position_map test f (x ∷ xs) = ap (λ later. cond (not (test (f x))) (1 + late
 -- ---- Places by instance
 
 module _ (system : System) where
-  start_there : (instances : List Instance) (count n : ℕ) (instance : Instance) → slice_get instances n ≡ Some instance → (start : ℕ) × (slice_get (starts_from system count instances) n ≡ Some start)
+  start_there : (instances : List Instance) (count n : ℕ) (instance : Instance) → slice_get instances n ≡ Some instance
+      → (start : ℕ) × (slice_get (starts_from system count instances) n ≡ Some start)
   start_there [] count n instance is = absurd (cc)
   start_there (first ∷ instances) count zero instance is = (count, refl)
   start_there (first ∷ instances) count (suc n) instance is = start_there instances (count + output_count (unit_of_instance system first)) n instance is
@@ -56,7 +57,9 @@ module _ (system : System) where
 
   -- Lists that have as many for each instance as this has outputs.
   module _ {A : Type 0} (f : Instance → List A) (same : (instance : Instance) → length (f instance) ≡ output_count (unit_of_instance system instance)) where
-    at_start : (instances : List Instance) (count n k start d : ℕ) (instance : Instance) (y : A) → slice_get instances n ≡ Some instance → slice_get (starts_from system count instances) n ≡ Some start → start ≡ count + d → slice_get (f instance) k ≡ Some y → slice_get (flat_map f instances) (d + k) ≡ Some y
+    at_start : (instances : List Instance) (count n k start d : ℕ) (instance : Instance) (y : A) → slice_get instances n ≡ Some instance
+        → slice_get (starts_from system count instances) n ≡ Some start → start ≡ count + d → slice_get (f instance) k ≡ Some y
+        → slice_get (flat_map f instances) (d + k) ≡ Some y
     at_start [] count n k start d instance y is start_is sum at = absurd (cc)
     at_start (first ∷ instances) count zero k start d instance y is start_is sum at =
         let one : first ≡ instance = cc in
@@ -86,7 +89,8 @@ module _ (system : System) (plain : HasNoEvents system) (differ : NamesDiffer sy
   abbrev types_of : Instance → List Ty
   types_of instance = types_by (unit_of_instance system instance)
 
-  ports_by : (instance : Instance) (given : Option Unit) → unit_of_instance system instance ≡ given → length (map (λ (output : Port). port_of instance output.name) (outputs_in given)) ≡ output_count given
+  ports_by : (instance : Instance) (given : Option Unit) → unit_of_instance system instance ≡ given
+      → length (map (λ (output : Port). port_of instance output.name) (outputs_in given)) ≡ output_count given
   ports_by instance None is = refl
   ports_by instance (Some unit) is =
       let unit_known = named_holds Known system.units instance.unit unit known is in
@@ -107,11 +111,13 @@ module _ (system : System) (plain : HasNoEvents system) (differ : NamesDiffer sy
   abbrev types_in : Member → List Ty
   types_in member = map (λ (output : Output). output.ty) member.component.unit.outputs
 
-  one_types : (instance : Instance) (given : Option Unit) (members : List Member) → flat_map types_in (cons_option (member_with system instance given) members) ≡ types_by given ++ flat_map types_in members
+  one_types : (instance : Instance) (given : Option Unit) (members : List Member)
+      → flat_map types_in (cons_option (member_with system instance given) members) ≡ types_by given ++ flat_map types_in members
   one_types instance None members = refl
   one_types instance (Some unit) members = refl
 
-  all_types : (instances : List Instance) → flat_map types_in (filter_map (λ instance. member_with system instance (unit_of_instance system instance)) instances) ≡ flat_map types_of instances
+  all_types : (instances : List Instance)
+      → flat_map types_in (filter_map (λ instance. member_with system instance (unit_of_instance system instance)) instances) ≡ flat_map types_of instances
   all_types [] = refl
   all_types (instance ∷ instances) =
       one_types instance (unit_of_instance system instance) (filter_map (λ other. member_with system other (unit_of_instance system other)) instances)
@@ -129,7 +135,8 @@ module _ (system : System) (plain : HasNoEvents system) (differ : NamesDiffer sy
     pub is_place : slice_get (outputs_of system) (place_of system port) ≡ Some port
     pub is_type : slice_get (types_of_places (composition_of system)) (place_of system port) ≡ Some made.ty
 
-  module _ (instance : Instance) (unit : Unit) (made : Output) (instance_has : Has system.instances instance) (unit_is : unit_of_instance system instance ≡ Some unit) (has : Has unit.outputs made) where
+  module _ (instance : Instance) (unit : Unit) (made : Output) (instance_has : Has system.instances instance)
+      (unit_is : unit_of_instance system instance ≡ Some unit) (has : Has unit.outputs made) where
     abbrev port : PortName
     port = port_of instance made.name
 

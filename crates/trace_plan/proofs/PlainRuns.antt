@@ -23,7 +23,8 @@ use Rattle.unit_tree.specs.declared.system.Instance.{Instance}
 use Rattle.unit_tree.specs.declared.system.System.{System}
 use Rattle.unit_tree.specs.declared.unit.Unit.{Unit}
 use Rattle.run_laws.proofs.PlainOrders.{plain_of, plain_named, named_has}
-use Rattle.trace_plan.proofs.SystemLines.{unit_decimals, zero_count, row_count, stop_in_range, longest_in_range, stop_length, longest_length, instance_there, units_declared, few_instances}
+use Rattle.trace_plan.proofs.SystemLines.{unit_decimals, zero_count, row_count, stop_in_range, longest_in_range, stop_length, longest_length, instance_there}
+use Rattle.trace_plan.proofs.SystemLines.{units_declared, few_instances}
 use Rattle.list_laws.proofs.Members.{Has}
 
 -- ---- The plain form keeps the numbers and the instances
@@ -32,7 +33,9 @@ same_resolution : (system : System) (given : Option Unit) → unit_resolution (o
 same_resolution system None = refl
 same_resolution system (Some unit) = refl
 
-resolutions : (system : System) (instances : List Instance) → map (λ instance. unit_resolution (unit_of_instance (plain_of system) instance)) instances ≡ map (λ instance. unit_resolution (unit_of_instance system instance)) instances
+resolutions : (system : System) (instances : List Instance)
+    → map (λ instance. unit_resolution (unit_of_instance (plain_of system) instance)) instances
+    ≡ map (λ instance. unit_resolution (unit_of_instance system instance)) instances
 resolutions system [] = refl
 resolutions system (instance ∷ instances) =
     ap (λ first. first ∷ map (λ other. unit_resolution (unit_of_instance (plain_of system) other)) instances)
@@ -43,7 +46,8 @@ declared_too : (given : Option Unit) → is_none given ≡ false → is_none (op
 declared_too None is = is
 declared_too (Some unit) is = refl
 
-all_declared : (system : System) (instances : List Instance) → AllByRecursion (λ instance. is_none (unit_of_instance system instance) ≡ false) instances → AllByRecursion (λ instance. is_none (unit_of_instance (plain_of system) instance) ≡ false) instances
+all_declared : (system : System) (instances : List Instance) → AllByRecursion (λ instance. is_none (unit_of_instance system instance) ≡ false) instances
+    → AllByRecursion (λ instance. is_none (unit_of_instance (plain_of system) instance) ≡ false) instances
 all_declared system [] all = tt
 all_declared system (instance ∷ instances) all = (
   ap is_none (plain_named system.units instance.unit) ∙ declared_too (unit_of_instance system instance) all.0,
@@ -59,7 +63,8 @@ pub record Alike (system plain : System) : Type 0 where
   pub zeros : plain.zero ≡ system.zero
   pub rows : plain.rows ≡ system.rows
   pub resolution : resolution_of plain ≡ resolution_of system
-  pub declared : AllByRecursion (λ instance. is_none (unit_of_instance system instance) ≡ false) system.instances → AllByRecursion (λ instance. is_none (unit_of_instance plain instance) ≡ false) system.instances
+  pub declared : AllByRecursion (λ instance. is_none (unit_of_instance system instance) ≡ false) system.instances
+      → AllByRecursion (λ instance. is_none (unit_of_instance plain instance) ≡ false) system.instances
 
 alike_by : (system : System) (told : Bool) → Alike system (cond told (plain_of system) system)
 alike_by system true = record {
@@ -72,21 +77,26 @@ alike_by system true = record {
   resolution = ap (fold max 0) (resolutions system system.instances);
   declared = all_declared system system.instances;
 }
-alike_by system false = record { version = refl; instances = refl; stop = refl; longest = refl; zeros = refl; rows = refl; resolution = refl; declared = λ all. all }
+alike_by system false =
+    record { version = refl; instances = refl; stop = refl; longest = refl; zeros = refl; rows = refl; resolution = refl; declared = λ all. all }
 
 pub alike : (system : System) → Alike system (plain_form system)
 alike system = alike_by system (system.version == 2)
 
 -- ---- Members
 
-member_there : (system : System) (instance : Instance) (given : Option Unit) (members : List Member) → is_none given ≡ false → length (cons_option (member_with system instance given) members) ≡ 1 + length members
+member_there : (system : System) (instance : Instance) (given : Option Unit) (members : List Member) → is_none given ≡ false
+    → length (cons_option (member_with system instance given) members) ≡ 1 + length members
 member_there system instance None members is = absurd (cc)
 member_there system instance (Some unit) members is = omega arith
 
-counted : (system : System) (instances : List Instance) → AllByRecursion (λ instance. is_none (unit_of_instance system instance) ≡ false) instances → length (filter_map (λ instance. member_with system instance (unit_of_instance system instance)) instances) ≡ length instances
+counted : (system : System) (instances : List Instance) → AllByRecursion (λ instance. is_none (unit_of_instance system instance) ≡ false) instances
+    → length (filter_map (λ instance. member_with system instance (unit_of_instance system instance)) instances) ≡ length instances
 counted system [] all = refl
 counted system (instance ∷ instances) all =
-    let here = member_there system instance (unit_of_instance system instance) (filter_map (λ other. member_with system other (unit_of_instance system other)) instances) all.0 in
+    let here =
+    member_there system instance (unit_of_instance system instance)
+    (filter_map (λ other. member_with system other (unit_of_instance system other)) instances) all.0 in
     let rest = counted system instances all.1 in
     omega (arith, here, rest)
 
@@ -99,7 +109,8 @@ some_instance system kept = by system.instances refl
 
 -- ---- The resolution
 
-resolution_by : (system : System) (ranged : IsRanged system) (given : Option Unit) → ((unit : Unit) → given ≡ Some unit → Has system.units unit) → unit_resolution given ≤ 9
+resolution_by : (system : System) (ranged : IsRanged system) (given : Option Unit) → ((unit : Unit) → given ≡ Some unit → Has system.units unit)
+    → unit_resolution given ≤ 9
 resolution_by system ranged None declared = omega arith
 resolution_by system ranged (Some unit) declared = of_unit unit.resolution refl
   where
@@ -107,11 +118,13 @@ resolution_by system ranged (Some unit) declared = of_unit unit.resolution refl
     of_unit None is = omega arith
     of_unit (Some decimals) is = unit_decimals system ranged unit (declared unit refl) decimals is
 
-greatest : (system : System) (ranged : IsRanged system) (instances : List Instance) (most : ℕ) → most ≤ 9 → fold max most (map (λ instance. unit_resolution (unit_of_instance system instance)) instances) ≤ 9
+greatest : (system : System) (ranged : IsRanged system) (instances : List Instance) (most : ℕ) → most ≤ 9
+    → fold max most (map (λ instance. unit_resolution (unit_of_instance system instance)) instances) ≤ 9
 greatest system ranged [] most low = low
 greatest system ranged (instance ∷ instances) most low =
     let here = resolution_by system ranged (unit_of_instance system instance) (λ unit is. named_has system.units instance.unit unit is) in
-    greatest system ranged instances (max most (unit_resolution (unit_of_instance system instance))) (both most (unit_resolution (unit_of_instance system instance)) low here)
+    greatest system ranged instances (max most (unit_resolution (unit_of_instance system instance)))
+    (both most (unit_resolution (unit_of_instance system instance)) low here)
   where
     both : (one other : ℕ) → one ≤ 9 → other ≤ 9 → max one other ≤ 9
     both one other low low' = omega (arith, low, low')
@@ -121,15 +134,18 @@ resolution_low system ranged = greatest system ranged system.instances 0 (omega 
 
 -- ---- Lengths in ticks
 
-within : (least ticks : ℕ) (above : Bool) → nat_lt (10 ^ 15) ticks ≡ above → is_length least (within_run (Some ticks)) ≡ true → (within_run (Some ticks) ≡ Ok ticks) × (ticks ≤ 10 ^ 15)
+within : (least ticks : ℕ) (above : Bool) → nat_lt (10 ^ 15) ticks ≡ above → is_length least (within_run (Some ticks)) ≡ true
+    → (within_run (Some ticks) ≡ Ok ticks) × (ticks ≤ 10 ^ 15)
 within least ticks true above is = absurd (cc)
 within least ticks false above is = (rw (above) refl, grind (arith, nat_tests, above))
 
-within_given : (least : ℕ) (given : Option ℕ) → is_length least (within_run given) ≡ true → (within_run given ≡ Ok (unwrap_or given 0)) × (unwrap_or given 0 ≤ 10 ^ 15)
+within_given : (least : ℕ) (given : Option ℕ) → is_length least (within_run given) ≡ true
+    → (within_run given ≡ Ok (unwrap_or given 0)) × (unwrap_or given 0 ≤ 10 ^ 15)
 within_given least None is = absurd (cc)
 within_given least (Some ticks) is = within least ticks (nat_lt (10 ^ 15) ticks) refl is
 
-length_by : (least : ℕ) (negative : Bool) (given : Option ℕ) → is_length least (cond negative (Err NotDecimal) (within_run given)) ≡ true → (cond negative (Err NotDecimal) (within_run given) ≡ Ok (unwrap_or given 0)) × (unwrap_or given 0 ≤ 10 ^ 15)
+length_by : (least : ℕ) (negative : Bool) (given : Option ℕ) → is_length least (cond negative (Err NotDecimal) (within_run given)) ≡ true
+    → (cond negative (Err NotDecimal) (within_run given) ≡ Ok (unwrap_or given 0)) × (unwrap_or given 0 ≤ 10 ^ 15)
 length_by least true given is = absurd (cc)
 length_by least false given is = within_given least given is
 
@@ -144,7 +160,8 @@ decimals_of (literal.Truth told) low = tt
 decimals_of (literal.Number number decimals) low = low
 
 module _ (system : System) (ranged : IsRanged system) (kept : IsWellFormed system) where
-  readable_by : (given : Option Literal) → ((seconds : Literal) → given ≡ Some seconds → IsReadable (resolution_of system) seconds) → IfSome given (IsReadable (resolution_of system))
+  readable_by : (given : Option Literal) → ((seconds : Literal) → given ≡ Some seconds → IsReadable (resolution_of system) seconds)
+      → IfSome given (IsReadable (resolution_of system))
   readable_by None each = tt
   readable_by (Some seconds) each = each seconds refl
 
@@ -160,7 +177,8 @@ module _ (system : System) (ranged : IsRanged system) (kept : IsWellFormed syste
     length = length_of 1 (resolution_of system) seconds (longest_length system kept seconds is);
   })
 
-  ticks_low : (default resolution : ℕ) (given : Option Literal) → default ≤ 10 ^ 15 → IfSome given (IsReadable resolution) → ticks_or default resolution given ≤ 10 ^ 15
+  ticks_low : (default resolution : ℕ) (given : Option Literal) → default ≤ 10 ^ 15 → IfSome given (IsReadable resolution)
+      → ticks_or default resolution given ≤ 10 ^ 15
   ticks_low default resolution None low is = low
   ticks_low default resolution (Some seconds) low is = is.length.most
 
@@ -177,7 +195,8 @@ module _ (system : System) (ranged : IsRanged system) (kept : IsWellFormed syste
       by false = omega arith
   zeros_low (Some count) is version = zero_count system ranged count is
 
-  rows_between : (given : Option ℕ) → system.rows ≡ given → (version instances : ℕ) → 1 ≤ instances → instances ≤ 64 → (1 ≤ unwrap_or given (default_rows version instances)) × (unwrap_or given (default_rows version instances) ≤ 100000)
+  rows_between : (given : Option ℕ) → system.rows ≡ given → (version instances : ℕ) → 1 ≤ instances → instances ≤ 64
+      → (1 ≤ unwrap_or given (default_rows version instances)) × (unwrap_or given (default_rows version instances) ≤ 100000)
   rows_between None is version instances some few = by (version == 2)
     where
       shared : 1 ≤ 1000000 / instances
@@ -199,11 +218,18 @@ module _ (system : System) (ranged : IsRanged system) (kept : IsWellFormed syste
   pub bounded : IsBounded (run_of system)
   bounded =
       let resolution = sym both.resolution in
-      let stop_here = subst (λ r. IfSome plain.stop (IsReadable r)) resolution (subst (λ given. IfSome given (IsReadable (resolution_of system))) (sym both.stop) stop_readable) in
-      let longest_here = subst (λ r. IfSome plain.longest (IsReadable r)) resolution (subst (λ given. IfSome given (IsReadable (resolution_of system))) (sym both.longest) longest_readable) in
+      let stop_here =
+      subst (λ r. IfSome plain.stop (IsReadable r)) resolution
+      (subst (λ given. IfSome given (IsReadable (resolution_of system))) (sym both.stop) stop_readable) in
+      let longest_here =
+      subst (λ r. IfSome plain.longest (IsReadable r)) resolution
+      (subst (λ given. IfSome given (IsReadable (resolution_of system))) (sym both.longest) longest_readable) in
       let stop_low = ticks_low 0 (resolution_of plain) plain.stop (omega arith) stop_here in
       let count = member_count in
-      let rows = rows_between plain.rows (sym both.rows) plain.version (length plain.instances) (subst (λ instances. 1 ≤ length instances) (sym both.instances) (some_instance system kept)) (subst (λ instances. length instances ≤ 64) (sym both.instances) (few_instances system kept)) in
+      let rows =
+      rows_between plain.rows (sym both.rows) plain.version (length plain.instances)
+      (subst (λ instances. 1 ≤ length instances) (sym both.instances) (some_instance system kept))
+      (subst (λ instances. length instances ≤ 64) (sym both.instances) (few_instances system kept)) in
       record {
         stop = stop_low;
         longest = ticks_low (ticks_or 0 (resolution_of plain) plain.stop) (resolution_of plain) plain.longest stop_low longest_here;
@@ -237,7 +263,8 @@ module _ (system : System) (ranged : IsRanged system) (kept : IsWellFormed syste
     pub plain_low : resolution ≤ 9
     plain_low = subst (λ r. r ≤ 9) (sym (resolution_is ∙ ap resolution_of is ∙ both.resolution)) (resolution_low system ranged)
 
-    readable_here : (given : System → Option Literal) → given plain ≡ given system → IfSome (given system) (IsReadable (resolution_of system)) → IfSome (given made) (IsReadable resolution)
+    readable_here : (given : System → Option Literal) → given plain ≡ given system → IfSome (given system) (IsReadable (resolution_of system))
+        → IfSome (given made) (IsReadable resolution)
     readable_here given same readable =
         subst (λ r. IfSome (given made) (IsReadable r)) (sym (resolution_is ∙ ap resolution_of is ∙ both.resolution))
         (subst (λ some. IfSome some (IsReadable (resolution_of system))) (sym (ap given is ∙ same)) readable)

@@ -48,7 +48,8 @@ module _ (plan : Inside) (keeps : IsPlan plan) (seen : Planned) (is : planned pl
     factor_at member member_is =
         let beside = zip_at IsFitted seen.run.members plan.fitted.items instance member each member_is in
         let told : slice_get plan.factors.items instance ≡ Some beside.other.factor =
-        ap (λ xs. slice_get xs instance) keeps.factors ∙ slice_get-map (λ (one : Fitted). one.factor) plan.fitted.items instance ∙ ap (option_map (λ (one : Fitted). one.factor)) beside.is in
+        ap (λ xs. slice_get xs instance) keeps.factors ∙ slice_get-map (λ (one : Fitted). one.factor) plan.fitted.items instance
+        ∙ ap (option_map (λ (one : Fitted). one.factor)) beside.is in
         let same : factor ≡ beside.other.factor = got ∙ get_or_from_slice_get plan.factors.items instance beside.other.factor factor told in
         let fits = beside.related in
         (same ∙ fits.factor, subst (λ n. 1 ≤ n) (sym same) fits.least, subst (λ n. n ≤ 10 ^ 9) (sym same) fits.coarsest)

@@ -1,5 +1,6 @@
 -- An output of a judged system, and what it is in what is run of it.
-use Rattle.std.proofs.Common.{◌≡◌, ◌≤◌, ◌<◌, ℕ, zero, suc, ◌+◌, ◌*◌, true, false, cond, ℤ, pos, List, [], ◌∷◌, ◌++◌, map, length, Option, Some, None, inl, inr, refl, ap, sym, subst, ◌∙◌, arith}
+use Rattle.std.proofs.Common.{◌≡◌, ◌≤◌, ◌<◌, ℕ, zero, suc, ◌+◌, ◌*◌, true, false, cond, ℤ, pos, List, [], ◌∷◌, ◌++◌, map, length, Option, Some, None, inl, inr}
+use Rattle.std.proofs.Common.{refl, ap, sym, subst, ◌∙◌, arith}
 use Rattle.std.proofs.lemmas.List.{length-map}
 use Rattle.std.proofs.lemmas.Option.{slice_get_within}
 use Rattle.std.specs.Prelude.{slice_get, is_none, ◌==◌}
@@ -26,7 +27,8 @@ use Rattle.run_laws.proofs.EventLaws.{version_1_without_events, plain_form_1, pl
 use Rattle.language_laws.proofs.NameLaws.{NamesDiffer, PortsDiffer, ports_differ, names_differ, found}
 use Rattle.run_laws.proofs.PlaceOrders.{has_in}
 use Rattle.language_laws.proofs.PlainNames.{each_has, map_has, of_output, of_event, plain_port_names}
-use Rattle.run_laws.proofs.PlainOrders.{Declared, declared, output_is, named_has, plain_of, plain_one, ones, twos, plain_ports, becomes, plain_unit_is, plain_names_differ}
+use Rattle.run_laws.proofs.PlainOrders.{Declared, declared, output_is, named_has, plain_of, plain_one, ones, twos, plain_ports, becomes, plain_unit_is}
+use Rattle.run_laws.proofs.PlainOrders.{plain_names_differ}
 use Rattle.run_laws.proofs.PortLaws.{output_has}
 use Rattle.trace_plan.proofs.PlacedOutputs.{Placed, placed}
 use Rattle.trace_plan.proofs.PlainRuns.{alike}
@@ -68,7 +70,8 @@ module _ (system : System) (ranged : IsRanged system) (kept : IsWellFormed syste
   module _ (plain : HasNoEvents system) where
     without_events : (unit : Unit) → Has system.units unit → output_ports unit ≡ map of_output unit.outputs ++ []
     without_events unit has =
-        ap (λ (events : List EventOut). map of_output unit.outputs ++ map of_event events) (each_has (λ (u : Unit). (u.events_in ≡ []) × (u.events_out ≡ [])) system.units unit plain has).1
+        ap (λ (events : List EventOut). map of_output unit.outputs ++ map of_event events)
+        (each_has (λ (u : Unit). (u.events_in ≡ []) × (u.events_out ≡ [])) system.units unit plain has).1
 
     has_nil : {A : Type 0} (xs : List A) (x : A) → Has (xs ++ []) x → Has xs x
     has_nil [] x has = has
@@ -79,7 +82,9 @@ module _ (system : System) (ranged : IsRanged system) (kept : IsWellFormed syste
     shown_first port output is =
         let there = declared_port port output is in
         let d = there.0 in
-        let from = map_has of_output d.unit.outputs d.output (has_nil (map of_output d.unit.outputs) d.output (subst (λ ports. Has ports d.output) (without_events d.unit d.unit_has) d.has)) in
+        let from =
+        map_has of_output d.unit.outputs d.output
+        (has_nil (map of_output d.unit.outputs) d.output (subst (λ ports. Has ports d.output) (without_events d.unit d.unit_has) d.has)) in
         let at = placed system plain (names_differ system kept) d.instance d.unit from.one d.instance_has d.unit_is from.has in
         let same : port_of d.instance from.one.name ≡ port = ap (λ (o : Port). port_of d.instance o.name) from.is ∙ d.is in
         let all : of_output from.one ≡ output = from.is ∙ there.1 in
@@ -104,7 +109,9 @@ module _ (system : System) (ranged : IsRanged system) (kept : IsWellFormed syste
   differ = plain_names_differ system ranged kept
 
   -- The word of an event is no first output: before it stands what tells of an event.
-  first_by : (unit : Unit) (port : Port) (made : Output) → Has system.units unit → Has (output_ports unit) port → port.is_event ≡ true → made.name ≡ port.name → (outputs : List Output) (events : List EventOut) → unit.outputs ≡ outputs → unit.events_out ≡ events → (others : List Output) → map (plain_output unit) outputs ++ flat_map (plain_outputs unit) events ≡ made ∷ others → ⊥
+  first_by : (unit : Unit) (port : Port) (made : Output) → Has system.units unit → Has (output_ports unit) port → port.is_event ≡ true → made.name ≡ port.name
+      → (outputs : List Output) (events : List EventOut) → unit.outputs ≡ outputs → unit.events_out ≡ events → (others : List Output)
+      → map (plain_output unit) outputs ++ flat_map (plain_outputs unit) events ≡ made ∷ others → ⊥
   first_by unit port made unit_has has event name [] [] outputs_are events_are others is = absurd (cc)
   first_by unit port made unit_has has event name [] (first ∷ events) outputs_are events_are others is =
       let said : presence_name first.name ≡ made.name = cc in
@@ -112,11 +119,14 @@ module _ (system : System) (ranged : IsRanged system) (kept : IsWellFormed syste
   first_by unit port made unit_has has event name (first ∷ outputs) events outputs_are events_are others is =
       let said : first.name ≡ made.name = cc in
       let distinct = each_has (λ u. Distinct (output_names u)) system.units unit apart.outputs unit_has in
-      let has_first : Has (output_ports unit) (of_output first) = has_front (map of_output unit.outputs) (map of_event unit.events_out) (of_output first) (has_map of_output unit.outputs first (subst (λ all. Has all first) (sym outputs_are) (inl refl))) in
+      let has_first : Has (output_ports unit) (of_output first) =
+      has_front (map of_output unit.outputs) (map of_event unit.events_out) (of_output first)
+      (has_map of_output unit.outputs first (subst (λ all. Has all first) (sym outputs_are) (inl refl))) in
       let one = found (λ (p : Port). p.name) (output_ports unit) port distinct has in
       let other = found (λ (p : Port). p.name) (output_ports unit) (of_output first) distinct has_first in
       let same_name : first.name ≡ port.name = said ∙ name in
-      let same : of_output first ≡ port = some_same (of_output first) port (sym other ∙ ap (λ wanted. find (λ (p : Port). bytes_eq p.name wanted) (output_ports unit)) same_name ∙ one) in
+      let same : of_output first ≡ port =
+      some_same (of_output first) port (sym other ∙ ap (λ wanted. find (λ (p : Port). bytes_eq p.name wanted) (output_ports unit)) same_name ∙ one) in
       let none : false ≡ true = ap (λ (p : Port). p.is_event) same ∙ event in
       absurd (cc)
 
@@ -126,7 +136,9 @@ module _ (system : System) (ranged : IsRanged system) (kept : IsWellFormed syste
       let d = there.0 in
       let unit = plain_unit d.unit in
       let whole = (becomes d.unit d.output d.has).whole in
-      let from = map_has of_output (ones d.unit ++ twos d.unit) (plain_one d.unit d.output) (subst (λ ports. Has ports (plain_one d.unit d.output)) (plain_ports d.unit) whole) in
+      let from =
+      map_has of_output (ones d.unit ++ twos d.unit) (plain_one d.unit d.output)
+      (subst (λ ports. Has ports (plain_one d.unit d.output)) (plain_ports d.unit) whole) in
       let name : from.one.name ≡ d.output.name = ap (λ (o : Port). o.name) from.is in
       let unit_is = plain_unit_is system ranged kept d.instance d.unit d.unit_is in
       let at = placed plain without differ d.instance unit from.one d.instance_has unit_is from.has in
@@ -140,7 +152,8 @@ module _ (system : System) (ranged : IsRanged system) (kept : IsWellFormed syste
         type_is = ap (λ (o : Port). o.ty) from.is ∙ ap (λ (o : Port). o.ty) there.1;
         behind = λ event.
             not_first (ones d.unit ++ twos d.unit) (output_number plain port) from.one here.is_output
-            (λ others cut. first_by d.unit d.output from.one d.unit_has d.has (ap (λ (o : Port). o.is_event) there.1 ∙ event) name d.unit.outputs d.unit.events_out refl refl others cut);
+            (λ others cut. first_by d.unit d.output from.one d.unit_has d.has
+            (ap (λ (o : Port). o.is_event) there.1 ∙ event) name d.unit.outputs d.unit.events_out refl refl others cut);
       }
 
 -- ---- Both versions
@@ -160,7 +173,12 @@ module _ (system : System) (ranged : IsRanged system) (kept : IsWellFormed syste
         (record { no_events = none; differ = names_differ system kept; shown = shown_first system ranged kept none port output is })
     | inr second ↦
         subst (λ version. ShownOf (cond (version == 2) (plain_of system) system) port output) (sym second)
-        (record { no_events = plain_of_without_events system; differ = plain_names_differ system ranged kept; shown = shown_second system ranged kept port output is })
+        (record {
+          no_events = plain_of_without_events system;
+          differ = plain_names_differ system ranged kept;
+          shown =
+              shown_second system ranged kept port output is;
+        })
   ]
 
   abbrev run : System

@@ -35,7 +35,8 @@ mapped Q [] each = tt
 mapped Q (site ∷ all) each = (each.0, mapped Q all each.1)
 
 module _ (system : System) where
-  kept_line : (test : LineForm → Bool) → filter_map (number_where (λ site. test site.line)) (enumerate_from 1 (sites_of system)) ≡ [] → (line : LineForm) → Has (canonical_forms system) line → test line ≡ false
+  kept_line : (test : LineForm → Bool) → filter_map (number_where (λ site. test site.line)) (enumerate_from 1 (sites_of system)) ≡ [] → (line : LineForm)
+      → Has (canonical_forms system) line → test line ≡ false
   kept_line test none line has =
       let all = mapped (λ l. test l ≡ false) (sites_of system) (all_keep (λ site. test site.line) 1 (sites_of system) none) in
       each_has (λ l. test l ≡ false) (canonical_forms system) line (subst (AllByRecursion (λ l. test l ≡ false)) (sites_are system) all) has
@@ -43,7 +44,8 @@ module _ (system : System) where
   -- ---- The lines of the run's numbers
 
   abbrev parts_to_wires : List Part
-  parts_to_wires = map (λ unit. parts.HasUnit unit.name (unit_parts unit)) system.units ++ map parts.HasInstance system.instances ++ map parts.Connects system.wires
+  parts_to_wires =
+      map (λ unit. parts.HasUnit unit.name (unit_parts unit)) system.units ++ map parts.HasInstance system.instances ++ map parts.Connects system.wires
 
   abbrev stop : List Part
   stop = optional parts.Stop system.stop
@@ -102,7 +104,8 @@ module _ (system : System) where
     in_range : (line : LineForm) → Has (canonical_forms system) line → IsInRange line
     in_range line has = each_has IsInRange (canonical_forms system) line ranged.numbers has
 
-    resolution_line : (unit : Unit) → Has system.units unit → (decimals : ℕ) → unit.resolution ≡ Some decimals → Has (canonical_forms system) (form.Resolution decimals)
+    resolution_line : (unit : Unit) → Has system.units unit → (decimals : ℕ) → unit.resolution ≡ Some decimals
+        → Has (canonical_forms system) (form.Resolution decimals)
     resolution_line unit declared decimals is =
         let part : UnitPart = parts.Resolution decimals in
         let r : List UnitPart = optional parts.Resolution unit.resolution in
@@ -163,7 +166,8 @@ module _ (system : System) where
     abbrev Named : Site → Type 0
     Named site = misnames system site.scope site.line ≡ false
 
-    all_named : (earlier : List LineForm) (instances : List Instance) → Hold Named TopScope earlier (map instance_head instances) → AllByRecursion (λ instance. is_none (unit_of_instance system instance) ≡ false) instances
+    all_named : (earlier : List LineForm) (instances : List Instance) → Hold Named TopScope earlier (map instance_head instances)
+        → AllByRecursion (λ instance. is_none (unit_of_instance system instance) ≡ false) instances
     all_named earlier [] hold = tt
     all_named earlier (instance ∷ instances) hold = (hold.0, all_named (earlier ++ (form.Instance instance.name instance.unit ∷ [])) instances hold.2)
 
@@ -192,16 +196,19 @@ module _ (system : System) where
     tally_both one other = sum_by-append (λ x. cond (are_alike any_instance x) 1 0) one other
 
     -- The line of an instance counts as one.
-    next_tally : (earlier : List LineForm) (instance : Instance) → tally (flat_map becomes (earlier ++ (form.Instance instance.name instance.unit ∷ []))) ≡ tally (flat_map becomes earlier) + 1
+    next_tally : (earlier : List LineForm) (instance : Instance)
+        → tally (flat_map becomes (earlier ++ (form.Instance instance.name instance.unit ∷ []))) ≡ tally (flat_map becomes earlier) + 1
     next_tally earlier instance =
         ap tally (flat_map-append becomes earlier (form.Instance instance.name instance.unit ∷ []))
         ∙ tally_both (flat_map becomes earlier) (form.Instance instance.name instance.unit ∷ [])
 
-    counted : (earlier : List LineForm) (instances : List Instance) → tally (flat_map becomes earlier) ≤ 64 → Hold Few TopScope earlier (map instance_head instances) → tally (flat_map becomes earlier) + length instances ≤ 64
+    counted : (earlier : List LineForm) (instances : List Instance) → tally (flat_map becomes earlier) ≤ 64
+        → Hold Few TopScope earlier (map instance_head instances) → tally (flat_map becomes earlier) + length instances ≤ 64
     counted earlier [] low hold = omega (arith, low)
     counted earlier (instance ∷ instances) low hold =
         let line : LineForm = form.Instance instance.name instance.unit in
-        let here : tally (flat_map becomes (earlier ++ (line ∷ []))) ≤ 64 = below 64 (tally (flat_map becomes (earlier ++ (line ∷ [])))) (or_false _ _ hold.0).0 in
+        let here : tally (flat_map becomes (earlier ++ (line ∷ []))) ≤ 64 =
+        below 64 (tally (flat_map becomes (earlier ++ (line ∷ [])))) (or_false _ _ hold.0).0 in
         let rest = counted (earlier ++ (line ∷ [])) instances here hold.2 in
         omega (arith, rest, next_tally earlier instance)
 
@@ -209,7 +216,8 @@ module _ (system : System) where
     few_from earlier [] hold = omega arith
     few_from earlier (instance ∷ instances) hold =
         let line : LineForm = form.Instance instance.name instance.unit in
-        let here : tally (flat_map becomes (earlier ++ (line ∷ []))) ≤ 64 = below 64 (tally (flat_map becomes (earlier ++ (line ∷ [])))) (or_false _ _ hold.0).0 in
+        let here : tally (flat_map becomes (earlier ++ (line ∷ []))) ≤ 64 =
+        below 64 (tally (flat_map becomes (earlier ++ (line ∷ [])))) (or_false _ _ hold.0).0 in
         let rest = counted (earlier ++ (line ∷ [])) instances here hold.2 in
         omega (arith, rest, next_tally earlier instance)
 

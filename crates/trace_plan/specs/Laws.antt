@@ -16,7 +16,8 @@ HasTitles system = AllByRecursion (IsOutput system) (columns_of system)
 -- A row can be printed at any states, one for each member, where all outputs have words: each column has one of its type.
 abbrev pub HasRows : System → Type 0
 HasRows system =
-    (states : List (List ℤ)) (ports : Ports) → length states ≡ length (run_of system).members → IsAssignment (run_of system) states ports → list_all is_some ports ≡ true → AllByRecursion (HasWord (filter_map (λ word. word) ports)) (columns_of system)
+    (states : List (List ℤ)) (ports : Ports) → length states ≡ length (run_of system).members → IsAssignment (run_of system) states ports
+    → list_all is_some ports ≡ true → AllByRecursion (HasWord (filter_map (λ word. word) ports)) (columns_of system)
 
 -- A system in range that is well-formed has its header.
 abbrev pub HeadersCanBePrinted : Type 0

@@ -1,5 +1,6 @@
 -- Units that run as members: what one of them gives, what a change of one keeps, and units at their start.
-use Rattle.std.proofs.Common.{◌≡◌, ◌∙◌, ℕ, zero, suc, ◌+◌, ◌<◌, ◌≤◌, ℤ, List, [], ◌∷◌, ◌++◌, length, map, drop, get_or, set, Option, Some, None, refl, ap, sym, subst, arith, append_assoc, append-nil}
+use Rattle.std.proofs.Common.{◌≡◌, ◌∙◌, ℕ, zero, suc, ◌+◌, ◌<◌, ◌≤◌, ℤ, List, [], ◌∷◌, ◌++◌, length, map, drop, get_or, set, Option, Some, None, refl, ap, sym}
+use Rattle.std.proofs.Common.{subst, arith, append_assoc, append-nil}
 use Rattle.std.proofs.lemmas.List.{map-set, drop_more, drop_all, length-map}
 use Rattle.std.proofs.lemmas.Option.{slice_get-map, slice_get_within, same_Some}
 use Rattle.std.proofs.lemmas.Slice.Zip.{AllZip-long}
@@ -30,13 +31,15 @@ state_count component unit runs = runs.words.each_state ∙ ap (λ sizes. sizes.
 
 -- ---- All units
 
-states_had : (members : List Member) (units : List Running) → AllZip RunsMember members units → AllZip (λ member state. length state ≡ length member.component.unit.states) members (states_of units)
+states_had : (members : List Member) (units : List Running) → AllZip RunsMember members units
+    → AllZip (λ member state. length state ≡ length member.component.unit.states) members (states_of units)
 states_had [] [] all = tt
 states_had [] (unit ∷ units) all = absurd all
 states_had (member ∷ members) [] all = absurd all
 states_had (member ∷ members) (unit ∷ units) all = (state_count member.component unit all.0, states_had members units all.1)
 
-inputs_had : (members : List Member) (units : List Running) → AllZip RunsMember members units → AllZip (λ member words. length words ≡ length member.component.unit.inputs) members (inputs_of units)
+inputs_had : (members : List Member) (units : List Running) → AllZip RunsMember members units
+    → AllZip (λ member words. length words ≡ length member.component.unit.inputs) members (inputs_of units)
 inputs_had [] [] all = tt
 inputs_had [] (unit ∷ units) all = absurd all
 inputs_had (member ∷ members) [] all = absurd all
@@ -53,10 +56,12 @@ as_many run units runs = AllZip-long RunsMember run.members units runs
 
 -- ---- The unit of an instance
 
-state_at : (units : List Running) (instance : ℕ) (unit : Running) → slice_get units instance ≡ Some unit → slice_get (states_of units) instance ≡ Some unit.state
+state_at : (units : List Running) (instance : ℕ) (unit : Running) → slice_get units instance ≡ Some unit
+    → slice_get (states_of units) instance ≡ Some unit.state
 state_at units instance unit is = slice_get-map (λ (u : Running). u.state) units instance ∙ ap (option_map (λ (u : Running). u.state)) is
 
-inputs_at : (units : List Running) (instance : ℕ) (unit : Running) → slice_get units instance ≡ Some unit → slice_get (inputs_of units) instance ≡ Some unit.inputs
+inputs_at : (units : List Running) (instance : ℕ) (unit : Running) → slice_get units instance ≡ Some unit
+    → slice_get (inputs_of units) instance ≡ Some unit.inputs
 inputs_at units instance unit is = slice_get-map (λ (u : Running). u.inputs) units instance ∙ ap (option_map (λ (u : Running). u.inputs)) is
 
 -- A unit that is read at an instance, with its member.
@@ -67,7 +72,8 @@ pub record IsAt (members : List Member) (units : List Running) (instance : ℕ) 
   pub inputs_are : slice_get (inputs_of units) instance ≡ Some unit.inputs
   pub runs : IsRunOf member.component unit
 
-pub unit_at : (members : List Member) (units : List Running) (instance : ℕ) (unit : Running) → AllZip RunsMember members units → instance < length members → unit ≡ get_or units instance unit → IsAt members units instance unit
+pub unit_at : (members : List Member) (units : List Running) (instance : ℕ) (unit : Running) → AllZip RunsMember members units → instance < length members
+    → unit ≡ get_or units instance unit → IsAt members units instance unit
 unit_at [] units instance unit runs within is = absurd (omega (arith, within))
 unit_at (member ∷ members) [] instance unit runs within is = absurd runs
 unit_at (member ∷ members) (first ∷ units) zero unit runs within is = record {
@@ -98,9 +104,11 @@ still_one old new component keeps runs = record {
   };
 }
 
-pub still_run : (run : Composition) (units : List Running) (instance : ℕ) (old new : Running) → old ≡ get_or units instance old → KeepsSizes old new → RunMembers run units → RunMembers run (set units instance new)
+pub still_run : (run : Composition) (units : List Running) (instance : ℕ) (old new : Running) → old ≡ get_or units instance old → KeepsSizes old new
+    → RunMembers run units → RunMembers run (set units instance new)
 still_run run units instance old new is keeps runs =
-    zip_set RunsMember run.members units instance old new runs (λ member had. still_one old new member.component keeps (subst (IsRunOf member.component) (sym is) had))
+    zip_set RunsMember run.members units instance old new runs
+    (λ member had. still_one old new member.component keeps (subst (IsRunOf member.component) (sym is) had))
 
 -- Its state changes.
 pub states_with : (units : List Running) (instance : ℕ) (new : Running) → states_of (set units instance new) ≡ set (states_of units) instance new.state
@@ -114,11 +122,13 @@ set_same [] k x is = refl
 set_same (first ∷ xs) zero x is = ap (λ y. y ∷ xs) (sym (same_Some first x is))
 set_same (first ∷ xs) (suc k) x is = ap (λ ys. first ∷ ys) (set_same xs k x is)
 
-pub inputs_stay : (members : List Member) (units : List Running) (instance : ℕ) (old new : Running) → IsAt members units instance old → new.inputs ≡ old.inputs → inputs_of (set units instance new) ≡ inputs_of units
+pub inputs_stay : (members : List Member) (units : List Running) (instance : ℕ) (old new : Running) → IsAt members units instance old
+    → new.inputs ≡ old.inputs → inputs_of (set units instance new) ≡ inputs_of units
 inputs_stay members units instance old new at same =
     inputs_with units instance new ∙ ap (set (inputs_of units) instance) same ∙ set_same (inputs_of units) instance old.inputs at.inputs_are
 
-pub states_stay : (members : List Member) (units : List Running) (instance : ℕ) (old new : Running) → IsAt members units instance old → new.state ≡ old.state → states_of (set units instance new) ≡ states_of units
+pub states_stay : (members : List Member) (units : List Running) (instance : ℕ) (old new : Running) → IsAt members units instance old → new.state ≡ old.state
+    → states_of (set units instance new) ≡ states_of units
 states_stay members units instance old new at same =
     states_with units instance new ∙ ap (set (states_of units) instance) same ∙ set_same (states_of units) instance old.state at.state_is
 
@@ -133,14 +143,17 @@ index_set (first ∷ xs) zero x old default is = refl
 index_set (first ∷ xs) (suc k) x old default is = index_set xs k x old default is
 
 -- The state that an instance has after its unit changed.
-pub state_of_changed : (members : List Member) (units : List Running) (instance : ℕ) (old new : Running) → IsAt members units instance old → slice_index_or (states_of (set units instance new)) instance [] ≡ new.state
+pub state_of_changed : (members : List Member) (units : List Running) (instance : ℕ) (old new : Running) → IsAt members units instance old
+    → slice_index_or (states_of (set units instance new)) instance [] ≡ new.state
 state_of_changed members units instance old new at =
     ap (λ states. slice_index_or states instance []) (states_with units instance new) ∙ index_set (states_of units) instance new.state old.state [] at.state_is
 
-pub state_there : (members : List Member) (units : List Running) (instance : ℕ) (unit : Running) → IsAt members units instance unit → slice_index_or (states_of units) instance [] ≡ unit.state
+pub state_there : (members : List Member) (units : List Running) (instance : ℕ) (unit : Running) → IsAt members units instance unit
+    → slice_index_or (states_of units) instance [] ≡ unit.state
 state_there members units instance unit at = index_or (states_of units) instance unit.state [] at.state_is
 
-pub inputs_there : (members : List Member) (units : List Running) (instance : ℕ) (unit : Running) → IsAt members units instance unit → slice_index_or (inputs_of units) instance [] ≡ unit.inputs
+pub inputs_there : (members : List Member) (units : List Running) (instance : ℕ) (unit : Running) → IsAt members units instance unit
+    → slice_index_or (inputs_of units) instance [] ≡ unit.inputs
 inputs_there members units instance unit at = index_or (inputs_of units) instance unit.inputs [] at.inputs_are
 
 -- ---- Calls of a unit by its number
@@ -157,7 +170,9 @@ module _ (run : Composition) (units : List Running) (instance : ℕ) where
   abbrev of_member : ℕ → Option Member → Option Outcome
   of_member number found = option_and_then (λ member. of_state number member (slice_get (states_of units) instance)) found
 
-  given_is : (number : ℕ) (unit : Running) (at : IsAt run.members units instance unit) → given_by run (states_of units) (inputs_of units) instance number ≡ option_map (get_of at.member.component unit.state unit.inputs) (slice_get at.member.component.unit.outputs number)
+  given_is : (number : ℕ) (unit : Running) (at : IsAt run.members units instance unit)
+      → given_by run (states_of units) (inputs_of units) instance number
+      ≡ option_map (get_of at.member.component unit.state unit.inputs) (slice_get at.member.component.unit.outputs number)
   given_is number unit at =
       ap (of_member number) at.member_is ∙ ap (of_state number at.member) at.state_is ∙ ap (of_words number at.member unit.state) at.inputs_are
 
@@ -166,7 +181,9 @@ module _ (run : Composition) (units : List Running) (instance : ℕ) where
     pub within : number < length unit.image.program.outputs
     pub gives : given_by run (states_of units) (inputs_of units) instance number ≡ output_by unit.image.program unit.state unit.inputs number
 
-  asks_by : (number : ℕ) (unit : Running) (at : IsAt run.members units instance unit) (found : Option Output) → slice_get at.member.component.unit.outputs number ≡ found → IsSome (option_map (get_of at.member.component unit.state unit.inputs) found) → Asks unit number
+  asks_by : (number : ℕ) (unit : Running) (at : IsAt run.members units instance unit) (found : Option Output)
+      → slice_get at.member.component.unit.outputs number ≡ found → IsSome (option_map (get_of at.member.component unit.state unit.inputs) found)
+      → Asks unit number
   asks_by number unit at None output_is there = absurd (cc)
   asks_by number unit at (Some output) output_is there = record {
     within = subst (λ n. number < n) (sym at.runs.image.outputs) (slice_get_within at.member.component.unit.outputs number output output_is);
@@ -175,7 +192,8 @@ module _ (run : Composition) (units : List Running) (instance : ℕ) where
         ∙ sym (at.runs.image.computes.get unit.state unit.inputs at.runs.words number output output_is);
   }
 
-  pub asks : (number : ℕ) (unit : Running) → IsAt run.members units instance unit → IsSome (given_by run (states_of units) (inputs_of units) instance number) → Asks unit number
+  pub asks : (number : ℕ) (unit : Running) → IsAt run.members units instance unit → IsSome (given_by run (states_of units) (inputs_of units) instance number)
+      → Asks unit number
   asks number unit at there = asks_by number unit at (slice_get at.member.component.unit.outputs number) refl (subst IsSome (given_is number unit at) there)
 
   instance_by : (number : ℕ) (found : Option Member) → slice_get run.members instance ≡ found → IsSome (of_member number found) → instance < length run.members
@@ -186,14 +204,16 @@ module _ (run : Composition) (units : List Running) (instance : ℕ) where
   pub asked_within : (number : ℕ) → IsSome (given_by run (states_of units) (inputs_of units) instance number) → instance < length run.members
   asked_within number there = instance_by number (slice_get run.members instance) refl there
 
-  found_within : (number : ℕ) (input : Input) (found : Option Member) → slice_get run.members instance ≡ found → option_and_then (λ (member : Member). slice_get member.component.unit.inputs number) found ≡ Some input → instance < length run.members
+  found_within : (number : ℕ) (input : Input) (found : Option Member) → slice_get run.members instance ≡ found
+      → option_and_then (λ (member : Member). slice_get member.component.unit.inputs number) found ≡ Some input → instance < length run.members
   found_within number input None is there = absurd (cc)
   found_within number input (Some member) is there = slice_get_within run.members instance member is
 
   pub set_within : (number : ℕ) (word : ℤ) → IsInputWord run instance number word → instance < length run.members
   set_within number word is = found_within number is.input (slice_get run.members instance) refl is.is_there
 
-  pub takes : (number : ℕ) (word : ℤ) (unit : Running) → IsAt run.members units instance unit → IsInputWord run instance number word → number < length unit.inputs
+  pub takes : (number : ℕ) (word : ℤ) (unit : Running) → IsAt run.members units instance unit → IsInputWord run instance number word
+      → number < length unit.inputs
   takes number word unit at is =
       let there : slice_get at.member.component.unit.inputs number ≡ Some is.input =
       sym (ap (option_and_then (λ (member : Member). slice_get member.component.unit.inputs number)) at.member_is) ∙ is.is_there in
@@ -213,14 +233,17 @@ IsFront members place units = (rest : List Running) → AllZip Starts (drop plac
 
 next_of : (members : List Member) (place : ℕ) (member : Member) → slice_get members place ≡ Some member → drop place members ≡ member ∷ drop (place + 1) members
 next_of members place member is =
-    drop_more members place member (slice_get_within members place member is) ∙ ap (λ one. one ∷ drop (place + 1) members) (index_or members place member member is)
+    drop_more members place member (slice_get_within members place member is)
+    ∙ ap (λ one. one ∷ drop (place + 1) members) (index_or members place member member is)
 
 at_place : (members : List Member) (place : ℕ) → place < length members → (member : Member) × (slice_get members place ≡ Some member)
 at_place [] place within = absurd (omega (arith, within))
 at_place (member ∷ members) zero within = (member, refl)
 at_place (member ∷ members) (suc place) within = at_place members place (omega (arith, within))
 
-pub one_more : (members : List Member) (place : ℕ) (units : List Running) (image : Compiled) → place < length members → ((member : Member) → slice_get members place ≡ Some member → IsImageOf member.component image) → IsFront members place units → IsFront members (place + 1) (units ++ opened image ∷ [])
+pub one_more : (members : List Member) (place : ℕ) (units : List Running) (image : Compiled) → place < length members
+    → ((member : Member) → slice_get members place ≡ Some member → IsImageOf member.component image) → IsFront members place units
+    → IsFront members (place + 1) (units ++ opened image ∷ [])
 one_more members place units image within is_image front rest all =
     let at = at_place members place within in
     let starts : Starts at.0 (opened image) = record { image = image; is_image = is_image at.0 at.1; is = refl } in
@@ -249,7 +272,8 @@ starts_run (member ∷ members) (unit ∷ units) all = (start_runs member unit a
 pub all_run : (run : Composition) (units : List Running) → AllZip Starts run.members units → RunMembers run units
 all_run run units all = starts_run run.members units all
 
-pub all_states : (members : List Member) (units : List Running) → AllZip Starts members units → states_of units ≡ map (λ member. initial member.component) members
+pub all_states : (members : List Member) (units : List Running) → AllZip Starts members units
+    → states_of units ≡ map (λ member. initial member.component) members
 all_states [] [] all = refl
 all_states [] (unit ∷ units) all = absurd all
 all_states (member ∷ members) [] all = absurd all

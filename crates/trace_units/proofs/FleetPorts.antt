@@ -13,7 +13,8 @@ use Rattle.unit_tree.specs.Compositions.{Composition}
 use Rattle.unit_tree.specs.Given.{given_by, IsInputWord}
 use Rattle.unit_tree.specs.declared.system.System.{System}
 
-module _ (run_from : System → Composition) (plan : Planned) (units : List Running) (seen : Fleet) (is : seen_of plan units ≡ seen) (tied : plan.run ≡ run_from plan.system) (runs : RunMembers plan.run units) (instance number : ℕ) where
+module _ (run_from : System → Composition) (plan : Planned) (units : List Running) (seen : Fleet) (is : seen_of plan units ≡ seen)
+    (tied : plan.run ≡ run_from plan.system) (runs : RunMembers plan.run units) (instance number : ℕ) where
   -- What is given, as it is seen.
   abbrev given : Fleet → Option Outcome
   given fleet = given_by (run_from fleet.plan.system) fleet.states fleet.inputs instance number
@@ -30,7 +31,8 @@ module _ (run_from : System → Composition) (plan : Planned) (units : List Runn
 
     module _ (unit : Running) (here : unit ≡ get_or units instance unit) where
       asked : Asks plan.run units instance unit number
-      asked = asks plan.run units instance number unit (unit_at plan.run.members units instance unit runs (asked_within plan.run units instance number there_at) here) there_at
+      asked = asks plan.run units instance number unit
+          (unit_at plan.run.members units instance unit runs (asked_within plan.run units instance number there_at) here) there_at
 
       pub output_within : number < length unit.image.program.outputs
       output_within = asked.within
@@ -40,11 +42,14 @@ module _ (run_from : System → Composition) (plan : Planned) (units : List Runn
 
   module _ (word : ℤ) (suits : IsInputWord (run_from seen.plan.system) instance number word) where
     suits_at : IsInputWord plan.run instance number word
-    suits_at = subst (λ run. IsInputWord run instance number word) (sym tied) (subst (λ (fleet : Fleet). IsInputWord (run_from fleet.plan.system) instance number word) (sym is) suits)
+    suits_at =
+        subst (λ run. IsInputWord run instance number word) (sym tied)
+        (subst (λ (fleet : Fleet). IsInputWord (run_from fleet.plan.system) instance number word) (sym is) suits)
 
     pub instance_set : instance < length seen.plan.run.members
     instance_set = subst (λ fleet. instance < length fleet.plan.run.members) is (set_within plan.run units instance number word suits_at)
 
     pub input_within : (unit : Running) → unit ≡ get_or units instance unit → number < length unit.inputs
     input_within unit here =
-        takes plan.run units instance number word unit (unit_at plan.run.members units instance unit runs (set_within plan.run units instance number word suits_at) here) suits_at
+        takes plan.run units instance number word unit
+        (unit_at plan.run.members units instance unit runs (set_within plan.run units instance number word suits_at) here) suits_at

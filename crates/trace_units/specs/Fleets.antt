@@ -19,7 +19,8 @@ start_inputs run = map (λ member. start_inputs_of member.component.unit) run.me
 -- The fact holds of the member, the state and the inputs of the instance with a number.
 abbrev pub ForUnit : Fleet → ℕ → (Member → List ℤ → List ℤ → Type 0) → Type 0
 ForUnit fleet instance Holds =
-    (member : Member) (state inputs : List ℤ) → slice_get fleet.plan.run.members instance ≡ Some member → slice_get fleet.states instance ≡ Some state → slice_get fleet.inputs instance ≡ Some inputs
+    (member : Member) (state inputs : List ℤ) → slice_get fleet.plan.run.members instance ≡ Some member → slice_get fleet.states instance ≡ Some state
+    → slice_get fleet.inputs instance ≡ Some inputs
     → Holds member state inputs
 
 -- An instance has another state.
@@ -29,7 +30,9 @@ with_state fleet instance state = record fleet { states = slice_set fleet.states
 -- An instance made its step: it moved to the state that it has now and accepted a length, or met the fault and moved not.
 abbrev pub Steps : Fleet → ℕ → ℕ → ℕ → Result ℕ Fault → Fleet → Type 0
 Steps old instance time step (Ok accepted) new =
-    ForUnit old instance (λ member state inputs. step_of member.component state inputs time step ≡ Ok (record { state = slice_index_or new.states instance []; accepted = accepted }))
+    ForUnit old instance
+    (λ member state inputs. step_of member.component state inputs time step
+    ≡ Ok (record { state = slice_index_or new.states instance []; accepted = accepted }))
     × (new ≡ with_state old instance (slice_index_or new.states instance []))
 Steps old instance time step (Err fault) new =
     ForUnit old instance (λ member state inputs. step_of member.component state inputs time step ≡ Err fault) × (new ≡ old)

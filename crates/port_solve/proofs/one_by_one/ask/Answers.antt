@@ -19,7 +19,8 @@ outcome-requires g c =
     let is_route : slice_get (routes_of run).outputs c.args.place ≡ Some c.index-as_slice-place.result =
     sym (ap (λ all. slice_get all c.args.place) (own ∙ ap (λ r. r.outputs) c.requires.order.routes)) ∙ read in
     rw c.requires.system
-    (can_be_asked run (g.G.Gets.states c.args.gets.now) sound c.requires.states (g.G.Gets.inputs c.args.gets.now) c.args.place c.index-as_slice-place.result c.requires.inputs is_route)
+    (can_be_asked run (g.G.Gets.states c.args.gets.now) sound c.requires.states
+    (g.G.Gets.inputs c.args.gets.now) c.args.place c.index-as_slice-place.result c.requires.inputs is_route)
 
 pub returns-clause-given : goal.returns-clause-given
 returns-clause-given g c = λ words same their.

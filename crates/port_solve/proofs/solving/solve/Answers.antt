@@ -25,7 +25,8 @@ fault_at-requires g c =
     let known_count : length c.work_out_all.new.known ≡ length c.args.order.now.routes.outputs = c.work_out_all.auto.known ∙ c.requires.known in
     let words_count : length c.work_out_all.new.ports ≡ length c.args.order.now.routes.outputs = c.work_out_all.auto.ports ∙ c.requires.ports in
     rw c.routes.ensures.routes
-    (fault_within run states sound c.requires.states c.args.order.now c.requires.order c.work_out_all.new.known c.work_out_all.new.ports known_count words_count right c.in-Some.faulted first)
+    (fault_within run states sound c.requires.states c.args.order.now c.requires.order c.work_out_all.new.known c.work_out_all.new.ports known_count
+    words_count right c.in-Some.faulted first)
 
 pub returns-in-None-clause-fault : goal.returns-in-None-clause-fault
 returns-in-None-clause-fault g c =
@@ -39,7 +40,8 @@ returns-in-None-clause-fault g c =
     let first = rw (system_is, c.set_starts.ensures.states) at e.first in
     let known_count : length c.work_out_all.new.known ≡ length c.args.order.now.routes.outputs = c.work_out_all.auto.known ∙ c.requires.known in
     let words_count : length c.work_out_all.new.ports ≡ length c.args.order.now.routes.outputs = c.work_out_all.auto.ports ∙ c.requires.ports in
-    none_told run states sound c.requires.states c.args.order.now c.requires.order c.work_out_all.new.known c.work_out_all.new.ports known_count words_count right first
+    none_told run states sound c.requires.states c.args.order.now c.requires.order c.work_out_all.new.known c.work_out_all.new.ports known_count words_count
+    right first
 
 pub returns-in-None-clause-known : goal.returns-in-None-clause-known
 returns-in-None-clause-known g c =
@@ -53,7 +55,8 @@ returns-in-None-clause-known g c =
     let first = rw (system_is, c.set_starts.ensures.states) at e.first in
     let known_count : length c.work_out_all.new.known ≡ length c.args.order.now.routes.outputs = c.work_out_all.auto.known ∙ c.requires.known in
     let words_count : length c.work_out_all.new.ports ≡ length c.args.order.now.routes.outputs = c.work_out_all.auto.ports ∙ c.requires.ports in
-    all_are_known run states sound c.requires.states c.args.order.now c.requires.order c.work_out_all.new.known c.work_out_all.new.ports known_count words_count right first
+    all_are_known run states sound c.requires.states c.args.order.now c.requires.order c.work_out_all.new.known c.work_out_all.new.ports known_count
+    words_count right first
 
 pub returns-in-None-clause-solved : goal.returns-in-None-clause-solved
 returns-in-None-clause-solved g c =
@@ -67,7 +70,9 @@ returns-in-None-clause-solved g c =
     let first = rw (system_is, c.set_starts.ensures.states) at e.first in
     let known_count : length c.work_out_all.new.known ≡ length c.args.order.now.routes.outputs = c.work_out_all.auto.known ∙ c.requires.known in
     let words_count : length c.work_out_all.new.ports ≡ length c.args.order.now.routes.outputs = c.work_out_all.auto.ports ∙ c.requires.ports in
-    inputs_are run states sound c.requires.states c.args.order.now c.requires.order c.work_out_all.new.known c.work_out_all.new.ports known_count words_count right first (g.G.Gets.inputs c.work_out_all.new.gets) (rw system_is at e.words) (rw system_is at e.inputs)
+    inputs_are run states sound c.requires.states c.args.order.now c.requires.order c.work_out_all.new.known c.work_out_all.new.ports known_count words_count
+    right first
+    (g.G.Gets.inputs c.work_out_all.new.gets) (rw system_is at e.words) (rw system_is at e.inputs)
 
 pub returns-in-Some-clause-fault : goal.returns-in-Some-clause-fault
 returns-in-Some-clause-fault g c =
@@ -81,5 +86,6 @@ returns-in-Some-clause-fault g c =
     let first = rw (system_is, c.set_starts.ensures.states) at e.first in
     let known_count : length c.work_out_all.new.known ≡ length c.args.order.now.routes.outputs = c.work_out_all.auto.known ∙ c.requires.known in
     let words_count : length c.work_out_all.new.ports ≡ length c.args.order.now.routes.outputs = c.work_out_all.auto.ports ∙ c.requires.ports in
-    fault_is_told run states sound c.requires.states c.args.order.now c.requires.order c.work_out_all.new.known c.work_out_all.new.ports known_count words_count right c.in-Some.faulted c.fault_at.result first
+    fault_is_told run states sound c.requires.states c.args.order.now c.requires.order c.work_out_all.new.known c.work_out_all.new.ports known_count
+    words_count right c.in-Some.faulted c.fault_at.result first
     (rw c.routes.ensures.routes at c.fault_at.ensures)

@@ -9,5 +9,6 @@ use Rattle.trace_plan.proofs.columns.column.Goals as goal
 
 pub placed-requires : goal.placed-requires
 placed-requires c =
-    placed_by c.args.checked.now c.system.result.now c.args.starts.now (port_with c.args.port) (c.in_ok-ty.ty, c.in_ok-ty.event) c.system.ensures.ranged c.system.ensures.well_formed c.system.ensures.plain c.requires
+    placed_by c.args.checked.now c.system.result.now c.args.starts.now (port_with c.args.port)
+    (c.in_ok-ty.ty, c.in_ok-ty.event) c.system.ensures.ranged c.system.ensures.well_formed c.system.ensures.plain c.requires
     (ap (λ (s : System). option_map type_and_event (output_at s (port_with c.args.port))) (sym c.source.ensures) ∙ sym c.declared_at.ensures ∙ c.in_ok-ty.was)

@@ -5,4 +5,5 @@ use Rattle.trace_plan.proofs.columns.put_events.Given as goal
 
 abbrev pub invariant-loop-event : goal.invariant-loop-event
 invariant-loop-event l =
-    map port_with l.ports.items ++ events_called l.instance (drop l.event-index l.events) ≡ map port_with l.initial.ports.items ++ events_called l.instance l.events
+    map port_with l.ports.items ++ events_called l.instance (drop l.event-index l.events)
+    ≡ map port_with l.initial.ports.items ++ events_called l.instance l.events

@@ -5,4 +5,5 @@ use Rattle.trace_plan.proofs.columns.put_outputs.Given as goal
 
 abbrev pub invariant-loop-output : goal.invariant-loop-output
 invariant-loop-output l =
-    map port_with l.ports.items ++ outputs_called l.instance (drop l.output-index l.outputs) ≡ map port_with l.initial.ports.items ++ outputs_called l.instance l.outputs
+    map port_with l.ports.items ++ outputs_called l.instance (drop l.output-index l.outputs)
+    ≡ map port_with l.initial.ports.items ++ outputs_called l.instance l.outputs

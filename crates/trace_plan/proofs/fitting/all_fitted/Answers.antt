@@ -24,11 +24,14 @@ loop-instance-preserved c =
     let front = c.loop-instance.invariant.front in
     elim c.match-number_of.branch [
       | in-Some+in-Ok+in_ok-fit+in_ok-push w ↦ record {
-        front = one_more system instances place instance c.loop-instance.all.items c.loop-instance-test.true c.instance-item.is front w.in_ok-fit.field-0 w.in_ok-fit.ensures.fitted w.push.new.self.items c.match-number_of.all.items w.in_ok-push.ensures.items (ap (λ all. all.items) w.all-is);
+        front = one_more system instances place instance c.loop-instance.all.items c.loop-instance-test.true c.instance-item.is front w.in_ok-fit.field-0
+            w.in_ok-fit.ensures.fitted w.push.new.self.items c.match-number_of.all.items w.in_ok-push.ensures.items
+            (ap (λ all. all.items) w.all-is);
         made = subst (λ some. AreMade c.args.checked.now some.items) (sym w.made-is) w.in_ok-fit.ensures.made;
       }
       | in_default w ↦ record {
-        front = left_out system instances place instance c.loop-instance.all.items c.loop-instance-test.true c.instance-item.is front (none w.in_default.ensures.none) c.match-number_of.all.items (ap (λ all. all.items) w.all-is);
+        front = left_out system instances place instance c.loop-instance.all.items c.loop-instance-test.true c.instance-item.is front
+            (none w.in_default.ensures.none) c.match-number_of.all.items (ap (λ all. all.items) w.all-is);
         made = subst (λ some. AreMade c.args.checked.now some.items) (sym w.made-is) c.loop-instance.invariant.made;
       }
     ]
@@ -36,5 +39,8 @@ loop-instance-preserved c =
 pub returns : goal.returns
 returns c =
     let system = plain_form c.args.checked.now in
-    let all = all_there system c.as_slice-instance-items.result.now c.loop-instance.instance-index c.loop-instance.all.items c.loop-instance-test.false c.loop-instance.invariant.front in
-    subst (λ instances. AllZip IsFitted (members_from system instances) c.loop-instance.all.items) (c.as_slice-instance-items.ensures ∙ ap (λ (s : System). s.instances) c.system-system.ensures.plain) all
+    let all =
+    all_there system c.as_slice-instance-items.result.now c.loop-instance.instance-index c.loop-instance.all.items c.loop-instance-test.false
+    c.loop-instance.invariant.front in
+    subst (λ instances. AllZip IsFitted (members_from system instances) c.loop-instance.all.items)
+    (c.as_slice-instance-items.ensures ∙ ap (λ (s : System). s.instances) c.system-system.ensures.plain) all

@@ -8,5 +8,6 @@ use Rattle.trace_plan.proofs.fitting.param_words.Given as goal
 
 abbrev pub invariant-loop-param : goal.invariant-loop-param
 invariant-loop-param l =
-    (l.words.items ++ map (λ param. start_word param.ty (literal_set l.settings param)) (drop l.param-index l.params) ≡ map (λ param. start_word param.ty (literal_set l.settings param)) l.params)
+    (l.words.items ++ map (λ param. start_word param.ty (literal_set l.settings param)) (drop l.param-index l.params)
+    ≡ map (λ param. start_word param.ty (literal_set l.settings param)) l.params)
     × AllByRecursion (λ (param : Param). AreDecimals param.ty) (drop l.param-index l.params)

@@ -5,4 +5,5 @@ pub index-requires : goal.index-requires
 index-requires c = fitted_within c.self.inside c.self.invariant c.args.self.now c.self.view_is c.args.instance c.requires.there
 
 pub returns : goal.returns
-returns c = λ member is. (fitted_at c.self.inside c.self.invariant c.args.self.now c.self.view_is c.args.instance c.index.result.now c.index.ensures member is).image
+returns c =
+    λ member is. (fitted_at c.self.inside c.self.invariant c.args.self.now c.self.view_is c.args.instance c.index.result.now c.index.ensures member is).image

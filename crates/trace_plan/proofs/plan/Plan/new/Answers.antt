@@ -12,7 +12,9 @@ use Rattle.trace_plan.proofs.plan.Plan.new.Goals as goal
 
 pub limited-requires : goal.limited-requires
 limited-requires c =
-    let most = (subst (λ (s : System). IsBounded (run_of s)) c.checked.view_is (bounded c.checked.inside.source c.checked.invariant.ranged c.checked.invariant.well_formed)).members in
+    let most =
+    (subst (λ (s : System). IsBounded (run_of s)) c.checked.view_is
+    (bounded c.checked.inside.source c.checked.invariant.ranged c.checked.invariant.well_formed)).members in
     let many = AllZip-long IsFitted (run_of c.args.checked).members c.in_ok-fitted.fitted.items c.in_ok-fitted.ensures in
     omega (arith, most, many)
 
@@ -21,8 +23,12 @@ invariant_of-result c = record {
   order = c.in_ok-order.ensures.ordered;
   fitted = c.in_ok-fitted.ensures;
   factors = c.in_ok-factors.ensures ∙ ap (map (λ (one : Fitted). one.factor)) c.deref.ensures.value;
-  limited = c.in_ok-limited.ensures ∙ ap (places_from 0) (ap (map tells_max) c.deref-2.ensures.value ∙ fitted_limits (run_of c.args.checked).members c.in_ok-fitted.fitted.items c.in_ok-fitted.ensures);
+  limited = c.in_ok-limited.ensures
+      ∙ ap (places_from 0)
+      (ap (map tells_max) c.deref-2.ensures.value ∙ fitted_limits (run_of c.args.checked).members c.in_ok-fitted.fitted.items c.in_ok-fitted.ensures);
   columns = c.in_ok-columns.ensures;
   numbers = c.numbers_of-numbers.ensures;
-  bounded = subst (λ (s : System). IsBounded (run_of s)) c.checked.view_is (bounded c.checked.inside.source c.checked.invariant.ranged c.checked.invariant.well_formed);
+  bounded =
+      subst (λ (s : System). IsBounded (run_of s)) c.checked.view_is
+      (bounded c.checked.inside.source c.checked.invariant.ranged c.checked.invariant.well_formed);
 }

@@ -11,9 +11,12 @@ pub invariant_of-self : goal.invariant_of-self
 invariant_of-self c = record {
   run = c.self.invariant.run;
   members =
-      kept_stepped c.self.inside.plan.value c.self.inside.list.items c.args.self.now c.self.view_is c.self.invariant.members c.args.instance c.requires.there c.index_mut.result.now c.index_mut.ensures.value c.args.time c.args.step c.do_step.result c.do_step.new.self c.do_step.ensures.steps c.do_step.ensures.each_state;
+      kept_stepped c.self.inside.plan.value c.self.inside.list.items c.args.self.now c.self.view_is c.self.invariant.members c.args.instance c.requires.there
+      c.index_mut.result.now c.index_mut.ensures.value c.args.time c.args.step c.do_step.result c.do_step.new.self c.do_step.ensures.steps
+      c.do_step.ensures.each_state;
 }
 
 pub returns : goal.returns
 returns c =
-    step_seen c.self.inside.plan.value c.self.inside.list.items c.args.self.now c.self.view_is c.self.invariant.members c.args.instance c.requires.there c.index_mut.result.now c.index_mut.ensures.value c.args.time c.args.step c.do_step.result c.do_step.new.self c.do_step.ensures.steps
+    step_seen c.self.inside.plan.value c.self.inside.list.items c.args.self.now c.self.view_is c.self.invariant.members c.args.instance c.requires.there
+    c.index_mut.result.now c.index_mut.ensures.value c.args.time c.args.step c.do_step.result c.do_step.new.self c.do_step.ensures.steps

@@ -9,4 +9,5 @@ index_mut-requires c =
 
 pub returns-clause-gives : goal.returns-clause-gives
 returns-clause-gives c =
-    limit_seen c.self.inside.plan.value c.self.inside.list.items c.args.self.now c.self.view_is c.self.invariant.members c.args.instance c.requires.there c.index_mut.result.now c.index_mut.ensures.value c.args.time c.max_step.result c.max_step.ensures.gives
+    limit_seen c.self.inside.plan.value c.self.inside.list.items c.args.self.now c.self.view_is c.self.invariant.members c.args.instance c.requires.there
+    c.index_mut.result.now c.index_mut.ensures.value c.args.time c.max_step.result c.max_step.ensures.gives

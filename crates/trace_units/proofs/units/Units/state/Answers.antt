@@ -9,5 +9,6 @@ index-requires c =
 
 pub returns : goal.returns
 returns c =
-    state_seen c.self.inside.plan.value c.self.inside.list.items c.args.self.now c.self.view_is c.self.invariant.members c.args.instance c.requires c.index.result.now c.index.ensures
+    state_seen c.self.inside.plan.value c.self.inside.list.items c.args.self.now c.self.view_is c.self.invariant.members c.args.instance c.requires
+    c.index.result.now c.index.ensures
     ∙ ap Some (sym c.state.ensures.value)
