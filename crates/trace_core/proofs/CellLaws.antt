@@ -1,5 +1,5 @@
 -- Cells: which are held, and how many are filled.
-use Rattle.std.proofs.Common.{◌≡◌, ◌∙◌, ℕ, suc, ◌+◌, ◌≤◌, Bool, true, false, not, cond, ℤ, List, [], ◌∷◌, map, zip, length, get_or, Some, None, Result, refl, sym, ap, subst, arith}
+use Rattle.std.proofs.Common.{◌≡◌, ◌∙◌, ℕ, zero, suc, ◌+◌, ◌≤◌, Bool, true, false, not, cond, ℤ, List, [], ◌∷◌, map, zip, length, get_or, Some, None, Result, refl, sym, ap, subst, arith}
 use Rattle.std.proofs.lemmas.List.Sums.{sum_by-cons, sum_by-set, count_by-le-length}
 use Rattle.std.proofs.lemmas.List.{length-map}
 use Rattle.std.proofs.lemmas.Option.{slice_get_within, get_or_from_slice_get}
@@ -7,7 +7,9 @@ use Rattle.std.proofs.Math.Seq.{map-set_same}
 use Rattle.std.specs.Prelude.{is_some, slice_get, slice_set}
 use Rattle.std.specs.List.{count_by}
 use Rattle.fixed_words.specs.declared.types.Fault.{Fault}
-use Rattle.trace_core.specs.Runs.{Cell, Held, Empty, Filled, is_held_cell, is_empty_cell, is_filled, AreCellsFull, FitCells, cell_of}
+use Rattle.trace_core.specs.Runs.{Cell, Held, Empty, Filled, is_held_cell, is_empty_cell, is_filled, AreCellsFull, FitCells, cell_of, cells_of}
+use Rattle.trace_core.specs.declared.phase.Phase.{Phase}
+use Rattle.trace_core.specs.declared.phase.Phase.TheVariants.{Trial, Redo, Ended}
 use Rattle.unit_tree.specs.Components.{Moved, step_of}
 use Rattle.unit_tree.specs.Compositions.{Member, Composition}
 use Rattle.unit_tree.specs.Negotiation.{is_held, step_at, inputs_at}
@@ -26,7 +28,7 @@ is_stepped t h member = not (is_held member.factor t h)
 filled_is : (cell : Cell) → is_empty_cell cell ≡ false → is_filled cell ≡ not (is_held_cell cell)
 filled_is Held full = refl
 filled_is Empty full = absurd (cc)
-filled_is Filled full = refl
+filled_is (Filled step) full = refl
 
 full_cells : (t h : ℕ) (members : List Member) (cells : List Cell) → map is_held_cell cells ≡ map (λ (member : Member). is_held member.factor t h) members → AreCellsFull cells → count_by is_filled cells ≡ count_by (is_stepped t h) members
 full_cells t h [] [] fit full = refl
@@ -83,14 +85,34 @@ fresh_are_empty t h (member ∷ members) =
 
 -- ---- A cell that is filled
 
-pub one_filled : (cells : List Cell) (instance : ℕ) → slice_get cells instance ≡ Some Empty → count_by is_filled (slice_set cells instance Filled) ≡ suc (count_by is_filled cells)
-one_filled cells instance wanted =
+pub one_filled : (cells : List Cell) (instance : ℕ) (step : Result Moved Fault) → slice_get cells instance ≡ Some Empty
+    → count_by is_filled (slice_set cells instance (Filled step)) ≡ suc (count_by is_filled cells)
+one_filled cells instance step wanted =
     let within = slice_get_within cells instance Empty wanted in
     let was : get_or cells instance Empty ≡ Empty = get_or_from_slice_get cells instance Empty Empty wanted in
-    let sums = sum_by-set (λ cell. cond (is_filled cell) 1 0) cells instance Filled Empty within in
+    let sums = sum_by-set (λ cell. cond (is_filled cell) 1 0) cells instance (Filled step) Empty within in
     let none : ◌≡◌ {A = ℕ} (cond (is_filled (get_or cells instance Empty)) 1 0) 0 = ap (λ cell. cond (is_filled cell) 1 0) was in
     omega (arith, sums, none)
 
-pub filled_fit : (cells : List Cell) (instance : ℕ) → slice_get cells instance ≡ Some Empty → map is_held_cell (slice_set cells instance Filled) ≡ map is_held_cell cells
-filled_fit cells instance wanted =
-    map-set_same is_held_cell cells instance Filled Empty (ap is_held_cell (sym (get_or_from_slice_get cells instance Empty Empty wanted)))
+pub filled_fit : (cells : List Cell) (instance : ℕ) (step : Result Moved Fault) → slice_get cells instance ≡ Some Empty
+    → map is_held_cell (slice_set cells instance (Filled step)) ≡ map is_held_cell cells
+filled_fit cells instance step wanted =
+    map-set_same is_held_cell cells instance (Filled step) Empty (ap is_held_cell (sym (get_or_from_slice_get cells instance Empty Empty wanted)))
+
+-- ---- At the beginning of a phase no cell is filled
+
+none_by : (held : Bool) (step : Result Moved Fault) → Some (cond held Held Empty) ≡ Some (Filled step) → ⊥
+none_by true step is = cc
+none_by false step is = cc
+
+none_filled : (t h : ℕ) (members : List Member) (instance : ℕ) (step : Result Moved Fault)
+    → slice_get (map (cell_of t h) members) instance ≡ Some (Filled step) → ⊥
+none_filled t h [] instance step is = cc
+none_filled t h (member ∷ members) zero step is = none_by (is_held member.factor t h) step is
+none_filled t h (member ∷ members) (suc instance) step is = none_filled t h members instance step is
+
+pub none_begun : (run : Composition) (t : ℕ) (phase : Phase) (instance : ℕ) (step : Result Moved Fault)
+    → slice_get (cells_of run t phase) instance ≡ Some (Filled step) → ⊥
+none_begun run t (Trial h) instance step is = none_filled t h run.members instance step is
+none_begun run t (Redo h) instance step is = none_filled t h run.members instance step is
+none_begun run t (Ended ending) instance step is = cc

@@ -1,17 +1,16 @@
 -- The seat of one instance: what is wanted of it, and what a run is where its step was made.
 use Rattle.std.proofs.Common.{◌≡◌, ◌∙◌, ℕ, zero, suc, ◌+◌, ◌<◌, ◌≤◌, Bool, true, false, cond, ℤ, List, [], ◌∷◌, map, zip, length, get_or, set, Some, None, Result, Ok, Err, Vec, Global, refl, sym, ap, subst, arith, length-set}
-use Rattle.std.proofs.lemmas.List.{map-set, length-map}
 use Rattle.std.proofs.lemmas.Option.{slice_get_within, get_or_from_slice_get, slice_get-map, same_Some}
 use Rattle.std.proofs.Math.Nat.{div-le_self}
 use Rattle.std.proofs.Math.Seq.{map-set_same}
 use Rattle.std.specs.Prelude.{is_none, slice_get, slice_set, slice_index_or}
-use Rattle.std.specs.Option.{option_map}
+use Rattle.std.specs.Option.{option_map, option_and_then}
 use Rattle.fixed_words.specs.declared.types.Fault.{Fault}
 use Rattle.super_time.specs.LocalTime.{local_time, local_step}
 use Rattle.trace_core.specs.Keeping.{stand_of, cells_seen, inputs_before, run_state, SeatsFit, IsRun}
-use Rattle.trace_core.specs.Runs.{Cell, Empty, Filled, RunState, Stands, IsWanted, is_ended, with_own, step_length}
-use Rattle.trace_core.specs.Seats.{IsSeat, AreSeats, SlotIs, cell_in, saved, AreSaved}
-use Rattle.trace_core.specs.Slots.{slot_for}
+use Rattle.trace_core.specs.Runs.{Cell, Empty, Filled, RunState, Stands, IsWanted, IsComputed, is_ended, with_own, step_in, step_length}
+use Rattle.trace_core.specs.Seats.{IsSeat, AreSeats, SlotIs, cell_in, cells_in, saved, AreSaved}
+use Rattle.trace_core.specs.Slots.{slot_for, is_empty}
 use Rattle.trace_core.specs.declared.phase.Phase.{Phase}
 use Rattle.trace_core.specs.declared.phase.Phase.TheVariants.{Trial, Redo, Ended}
 use Rattle.trace_core.specs.declared.run.Run.TheInside.{Inside}
@@ -19,7 +18,7 @@ use Rattle.trace_core.specs.declared.seat.Seat.{Seat}
 use Rattle.trace_core.specs.declared.seat.Slot.{Slot}
 use Rattle.trace_core.specs.declared.seat.Slot.TheVariants as slot
 use Rattle.trace_core.proofs.KeepLaws.{fit_as}
-use Rattle.trace_core.proofs.SeatLaws.{ids_of, own_kept, saved_kept, are_saved_kept}
+use Rattle.trace_core.proofs.SeatLaws.{ids_of, own_kept, saved_kept, are_saved_kept, cells_long, cell_there, cells_set}
 use Rattle.trace_core.proofs.SlotLaws.{AreOfOneLength}
 use Rattle.trace_core.proofs.StandLaws.{stands_filled}
 use Rattle.trace_plan.specs.Plans.{Planned}
@@ -28,8 +27,10 @@ use Rattle.unit_tree.specs.Components.{Moved, step_of}
 use Rattle.unit_tree.specs.Compositions.{Member, Composition}
 use Rattle.unit_tree.specs.Negotiation.{is_held, inputs_at, all_inputs, step_at}
 use Rattle.unit_tree.specs.Ports.{Ports, port_fault}
+use Rattle.unit_tree.specs.Successor.{standings}
 use Rattle.unit_tree.specs.Trace.{Stand}
 use Rattle.unit_tree.specs.declared.ending.Ending.{Ending}
+use Rattle.list_laws.proofs.Members.{at_place}
 
 -- ---- One seat among those of a phase
 
@@ -99,9 +100,23 @@ held_by : (held : Bool) (outcome : Result Moved Fault) (unit state : List ℤ) �
 held_by true outcome unit state empty = absurd empty
 held_by false outcome unit state empty = empty
 
-filled_cell : (made : Result ℕ Fault) → cell_in (slot_for made) ≡ Filled
-filled_cell (Ok accepted) = refl
-filled_cell (Err fault) = refl
+given_by : (held : Bool) (outcome result : Result Moved Fault) (unit state : List ℤ) → SlotIs (cond held None (Some outcome)) slot.Empty unit state
+    → outcome ≡ result
+    → cond held None (Some outcome) ≡ Some result
+given_by true outcome result unit state empty is = absurd empty
+given_by false outcome result unit state empty is = ap Some is
+
+-- What a step gave, by the length that it accepted and the state that its unit has then, or its fault.
+abbrev pub step_made : Result ℕ Fault → List ℤ → Result Moved Fault
+step_made (Ok accepted) state = Ok (record { state = state; accepted = accepted })
+step_made (Err fault) state = Err fault
+
+zip_there : {A B : Type 0} (xs : List A) (ys : List B) (k : ℕ) (x : A) (y : B) → slice_get xs k ≡ Some x → slice_get ys k ≡ Some y
+    → slice_get (zip xs ys) k ≡ Some (x, y)
+zip_there [] ys k x y x_is y_is = absurd (cc)
+zip_there (one ∷ xs) [] k x y x_is y_is = absurd (cc)
+zip_there (one ∷ xs) (other ∷ ys) zero x y x_is y_is = ap (λ z. Some (z, other)) (same_Some one x x_is) ∙ ap (λ z. Some (x, z)) (same_Some other y y_is)
+zip_there (one ∷ xs) (other ∷ ys) (suc k) x y x_is y_is = zip_there xs ys k x y x_is y_is
 
 -- ---- The step of one instance
 
@@ -130,6 +145,21 @@ module _ (t h : ℕ) (run : Composition) (ports : Ports) (states : List (List �
       ∙ ap (λ time. step_of here.member.component here.unit (inputs_at ports here.member) time (local_step here.member.factor t h)) (sym here.fits.clock.time)
       ∙ ap (λ step. step_of here.member.component here.unit (inputs_at ports here.member) seat.time step) (sym here.fits.clock.step)
       ∙ given
+
+  given_here : (made : Result ℕ Fault) (new : Fleet) → Steps fleet instance seat.time seat.step made new
+      → step_at t h ports (here.member, here.state) ≡ Some (step_made made (slice_index_or new.states instance []))
+  given_here (Ok accepted) new steps =
+      let gave = of_member (Ok (record { state = slice_index_or new.states instance []; accepted = accepted })) steps.0 in
+      given_by (is_held here.member.factor t h) (outcome here.member here.state) _ here.unit here.state slot_empty gave
+  given_here (Err fault) new steps =
+      given_by (is_held here.member.factor t h) (outcome here.member here.state) (Err fault) here.unit here.state slot_empty (of_member (Err fault) steps.0)
+
+  -- What the step of the instance gives.
+  pub step_given : (made : Result ℕ Fault) (new : Fleet) → Steps fleet instance seat.time seat.step made new
+      → option_and_then (step_at t h ports) (slice_get (zip run.members states) instance) ≡ Some (step_made made (slice_index_or new.states instance []))
+  step_given made new steps =
+      ap (option_and_then (step_at t h ports)) (zip_there run.members states instance here.member here.state here.member_is here.state_is)
+      ∙ given_here made new steps
 
   abbrev made_seat : Result ℕ Fault → Seat
   made_seat made = record seat { slot = slot_for made }
@@ -172,30 +202,91 @@ stepped r units seats = record r { units = units; seats = seats; own = r.own + 1
 
 -- ---- Which cells are wanted
 
-wanted_by : (phase : Phase) (seats : List Seat) (seat : Seat) (instance : ℕ) → is_ended phase ≡ false → slice_get seats instance ≡ Some seat → seat.slot ≡ slot.Empty → slice_get (cells_seen phase seats) instance ≡ Some Empty
-wanted_by (Trial h) seats seat instance going is empty =
-    slice_get-map (λ (s : Seat). cell_in s.slot) seats instance ∙ ap (option_map (λ (s : Seat). cell_in s.slot)) is ∙ ap (λ made. Some (cell_in made)) empty
-wanted_by (Redo h) seats seat instance going is empty =
-    slice_get-map (λ (s : Seat). cell_in s.slot) seats instance ∙ ap (option_map (λ (s : Seat). cell_in s.slot)) is ∙ ap (λ made. Some (cell_in made)) empty
-wanted_by (Ended ending) seats seat instance going is empty = absurd (cc)
+empty_there : (seats : List Seat) (states : List (List ℤ)) (seat : Seat) (instance : ℕ) → slice_get seats instance ≡ Some seat → seat.slot ≡ slot.Empty
+    → slice_get (cells_in seats states) instance ≡ Some Empty
+empty_there seats states seat instance is empty = cell_there seats states instance seat is ∙ ap (λ made. Some (cell_in made (get_or states instance []))) empty
+
+wanted_by : (phase : Phase) (seats : List Seat) (states : List (List ℤ)) (seat : Seat) (instance : ℕ) → is_ended phase ≡ false
+    → slice_get seats instance ≡ Some seat → seat.slot ≡ slot.Empty
+    → slice_get (cells_seen phase seats states) instance ≡ Some Empty
+wanted_by (Trial h) seats states seat instance going is empty = empty_there seats states seat instance is empty
+wanted_by (Redo h) seats states seat instance going is empty = empty_there seats states seat instance is empty
+wanted_by (Ended ending) seats states seat instance going is empty = absurd (cc)
 
 pub seat_is_wanted : (r : Inside) (seat : Seat) (instance : ℕ) → is_ended r.phase ≡ false → slice_get r.seats.items instance ≡ Some seat → seat.slot ≡ slot.Empty → IsWanted (run_state r) instance
-seat_is_wanted r seat instance going is empty = wanted_by r.phase r.seats.items seat instance going is empty
+seat_is_wanted r seat instance going is empty = wanted_by r.phase r.seats.items r.units.states seat instance going is empty
 
 pub not_ended : (phase : Phase) → ((ending : Ending) → phase ≡ Ended ending → ⊥) → is_ended phase ≡ false
 not_ended (Trial h) none = refl
 not_ended (Redo h) none = refl
 not_ended (Ended ending) none = absurd (none ending refl)
 
-seats_by : (phase : Phase) (seats : List Seat) (instance : ℕ) → slice_get (cells_seen phase seats) instance ≡ Some Empty → instance < length seats
-seats_by (Trial h) seats instance there =
-    subst (λ count. instance < count) (length-map seats (λ (s : Seat). cell_in s.slot)) (slice_get_within (map (λ (s : Seat). cell_in s.slot) seats) instance Empty there)
-seats_by (Redo h) seats instance there =
-    subst (λ count. instance < count) (length-map seats (λ (s : Seat). cell_in s.slot)) (slice_get_within (map (λ (s : Seat). cell_in s.slot) seats) instance Empty there)
-seats_by (Ended ending) seats instance there = absurd (cc)
+seats_by : (phase : Phase) (seats : List Seat) (states : List (List ℤ)) (instance : ℕ) → slice_get (cells_seen phase seats states) instance ≡ Some Empty
+    → instance < length seats
+seats_by (Trial h) seats states instance there =
+    subst (λ count. instance < count) (cells_long seats states) (slice_get_within (cells_in seats states) instance Empty there)
+seats_by (Redo h) seats states instance there =
+    subst (λ count. instance < count) (cells_long seats states) (slice_get_within (cells_in seats states) instance Empty there)
+seats_by (Ended ending) seats states instance there = absurd (cc)
 
 pub wanted_seat : (r : Inside) (instance : ℕ) → IsWanted (run_state r) instance → instance < length r.seats.items
-wanted_seat r instance wanted = seats_by r.phase r.seats.items instance wanted
+wanted_seat r instance wanted = seats_by r.phase r.seats.items r.units.states instance wanted
+
+empty_of : (made : Slot) (state : List ℤ) → cell_in made state ≡ Empty → is_empty made ≡ true
+empty_of slot.Held state is = absurd (cc)
+empty_of slot.Empty state is = refl
+empty_of (slot.Took accepted) state is = absurd (cc)
+empty_of (slot.Failed fault) state is = absurd (cc)
+
+empty_is : (made : Slot) → is_empty made ≡ true → made ≡ slot.Empty
+empty_is slot.Held is = absurd (cc)
+empty_is slot.Empty is = refl
+empty_is (slot.Took accepted) is = absurd (cc)
+empty_is (slot.Failed fault) is = absurd (cc)
+
+empty_seen : (phase : Phase) (seats : List Seat) (states : List (List ℤ)) (instance : ℕ) (seat : Seat) → slice_get seats instance ≡ Some seat
+    → slice_get (cells_seen phase seats states) instance ≡ Some Empty → is_empty seat.slot ≡ true
+empty_seen (Trial h) seats states instance seat is there =
+    empty_of seat.slot (get_or states instance []) (same_Some (cell_in seat.slot (get_or states instance [])) Empty (sym (cell_there seats states instance seat is) ∙ there))
+empty_seen (Redo h) seats states instance seat is there =
+    empty_of seat.slot (get_or states instance []) (same_Some (cell_in seat.slot (get_or states instance [])) Empty (sym (cell_there seats states instance seat is) ∙ there))
+empty_seen (Ended ending) seats states instance seat is there = absurd (cc)
+
+-- A step is wanted exactly where the slot is empty.
+pub wanted_exactly : (r : Inside) (seen : RunState) (instance : ℕ) (seat : Seat) (empty : Bool) → run_state r ≡ seen → is_ended r.phase ≡ false → slice_get r.seats.items instance ≡ Some seat
+    → empty ≡ is_empty seat.slot → (empty ≡ true → IsWanted seen instance) × (IsWanted seen instance → empty ≡ true)
+wanted_exactly r seen instance seat empty seen_is going is told = (
+  λ yes. subst (λ (s : RunState). IsWanted s instance) seen_is (seat_is_wanted r seat instance going is (empty_is seat.slot (sym told ∙ yes))),
+  λ wanted. told ∙ empty_seen r.phase r.seats.items r.units.states instance seat is (subst (λ (s : RunState). IsWanted s instance) (sym seen_is) wanted),
+)
+
+-- None is wanted where there is no seat.
+pub none_wanted : (r : Inside) (seen : RunState) (instance : ℕ) → run_state r ≡ seen → slice_get r.seats.items instance ≡ None → (false ≡ true → IsWanted seen instance) × (IsWanted seen instance → false ≡ true)
+none_wanted r seen instance seen_is none = (
+  λ yes. absurd (cc),
+  λ wanted.
+      let there = at_place r.seats.items instance (wanted_seat r instance (subst (λ (s : RunState). IsWanted s instance) (sym seen_is) wanted)) in
+      absurd (differ there.0 (sym none ∙ there.1)),
+)
+  where
+    differ : (seat : Seat) → None ≡ Some seat → ⊥
+    differ seat same = cc
+
+-- The cell of a step that was made.
+cells_made : (old new : Fleet) (seats : List Seat) (seat : Seat) (instance : ℕ) (made : Result ℕ Fault) (unit : List ℤ) → length old.states ≡ length seats
+    → slice_get old.states instance ≡ Some unit
+    → Steps old instance seat.time seat.step made new
+    → cells_in (set seats instance (record seat { slot = slot_for made })) new.states
+    ≡ set (cells_in seats old.states) instance (Filled (step_made made (slice_index_or new.states instance [])))
+cells_made old new seats seat instance (Ok accepted) unit long unit_is steps =
+    let after : Seat = record seat { slot = slot.Took accepted } in
+    ap (λ (f : Fleet). cells_in (set seats instance after) f.states) steps.1
+    ∙ cells_set seats old.states instance after (slice_index_or new.states instance []) long
+cells_made old new seats seat instance (Err fault) unit long unit_is steps =
+    let after : Seat = record seat { slot = slot.Failed fault } in
+    ap (λ (f : Fleet). cells_in (set seats instance after) f.states) steps.1
+    ∙ ap (cells_in (set seats instance after)) (sym (unit_kept old.states instance unit unit_is))
+    ∙ cells_set seats old.states instance after unit long
 
 -- A local step ends where its step does, or before.
 pub local_end : (factor t h : ℕ) → local_time factor t + local_step factor t h ≤ t + h
@@ -211,23 +302,24 @@ module _ (r : Inside) (is : IsRun r) (seat : Seat) (instance : ℕ) (long : AreO
   was_seat : (default : Seat) → get_or r.seats.items instance default ≡ seat
   was_seat default = get_or_from_slice_get r.seats.items instance seat default seat_is
 
-  cell_is : (phase : Phase) → slice_get (cells_seen phase r.seats.items) instance ≡ Some Empty → cell_in seat.slot ≡ Empty
-  cell_is (Trial h) there =
-      same_Some (cell_in seat.slot) Empty (sym (slice_get-map (λ (s : Seat). cell_in s.slot) r.seats.items instance ∙ ap (option_map (λ (s : Seat). cell_in s.slot)) seat_is) ∙ there)
-  cell_is (Redo h) there =
-      same_Some (cell_in seat.slot) Empty (sym (slice_get-map (λ (s : Seat). cell_in s.slot) r.seats.items instance ∙ ap (option_map (λ (s : Seat). cell_in s.slot)) seat_is) ∙ there)
+  abbrev held : List ℤ
+  held = get_or r.units.states instance []
+
+  cell_is : (phase : Phase) → slice_get (cells_seen phase r.seats.items r.units.states) instance ≡ Some Empty → cell_in seat.slot held ≡ Empty
+  cell_is (Trial h) there = same_Some (cell_in seat.slot held) Empty (sym (cell_there r.seats.items r.units.states instance seat seat_is) ∙ there)
+  cell_is (Redo h) there = same_Some (cell_in seat.slot held) Empty (sym (cell_there r.seats.items r.units.states instance seat seat_is) ∙ there)
   cell_is (Ended ending) there = absurd (cc)
 
-  slot_by : (made : Slot) → cell_in made ≡ Empty → made ≡ slot.Empty
-  slot_by slot.Held is = absurd (cc)
-  slot_by slot.Empty is = refl
-  slot_by (slot.Took accepted) is = absurd (cc)
-  slot_by (slot.Failed fault) is = absurd (cc)
+  slot_by : (made : Slot) (state : List ℤ) → cell_in made state ≡ Empty → made ≡ slot.Empty
+  slot_by slot.Held state is = absurd (cc)
+  slot_by slot.Empty state is = refl
+  slot_by (slot.Took accepted) state is = absurd (cc)
+  slot_by (slot.Failed fault) state is = absurd (cc)
 
   pub slot_is_empty : seat.slot ≡ slot.Empty
-  slot_is_empty = slot_by seat.slot (cell_is r.phase wanted)
+  slot_is_empty = slot_by seat.slot held (cell_is r.phase wanted)
 
-  going_by : (phase : Phase) → slice_get (cells_seen phase r.seats.items) instance ≡ Some Empty → is_ended phase ≡ false
+  going_by : (phase : Phase) → slice_get (cells_seen phase r.seats.items r.units.states) instance ≡ Some Empty → is_ended phase ≡ false
   going_by (Trial h) there = refl
   going_by (Redo h) there = refl
   going_by (Ended ending) there = absurd (cc)
@@ -261,16 +353,23 @@ module _ (r : Inside) (is : IsRun r) (seat : Seat) (instance : ℕ) (long : AreO
     states_same : saved r.snaps seats.items ≡ saved r.snaps r.seats.items
     states_same = saved_kept r.snaps r.seats.items seats.items ids_same
 
-    seen_by : map (λ (s : Seat). cell_in s.slot) seats.items ≡ slice_set (map (λ (s : Seat). cell_in s.slot) r.seats.items) instance Filled
-    seen_by =
-        ap (map (λ (s : Seat). cell_in s.slot)) seats_are
-        ∙ map-set (λ (s : Seat). cell_in s.slot) r.seats.items instance new_seat
-        ∙ ap (set (map (λ (s : Seat). cell_in s.slot) r.seats.items) instance) (filled_cell made)
+    -- What the step gave.
+    abbrev pub step : Result Moved Fault
+    step = step_made made (slice_index_or units.states instance [])
 
-    cells_by : (phase : Phase) → is_ended phase ≡ false → cells_seen phase seats.items ≡ slice_set (cells_seen phase r.seats.items) instance Filled
+    seen_by : cells_in seats.items units.states ≡ slice_set (cells_in r.seats.items r.units.states) instance (Filled step)
+    seen_by =
+        ap (λ some. cells_in some units.states) seats_are
+        ∙ cells_made r.units units r.seats.items seat instance made the_seat.unit (omega (arith, long.each_unit, long.each_seat)) the_seat.unit_is steps
+
+    cells_by : (phase : Phase) → is_ended phase ≡ false
+        → cells_seen phase seats.items units.states ≡ slice_set (cells_seen phase r.seats.items r.units.states) instance (Filled step)
     cells_by (Trial h) going = seen_by
     cells_by (Redo h) going = seen_by
     cells_by (Ended ending) going = absurd (cc)
+
+    abbrev with_step : List Cell
+    with_step = slice_set (cells_seen r.phase r.seats.items r.units.states) instance (Filled step)
 
     abbrev with_parts : List (List ℤ) → List Cell → List (List ℤ) → ℕ → RunState
     with_parts states cells before own = record (run_state r) {
@@ -280,13 +379,13 @@ module _ (r : Inside) (is : IsRun r) (seat : Seat) (instance : ℕ) (long : AreO
       own = own;
     }
 
-    pub stepped_is : run_state (stepped r units seats) ≡ with_own (run_state r) instance
+    pub stepped_is : run_state (stepped r units seats) ≡ with_own (run_state r) instance step
     stepped_is =
         let more : r.own + 1 ≡ suc r.own = omega arith in
-        ap (λ states. with_parts states (cells_seen r.phase seats.items) (inputs_before seats.items) (r.own + 1)) states_same
+        ap (λ states. with_parts states (cells_seen r.phase seats.items units.states) (inputs_before seats.items) (r.own + 1)) states_same
         ∙ ap (λ cells. with_parts stand.at.states cells (inputs_before seats.items) (r.own + 1)) (cells_by r.phase is_going)
-        ∙ ap (λ before. with_parts stand.at.states (slice_set (cells_seen r.phase r.seats.items) instance Filled) before (r.own + 1)) before_same
-        ∙ ap (λ own. with_parts stand.at.states (slice_set (cells_seen r.phase r.seats.items) instance Filled) (inputs_before r.seats.items) own) more
+        ∙ ap (λ before. with_parts stand.at.states with_step before (r.own + 1)) before_same
+        ∙ ap (λ own. with_parts stand.at.states with_step (inputs_before r.seats.items) own) more
 
     keeps : (units.plan ≡ r.units.plan) × (units.inputs ≡ r.units.inputs)
     keeps = step_keeps r.units units instance seat.time seat.step made steps
@@ -308,9 +407,28 @@ module _ (r : Inside) (is : IsRun r) (seat : Seat) (instance : ℕ) (long : AreO
         (seats_stepped r.point.t h run stand.ports stand.at.states r.units r.seats.items seat instance long (fit_as r is (Redo h) same) seat_is slot_is_empty tied_run fed made units steps))
     fit_set (Ended ending) same going = absurd (cc)
 
+    given_in : (phase : Phase) → r.phase ≡ phase → is_ended phase ≡ false
+        → option_and_then (step_at r.point.t (step_length phase) stand.ports) (slice_get (standings run stand.at) instance) ≡ Some step
+    given_in (Trial h) same going =
+        step_given r.point.t h run stand.ports stand.at.states r.units r.seats.items seat instance long
+        (fit_as r is (Trial h) same) seat_is slot_is_empty tied_run fed made units steps
+    given_in (Redo h) same going =
+        step_given r.point.t h run stand.ports stand.at.states r.units r.seats.items seat instance long
+        (fit_as r is (Redo h) same) seat_is slot_is_empty tied_run fed made units steps
+    given_in (Ended ending) same going = absurd (cc)
+
+    -- It is what the step of the instance gives.
+    pub step_is : step_in (run_state r) instance ≡ Some step
+    step_is = given_in r.phase refl is_going
+
+    -- So the step was computed.
+    pub is_computed : (seen : RunState) → run_state r ≡ seen → IsComputed seen instance (run_state (stepped r units seats))
+    is_computed seen seen_is =
+        subst (λ s. IsComputed s instance (run_state (stepped r units seats))) seen_is (record { step = step; gives = step_is; is = stepped_is })
+
     pub stepped_run : IsRun (stepped r units seats)
     stepped_run = record {
-      stands = subst Stands (sym stepped_is) (stands_filled (run_state r) instance is.stands wanted);
+      stands = subst Stands (sym stepped_is) (stands_filled (run_state r) instance step is.stands wanted step_is);
       tied = keeps.0 ∙ is.tied;
       room = record {
         ports = is.room.ports;

@@ -107,7 +107,7 @@ module _ (r : Inside) (fault : Option Ending) (old : List Seat) (come : Arrival 
 
   pub arrived_is : run_state r ≡ arrived r.plan.value (position_of r.opened) (stand_of r) (inputs_before r.seats.items) r.found r.own
   arrived_is =
-      ap (told r.phase) (seen_in_phase run r.point.t r.phase old r.seats.items come.begun)
+      ap (told r.phase) (seen_in_phase run r.point.t r.phase old r.seats.items r.units.states come.begun)
       ∙ ap (λ phase. told phase (cells_of run r.point.t phase)) phase_here
 
   pub before_kept : inputs_before r.seats.items ≡ inputs_before old
@@ -153,8 +153,9 @@ module _ (old : Inside) (is : IsRun old) (units : Fleet) (seats : Vec Seat Globa
 
   pub redone_is : run_state (anew old units seats replies h) ≡ with_redo (run_state old)
   redone_is =
-      ap (λ states. state_with states (cells_seen (Redo h) seats.items) (inputs_before seats.items) h) same_states
-      ∙ ap (λ cells. state_with (saved old.snaps old.seats.items) cells (inputs_before seats.items) h) (seen_begun old.point.t h old.plan.value.run.members old.seats.items seats.items begun)
+      ap (λ states. state_with states (cells_seen (Redo h) seats.items units.states) (inputs_before seats.items) h) same_states
+      ∙ ap (λ cells. state_with (saved old.snaps old.seats.items) cells (inputs_before seats.items) h)
+      (seen_begun old.point.t h old.plan.value.run.members old.seats.items seats.items begun units.states)
       ∙ ap (λ before. state_with (saved old.snaps old.seats.items) (cells_of old.plan.value.run old.point.t (Redo h)) before h) begun_kept.before
       ∙ ap (λ length. state_with (saved old.snaps old.seats.items) (cells_of old.plan.value.run old.point.t (Redo length)) (inputs_before old.seats.items) length) agreed_on
 
@@ -197,8 +198,10 @@ ended_run old replies ending is long stands = record {
 -- ---- While a run goes on
 
 ports_by : (r : Inside) → IsRun r → (phase : Phase) → r.phase ≡ phase → is_ended phase ≡ false → ArePortsKnown r.plan.value.run (stand_of r)
-ports_by r is (Trial h) same on = (subst (λ one. IsPhase r.plan.value.run (stand_of r) one (cells_seen one r.seats.items)) same is.stands.phase_is).going.ports_known
-ports_by r is (Redo h) same on = (subst (λ one. IsPhase r.plan.value.run (stand_of r) one (cells_seen one r.seats.items)) same is.stands.phase_is).going.ports_known
+ports_by r is (Trial h) same on =
+    (subst (λ one. IsPhase r.plan.value.run (stand_of r) one (cells_seen one r.seats.items r.units.states)) same is.stands.phase_is).going.ports_known
+ports_by r is (Redo h) same on =
+    (subst (λ one. IsPhase r.plan.value.run (stand_of r) one (cells_seen one r.seats.items r.units.states)) same is.stands.phase_is).going.ports_known
 ports_by r is (Ended ending) same on = absurd (cc)
 
 -- All its ports are known.

@@ -43,7 +43,7 @@ moved_on r units seats snaps ports known limits replies phase point solved = rec
   solved = solved;
 }
 
-module _ (r : Inside) (is : IsRun r) (have : HaveStates r.plan.value.run r.units.states) (going : is_ended r.phase ≡ false) (full : AreCellsFull (cells_seen r.phase r.seats.items)) where
+module _ (r : Inside) (is : IsRun r) (have : HaveStates r.plan.value.run r.units.states) (going : is_ended r.phase ≡ false) (full : AreCellsFull (cells_seen r.phase r.seats.items r.units.states)) where
   abbrev run : Composition
   run = r.plan.value.run
 

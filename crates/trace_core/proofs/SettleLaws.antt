@@ -1,12 +1,12 @@
 -- Where a run goes from a phase whose cells are full: along the successor.
-use Rattle.std.proofs.Common.{◌≡◌, ◌∙◌, ℕ, ◌+◌, ◌*◌, ◌<◌, ◌≤◌, ◌^◌, false, List, [], ◌∷◌, map, length, refl, sym, ap, subst, arith}
+use Rattle.std.proofs.Common.{◌≡◌, ◌∙◌, ℕ, ◌+◌, ◌*◌, ◌<◌, ◌≤◌, ◌^◌, false, ℤ, List, [], ◌∷◌, length, refl, sym, ap, subst, arith}
 use Rattle.std.proofs.lemmas.Nat.{mul-le}
 use Rattle.port_solve.specs.Solved.{HaveStates}
 use Rattle.trace_core.specs.Courses.{course_in, IsReady}
 use Rattle.trace_core.specs.Keeping.{stand_of, cells_seen, run_state, IsRun}
 use Rattle.trace_core.specs.Runs.{AreCellsFull, IsPhase, is_ended, is_empty_cell, step_length}
 use Rattle.trace_core.specs.Slots.{is_empty}
-use Rattle.trace_core.specs.Seats.{AreFull, cell_in}
+use Rattle.trace_core.specs.Seats.{AreFull, cell_in, cells_in}
 use Rattle.trace_core.specs.Settling.{IsRedoDue}
 use Rattle.trace_core.specs.declared.course.Course.{Course}
 use Rattle.trace_core.specs.declared.course.Course.TheVariants as course
@@ -29,15 +29,16 @@ use Rattle.run_laws.proofs.StepLaws.{proposal_is_greatest}
 
 -- ---- Full cells are full slots
 
-empty_by : (made : Slot) → is_empty_cell (cell_in made) ≡ is_empty made
-empty_by slot.Held = refl
-empty_by slot.Empty = refl
-empty_by (slot.Took accepted) = refl
-empty_by (slot.Failed fault) = refl
+empty_by : (made : Slot) (state : List ℤ) → is_empty_cell (cell_in made state) ≡ is_empty made
+empty_by slot.Held state = refl
+empty_by slot.Empty state = refl
+empty_by (slot.Took accepted) state = refl
+empty_by (slot.Failed fault) state = refl
 
-full_seats : (seats : List Seat) → AreCellsFull (map (λ (seat : Seat). cell_in seat.slot) seats) → AreFull seats
-full_seats [] full = tt
-full_seats (seat ∷ seats) full = (sym (empty_by seat.slot) ∙ full.0, full_seats seats full.1)
+full_seats : (seats : List Seat) (states : List (List ℤ)) → AreCellsFull (cells_in seats states) → AreFull seats
+full_seats [] states full = tt
+full_seats (seat ∷ seats) [] full = (sym (empty_by seat.slot []) ∙ full.0, full_seats seats [] full.1)
+full_seats (seat ∷ seats) (state ∷ states) full = (sym (empty_by seat.slot state) ∙ full.0, full_seats seats states full.1)
 
 -- ---- Times of a step
 
@@ -58,8 +59,8 @@ module _ (r : Inside) (is : IsRun r) (have : HaveStates r.plan.value.run r.units
   pub long : AreOfOneLength run.members stand.at.states r.units.states r.seats.items
   long = record { each_state = one_state run stand.at is.stands.words; each_unit = states_long run r.units.states have; each_seat = is.room.seats }
 
-  phase_by : (phase : Phase) → r.phase ≡ phase → IsPhase run stand phase (cells_seen phase r.seats.items)
-  phase_by phase same = subst (λ one. IsPhase run stand one (cells_seen one r.seats.items)) same is.stands.phase_is
+  phase_by : (phase : Phase) → r.phase ≡ phase → IsPhase run stand phase (cells_seen phase r.seats.items r.units.states)
+  phase_by phase same = subst (λ one. IsPhase run stand one (cells_seen one r.seats.items r.units.states)) same is.stands.phase_is
 
   agreed_most : agreed run stand.at stand.ports ≤ proposed run stand.at stand.ports
   agreed_most = agreed_is_at_most run stand.at stand.ports is.stands.members is.stands.words
@@ -82,7 +83,7 @@ module _ (r : Inside) (is : IsRun r) (have : HaveStates r.plan.value.run r.units
   -- The counts have room for one more.
   pub counts_fit : is_ended r.phase ≡ false → r.found + r.own + 1 < 20000000
   counts_fit going =
-      let now = now_at_most run stand r.phase (cells_seen r.phase r.seats.items) going is.stands.words is.stands.phase_is in
+      let now = now_at_most run stand r.phase (cells_seen r.phase r.seats.items r.units.states) going is.stands.words is.stands.phase_is in
       let rows : is.stands.count ≤ 100000 = omega (arith, is.stands.numbered, is.stands.in_rows, is.stands.bounded.rows) in
       let width : 2 * length run.members ≤ 128 = omega (arith, is.stands.bounded.members) in
       let most = mul-le is.stands.count (2 * length run.members) 100000 128 rows width in
@@ -134,9 +135,9 @@ module _ (r : Inside) (is : IsRun r) (have : HaveStates r.plan.value.run r.units
       )
   from_redo h (course.End ending) same full leads = (no_trial h same, leads)
 
-  full_by : (phase : Phase) → is_ended phase ≡ false → AreCellsFull (cells_seen phase r.seats.items) → AreFull r.seats.items
-  full_by (Trial h) going full = full_seats r.seats.items full
-  full_by (Redo h) going full = full_seats r.seats.items full
+  full_by : (phase : Phase) → is_ended phase ≡ false → AreCellsFull (cells_seen phase r.seats.items r.units.states) → AreFull r.seats.items
+  full_by (Trial h) going full = full_seats r.seats.items r.units.states full
+  full_by (Redo h) going full = full_seats r.seats.items r.units.states full
   full_by (Ended ending) going full = absurd (cc)
 
   led_by : (phase : Phase) → r.phase ≡ phase → is_ended phase ≡ false → AreFull r.seats.items → Led (course_in run r.point phase r.seats.items)
@@ -150,5 +151,5 @@ module _ (r : Inside) (is : IsRun r) (have : HaveStates r.plan.value.run r.units
       (redo_leads run stand redone.going h r.units.states r.seats.items long (fit_as r is (Redo h) same) full redone.is redone.no_fault redone.shorter)
   led_by (Ended ending) same going full = absurd (cc)
 
-  pub led : is_ended r.phase ≡ false → AreCellsFull (cells_seen r.phase r.seats.items) → Led (course_in run r.point r.phase r.seats.items)
+  pub led : is_ended r.phase ≡ false → AreCellsFull (cells_seen r.phase r.seats.items r.units.states) → Led (course_in run r.point r.phase r.seats.items)
   led going full = led_by r.phase refl going (full_by r.phase going full)

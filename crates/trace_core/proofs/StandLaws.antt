@@ -1,15 +1,20 @@
 -- What a run keeps at its opening, and from one call to the next.
-use Rattle.std.proofs.Common.{◌≡◌, ◌∙◌, ℕ, suc, ◌+◌, ◌*◌, ◌≤◌, true, false, ℤ, List, [], length, Some, refl, ap, subst, arith}
+use Rattle.std.proofs.Common.{◌≡◌, ◌∙◌, ℕ, suc, ◌+◌, ◌*◌, ◌<◌, ◌≤◌, true, false, ℤ, List, [], length, length-set, get_or, Some, Result, inl, inr, refl, sym, ap, subst, arith}
+use Rattle.std.proofs.lemmas.Bool.Decides.{eqb_tells}
+use Rattle.std.proofs.lemmas.List.{get_or-set_same, get_or-set_other}
+use Rattle.std.proofs.lemmas.Option.{slice_get_within, slice_get-get_or, get_or_from_slice_get}
 use Rattle.std.specs.Prelude.{is_some, is_none, slice_get, slice_set, ◌&&◌, if◌then◌else◌}
 use Rattle.std.specs.List.{count_by}
-use Rattle.trace_core.specs.Runs.{Cell, Empty, Filled, RunState, Stands, IsPhase, IsTrial, AreCellsFull, IsWanted, ArePortsKnown, arrived, with_own, is_ended, is_filled, cells_now, first_end}
+use Rattle.fixed_words.specs.declared.types.Fault.{Fault}
+use Rattle.trace_core.specs.Runs.{Cell, Empty, Filled, RunState, Stands, IsPhase, IsTrial, AreCellsFull, IsWanted, ArePortsKnown, HoldSteps, arrived, phase_at, with_own, step_in, is_ended, is_filled, cells_now, first_end}
 use Rattle.trace_core.specs.Settling.{with_redo}
 use Rattle.trace_core.specs.declared.phase.Phase.{Phase}
 use Rattle.trace_core.specs.declared.phase.Phase.TheVariants.{Trial, Redo, Ended}
 use Rattle.trace_core.proofs.ArrivalLaws.{fresh_cells_fit, phase_is_right}
-use Rattle.trace_core.proofs.CellLaws.{full_are_steps, steps_at_most, filled_at_most, fresh_are_empty, one_filled, filled_fit}
+use Rattle.trace_core.proofs.CellLaws.{full_are_steps, steps_at_most, filled_at_most, fresh_are_empty, one_filled, filled_fit, none_begun}
 use Rattle.trace_core.proofs.CourseLaws.{IsDue}
 use Rattle.trace_plan.specs.Plans.{IsBounded, Planned}
+use Rattle.unit_tree.specs.Components.{Moved}
 use Rattle.unit_tree.specs.Compositions.{Composition, AreMembers, run_of}
 use Rattle.unit_tree.specs.Negotiation.{all_inputs}
 use Rattle.unit_tree.specs.Ports.{IsPlaceOrder}
@@ -32,8 +37,8 @@ bound_more count width cells now later before most = omega arith
 abbrev cells_by : Composition → Stand → ℕ → ℕ
 cells_by run stand step = steps_there (steps_by run stand.at stand.ports step)
 
-abbrev filled_at : List Cell → ℕ → List Cell
-filled_at cells instance = slice_set cells instance Filled
+abbrev filled_at : List Cell → ℕ → Result Moved Fault → List Cell
+filled_at cells instance step = slice_set cells instance (Filled step)
 
 abbrev width : RunState → ℕ
 width r = 2 * length r.plan.run.members
@@ -70,6 +75,7 @@ stands_opened plan stand before order composed ordered bounded members words in_
   numbered = omega arith;
   before = fed;
   phase_is = phase_is_right plan.run stand;
+  steps = λ instance step is. absurd (none_begun plan.run stand.at.point.t (phase_at plan.run stand) instance step is);
   counted = omega arith;
 }
 
@@ -98,6 +104,7 @@ stands_moved old next stands going on =
       numbered = omega (arith, number, stands.numbered);
       before = λ known. refl;
       phase_is = phase_is_right old.plan.run next;
+      steps = λ instance step is. absurd (none_begun old.plan.run next.at.point.t (phase_at old.plan.run next) instance step is);
       counted = bound_more stands.count (width old) (old.found + old.own) (cells_now old.plan.run old.stand old.phase old.cells) _ stands.counted (now_at_most old.plan.run old.stand old.phase old.cells going stands.words stands.phase_is);
     }
 
@@ -142,6 +149,8 @@ module _ (old : RunState) (stands : Stands old) (h : ℕ) (is : old.phase ≡ Tr
       is = refl;
       cells_fit = fresh_cells_fit old.stand.at.point.t (agreed old.plan.run old.stand.at old.stand.ports) old.plan.run.members;
     };
+    steps = λ instance step is.
+        absurd (none_begun old.plan.run old.stand.at.point.t (Redo (agreed old.plan.run old.stand.at old.stand.ports)) instance step is);
     counted =
         let none = fresh_are_empty old.stand.at.point.t (agreed old.plan.run old.stand.at old.stand.ports) old.plan.run.members in
         omega (arith, tried, none);
@@ -192,6 +201,7 @@ stands_ended old ending stands going full ended = record {
   numbered = stands.numbered;
   before = stands.before;
   phase_is = record { is = ended; none = refl };
+  steps = λ instance step is. absurd (none_begun old.plan.run old.stand.at.point.t (Ended ending) instance step is);
   counted =
       let most = now_by old.plan.run old.stand old.phase old.cells going stands.words stands.phase_is full in
       omega (arith, stands.counted, most);
@@ -199,24 +209,51 @@ stands_ended old ending stands going full ended = record {
 
 -- ---- Where a cell is filled
 
-still_phase : (run : Composition) (stand : Stand) (phase : Phase) (cells : List Cell) (instance : ℕ) → slice_get cells instance ≡ Some Empty → IsPhase run stand phase cells → IsPhase run stand phase (filled_at cells instance)
-still_phase run stand (Trial h) cells instance wanted is = record { going = is.going; is = is.is; cells_fit = filled_fit cells instance wanted ∙ is.cells_fit }
-still_phase run stand (Redo h) cells instance wanted is =
-    record { going = is.going; no_fault = is.no_fault; shorter = is.shorter; is = is.is; cells_fit = filled_fit cells instance wanted ∙ is.cells_fit }
-still_phase run stand (Ended ending) cells instance wanted is =
+still_phase : (run : Composition) (stand : Stand) (phase : Phase) (cells : List Cell) (instance : ℕ) (step : Result Moved Fault)
+    → slice_get cells instance ≡ Some Empty → IsPhase run stand phase cells → IsPhase run stand phase (filled_at cells instance step)
+still_phase run stand (Trial h) cells instance step wanted is =
+    record { going = is.going; is = is.is; cells_fit = filled_fit cells instance step wanted ∙ is.cells_fit }
+still_phase run stand (Redo h) cells instance step wanted is =
+    record { going = is.going; no_fault = is.no_fault; shorter = is.shorter; is = is.is; cells_fit = filled_fit cells instance step wanted ∙ is.cells_fit }
+still_phase run stand (Ended ending) cells instance step wanted is =
     let none : slice_get {X = Cell} [] instance ≡ Some Empty = subst (λ some. slice_get some instance ≡ Some Empty) is.none wanted in
     absurd (cc)
 
-one_more_now : (run : Composition) (stand : Stand) (phase : Phase) (cells : List Cell) (instance : ℕ) → slice_get cells instance ≡ Some Empty → IsPhase run stand phase cells → cells_now run stand phase (filled_at cells instance) ≡ suc (cells_now run stand phase cells)
-one_more_now run stand (Trial h) cells instance wanted is = one_filled cells instance wanted
-one_more_now run stand (Redo h) cells instance wanted is =
-    let more = one_filled cells instance wanted in omega (arith, more)
-one_more_now run stand (Ended ending) cells instance wanted is =
+one_more_now : (run : Composition) (stand : Stand) (phase : Phase) (cells : List Cell) (instance : ℕ) (step : Result Moved Fault)
+    → slice_get cells instance ≡ Some Empty → IsPhase run stand phase cells
+    → cells_now run stand phase (filled_at cells instance step) ≡ suc (cells_now run stand phase cells)
+one_more_now run stand (Trial h) cells instance step wanted is = one_filled cells instance step wanted
+one_more_now run stand (Redo h) cells instance step wanted is =
+    let more = one_filled cells instance step wanted in omega (arith, more)
+one_more_now run stand (Ended ending) cells instance step wanted is =
     let none : slice_get {X = Cell} [] instance ≡ Some Empty = subst (λ some. slice_get some instance ≡ Some Empty) is.none wanted in
     absurd (cc)
 
-pub stands_filled : (old : RunState) (instance : ℕ) → Stands old → IsWanted old instance → Stands (with_own old instance)
-stands_filled old instance stands wanted = record {
+hold_more : (old : RunState) (instance : ℕ) (step : Result Moved Fault) → HoldSteps old → IsWanted old instance → step_in old instance ≡ Some step
+    → HoldSteps (with_own old instance step)
+hold_more old instance step hold wanted gives place held is = elim (eqb_tells place instance) [
+  | inl same ↦
+      let made : Filled step ≡ Filled held =
+      sym (get_or-set_same old.cells instance (Filled step) Empty (slice_get_within old.cells instance Empty wanted))
+      ∙ ap (λ p. get_or (filled_at old.cells instance step) p Empty) (sym same.1)
+      ∙ get_or_from_slice_get (filled_at old.cells instance step) place (Filled held) Empty is in
+      ap (step_in old) same.1 ∙ gives ∙ ap Some (same_step made)
+  | inr differ ↦
+      let within : place < length old.cells =
+      subst (λ count. place < count) (length-set old.cells instance (Filled step))
+      (slice_get_within (filled_at old.cells instance step) place (Filled held) is) in
+      let there : get_or old.cells place Empty ≡ Filled held =
+      sym (get_or-set_other old.cells instance place (Filled step) Empty differ.1)
+      ∙ get_or_from_slice_get (filled_at old.cells instance step) place (Filled held) Empty is in
+      hold place held (slice_get-get_or old.cells place Empty within ∙ ap Some there)
+]
+  where
+    same_step : Filled step ≡ Filled held → step ≡ held
+    same_step made = cc
+
+pub stands_filled : (old : RunState) (instance : ℕ) (step : Result Moved Fault) → Stands old → IsWanted old instance → step_in old instance ≡ Some step
+    → Stands (with_own old instance step)
+stands_filled old instance step stands wanted gives = record {
   composed = stands.composed;
   order = stands.order;
   ordered = stands.ordered;
@@ -234,8 +271,9 @@ stands_filled old instance stands wanted = record {
   reached = stands.reached;
   numbered = stands.numbered;
   before = stands.before;
-  phase_is = still_phase old.plan.run old.stand old.phase old.cells instance wanted stands.phase_is;
+  phase_is = still_phase old.plan.run old.stand old.phase old.cells instance step wanted stands.phase_is;
+  steps = hold_more old instance step stands.steps wanted gives;
   counted =
-      let more = one_more_now old.plan.run old.stand old.phase old.cells instance wanted stands.phase_is in
+      let more = one_more_now old.plan.run old.stand old.phase old.cells instance step wanted stands.phase_is in
       omega (arith, stands.counted, more);
 }

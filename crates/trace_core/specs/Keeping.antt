@@ -3,7 +3,7 @@ use Rattle.std.specs.Prelude.{◌≡◌, true, List, [], map, length, is_none, �
 use Rattle.std.specs.List.{list_all}
 use Rattle.port_solve.specs.Solved.{ports_told}
 use Rattle.trace_core.specs.Runs.{Cell, RunState, Stands}
-use Rattle.trace_core.specs.Seats.{AreSeats, AreSaved, AreAsLong, HaveOwnIds, cell_in, saved}
+use Rattle.trace_core.specs.Seats.{AreSeats, AreSaved, AreAsLong, HaveOwnIds, cells_in, saved}
 use Rattle.trace_core.specs.declared.phase.Phase.{Phase}
 use Rattle.trace_core.specs.declared.phase.Phase.TheVariants.{Trial, Redo, Ended}
 use Rattle.trace_core.specs.declared.run.Opened.{Opened}
@@ -29,11 +29,11 @@ stand_of run = record {
   ports = ports_told run.known.items run.ports.items;
 }
 
--- The cells of a phase, by the slots of the seats.
-abbrev pub cells_seen : Phase → List Seat → List Cell
-cells_seen (Trial h) seats = map (λ seat. cell_in seat.slot) seats
-cells_seen (Redo h) seats = map (λ seat. cell_in seat.slot) seats
-cells_seen (Ended ending) seats = []
+-- The cells of a phase, by the slots of the seats and the states of the units.
+abbrev pub cells_seen : Phase → List Seat → List (List ℤ) → List Cell
+cells_seen (Trial h) seats states = cells_in seats states
+cells_seen (Redo h) seats states = cells_in seats states
+cells_seen (Ended ending) seats states = []
 
 -- The words of all inputs at the row before.
 abbrev pub inputs_before : List Seat → List (List ℤ)
@@ -46,7 +46,7 @@ run_state run = record {
   opened = position_of run.opened;
   stand = stand_of run;
   phase = run.phase;
-  cells = cells_seen run.phase run.seats.items;
+  cells = cells_seen run.phase run.seats.items run.units.states;
   before = inputs_before run.seats.items;
   found = run.found;
   own = run.own;

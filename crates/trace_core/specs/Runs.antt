@@ -1,6 +1,8 @@
 -- Runs: what contracts see of one, and what all of them keep.
-use Rattle.std.specs.Prelude.{◌≡◌, ◌≤◌, ℕ, suc, ◌+◌, ◌*◌, Bool, true, false, ℤ, List, [], ◌∷◌, map, length, slice_get, slice_set, if◌then◌else◌, Option, Some, None}
+use Rattle.std.specs.Prelude.{◌≡◌, ◌≤◌, ℕ, suc, ◌+◌, ◌*◌, Bool, true, false, ℤ, List, [], ◌∷◌, map, length, slice_get, slice_set, if◌then◌else◌, Option, Some, None, Result}
 use Rattle.std.specs.List.{AllByRecursion, count_by}
+use Rattle.std.specs.Option.{option_and_then}
+use Rattle.fixed_words.specs.declared.types.Fault.{Fault}
 use Rattle.super_time.specs.LocalTime.{local_time, local_step}
 use Rattle.trace_core.specs.declared.phase.Phase.{Phase}
 use Rattle.trace_core.specs.declared.phase.Phase.TheVariants.{Trial, Redo, Ended}
@@ -8,19 +10,20 @@ use Rattle.trace_core.specs.declared.phase.Row as lent
 use Rattle.trace_plan.specs.Plans.{IsBounded, Planned}
 use Rattle.unit_exec.specs.Images.{IsImageOf}
 use Rattle.unit_exec.specs.declared.want.Want.{Want}
+use Rattle.unit_tree.specs.Components.{Moved}
 use Rattle.unit_tree.specs.Compositions.{Member, Composition, AreMembers, run_of}
-use Rattle.unit_tree.specs.Negotiation.{is_held, all_inputs}
+use Rattle.unit_tree.specs.Negotiation.{is_held, all_inputs, step_at}
 use Rattle.unit_tree.specs.Ports.{IsPlaceOrder, first_some, port_fault}
 use Rattle.run_laws.specs.RunLaws.{IsInBounds, IsInRows}
-use Rattle.unit_tree.specs.Successor.{Position, ends, proposed, agreed, is_redone, stop_end, row_end, max_end, trial_end, successor}
+use Rattle.unit_tree.specs.Successor.{Position, standings, ends, proposed, agreed, is_redone, stop_end, row_end, max_end, trial_end, successor}
 use Rattle.unit_tree.specs.Trace.{Stand, IsStand, IsGoing, Reaches, Row, HasWords, cells_of_trial, cells_at}
 use Rattle.unit_tree.specs.declared.ending.Ending.{Ending}
 
--- The step of an instance in a phase: the instance is held in it, the step is not there yet, or it is.
+-- The step of an instance in a phase: the instance is held in it, the step is not there yet, or it is, with what it gave.
 pub data Cell : Type 0 where
   Held : Cell
   Empty : Cell
-  Filled : Cell
+  Filled : Result Moved Fault → Cell
 
 -- A run: its plan, the position at which it was opened, where it stands, its phase there with the cells of all instances, the
 -- words of all inputs at the row before, and how many cells were filled from answers, and by its own steps.
@@ -91,7 +94,7 @@ is_held_cell _ = false
 
 -- Its step is there.
 abbrev pub is_filled : Cell → Bool
-is_filled Filled = true
+is_filled (Filled step) = true
 is_filled _ = false
 
 -- Its step is not there yet.
@@ -134,9 +137,29 @@ cells_now run stand (Trial h) cells = count_by is_filled cells
 cells_now run stand (Redo h) cells = cells_of_trial run stand + count_by is_filled cells
 cells_now run stand (Ended ending) cells = cells_at run stand
 
+-- ---- The steps of a phase
+
+-- The length of the step of a phase, in ticks.
+abbrev pub step_length : Phase → ℕ
+step_length (Trial h) = h
+step_length (Redo h) = h
+step_length (Ended ending) = 0
+
+-- What the step of an instance in the phase gives, by its component, from the state and the words of the inputs where the run
+-- stands. There is none of an instance that is held, or not there.
+abbrev pub step_in : RunState → ℕ → Option (Result Moved Fault)
+step_in r instance =
+    option_and_then (step_at r.stand.at.point.t (step_length r.phase) r.stand.ports) (slice_get (standings r.plan.run r.stand.at) instance)
+
+-- Each cell that is filled holds what the step of its instance gives.
+abbrev pub HoldSteps : RunState → Type 0
+HoldSteps r = (instance : ℕ) (step : Result Moved Fault) → slice_get r.cells instance ≡ Some (Filled step) → step_in r instance ≡ Some step
+
+-- ---- All that a run keeps
+
 -- The run is that of its plan's system, whose outputs can be worked out in some order. It stands where the successor leads from
 -- the position at which it was opened, by as many steps as its number has risen; its ports are the port assignment there; its
--- phase is the one that the stand asks for.
+-- phase is the one that the stand asks for, and its cells hold steps of it.
 pub record Stands (r : RunState) : Type 0 where
   pub composed : r.plan.run ≡ run_of r.plan.system
   pub order : List ℕ
@@ -156,6 +179,7 @@ pub record Stands (r : RunState) : Type 0 where
   pub numbered : r.stand.at.number ≡ r.opened.number + count
   pub before : ArePortsKnown r.plan.run r.stand → r.before ≡ all_inputs r.plan.run last.ports
   pub phase_is : IsPhase r.plan.run r.stand r.phase r.cells
+  pub steps : HoldSteps r
   pub counted : r.found + r.own ≤ count * (2 * length r.plan.run.members) + cells_now r.plan.run r.stand r.phase r.cells
 
 -- ---- Wants
@@ -173,12 +197,6 @@ abbrev pub is_ended : Phase → Bool
 is_ended (Ended ending) = true
 is_ended _ = false
 
--- The length of the step of a phase, in ticks.
-abbrev pub step_length : Phase → ℕ
-step_length (Trial h) = h
-step_length (Redo h) = h
-step_length (Ended ending) = 0
-
 -- What is wanted of an instance: its step of the phase, by its clock.
 pub record IsWantOf (r : RunState) (instance : ℕ) (want : Want) : Type 0 where
   pub member : Member
@@ -190,9 +208,15 @@ pub record IsWantOf (r : RunState) (instance : ℕ) (want : Want) : Type 0 where
   pub time : want.time ≡ local_time member.factor r.stand.at.point.t
   pub step : want.step ≡ local_step member.factor r.stand.at.point.t (step_length r.phase)
 
--- The cell of an instance was filled by the run's own step.
-abbrev pub with_own : RunState → ℕ → RunState
-with_own r instance = record r { cells = slice_set r.cells instance Filled; own = suc r.own }
+-- The cell of an instance was filled with what its step gave, by the run's own step.
+abbrev pub with_own : RunState → ℕ → Result Moved Fault → RunState
+with_own r instance step = record r { cells = slice_set r.cells instance (Filled step); own = suc r.own }
+
+-- The run made the step that was wanted of an instance: the cell is filled with what this step gives.
+pub record IsComputed (old : RunState) (instance : ℕ) (new : RunState) : Type 0 where
+  pub step : Result Moved Fault
+  pub gives : step_in old instance ≡ Some step
+  pub is : new ≡ with_own old instance step
 
 -- ---- Rows
 

@@ -1,5 +1,5 @@
 -- Seats: what a run keeps of each instance beside its unit, and what that stands for.
-use Rattle.std.specs.Prelude.{⊤, ◌≡◌, ◌≢◌, ◌<◌, ◌≤◌, ℕ, Bool, true, false, ℤ, List, [], map, zip, length, get_or, if◌then◌else◌, nat_lt, Option, Some, None, Result, Ok, Err}
+use Rattle.std.specs.Prelude.{⊤, ◌≡◌, ◌≢◌, ◌<◌, ◌≤◌, ℕ, false, ℤ, List, [], ◌∷◌, map, zip, length, get_or, if◌then◌else◌, nat_lt, Option, Some, None, Result, Ok, Err}
 use Rattle.std.specs.List.{AllZip, AllByRecursion}
 use Rattle.std.specs.Option.{unwrap_or}
 use Rattle.fixed_words.specs.declared.types.Fault.{Fault}
@@ -22,12 +22,18 @@ use Rattle.std.specs.List.{filter_map}
 
 -- ---- Slots
 
--- What contracts see of a slot.
-abbrev pub cell_in : Slot → Cell
-cell_in slot.Held = Held
-cell_in slot.Empty = Empty
-cell_in (slot.Took accepted) = Filled
-cell_in (slot.Failed fault) = Filled
+-- What contracts see of a slot, with the state that the unit holds.
+abbrev pub cell_in : Slot → List ℤ → Cell
+cell_in slot.Held state = Held
+cell_in slot.Empty state = Empty
+cell_in (slot.Took accepted) state = Filled (Ok (record { state = state; accepted = accepted }))
+cell_in (slot.Failed fault) state = Filled (Err fault)
+
+-- What contracts see of seats, with the states that the units hold.
+abbrev pub cells_in : List Seat → List (List ℤ) → List Cell
+cells_in [] states = []
+cells_in (seat ∷ seats) [] = cell_in seat.slot [] ∷ cells_in seats []
+cells_in (seat ∷ seats) (state ∷ states) = cell_in seat.slot state ∷ cells_in seats states
 
 -- A slot stands for the step of its member, which is nothing where the member is held. The unit holds the new state where
 -- the step was made, and else the committed one.

@@ -1,7 +1,7 @@
 //! A run of a plan.
 ghost use Rattle.std.specs.Prelude.{◌≡◌, ◌<◌, ◌↔◌, length, slice_get, false, IsTrue, IsSome, Some, IfOk, IfSome, if◌then◌else◌};
 ghost use Rattle.std.specs.Option.{option_map};
-ghost use Rattle.trace_core.specs.Runs.{Stands, IsOpened, IsWanted, IsWantOf, is_ended, with_own, row_told, AreCellsFull};
+ghost use Rattle.trace_core.specs.Runs.{Stands, IsOpened, IsWanted, IsWantOf, is_ended, IsComputed, row_told, AreCellsFull};
 ghost use Rattle.trace_core.specs.Arriving.{position_with};
 ghost use Rattle.trace_core.specs.Settling.{Settled};
 ghost use Rattle.trace_core.specs.declared.phase.Settle.TheVariants as settled;
@@ -258,10 +258,10 @@ impl Run {
         })
     }
 
-    /// Makes the step that is wanted of an instance.
+    /// Makes the step that is wanted of an instance, and keeps what it gave for [`Run::settle`].
     pub fn compute(&mut self, instance: u32)
         requires wanted { IsWanted self.old instance }
-        ensures { self.new ≡ with_own self.old instance }
+        ensures { IsComputed self.old instance self.new }
     {
         // That there is a unit for each instance is known by the clauses of this call alone.
         let _ = self.units.count();

@@ -1,7 +1,7 @@
-use Rattle.std.proofs.Common.{◌≡◌, ◌∙◌, ◌<◌, ◌≤◌, ◌+◌, ℕ, Option, Ok, Err, length, take, drop, get_or, set, refl, sym, ap, subst, arith}
+use Rattle.std.proofs.Common.{◌≡◌, ◌∙◌, ◌<◌, ◌≤◌, ◌+◌, ℕ, Option, Ok, Err, length, take, get_or, set, refl, sym, ap, subst, arith}
 use Rattle.std.proofs.lemmas.List.{length-take-le}
 use Rattle.trace_core.specs.Seats.{all_told}
-use Rattle.trace_core.proofs.LoopLaws.{HasTold, AskedSoFar, Asking, unit_told, unit_next, units_asked, none_asked, next_without, next_with, asked_fault}
+use Rattle.trace_core.proofs.LoopLaws.{HasTold, AskedSoFar, unit_told, unit_next, units_asked, none_asked, next_without, next_with, asked_fault}
 use Rattle.trace_plan.specs.Plans.{Planned}
 use Rattle.trace_units.specs.Fleets.{Fleet}
 use Rattle.unit_tree.specs.Negotiation.{proposal_of}

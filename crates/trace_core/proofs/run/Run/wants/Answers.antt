@@ -1,7 +1,7 @@
-use Rattle.std.proofs.Common.{◌≡◌, ◌∙◌, ◌<◌, false, length, refl, ap, sym, subst, arith}
+use Rattle.std.proofs.Common.{◌∙◌, refl, ap, sym, subst}
 use Rattle.std.specs.Prelude.{slice_get}
 use Rattle.port_solve.specs.Solved.{HaveStates}
-use Rattle.trace_core.specs.Runs.{RunState, IsWanted, IsWantOf, is_ended}
+use Rattle.trace_core.specs.Runs.{RunState, IsWanted, IsWantOf}
 use Rattle.trace_core.specs.Seats.{saved}
 use Rattle.trace_core.proofs.FillLaws.{wanted_seat, is_going, the_seat}
 use Rattle.trace_core.proofs.KeepLaws.{going_solved}
