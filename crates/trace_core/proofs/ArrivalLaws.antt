@@ -10,59 +10,77 @@ use Rattle.trace_core.specs.declared.phase.Phase.TheVariants.{Trial, Ended}
 use Rattle.unit_tree.specs.Compositions.{Member, Composition}
 use Rattle.unit_tree.specs.Negotiation.{is_held, inputs_at, all_inputs, max_at, limit_at, limit_told, proposal_of}
 use Rattle.unit_tree.specs.Ports.{Ports, first_some, port_fault}
-use Rattle.unit_tree.specs.Successor.{Position, when, first_told, max_end_of, max_end, stop_end, row_end, trial_end, redo_end, zero_end, proposed, standings, ends_or, after}
+use Rattle.unit_tree.specs.Successor.{Position, when, first_told, max_end_of, max_end, stop_end, row_end, trial_end, redo_end, zero_end, proposed, standings}
+use Rattle.unit_tree.specs.Successor.{ends_or, after}
 use Rattle.unit_tree.specs.Trace.{Stand}
 use Rattle.unit_tree.specs.declared.ending.Ending.{Ending}
 use Rattle.unit_tree.specs.declared.ending.Ending.TheVariants.{Completed, RowBudget}
 
 -- ---- What is asked of all members
 
-told_same : (t : ℕ) (ports : Ports) (members : List Member) (states : List (List ℤ)) → map (max_told t) (zip members (zip states (map (inputs_at ports) members))) ≡ map (max_at t ports) (zip members states)
+told_same : (t : ℕ) (ports : Ports) (members : List Member) (states : List (List ℤ))
+    → map (max_told t) (zip members (zip states (map (inputs_at ports) members))) ≡ map (max_at t ports) (zip members states)
 told_same t ports [] states = refl
 told_same t ports (member ∷ members) [] = refl
 told_same t ports (member ∷ members) (state ∷ states) = ap (λ rest. max_at t ports (member, state) ∷ rest) (told_same t ports members states)
 
-limits_same : (t : ℕ) (ports : Ports) (members : List Member) (states : List (List ℤ)) → filter_map (λ (one : Member × Result (Option ℕ) Fault). limit_told one.0.factor t one.1) (zip members (map (max_at t ports) (zip members states))) ≡ filter_map (limit_at t ports) (zip members states)
+limits_same : (t : ℕ) (ports : Ports) (members : List Member) (states : List (List ℤ))
+    → filter_map (λ (one : Member × Result (Option ℕ) Fault). limit_told one.0.factor t one.1) (zip members (map (max_at t ports) (zip members states)))
+    ≡ filter_map (limit_at t ports) (zip members states)
 limits_same t ports [] states = refl
 limits_same t ports (member ∷ members) [] = refl
 limits_same t ports (member ∷ members) (state ∷ states) = ap (cons_option (limit_at t ports (member, state))) (limits_same t ports members states)
 
-asked_by : (run : Composition) (t h : ℕ) (told : List (Result (Option ℕ) Fault)) (found : Option Ending) → first_told max_end_of told ≡ found → proposal_of run.stop run.longest t (limits_told t run.members told) ≡ h → tried (asked run t told) ≡ phase_or found h
+asked_by : (run : Composition) (t h : ℕ) (told : List (Result (Option ℕ) Fault)) (found : Option Ending) → first_told max_end_of told ≡ found
+    → proposal_of run.stop run.longest t (limits_told t run.members told) ≡ h → tried (asked run t told) ≡ phase_or found h
 asked_by run t h told None is same = rw is (ap Trial same)
 asked_by run t h told (Some ending) is same = rw is refl
 
 -- A step is tried, or a `max` ends the run.
-tried_is : (run : Composition) (at : Position) (ports : Ports) → tried (asked run at.point.t (all_told at.point.t run.members at.states (all_inputs run ports))) ≡ phase_or (max_end run at ports) (proposed run at ports)
+tried_is : (run : Composition) (at : Position) (ports : Ports)
+    → tried (asked run at.point.t (all_told at.point.t run.members at.states (all_inputs run ports))) ≡ phase_or (max_end run at ports) (proposed run at ports)
 tried_is run at ports =
     let told = told_same at.point.t ports run.members at.states in
     ap (λ all. tried (asked run at.point.t all)) told
-    ∙ asked_by run at.point.t (proposed run at ports) (map (max_at at.point.t ports) (standings run at)) (max_end run at ports) refl (ap (proposal_of run.stop run.longest at.point.t) (limits_same at.point.t ports run.members at.states))
+    ∙ asked_by run at.point.t (proposed run at ports) (map (max_at at.point.t ports) (standings run at)) (max_end run at ports) refl
+    (ap (proposal_of run.stop run.longest at.point.t) (limits_same at.point.t ports run.members at.states))
 
 -- ---- The first end
 
-in_turn : (fault : Option Ending) (at_stop last_row : Bool) (limit : Option Ending) (h : ℕ) → ended_or fault (if at_stop then Ended Completed else (if last_row then Ended RowBudget else phase_or limit h)) ≡ phase_or (first_some (fault ∷ when at_stop Completed ∷ when last_row RowBudget ∷ limit ∷ [])) h
+in_turn : (fault : Option Ending) (at_stop last_row : Bool) (limit : Option Ending) (h : ℕ)
+    → ended_or fault (if at_stop then Ended Completed else (if last_row then Ended RowBudget else phase_or limit h))
+    ≡ phase_or (first_some (fault ∷ when at_stop Completed ∷ when last_row RowBudget ∷ limit ∷ [])) h
 in_turn (Some ending) at_stop last_row limit h = refl
 in_turn None true last_row limit h = refl
 in_turn None false true limit h = refl
 in_turn None false false (Some ending) h = refl
 in_turn None false false None h = refl
 
-phase_by : (run : Composition) (at : Position) (ports : Ports) (inputs : List (List ℤ)) (fault : Option Ending) → (is_none fault ≡ true → inputs ≡ all_inputs run ports) → ended_or fault (phase_there run at.point at.number at.states inputs) ≡ phase_or (first_some (fault ∷ stop_end run at ∷ row_end run at ∷ max_end run at ports ∷ [])) (proposed run at ports)
+phase_by : (run : Composition) (at : Position) (ports : Ports) (inputs : List (List ℤ)) (fault : Option Ending)
+    → (is_none fault ≡ true → inputs ≡ all_inputs run ports)
+    → ended_or fault (phase_there run at.point at.number at.states inputs)
+    ≡ phase_or (first_some (fault ∷ stop_end run at ∷ row_end run at ∷ max_end run at ports ∷ [])) (proposed run at ports)
 phase_by run at ports inputs (Some ending) same = refl
 phase_by run at ports inputs None same =
-    ap (λ words. if at.point.t == run.stop then Ended Completed else (if suc at.number == run.row_budget then Ended RowBudget else tried (asked run at.point.t (all_told at.point.t run.members at.states words)))) (same refl)
-    ∙ ap (λ phase. if at.point.t == run.stop then Ended Completed else (if suc at.number == run.row_budget then Ended RowBudget else phase)) (tried_is run at ports)
+    ap (λ words. if at.point.t == run.stop then Ended Completed else
+    (if suc at.number == run.row_budget then Ended RowBudget else tried (asked run at.point.t (all_told at.point.t run.members at.states words))))
+    (same refl)
+    ∙ ap (λ phase. if at.point.t == run.stop then Ended Completed else (if suc at.number == run.row_budget then Ended RowBudget else phase))
+    (tried_is run at ports)
     ∙ in_turn None (at.point.t == run.stop) (suc at.number == run.row_budget) (max_end run at ports) (proposed run at ports)
 
 -- The phase that is begun is the one that the stand asks for.
-pub phase_is : (run : Composition) (at : Position) (ports : Ports) (inputs : List (List ℤ)) (fault : Option Ending) → fault ≡ port_fault run at.states ports → (is_none fault ≡ true → inputs ≡ all_inputs run ports) → ended_or fault (phase_there run at.point at.number at.states inputs) ≡ phase_at run (record { at = at; ports = ports })
+pub phase_is : (run : Composition) (at : Position) (ports : Ports) (inputs : List (List ℤ)) (fault : Option Ending) → fault ≡ port_fault run at.states ports
+    → (is_none fault ≡ true → inputs ≡ all_inputs run ports)
+    → ended_or fault (phase_there run at.point at.number at.states inputs) ≡ phase_at run (record { at = at; ports = ports })
 phase_is run at ports inputs fault is same =
     phase_by run at ports inputs fault same
     ∙ ap (λ one. phase_or (first_some (one ∷ stop_end run at ∷ row_end run at ∷ max_end run at ports ∷ [])) (proposed run at ports)) is
 
 -- ---- That it is right
 
-first_of_seven : (a b c d e f g : Option Ending) (ending : Ending) → first_some (a ∷ b ∷ c ∷ d ∷ []) ≡ Some ending → first_some (a ∷ b ∷ c ∷ d ∷ e ∷ f ∷ g ∷ []) ≡ Some ending
+first_of_seven : (a b c d e f g : Option Ending) (ending : Ending) → first_some (a ∷ b ∷ c ∷ d ∷ []) ≡ Some ending
+    → first_some (a ∷ b ∷ c ∷ d ∷ e ∷ f ∷ g ∷ []) ≡ Some ending
 first_of_seven (Some one) b c d e f g ending is = is
 first_of_seven None (Some one) c d e f g ending is = is
 first_of_seven None None (Some one) d e f g ending is = is
@@ -86,9 +104,13 @@ fresh_cells_fit t h (member ∷ members) =
     ap (λ held. held ∷ map is_held_cell (map (cell_of t h) members)) (held_cell (is_held member.factor t h))
     ∙ ap (λ rest. is_held member.factor t h ∷ rest) (fresh_cells_fit t h members)
 
-right_by : (run : Composition) (stand : Stand) (found : Option Ending) → first_end run stand ≡ found → IsPhase run stand (phase_or found (proposed run stand.at stand.ports)) (cells_of run stand.at.point.t (phase_or found (proposed run stand.at stand.ports)))
+right_by : (run : Composition) (stand : Stand) (found : Option Ending) → first_end run stand ≡ found
+    → IsPhase run stand (phase_or found (proposed run stand.at stand.ports))
+    (cells_of run stand.at.point.t (phase_or found (proposed run stand.at stand.ports)))
 right_by run stand (Some ending) is = record {
-  is = ap (λ one. ends_or one (after run stand.at stand.ports)) (first_of_seven (port_fault run stand.at.states stand.ports) (stop_end run stand.at) (row_end run stand.at) (max_end run stand.at stand.ports) (trial_end run stand.at stand.ports) (redo_end run stand.at stand.ports) (zero_end run stand.at stand.ports) ending is);
+  is = ap (λ one. ends_or one (after run stand.at stand.ports))
+      (first_of_seven (port_fault run stand.at.states stand.ports) (stop_end run stand.at) (row_end run stand.at) (max_end run stand.at stand.ports)
+      (trial_end run stand.at stand.ports) (redo_end run stand.at stand.ports) (zero_end run stand.at stand.ports) ending is);
   none = refl;
 }
 right_by run stand None is =

@@ -1,5 +1,6 @@
 -- Cells: which are held, and how many are filled.
-use Rattle.std.proofs.Common.{◌≡◌, ◌∙◌, ℕ, zero, suc, ◌+◌, ◌≤◌, Bool, true, false, not, cond, ℤ, List, [], ◌∷◌, map, zip, length, get_or, Some, None, Result, refl, sym, ap, subst, arith}
+use Rattle.std.proofs.Common.{◌≡◌, ◌∙◌, ℕ, zero, suc, ◌+◌, ◌≤◌, Bool, true, false, not, cond, ℤ, List, [], ◌∷◌, map, zip, length, get_or, Some, None, Result}
+use Rattle.std.proofs.Common.{refl, sym, ap, subst, arith}
 use Rattle.std.proofs.lemmas.List.Sums.{sum_by-cons, sum_by-set, count_by-le-length}
 use Rattle.std.proofs.lemmas.List.{length-map}
 use Rattle.std.proofs.lemmas.Option.{slice_get_within, get_or_from_slice_get}
@@ -30,7 +31,8 @@ filled_is Held full = refl
 filled_is Empty full = absurd (cc)
 filled_is (Filled step) full = refl
 
-full_cells : (t h : ℕ) (members : List Member) (cells : List Cell) → map is_held_cell cells ≡ map (λ (member : Member). is_held member.factor t h) members → AreCellsFull cells → count_by is_filled cells ≡ count_by (is_stepped t h) members
+full_cells : (t h : ℕ) (members : List Member) (cells : List Cell) → map is_held_cell cells ≡ map (λ (member : Member). is_held member.factor t h) members
+    → AreCellsFull cells → count_by is_filled cells ≡ count_by (is_stepped t h) members
 full_cells t h [] [] fit full = refl
 full_cells t h [] (cell ∷ cells) fit full = absurd (cc)
 full_cells t h (member ∷ members) [] fit full = absurd (cc)
@@ -46,23 +48,28 @@ there_by : (held : Bool) (step : Result Moved Fault) → is_some (cond held None
 there_by true step = refl
 there_by false step = refl
 
-steps_are : (t h : ℕ) (ports : Ports) (members : List Member) (states : List (List ℤ)) → length states ≡ length members → steps_there (map (step_at t h ports) (zip members states)) ≡ count_by (is_stepped t h) members
+steps_are : (t h : ℕ) (ports : Ports) (members : List Member) (states : List (List ℤ)) → length states ≡ length members
+    → steps_there (map (step_at t h ports) (zip members states)) ≡ count_by (is_stepped t h) members
 steps_are t h ports [] states long = refl
 steps_are t h ports (member ∷ members) [] long = absurd (omega (arith, long))
 steps_are t h ports (member ∷ members) (state ∷ states) long =
     counted_more is_some (step_at t h ports (member, state)) (map (step_at t h ports) (zip members states))
-    ∙ ap (λ told. cond told 1 0 + steps_there (map (step_at t h ports) (zip members states))) (there_by (is_held member.factor t h) (step_of member.component state (inputs_at ports member) (local_time member.factor t) (local_step member.factor t h)))
+    ∙ ap (λ told. cond told 1 0 + steps_there (map (step_at t h ports) (zip members states)))
+    (there_by (is_held member.factor t h) (step_of member.component state (inputs_at ports member) (local_time member.factor t) (local_step member.factor t h)))
     ∙ ap (λ count. cond (is_stepped t h member) 1 0 + count) (steps_are t h ports members states (omega (arith, long)))
     ∙ sym (counted_more (is_stepped t h) member members)
 
 -- Of full cells as many are filled as steps are made.
-pub full_are_steps : (run : Composition) (at : Position) (ports : Ports) (h : ℕ) (cells : List Cell) → length at.states ≡ length run.members → FitCells run at.point.t h cells → AreCellsFull cells → count_by is_filled cells ≡ steps_there (steps_by run at ports h)
+pub full_are_steps : (run : Composition) (at : Position) (ports : Ports) (h : ℕ) (cells : List Cell) → length at.states ≡ length run.members
+    → FitCells run at.point.t h cells → AreCellsFull cells → count_by is_filled cells ≡ steps_there (steps_by run at ports h)
 full_are_steps run at ports h cells long fit full =
     full_cells at.point.t h run.members cells fit full ∙ sym (steps_are at.point.t h ports run.members at.states long)
 
-pub steps_at_most : (run : Composition) (at : Position) (ports : Ports) (h : ℕ) → length at.states ≡ length run.members → steps_there (steps_by run at ports h) ≤ length run.members
+pub steps_at_most : (run : Composition) (at : Position) (ports : Ports) (h : ℕ) → length at.states ≡ length run.members
+    → steps_there (steps_by run at ports h) ≤ length run.members
 steps_at_most run at ports h long =
-    subst (λ count. count ≤ length run.members) (sym (steps_are at.point.t h ports run.members at.states long)) (count_by-le-length (is_stepped at.point.t h) run.members)
+    subst (λ count. count ≤ length run.members) (sym (steps_are at.point.t h ports run.members at.states long))
+    (count_by-le-length (is_stepped at.point.t h) run.members)
 
 pub filled_at_most : (run : Composition) (t h : ℕ) (cells : List Cell) → FitCells run t h cells → count_by is_filled cells ≤ length run.members
 filled_at_most run t h cells fit =

@@ -11,7 +11,8 @@ use Rattle.trace_core.specs.declared.seat.Seat.{Seat}
 use Rattle.trace_core.proofs.SlotLaws.{AreOfOneLength, trial_told, redo_told_by, replies_told, units_hold}
 use Rattle.unit_tree.specs.Compositions.{Composition, AreMembers}
 use Rattle.unit_tree.specs.Negotiation.{agreed_step, state_after}
-use Rattle.unit_tree.specs.Successor.{Position, when, first_told, step_end_of, standings, steps_by, replies_to, trial_end, redo_end_by, redo_end, zero_end, proposed, agreed, is_redone, point_after, after, goes, ends, successor}
+use Rattle.unit_tree.specs.Successor.{Position, when, first_told, step_end_of, standings, steps_by, replies_to, trial_end, redo_end_by, redo_end, zero_end}
+use Rattle.unit_tree.specs.Successor.{proposed, agreed, is_redone, point_after, after, goes, ends, successor}
 use Rattle.unit_tree.specs.Trace.{Stand, IsGoing, HasWords}
 use Rattle.unit_tree.specs.declared.ending.Ending.{Ending}
 use Rattle.unit_tree.specs.declared.ending.Ending.TheVariants.{ZeroBudget}
@@ -54,13 +55,16 @@ spent_course run stand h spent = rw spent refl
 free_course : (run : Composition) (stand : Stand) (h : ℕ) → is_spent run stand h ≡ false → course_on run stand.at.point h ≡ On (point_after stand.at.point h)
 free_course run stand h free = rw free refl
 
-zero_there : (run : Composition) (stand : Stand) (h : ℕ) → h ≡ agreed run stand.at stand.ports → is_spent run stand h ≡ true → zero_end run stand.at stand.ports ≡ Some ZeroBudget
+zero_there : (run : Composition) (stand : Stand) (h : ℕ) → h ≡ agreed run stand.at stand.ports → is_spent run stand h ≡ true
+    → zero_end run stand.at stand.ports ≡ Some ZeroBudget
 zero_there run stand h is spent = ap (λ test. when test ZeroBudget) (ap (is_spent run stand) (sym is) ∙ spent)
 
-no_zero : (run : Composition) (stand : Stand) (h : ℕ) → h ≡ agreed run stand.at stand.ports → is_spent run stand h ≡ false → zero_end run stand.at stand.ports ≡ None
+no_zero : (run : Composition) (stand : Stand) (h : ℕ) → h ≡ agreed run stand.at stand.ports → is_spent run stand h ≡ false
+    → zero_end run stand.at stand.ports ≡ None
 no_zero run stand h is free = ap (λ test. when test ZeroBudget) (ap (is_spent run stand) (sym is) ∙ free)
 
-position_is : (point other : Point) (states others : List (List ℤ)) (number count : ℕ) → point ≡ other → states ≡ others → number ≡ count → ◌≡◌ {A = Position} (record { point = point; states = states; number = number }) (record { point = other; states = others; number = count })
+position_is : (point other : Point) (states others : List (List ℤ)) (number count : ℕ) → point ≡ other → states ≡ others → number ≡ count
+    → ◌≡◌ {A = Position} (record { point = point; states = states; number = number }) (record { point = other; states = others; number = count })
 position_is point other states others number count points kept numbers =
     ap (λ one. record { point = one; states = states; number = number }) points
     ∙ ap (λ one. record { point = other; states = one; number = number }) kept
@@ -70,7 +74,8 @@ module _ (run : Composition) (stand : Stand) (going : IsGoing run stand) where
   no_redo_end : is_redone run stand.at stand.ports ≡ false → redo_end run stand.at stand.ports ≡ None
   no_redo_end whole = ap (λ redone. if redone then redo_end_by run stand.at stand.ports (agreed run stand.at stand.ports) else None) whole
 
-  redo_end_is : is_redone run stand.at stand.ports ≡ true → redo_end run stand.at stand.ports ≡ redo_end_by run stand.at stand.ports (agreed run stand.at stand.ports)
+  redo_end_is : is_redone run stand.at stand.ports ≡ true
+      → redo_end run stand.at stand.ports ≡ redo_end_by run stand.at stand.ports (agreed run stand.at stand.ports)
   redo_end_is shorter = ap (λ redone. if redone then redo_end_by run stand.at stand.ports (agreed run stand.at stand.ports) else None) shorter
 
   -- ---- From a trial
@@ -78,7 +83,8 @@ module _ (run : Composition) (stand : Stand) (going : IsGoing run stand) where
   not_due : is_redone run stand.at stand.ports ≡ false → IsDue run stand → ⊥
   not_due whole due = cc (whole, due.shorter)
 
-  whole_by : (spent : Bool) (h : ℕ) → is_spent run stand h ≡ spent → h ≡ agreed run stand.at stand.ports → trial_end run stand.at stand.ports ≡ None → is_redone run stand.at stand.ports ≡ false → LeadsFromTrial run stand h (course_on run stand.at.point h)
+  whole_by : (spent : Bool) (h : ℕ) → is_spent run stand h ≡ spent → h ≡ agreed run stand.at stand.ports → trial_end run stand.at stand.ports ≡ None
+      → is_redone run stand.at stand.ports ≡ false → LeadsFromTrial run stand h (course_on run stand.at.point h)
   whole_by true h spent is no_fault whole =
       subst (LeadsFromTrial run stand h) (sym (spent_course run stand h spent))
       (not_due whole, (ends_in_order run stand going).zero_ends ZeroBudget no_fault (no_redo_end whole) (zero_there run stand h is spent))
@@ -92,7 +98,8 @@ module _ (run : Composition) (stand : Stand) (going : IsGoing run stand) where
         },
       )
 
-  same_length : AreMembers run → HasWords run stand.at → is_redone run stand.at stand.ports ≡ false → proposed run stand.at stand.ports ≡ agreed run stand.at stand.ports
+  same_length : AreMembers run → HasWords run stand.at → is_redone run stand.at stand.ports ≡ false
+      → proposed run stand.at stand.ports ≡ agreed run stand.at stand.ports
   same_length are words whole =
       let most = agreed_is_at_most run stand.at stand.ports are words in
       let not_less : nat_lt (agreed run stand.at stand.ports) (proposed run stand.at stand.ports) ≡ false = whole in
@@ -101,44 +108,63 @@ module _ (run : Composition) (stand : Stand) (going : IsGoing run stand) where
       least_is : (a p : ℕ) → a ≤ p → nat_lt a p ≡ false → p ≡ a
       least_is a p most not_less = grind (arith, nat_tests)
 
-  no_fault_by : (redone : Bool) (h least : ℕ) → is_redone run stand.at stand.ports ≡ redone → h ≡ proposed run stand.at stand.ports → least ≡ agreed run stand.at stand.ports → AreMembers run → HasWords run stand.at → trial_end run stand.at stand.ports ≡ None → LeadsFromTrial run stand h (if redone then Redo least else course_on run stand.at.point h)
+  no_fault_by : (redone : Bool) (h least : ℕ) → is_redone run stand.at stand.ports ≡ redone → h ≡ proposed run stand.at stand.ports
+      → least ≡ agreed run stand.at stand.ports → AreMembers run → HasWords run stand.at → trial_end run stand.at stand.ports ≡ None
+      → LeadsFromTrial run stand h (if redone then Redo least else course_on run stand.at.point h)
   no_fault_by true h least redone is least_is are words no_fault = (record { no_fault = no_fault; shorter = redone }, least_is)
   no_fault_by false h least redone is least_is are words no_fault =
       whole_by (is_spent run stand h) h refl (is ∙ same_length are words redone) no_fault redone
 
-  module _ (h : ℕ) (units : List (List ℤ)) (seats : List Seat) (long : AreOfOneLength run.members stand.at.states units seats) (are : AreSeats stand.at.point.t h stand.ports (standings run stand.at) units seats) (full : AreFull seats) where
-    trial_by : (found : Option Ending) → first_told slot_end seats ≡ found → h ≡ proposed run stand.at stand.ports → AreMembers run → HasWords run stand.at → LeadsFromTrial run stand h (course_of_trial run stand.at.point h seats)
+  module _ (h : ℕ) (units : List (List ℤ)) (seats : List Seat) (long : AreOfOneLength run.members stand.at.states units seats)
+      (are : AreSeats stand.at.point.t h stand.ports (standings run stand.at) units seats) (full : AreFull seats) where
+    trial_by : (found : Option Ending) → first_told slot_end seats ≡ found → h ≡ proposed run stand.at stand.ports → AreMembers run → HasWords run stand.at
+        → LeadsFromTrial run stand h (course_of_trial run stand.at.point h seats)
     trial_by (Some ending) found is members words =
         let told : trial_end run stand.at stand.ports ≡ Some ending =
-        sym (trial_told stand.at.point.t h stand.ports run.members stand.at.states units seats long are full ∙ ap (λ step. first_told step_end_of (steps_by run stand.at stand.ports step)) is) ∙ found in
-        subst (λ one. LeadsFromTrial run stand h (end_or one (if nat_lt (least_reply run stand.at.point h seats) h then Redo (least_reply run stand.at.point h seats) else course_on run stand.at.point h))) (sym found)
+        sym (trial_told stand.at.point.t h stand.ports run.members stand.at.states units seats long are full
+        ∙ ap (λ step. first_told step_end_of (steps_by run stand.at stand.ports step)) is)
+        ∙ found in
+        subst (λ one. LeadsFromTrial run stand h
+        (end_or one
+        (if nat_lt (least_reply run stand.at.point h seats) h then Redo (least_reply run stand.at.point h seats) else course_on run stand.at.point h)))
+        (sym found)
         ((λ due. cc (told, due.no_fault)), (ends_in_order run stand going).trial_ends ending told)
     trial_by None found is members words =
         let told : trial_end run stand.at stand.ports ≡ None =
-        sym (trial_told stand.at.point.t h stand.ports run.members stand.at.states units seats long are full ∙ ap (λ step. first_told step_end_of (steps_by run stand.at stand.ports step)) is) ∙ found in
+        sym (trial_told stand.at.point.t h stand.ports run.members stand.at.states units seats long are full
+        ∙ ap (λ step. first_told step_end_of (steps_by run stand.at stand.ports step)) is)
+        ∙ found in
         let least_is : least_reply run stand.at.point h seats ≡ agreed run stand.at stand.ports =
         ap (agreed_step h) (replies_told stand.at.point.t h stand.ports run.members stand.at.states units seats long are full)
         ∙ ap (λ step. agreed_step step (replies_to run stand.at stand.ports step)) is in
         let redone : nat_lt (least_reply run stand.at.point h seats) h ≡ is_redone run stand.at stand.ports =
         ap (λ least. nat_lt least h) least_is ∙ ap (nat_lt (agreed run stand.at stand.ports)) is in
-        subst (λ one. LeadsFromTrial run stand h (end_or one (if nat_lt (least_reply run stand.at.point h seats) h then Redo (least_reply run stand.at.point h seats) else course_on run stand.at.point h))) (sym found)
+        subst (λ one. LeadsFromTrial run stand h
+        (end_or one
+        (if nat_lt (least_reply run stand.at.point h seats) h then Redo (least_reply run stand.at.point h seats) else course_on run stand.at.point h)))
+        (sym found)
         (no_fault_by (nat_lt (least_reply run stand.at.point h seats) h) h (least_reply run stand.at.point h seats) (sym redone) is least_is members words told)
 
-    pub trial_leads : h ≡ proposed run stand.at stand.ports → AreMembers run → HasWords run stand.at → LeadsFromTrial run stand h (course_of_trial run stand.at.point h seats)
+    pub trial_leads : h ≡ proposed run stand.at stand.ports → AreMembers run → HasWords run stand.at
+        → LeadsFromTrial run stand h (course_of_trial run stand.at.point h seats)
     trial_leads is members words = trial_by (first_told slot_end seats) refl is members words
 
     -- The units hold the states of the position that the run goes on to.
-    pub leads_to : (point : Point) → LeadsOn run stand h point → ◌≡◌ {A = Position} (record { point = point; states = units; number = stand.at.number + 1 }) (after run stand.at stand.ports)
+    pub leads_to : (point : Point) → LeadsOn run stand h point
+        → ◌≡◌ {A = Position} (record { point = point; states = units; number = stand.at.number + 1 }) (after run stand.at stand.ports)
     leads_to point leads =
         let held : units ≡ (after run stand.at stand.ports).states =
         sym (units_hold stand.at.point.t h stand.ports run.members stand.at.states units seats long are full)
         ∙ ap (λ step. map state_after (zip stand.at.states (steps_by run stand.at stand.ports step))) leads.agreed_on in
         let next : stand.at.number + 1 ≡ suc stand.at.number = omega arith in
-        position_is point (after run stand.at stand.ports).point units (after run stand.at stand.ports).states (stand.at.number + 1) (suc stand.at.number) leads.to held next
+        position_is point (after run stand.at stand.ports).point units (after run stand.at stand.ports).states (stand.at.number + 1)
+        (suc stand.at.number) leads.to held next
 
     -- ---- From a step that was made anew
 
-    redone_by : (spent : Bool) → is_spent run stand h ≡ spent → h ≡ agreed run stand.at stand.ports → trial_end run stand.at stand.ports ≡ None → is_redone run stand.at stand.ports ≡ true → redo_end_by run stand.at stand.ports (agreed run stand.at stand.ports) ≡ None → LeadsFromRedo run stand h (course_on run stand.at.point h)
+    redone_by : (spent : Bool) → is_spent run stand h ≡ spent → h ≡ agreed run stand.at stand.ports → trial_end run stand.at stand.ports ≡ None
+        → is_redone run stand.at stand.ports ≡ true → redo_end_by run stand.at stand.ports (agreed run stand.at stand.ports) ≡ None
+        → LeadsFromRedo run stand h (course_on run stand.at.point h)
     redone_by true spent is no_fault shorter told =
         subst (LeadsFromRedo run stand h) (sym (spent_course run stand h spent))
         ((ends_in_order run stand going).zero_ends ZeroBudget no_fault (redo_end_is shorter ∙ told) (zero_there run stand h is spent))
@@ -151,9 +177,12 @@ module _ (run : Composition) (stand : Stand) (going : IsGoing run stand) where
         })
 
     told_anew : h ≡ agreed run stand.at stand.ports → first_told redo_slot_end seats ≡ redo_end_by run stand.at stand.ports (agreed run stand.at stand.ports)
-    told_anew is = redo_told_by stand.at.point.t h stand.ports run.members stand.at.states units seats long are full ∙ ap (redo_end_by run stand.at stand.ports) is
+    told_anew is = redo_told_by stand.at.point.t h stand.ports run.members stand.at.states units seats long are full
+        ∙ ap (redo_end_by run stand.at stand.ports) is
 
-    redo_by : (found : Option Ending) → first_told redo_slot_end seats ≡ found → h ≡ agreed run stand.at stand.ports → trial_end run stand.at stand.ports ≡ None → is_redone run stand.at stand.ports ≡ true → LeadsFromRedo run stand h (course_of_redo run stand.at.point h seats)
+    redo_by : (found : Option Ending) → first_told redo_slot_end seats ≡ found → h ≡ agreed run stand.at stand.ports
+        → trial_end run stand.at stand.ports ≡ None → is_redone run stand.at stand.ports ≡ true
+        → LeadsFromRedo run stand h (course_of_redo run stand.at.point h seats)
     redo_by (Some ending) found is no_fault shorter =
         subst (λ one. LeadsFromRedo run stand h (end_or one (course_on run stand.at.point h))) (sym found)
         ((ends_in_order run stand going).redo_ends ending no_fault shorter (sym (told_anew is) ∙ found))
@@ -161,5 +190,6 @@ module _ (run : Composition) (stand : Stand) (going : IsGoing run stand) where
         subst (λ one. LeadsFromRedo run stand h (end_or one (course_on run stand.at.point h))) (sym found)
         (redone_by (is_spent run stand h) refl is no_fault shorter (sym (told_anew is) ∙ found))
 
-    pub redo_leads : h ≡ agreed run stand.at stand.ports → trial_end run stand.at stand.ports ≡ None → is_redone run stand.at stand.ports ≡ true → LeadsFromRedo run stand h (course_of_redo run stand.at.point h seats)
+    pub redo_leads : h ≡ agreed run stand.at stand.ports → trial_end run stand.at stand.ports ≡ None → is_redone run stand.at stand.ports ≡ true
+        → LeadsFromRedo run stand h (course_of_redo run stand.at.point h seats)
     redo_leads is no_fault shorter = redo_by (first_told redo_slot_end seats) refl is no_fault shorter

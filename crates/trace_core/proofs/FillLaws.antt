@@ -1,5 +1,6 @@
 -- The seat of one instance: what is wanted of it, and what a run is where its step was made.
-use Rattle.std.proofs.Common.{◌≡◌, ◌∙◌, ℕ, zero, suc, ◌+◌, ◌<◌, ◌≤◌, Bool, true, false, cond, ℤ, List, [], ◌∷◌, map, zip, length, get_or, set, Some, None, Result, Ok, Err, Vec, Global, refl, sym, ap, subst, arith, length-set}
+use Rattle.std.proofs.Common.{◌≡◌, ◌∙◌, ℕ, zero, suc, ◌+◌, ◌<◌, ◌≤◌, Bool, true, false, cond, ℤ, List, [], ◌∷◌, map, zip, length, get_or, set, Some, None}
+use Rattle.std.proofs.Common.{Result, Ok, Err, Vec, Global, refl, sym, ap, subst, arith, length-set}
 use Rattle.std.proofs.lemmas.Option.{slice_get_within, get_or_from_slice_get, slice_get-map, same_Some}
 use Rattle.std.proofs.Math.Nat.{div-le_self}
 use Rattle.std.proofs.Math.Seq.{map-set_same}
@@ -45,11 +46,14 @@ pub record SeatAt (t h : ℕ) (ports : Ports) (members : List Member) (states un
   pub fits : IsSeat t h ports (member, state) (unit, seat)
 
 -- Lengths of four lists behind their first elements.
-abbrev later : (members : List Member) (states units : List (List ℤ)) (seats : List Seat) (member : Member) (state unit : List ℤ) (seat : Seat) → AreOfOneLength (member ∷ members) (state ∷ states) (unit ∷ units) (seat ∷ seats) → AreOfOneLength members states units seats
+abbrev later : (members : List Member) (states units : List (List ℤ)) (seats : List Seat) (member : Member) (state unit : List ℤ) (seat : Seat)
+    → AreOfOneLength (member ∷ members) (state ∷ states) (unit ∷ units) (seat ∷ seats) → AreOfOneLength members states units seats
 later members states units seats member state unit seat long =
     record { each_state = omega (arith, long.each_state); each_unit = omega (arith, long.each_unit); each_seat = omega (arith, long.each_seat) }
 
-pub seat_at : (t h : ℕ) (ports : Ports) (members : List Member) (states units : List (List ℤ)) (seats : List Seat) (seat : Seat) (instance : ℕ) → AreOfOneLength members states units seats → AreSeats t h ports (zip members states) units seats → slice_get seats instance ≡ Some seat → SeatAt t h ports members states units seat instance
+pub seat_at : (t h : ℕ) (ports : Ports) (members : List Member) (states units : List (List ℤ)) (seats : List Seat) (seat : Seat) (instance : ℕ)
+    → AreOfOneLength members states units seats → AreSeats t h ports (zip members states) units seats → slice_get seats instance ≡ Some seat
+    → SeatAt t h ports members states units seat instance
 seat_at t h ports members states units [] seat instance long are is = absurd (cc)
 seat_at t h ports [] states units (first ∷ seats) seat instance long are is = absurd (omega (arith, long.each_seat))
 seat_at t h ports (member ∷ members) [] units (first ∷ seats) seat instance long are is = absurd (omega (arith, long.each_state))
@@ -65,10 +69,23 @@ seat_at t h ports (member ∷ members) (state ∷ states) (unit ∷ units) (firs
 }
 seat_at t h ports (member ∷ members) (state ∷ states) (unit ∷ units) (first ∷ seats) seat (suc instance) long are is =
     let behind = seat_at t h ports members states units seats seat instance (later members states units seats member state unit first long) are.1 is in
-    record { member = behind.member; state = behind.state; unit = behind.unit; member_is = behind.member_is; state_is = behind.state_is; unit_is = behind.unit_is; fits = behind.fits }
+    record {
+      member = behind.member;
+      state = behind.state;
+      unit = behind.unit;
+      member_is = behind.member_is;
+      state_is = behind.state_is;
+      unit_is =
+          behind.unit_is;
+      fits = behind.fits;
+    }
 
 -- What one unit holds and its seat are changed.
-pub seats_set : (t h : ℕ) (ports : Ports) (members : List Member) (states units : List (List ℤ)) (seats : List Seat) (unit : List ℤ) (new : Seat) (instance : ℕ) → AreOfOneLength members states units seats → AreSeats t h ports (zip members states) units seats → ((member : Member) (state : List ℤ) → slice_get members instance ≡ Some member → slice_get states instance ≡ Some state → IsSeat t h ports (member, state) (unit, new)) → AreSeats t h ports (zip members states) (set units instance unit) (set seats instance new)
+pub seats_set : (t h : ℕ) (ports : Ports) (members : List Member) (states units : List (List ℤ)) (seats : List Seat) (unit : List ℤ) (new : Seat) (instance : ℕ)
+    → AreOfOneLength members states units seats → AreSeats t h ports (zip members states) units seats
+    → ((member : Member) (state : List ℤ) → slice_get members instance ≡ Some member → slice_get states instance ≡ Some state
+    → IsSeat t h ports (member, state) (unit, new))
+    → AreSeats t h ports (zip members states) (set units instance unit) (set seats instance new)
 seats_set t h ports [] [] [] [] unit new instance long are fits = tt
 seats_set t h ports [] states units (first ∷ seats) unit new instance long are fits = absurd (omega (arith, long.each_seat))
 seats_set t h ports [] states (held ∷ units) [] unit new instance long are fits = absurd (omega (arith, long.each_unit))
@@ -88,11 +105,13 @@ unit_kept (held ∷ units) (suc instance) unit is = ap (λ rest. held ∷ rest) 
 -- ---- A step that was made
 
 -- With whether the member is held, and what its step gives.
-took_by : (held : Bool) (outcome : Result Moved Fault) (unit state now : List ℤ) (accepted : ℕ) → SlotIs (cond held None (Some outcome)) slot.Empty unit state → outcome ≡ Ok (record { state = now; accepted = accepted }) → SlotIs (cond held None (Some outcome)) (slot.Took accepted) now state
+took_by : (held : Bool) (outcome : Result Moved Fault) (unit state now : List ℤ) (accepted : ℕ) → SlotIs (cond held None (Some outcome)) slot.Empty unit state
+    → outcome ≡ Ok (record { state = now; accepted = accepted }) → SlotIs (cond held None (Some outcome)) (slot.Took accepted) now state
 took_by true outcome unit state now accepted empty is = absurd empty
 took_by false outcome unit state now accepted empty is = ap Some is
 
-failed_by : (held : Bool) (outcome : Result Moved Fault) (unit state : List ℤ) (fault : Fault) → SlotIs (cond held None (Some outcome)) slot.Empty unit state → outcome ≡ Err fault → SlotIs (cond held None (Some outcome)) (slot.Failed fault) unit state
+failed_by : (held : Bool) (outcome : Result Moved Fault) (unit state : List ℤ) (fault : Fault) → SlotIs (cond held None (Some outcome)) slot.Empty unit state
+    → outcome ≡ Err fault → SlotIs (cond held None (Some outcome)) (slot.Failed fault) unit state
 failed_by true outcome unit state fault empty is = absurd empty
 failed_by false outcome unit state fault empty is = (ap Some is, empty)
 
@@ -120,7 +139,10 @@ zip_there (one ∷ xs) (other ∷ ys) (suc k) x y x_is y_is = zip_there xs ys k 
 
 -- ---- The step of one instance
 
-module _ (t h : ℕ) (run : Composition) (ports : Ports) (states : List (List ℤ)) (fleet : Fleet) (seats : List Seat) (seat : Seat) (instance : ℕ) (long : AreOfOneLength run.members states fleet.states seats) (are : AreSeats t h ports (zip run.members states) fleet.states seats) (seat_is : slice_get seats instance ≡ Some seat) (empty : seat.slot ≡ slot.Empty) (tied : fleet.plan.run ≡ run) (fed : fleet.inputs ≡ all_inputs run ports) where
+module _ (t h : ℕ) (run : Composition) (ports : Ports) (states : List (List ℤ)) (fleet : Fleet) (seats : List Seat) (seat : Seat) (instance : ℕ)
+    (long : AreOfOneLength run.members states fleet.states seats) (are : AreSeats t h ports (zip run.members states) fleet.states seats)
+    (seat_is : slice_get seats instance ≡ Some seat) (empty : seat.slot ≡ slot.Empty) (tied : fleet.plan.run ≡ run)
+    (fed : fleet.inputs ≡ all_inputs run ports) where
   here : SeatAt t h ports run.members states fleet.states seat instance
   here = seat_at t h ports run.members states fleet.states seats seat instance long are seat_is
 
@@ -138,10 +160,15 @@ module _ (t h : ℕ) (run : Composition) (ports : Ports) (states : List (List �
       ap (λ all. slice_get all instance) fed ∙ slice_get-map (inputs_at ports) run.members instance ∙ ap (option_map (inputs_at ports)) here.member_is
 
   -- What is known of the unit's step is known of the member's.
-  of_member : (result : Result Moved Fault) → ForUnit fleet instance (λ member state inputs. step_of member.component state inputs seat.time seat.step ≡ result) → outcome here.member here.state ≡ result
+  of_member : (result : Result Moved Fault)
+      → ForUnit fleet instance (λ member state inputs. step_of member.component state inputs seat.time seat.step ≡ result)
+      → outcome here.member here.state ≡ result
   of_member result for_unit =
-      let given = for_unit here.member here.unit (inputs_at ports here.member) (subst (λ one. slice_get one.members instance ≡ Some here.member) (sym tied) here.member_is) here.unit_is inputs_are in
-      ap (λ state. step_of here.member.component state (inputs_at ports here.member) (local_time here.member.factor t) (local_step here.member.factor t h)) (sym unit_is_state)
+      let given =
+      for_unit here.member here.unit (inputs_at ports here.member)
+      (subst (λ one. slice_get one.members instance ≡ Some here.member) (sym tied) here.member_is) here.unit_is inputs_are in
+      ap (λ state. step_of here.member.component state (inputs_at ports here.member) (local_time here.member.factor t) (local_step here.member.factor t h))
+      (sym unit_is_state)
       ∙ ap (λ time. step_of here.member.component here.unit (inputs_at ports here.member) time (local_step here.member.factor t h)) (sym here.fits.clock.time)
       ∙ ap (λ step. step_of here.member.component here.unit (inputs_at ports here.member) seat.time step) (sym here.fits.clock.step)
       ∙ given
@@ -164,10 +191,13 @@ module _ (t h : ℕ) (run : Composition) (ports : Ports) (states : List (List �
   abbrev made_seat : Result ℕ Fault → Seat
   made_seat made = record seat { slot = slot_for made }
 
-  same_here : (member : Member) (state : List ℤ) → slice_get run.members instance ≡ Some member → slice_get states instance ≡ Some state → (here.member ≡ member) × (here.state ≡ state)
-  same_here member state member_is state_is = (same_Some here.member member (sym here.member_is ∙ member_is), same_Some here.state state (sym here.state_is ∙ state_is))
+  same_here : (member : Member) (state : List ℤ) → slice_get run.members instance ≡ Some member → slice_get states instance ≡ Some state
+      → (here.member ≡ member) × (here.state ≡ state)
+  same_here member state member_is state_is =
+      (same_Some here.member member (sym here.member_is ∙ member_is), same_Some here.state state (sym here.state_is ∙ state_is))
 
-  pub seats_stepped : (made : Result ℕ Fault) (new : Fleet) → Steps fleet instance seat.time seat.step made new → AreSeats t h ports (zip run.members states) new.states (set seats instance (made_seat made))
+  pub seats_stepped : (made : Result ℕ Fault) (new : Fleet) → Steps fleet instance seat.time seat.step made new
+      → AreSeats t h ports (zip run.members states) new.states (set seats instance (made_seat made))
   seats_stepped (Ok accepted) new steps =
       let now = slice_index_or new.states instance [] in
       let gave = of_member (Ok (record { state = now; accepted = accepted })) steps.0 in
@@ -182,7 +212,8 @@ module _ (t h : ℕ) (run : Composition) (ports : Ports) (states : List (List �
   seats_stepped (Err fault) new steps =
       let gave = of_member (Err fault) steps.0 in
       subst (λ (one : Fleet). AreSeats t h ports (zip run.members states) one.states (set seats instance (made_seat (Err fault)))) (sym steps.1)
-      (subst (λ units. AreSeats t h ports (zip run.members states) units (set seats instance (made_seat (Err fault)))) (unit_kept fleet.states instance here.unit here.unit_is)
+      (subst (λ units. AreSeats t h ports (zip run.members states) units (set seats instance (made_seat (Err fault))))
+      (unit_kept fleet.states instance here.unit here.unit_is)
       (seats_set t h ports run.members states fleet.states seats here.unit (made_seat (Err fault)) instance long are (λ member state member_is state_is.
       let same = same_here member state member_is state_is in
       subst (λ one. IsSeat t h ports one (here.unit, made_seat (Err fault))) (ap (λ m. (m, here.state)) same.0 ∙ ap (λ s. (member, s)) same.1)
@@ -193,7 +224,8 @@ module _ (t h : ℕ) (run : Composition) (ports : Ports) (states : List (List �
 
 -- ---- A run with the step
 
-step_keeps : (old new : Fleet) (instance time step : ℕ) (made : Result ℕ Fault) → Steps old instance time step made new → (new.plan ≡ old.plan) × (new.inputs ≡ old.inputs)
+step_keeps : (old new : Fleet) (instance time step : ℕ) (made : Result ℕ Fault) → Steps old instance time step made new
+    → (new.plan ≡ old.plan) × (new.inputs ≡ old.inputs)
 step_keeps old new instance time step (Ok accepted) steps = (ap (λ (f : Fleet). f.plan) steps.1, ap (λ (f : Fleet). f.inputs) steps.1)
 step_keeps old new instance time step (Err fault) steps = (ap (λ (f : Fleet). f.plan) steps.1, ap (λ (f : Fleet). f.inputs) steps.1)
 
@@ -213,7 +245,8 @@ wanted_by (Trial h) seats states seat instance going is empty = empty_there seat
 wanted_by (Redo h) seats states seat instance going is empty = empty_there seats states seat instance is empty
 wanted_by (Ended ending) seats states seat instance going is empty = absurd (cc)
 
-pub seat_is_wanted : (r : Inside) (seat : Seat) (instance : ℕ) → is_ended r.phase ≡ false → slice_get r.seats.items instance ≡ Some seat → seat.slot ≡ slot.Empty → IsWanted (run_state r) instance
+pub seat_is_wanted : (r : Inside) (seat : Seat) (instance : ℕ) → is_ended r.phase ≡ false → slice_get r.seats.items instance ≡ Some seat
+    → seat.slot ≡ slot.Empty → IsWanted (run_state r) instance
 seat_is_wanted r seat instance going is empty = wanted_by r.phase r.seats.items r.units.states seat instance going is empty
 
 pub not_ended : (phase : Phase) → ((ending : Ending) → phase ≡ Ended ending → ⊥) → is_ended phase ≡ false
@@ -247,13 +280,16 @@ empty_is (slot.Failed fault) is = absurd (cc)
 empty_seen : (phase : Phase) (seats : List Seat) (states : List (List ℤ)) (instance : ℕ) (seat : Seat) → slice_get seats instance ≡ Some seat
     → slice_get (cells_seen phase seats states) instance ≡ Some Empty → is_empty seat.slot ≡ true
 empty_seen (Trial h) seats states instance seat is there =
-    empty_of seat.slot (get_or states instance []) (same_Some (cell_in seat.slot (get_or states instance [])) Empty (sym (cell_there seats states instance seat is) ∙ there))
+    empty_of seat.slot (get_or states instance [])
+    (same_Some (cell_in seat.slot (get_or states instance [])) Empty (sym (cell_there seats states instance seat is) ∙ there))
 empty_seen (Redo h) seats states instance seat is there =
-    empty_of seat.slot (get_or states instance []) (same_Some (cell_in seat.slot (get_or states instance [])) Empty (sym (cell_there seats states instance seat is) ∙ there))
+    empty_of seat.slot (get_or states instance [])
+    (same_Some (cell_in seat.slot (get_or states instance [])) Empty (sym (cell_there seats states instance seat is) ∙ there))
 empty_seen (Ended ending) seats states instance seat is there = absurd (cc)
 
 -- A step is wanted exactly where the slot is empty.
-pub wanted_exactly : (r : Inside) (seen : RunState) (instance : ℕ) (seat : Seat) (empty : Bool) → run_state r ≡ seen → is_ended r.phase ≡ false → slice_get r.seats.items instance ≡ Some seat
+pub wanted_exactly : (r : Inside) (seen : RunState) (instance : ℕ) (seat : Seat) (empty : Bool) → run_state r ≡ seen → is_ended r.phase ≡ false
+    → slice_get r.seats.items instance ≡ Some seat
     → empty ≡ is_empty seat.slot → (empty ≡ true → IsWanted seen instance) × (IsWanted seen instance → empty ≡ true)
 wanted_exactly r seen instance seat empty seen_is going is told = (
   λ yes. subst (λ (s : RunState). IsWanted s instance) seen_is (seat_is_wanted r seat instance going is (empty_is seat.slot (sym told ∙ yes))),
@@ -261,7 +297,8 @@ wanted_exactly r seen instance seat empty seen_is going is told = (
 )
 
 -- None is wanted where there is no seat.
-pub none_wanted : (r : Inside) (seen : RunState) (instance : ℕ) → run_state r ≡ seen → slice_get r.seats.items instance ≡ None → (false ≡ true → IsWanted seen instance) × (IsWanted seen instance → false ≡ true)
+pub none_wanted : (r : Inside) (seen : RunState) (instance : ℕ) → run_state r ≡ seen → slice_get r.seats.items instance ≡ None
+    → (false ≡ true → IsWanted seen instance) × (IsWanted seen instance → false ≡ true)
 none_wanted r seen instance seen_is none = (
   λ yes. absurd (cc),
   λ wanted.
@@ -292,7 +329,9 @@ cells_made old new seats seat instance (Err fault) unit long unit_is steps =
 pub local_end : (factor t h : ℕ) → local_time factor t + local_step factor t h ≤ t + h
 local_end factor t h = omega (arith, div-le_self t factor, div-le_self (t + h) factor)
 
-module _ (r : Inside) (is : IsRun r) (seat : Seat) (instance : ℕ) (long : AreOfOneLength r.plan.value.run.members (stand_of r).at.states r.units.states r.seats.items) (seat_is : slice_get r.seats.items instance ≡ Some seat) (wanted : IsWanted (run_state r) instance) where
+module _ (r : Inside) (is : IsRun r) (seat : Seat) (instance : ℕ)
+    (long : AreOfOneLength r.plan.value.run.members (stand_of r).at.states r.units.states r.seats.items)
+    (seat_is : slice_get r.seats.items instance ≡ Some seat) (wanted : IsWanted (run_state r) instance) where
   abbrev run : Composition
   run = r.plan.value.run
 
@@ -328,15 +367,19 @@ module _ (r : Inside) (is : IsRun r) (seat : Seat) (instance : ℕ) (long : AreO
   is_going = going_by r.phase wanted
 
   -- The seat in the phase.
-  pub seat_by : (phase : Phase) → r.phase ≡ phase → is_ended phase ≡ false → SeatAt r.point.t (step_length phase) stand.ports run.members stand.at.states r.units.states seat instance
-  seat_by (Trial h) same going = seat_at r.point.t h stand.ports run.members stand.at.states r.units.states r.seats.items seat instance long (fit_as r is (Trial h) same) seat_is
-  seat_by (Redo h) same going = seat_at r.point.t h stand.ports run.members stand.at.states r.units.states r.seats.items seat instance long (fit_as r is (Redo h) same) seat_is
+  pub seat_by : (phase : Phase) → r.phase ≡ phase → is_ended phase ≡ false
+      → SeatAt r.point.t (step_length phase) stand.ports run.members stand.at.states r.units.states seat instance
+  seat_by (Trial h) same going =
+      seat_at r.point.t h stand.ports run.members stand.at.states r.units.states r.seats.items seat instance long (fit_as r is (Trial h) same) seat_is
+  seat_by (Redo h) same going =
+      seat_at r.point.t h stand.ports run.members stand.at.states r.units.states r.seats.items seat instance long (fit_as r is (Redo h) same) seat_is
   seat_by (Ended ending) same going = absurd (cc)
 
   pub the_seat : SeatAt r.point.t (step_length r.phase) stand.ports run.members stand.at.states r.units.states seat instance
   the_seat = seat_by r.phase refl is_going
 
-  module _ (made : Result ℕ Fault) (units : Fleet) (steps : Steps r.units instance seat.time seat.step made units) (solved : r.solved ≡ true) (seats : Vec Seat Global) (seats_are : seats.items ≡ set r.seats.items instance (record seat { slot = slot_for made })) where
+  module _ (made : Result ℕ Fault) (units : Fleet) (steps : Steps r.units instance seat.time seat.step made units) (solved : r.solved ≡ true)
+      (seats : Vec Seat Global) (seats_are : seats.items ≡ set r.seats.items instance (record seat { slot = slot_for made })) where
     abbrev new_seat : Seat
     new_seat = record seat { slot = slot_for made }
 
@@ -400,11 +443,13 @@ module _ (r : Inside) (is : IsRun r) (seat : Seat) (instance : ℕ) (long : AreO
     fit_set (Trial h) same going =
         subst (λ states. AreSeats r.point.t h stand.ports (zip run.members states) units.states seats.items) (sym states_same)
         (subst (AreSeats r.point.t h stand.ports (zip run.members stand.at.states) units.states) (sym seats_are)
-        (seats_stepped r.point.t h run stand.ports stand.at.states r.units r.seats.items seat instance long (fit_as r is (Trial h) same) seat_is slot_is_empty tied_run fed made units steps))
+        (seats_stepped r.point.t h run stand.ports stand.at.states r.units r.seats.items seat instance long
+        (fit_as r is (Trial h) same) seat_is slot_is_empty tied_run fed made units steps))
     fit_set (Redo h) same going =
         subst (λ states. AreSeats r.point.t h stand.ports (zip run.members states) units.states seats.items) (sym states_same)
         (subst (AreSeats r.point.t h stand.ports (zip run.members stand.at.states) units.states) (sym seats_are)
-        (seats_stepped r.point.t h run stand.ports stand.at.states r.units r.seats.items seat instance long (fit_as r is (Redo h) same) seat_is slot_is_empty tied_run fed made units steps))
+        (seats_stepped r.point.t h run stand.ports stand.at.states r.units r.seats.items seat instance long
+        (fit_as r is (Redo h) same) seat_is slot_is_empty tied_run fed made units steps))
     fit_set (Ended ending) same going = absurd (cc)
 
     given_in : (phase : Phase) → r.phase ≡ phase → is_ended phase ≡ false
@@ -438,7 +483,8 @@ module _ (r : Inside) (is : IsRun r) (seat : Seat) (instance : ℕ) (long : AreO
         replies = is.room.replies;
       };
       own_ids = own_kept r.seats.items seats.items ids_same is.own_ids;
-      saved = subst (AreSaved r.snaps seats.items) (sym states_same) (are_saved_kept r.snaps r.seats.items seats.items (saved r.snaps r.seats.items) ids_same is.saved);
+      saved = subst (AreSaved r.snaps seats.items) (sym states_same)
+          (are_saved_kept r.snaps r.seats.items seats.items (saved r.snaps r.seats.items) ids_same is.saved);
       before = ap (map length) before_same ∙ is.before ∙ sym (ap (map length) keeps.1);
       solved = is.solved ∙ ap (λ had. is_none (port_fault run had stand.ports)) (sym states_same);
       known = is.known;

@@ -33,7 +33,8 @@ pub is_some_not : {A : Type 0} (told : Option A) → is_none told ≡ false → 
 is_some_not None not none = cc
 is_some_not (Some one) not none = cc
 
-fit_in : (run : Composition) (stand : Stand) (phase : Phase) (units : List (List ℤ)) (old new : List Seat) → length stand.at.states ≡ length run.members → units ≡ stand.at.states → AreBegunIn stand.at.point.t phase run.members old new → SeatsFit run stand phase units new
+fit_in : (run : Composition) (stand : Stand) (phase : Phase) (units : List (List ℤ)) (old new : List Seat) → length stand.at.states ≡ length run.members
+    → units ≡ stand.at.states → AreBegunIn stand.at.point.t phase run.members old new → SeatsFit run stand phase units new
 fit_in run stand (Trial h) units old new long same begun = seats_begun stand.at.point.t h stand.ports run.members stand.at.states units old new long same begun
 fit_in run stand (Redo h) units old new long same begun = seats_begun stand.at.point.t h stand.ports run.members stand.at.states units old new long same begun
 fit_in run stand (Ended ending) units old new long same begun = tt
@@ -132,7 +133,9 @@ module _ (r : Inside) (fault : Option Ending) (old : List Seat) (come : Arrival 
 abbrev pub anew : Inside → Fleet → Vec Seat Global → Vec ℕ Global → ℕ → Inside
 anew old units seats replies h = record old { units = units; seats = seats; phase = Redo h; replies = replies }
 
-module _ (old : Inside) (is : IsRun old) (units : Fleet) (seats : Vec Seat Global) (replies : Vec ℕ Global) (h : ℕ) (agreed_on : h ≡ agreed old.plan.value.run (stand_of old).at (stand_of old).ports) (begun : AreBegun old.point.t h old.plan.value.run.members old.seats.items seats.items) where
+module _ (old : Inside) (is : IsRun old) (units : Fleet) (seats : Vec Seat Global) (replies : Vec ℕ Global) (h : ℕ)
+    (agreed_on : h ≡ agreed old.plan.value.run (stand_of old).at (stand_of old).ports)
+    (begun : AreBegun old.point.t h old.plan.value.run.members old.seats.items seats.items) where
   begun_kept : AreKept old.seats.items seats.items
   begun_kept = kept_begun old.point.t h old.plan.value.run.members old.seats.items seats.items begun
 
@@ -157,22 +160,27 @@ module _ (old : Inside) (is : IsRun old) (units : Fleet) (seats : Vec Seat Globa
       ∙ ap (λ cells. state_with (saved old.snaps old.seats.items) cells (inputs_before seats.items) h)
       (seen_begun old.point.t h old.plan.value.run.members old.seats.items seats.items begun units.states)
       ∙ ap (λ before. state_with (saved old.snaps old.seats.items) (cells_of old.plan.value.run old.point.t (Redo h)) before h) begun_kept.before
-      ∙ ap (λ length. state_with (saved old.snaps old.seats.items) (cells_of old.plan.value.run old.point.t (Redo length)) (inputs_before old.seats.items) length) agreed_on
+      ∙ ap (λ length. state_with (saved old.snaps old.seats.items) (cells_of old.plan.value.run old.point.t (Redo length))
+      (inputs_before old.seats.items) length) agreed_on
 
-  pub redone_run : Stands (with_redo (run_state old)) → units.plan ≡ old.units.plan → units.states ≡ saved old.snaps old.seats.items → units.inputs ≡ old.units.inputs → length replies.items ≡ length old.plan.value.run.members → IsRun (anew old units seats replies h)
+  pub redone_run : Stands (with_redo (run_state old)) → units.plan ≡ old.units.plan → units.states ≡ saved old.snaps old.seats.items
+      → units.inputs ≡ old.units.inputs → length replies.items ≡ length old.plan.value.run.members → IsRun (anew old units seats replies h)
   redone_run stands tied states inputs long = record {
     stands = subst Stands (sym redone_is) stands;
     tied = tied ∙ is.tied;
     room = record { ports = is.room.ports; known = is.room.known; seats = begun.as_many ∙ is.room.seats; limits = is.room.limits; replies = long };
     own_ids = own_kept old.seats.items seats.items begun_kept.ids is.own_ids;
-    saved = subst (AreSaved old.snaps seats.items) (sym same_states) (are_saved_kept old.snaps old.seats.items seats.items (saved old.snaps old.seats.items) begun_kept.ids is.saved);
+    saved = subst (AreSaved old.snaps seats.items) (sym same_states)
+        (are_saved_kept old.snaps old.seats.items seats.items (saved old.snaps old.seats.items) begun_kept.ids is.saved);
     before = ap (map length) begun_kept.before ∙ is.before ∙ sym (ap (map length) inputs);
     solved = is.solved ∙ ap (λ had. is_none (port_fault old.plan.value.run had (stand_of old).ports)) (sym same_states);
     known = is.known;
     inputs = λ solved. inputs ∙ is.inputs solved;
     fit =
-        let there : Stand = record { at = record { point = old.point; states = saved old.snaps seats.items; number = old.number }; ports = (stand_of old).ports } in
-        let long_states : length (saved old.snaps seats.items) ≡ length old.plan.value.run.members = ap length same_states ∙ one_state old.plan.value.run (stand_of old).at is.stands.words in
+        let there : Stand =
+        record { at = record { point = old.point; states = saved old.snaps seats.items; number = old.number }; ports = (stand_of old).ports } in
+        let long_states : length (saved old.snaps seats.items) ≡ length old.plan.value.run.members = ap length same_states
+        ∙ one_state old.plan.value.run (stand_of old).at is.stands.words in
         fit_in old.plan.value.run there (Redo h) units.states old.seats.items seats.items long_states (states ∙ sym same_states) begun;
   }
 
@@ -181,7 +189,8 @@ module _ (old : Inside) (is : IsRun old) (units : Fleet) (seats : Vec Seat Globa
 abbrev pub ended_with : Inside → Vec ℕ Global → Ending → Inside
 ended_with old replies ending = record old { phase = Ended ending; replies = replies }
 
-pub ended_run : (old : Inside) (replies : Vec ℕ Global) (ending : Ending) → IsRun old → length replies.items ≡ length old.plan.value.run.members → Stands (record (run_state old) { phase = Ended ending; cells = [] }) → IsRun (ended_with old replies ending)
+pub ended_run : (old : Inside) (replies : Vec ℕ Global) (ending : Ending) → IsRun old → length replies.items ≡ length old.plan.value.run.members
+    → Stands (record (run_state old) { phase = Ended ending; cells = [] }) → IsRun (ended_with old replies ending)
 ended_run old replies ending is long stands = record {
   stands = stands;
   tied = is.tied;
@@ -219,14 +228,19 @@ pub record AreSolved (run : Composition) (units : Fleet) (states : List (List �
   pub kept : units.states ≡ states
 
 -- The phase as it was begun.
-pub record IsBegunWith (run : Composition) (point : Point) (number : ℕ) (units : Fleet) (fault : Option Ending) (phase : Phase) (old new : List Seat) : Type 0 where
+pub record IsBegunWith (run : Composition) (point : Point) (number : ℕ) (units : Fleet) (fault : Option Ending) (phase : Phase)
+    (old new : List Seat) : Type 0 where
   pub phase_is : phase ≡ ended_or fault (phase_there run point number units.states units.inputs)
   pub begun : AreBegunIn point.t phase run.members old new
 
-pub arrival_of : (n : Inside) (fault : Option Ending) (old now : List Seat) (solved : Fleet) (states : List (List ℤ)) (ports : List ℤ) (known : List Bool) → n.units ≡ solved → n.seats.items ≡ now → n.ports.items ≡ ports → n.known.items ≡ known → n.units.plan ≡ n.plan.value → HasRoom n.plan.value.run n → HaveOwnIds old → AreSaved n.snaps old states → AreAsLong (inputs_before old) solved.inputs → AreSolved n.plan.value.run solved states ports known fault → IsBegunWith n.plan.value.run n.point n.number solved fault n.phase old now → n.solved ≡ is_none fault → Arrival n fault old
+pub arrival_of : (n : Inside) (fault : Option Ending) (old now : List Seat) (solved : Fleet) (states : List (List ℤ)) (ports : List ℤ) (known : List Bool)
+    → n.units ≡ solved → n.seats.items ≡ now → n.ports.items ≡ ports → n.known.items ≡ known → n.units.plan ≡ n.plan.value → HasRoom n.plan.value.run n
+    → HaveOwnIds old → AreSaved n.snaps old states → AreAsLong (inputs_before old) solved.inputs → AreSolved n.plan.value.run solved states ports known fault
+    → IsBegunWith n.plan.value.run n.point n.number solved fault n.phase old now → n.solved ≡ is_none fault → Arrival n fault old
 arrival_of n fault old now solved states ports known units_are seats_are ports_are known_are tied room own saved fed is_solved begun told =
     let run = n.plan.value.run in
-    let ports_same : ports_told n.known.items n.ports.items ≡ ports_told known ports = ap (λ some. ports_told some n.ports.items) known_are ∙ ap (ports_told known) ports_are in
+    let ports_same : ports_told n.known.items n.ports.items ≡ ports_told known ports = ap (λ some. ports_told some n.ports.items) known_are
+    ∙ ap (ports_told known) ports_are in
     let states_same : n.units.states ≡ states = ap (λ (f : Fleet). f.states) units_are ∙ is_solved.kept in
     record {
       tied = tied;
@@ -238,7 +252,8 @@ arrival_of n fault old now solved states ports known units_are seats_are ports_a
       right =
           subst (λ all. IsAssignment run n.units.states all) (sym ports_same)
           (subst (λ all. IsAssignment run all (ports_told known ports)) (sym states_same) is_solved.right);
-      fault_is = is_solved.fault_is ∙ ap (λ all. port_fault run all (ports_told known ports)) (sym states_same) ∙ ap (port_fault run n.units.states) (sym ports_same);
+      fault_is = is_solved.fault_is ∙ ap (λ all. port_fault run all (ports_told known ports)) (sym states_same)
+          ∙ ap (port_fault run n.units.states) (sym ports_same);
       known = λ none. subst (λ all. list_all (λ one. one) all ≡ true) (sym known_are) (is_solved.known_all none);
       inputs = λ none. ap (λ (f : Fleet). f.inputs) units_are ∙ is_solved.inputs none ∙ ap (all_inputs run) (sym ports_same);
       solved = told;

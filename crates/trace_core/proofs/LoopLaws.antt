@@ -1,7 +1,10 @@
 -- Loops over all instances: what is told of one after the other, lists that are changed element by element, and limits and
 -- snapshots that are.
-use Rattle.std.proofs.Common.{◌≡◌, ◌∙◌, Bool, true, false, nat_eq, ℕ, zero, suc, ◌+◌, ◌<◌, ◌≤◌, ℤ, List, [], ◌∷◌, ◌++◌, length, map, take, drop, get_or, set, Option, Some, None, Result, Ok, Err, refl, ap, sym, subst, arith, append_assoc, append-nil, length-set, get_or-set_same, get_or-set_other}
-use Rattle.std.proofs.lemmas.List.{at_drop_more, drop_more, drop_all, take_all, take_more, take_more_set, set_at, get_or_at, length-take-le, length-map, get_or-map}
+use Rattle.std.proofs.Common.{◌≡◌, ◌∙◌, Bool, true, false, nat_eq, ℕ, zero, suc, ◌+◌, ◌<◌, ◌≤◌, ℤ, List, [], ◌∷◌, ◌++◌, length, map, take, drop, get_or, set}
+use Rattle.std.proofs.Common.{Option, Some, None, Result, Ok, Err, refl, ap, sym, subst, arith, append_assoc, append-nil, length-set, get_or-set_same}
+use Rattle.std.proofs.Common.{get_or-set_other}
+use Rattle.std.proofs.lemmas.List.{at_drop_more, drop_more, drop_all, take_all, take_more, take_more_set, set_at, get_or_at, length-take-le, length-map}
+use Rattle.std.proofs.lemmas.List.{get_or-map}
 use Rattle.std.proofs.lemmas.Bool.Decides.{nat_tests}
 use Rattle.std.proofs.lemmas.Option.{same_Some, get_or_from_slice_get, slice_get_within}
 use Rattle.std.specs.Prelude.{zip, slice_get, is_some, IsSome, if◌then◌else◌}
@@ -10,7 +13,8 @@ use Rattle.fixed_words.specs.declared.types.Fault.{Fault}
 use Rattle.snap_store.specs.Store.{Store, words_of, IsLive, HasLength, KeepsOthers}
 use Rattle.port_solve.specs.Solved.{HaveStates, HaveInputs}
 use Rattle.super_time.specs.LocalTime.{local_time, limit_of}
-use Rattle.trace_core.specs.Seats.{AreAsLong, AreSaved, saved, HaveOwnIds, IsCommitted, end_in, slot_end, reply_in, slot_reply, replied, max_told, all_told, limits_told, ending_or, asked}
+use Rattle.trace_core.specs.Seats.{AreAsLong, AreSaved, saved, HaveOwnIds, IsCommitted, end_in, slot_end, reply_in, slot_reply, replied, max_told, all_told}
+use Rattle.trace_core.specs.Seats.{limits_told, ending_or, asked}
 use Rattle.trace_core.specs.declared.seat.Slot.{Slot}
 use Rattle.trace_core.specs.declared.seat.Slot.TheVariants as slot
 use Rattle.trace_plan.specs.Plans.{Planned, ForMember, places_from, has_max}
@@ -34,16 +38,20 @@ module _ {A : Type 0} (tell : ℕ × A → Option Ending) (items : List A) where
   abbrev pub ToldFrom : ℕ → Type 0
   ToldFrom place = first_some (map tell (enumerate_from place (drop place items))) ≡ first_told tell items
 
-  told_here : (place : ℕ) (item : A) → place < length items → item ≡ get_or items place item → first_some (map tell (enumerate_from place (drop place items))) ≡ first_some (tell (place, item) ∷ map tell (enumerate_from (place + 1) (drop (place + 1) items)))
+  told_here : (place : ℕ) (item : A) → place < length items → item ≡ get_or items place item
+      → first_some (map tell (enumerate_from place (drop place items)))
+      ≡ first_some (tell (place, item) ∷ map tell (enumerate_from (place + 1) (drop (place + 1) items)))
   told_here place item within is =
       at_drop_more (λ left. first_some (map tell (enumerate_from place left))) items place item within
       ∙ ap (λ one. first_some (tell (place, one) ∷ map tell (enumerate_from (place + 1) (drop (place + 1) items)))) (sym is)
 
-  pub told_none : (place : ℕ) (item : A) → place < length items → item ≡ get_or items place item → tell (place, item) ≡ None → ToldFrom place → ToldFrom (place + 1)
+  pub told_none : (place : ℕ) (item : A) → place < length items → item ≡ get_or items place item → tell (place, item) ≡ None → ToldFrom place
+      → ToldFrom (place + 1)
   told_none place item within is none so_far =
       sym (told_here place item within is ∙ ap (λ one. first_some (one ∷ map tell (enumerate_from (place + 1) (drop (place + 1) items)))) none) ∙ so_far
 
-  pub told_some : (place : ℕ) (item : A) (ending : Ending) → place < length items → item ≡ get_or items place item → tell (place, item) ≡ Some ending → ToldFrom place → Some ending ≡ first_told tell items
+  pub told_some : (place : ℕ) (item : A) (ending : Ending) → place < length items → item ≡ get_or items place item → tell (place, item) ≡ Some ending
+      → ToldFrom place → Some ending ≡ first_told tell items
   told_some place item ending within is some so_far =
       sym (told_here place item within is ∙ ap (λ one. first_some (one ∷ map tell (enumerate_from (place + 1) (drop (place + 1) items)))) some) ∙ so_far
 
@@ -56,9 +64,11 @@ module _ {A : Type 0} (tell : ℕ × A → Option Ending) (items : List A) where
 abbrev pub MadeSoFar : {A : Type 0} → List A → ℕ → List A → List A → Type 0
 MadeSoFar made count rest whole = take count made ++ rest ≡ whole
 
-pub one_made : {A : Type 0} (made : List A) (count : ℕ) (x : A) (rest left whole : List A) → count < length made → left ≡ x ∷ rest → MadeSoFar made count left whole → MadeSoFar (set made count x) (count + 1) rest whole
+pub one_made : {A : Type 0} (made : List A) (count : ℕ) (x : A) (rest left whole : List A) → count < length made → left ≡ x ∷ rest
+    → MadeSoFar made count left whole → MadeSoFar (set made count x) (count + 1) rest whole
 one_made made count x rest left whole within is so_far =
-    ap (λ front. front ++ rest) (take_more_set made count x within) ∙ append_assoc (take count made) (x ∷ []) rest ∙ sym (ap (λ others. take count made ++ others) is) ∙ so_far
+    ap (λ front. front ++ rest) (take_more_set made count x within) ∙ append_assoc (take count made) (x ∷ []) rest
+    ∙ sym (ap (λ others. take count made ++ others) is) ∙ so_far
 
 -- ---- A list that is changed element by element
 
@@ -72,15 +82,20 @@ module _ {A : Type 0} (R : ℕ → A → A → Type 0) where
   pub none_turned : (old : List A) → Turned old old 0
   none_turned old = record { as_many = refl; changed = λ k default before. absurd (omega (arith, before)); kept = λ k default behind. refl }
 
-  pub one_turned : (old now : List A) (place : ℕ) (new : A) → place < length old → Turned old now place → ((default : A) → R place (get_or old place default) new) → Turned old (set now place new) (place + 1)
+  pub one_turned : (old now : List A) (place : ℕ) (new : A) → place < length old → Turned old now place
+      → ((default : A) → R place (get_or old place default) new) → Turned old (set now place new) (place + 1)
   one_turned old now place new within so_far is = record {
     as_many = length-set now place new ∙ so_far.as_many;
-    changed = λ k default before there. grind (arith, so_far.changed k default, is default, get_or-set_same now place new default, get_or-set_other now place k new default, so_far.as_many);
+    changed =
+        λ k default before there. grind
+        (arith, so_far.changed k default, is default, get_or-set_same now place new default, get_or-set_other now place k new default, so_far.as_many);
     kept = λ k default behind. grind (arith, get_or-set_other now place k new default, so_far.kept k default);
   }
 
 -- With the members that the elements belong to.
-pub zip_of : {M A : Type 0} (S : M → A → A → Type 0) (members : List M) (old new : List A) → length old ≡ length members → length new ≡ length old → ((k : ℕ) (default : A) → k < length old → (member : M) → slice_get members k ≡ Some member → S member (get_or old k default) (get_or new k default)) → AllZip (λ member pair. S member pair.0 pair.1) members (zip old new)
+pub zip_of : {M A : Type 0} (S : M → A → A → Type 0) (members : List M) (old new : List A) → length old ≡ length members → length new ≡ length old
+    → ((k : ℕ) (default : A) → k < length old → (member : M) → slice_get members k ≡ Some member → S member (get_or old k default) (get_or new k default))
+    → AllZip (λ member pair. S member pair.0 pair.1) members (zip old new)
 zip_of S [] [] new many as_many each = tt
 zip_of S [] (one ∷ old) new many as_many each = absurd (omega (arith, many))
 zip_of S (member ∷ members) [] new many as_many each = absurd (omega (arith, many))
@@ -92,13 +107,15 @@ zip_of S (member ∷ members) (one ∷ old) (other ∷ new) many as_many each = 
 
 -- ---- Lists with an element each
 
-pub zip_read : {A B : Type 0} (R : A → B → Type 0) (xs : List A) (ys : List B) (k : ℕ) (x : A) (y : B) → AllZip R xs ys → k < length xs → R (get_or xs k x) (get_or ys k y)
+pub zip_read : {A B : Type 0} (R : A → B → Type 0) (xs : List A) (ys : List B) (k : ℕ) (x : A) (y : B) → AllZip R xs ys → k < length xs
+    → R (get_or xs k x) (get_or ys k y)
 zip_read R [] ys k x y all within = absurd (omega (arith, within))
 zip_read R (one ∷ xs) [] k x y all within = absurd all
 zip_read R (one ∷ xs) (other ∷ ys) zero x y all within = all.0
 zip_read R (one ∷ xs) (other ∷ ys) (suc k) x y all within = zip_read R xs ys k x y all.1 (omega (arith, within))
 
-pub zip_made : {A B : Type 0} (R : A → B → Type 0) (xs : List A) (ys : List B) (y : B) → length ys ≡ length xs → ((k : ℕ) (x : A) → k < length xs → R (get_or xs k x) (get_or ys k y)) → AllZip R xs ys
+pub zip_made : {A B : Type 0} (R : A → B → Type 0) (xs : List A) (ys : List B) (y : B) → length ys ≡ length xs
+    → ((k : ℕ) (x : A) → k < length xs → R (get_or xs k x) (get_or ys k y)) → AllZip R xs ys
 zip_made R [] [] y many each = tt
 zip_made R [] (other ∷ ys) y many each = absurd (omega (arith, many))
 zip_made R (one ∷ xs) [] y many each = absurd (omega (arith, many))
@@ -122,7 +139,9 @@ long_as ones others same = sym (length-map ones length) ∙ ap length same ∙ l
 
 -- ---- What is asked of all instances
 
-told_at : (t : ℕ) (members : List Member) (states inputs : List (List ℤ)) (k : ℕ) (member : Member) (state words : List ℤ) → slice_get members k ≡ Some member → slice_get states k ≡ Some state → slice_get inputs k ≡ Some words → slice_get (all_told t members states inputs) k ≡ Some (max_told t (member, (state, words)))
+told_at : (t : ℕ) (members : List Member) (states inputs : List (List ℤ)) (k : ℕ) (member : Member) (state words : List ℤ) → slice_get members k ≡ Some member
+    → slice_get states k ≡ Some state → slice_get inputs k ≡ Some words
+    → slice_get (all_told t members states inputs) k ≡ Some (max_told t (member, (state, words)))
 told_at t [] states inputs k member state words member_is state_is words_are = absurd (cc)
 told_at t (one ∷ members) [] inputs k member state words member_is state_is words_are = absurd (cc)
 told_at t (one ∷ members) (had ∷ states) [] k member state words member_is state_is words_are = absurd (cc)
@@ -133,7 +152,9 @@ told_at t (one ∷ members) (had ∷ states) (fed ∷ inputs) zero member state 
 told_at t (one ∷ members) (had ∷ states) (fed ∷ inputs) (suc k) member state words member_is state_is words_are =
     told_at t members states inputs k member state words member_is state_is words_are
 
-next_limit : (t k : ℕ) (members : List Member) (told : List (Result (Option ℕ) Fault)) (member : Member) (one : Result (Option ℕ) Fault) → slice_get members k ≡ Some member → slice_get told k ≡ Some one → limits_told t (drop k members) (drop k told) ≡ cons_option (limit_told member.factor t one) (limits_told t (drop (k + 1) members) (drop (k + 1) told))
+next_limit : (t k : ℕ) (members : List Member) (told : List (Result (Option ℕ) Fault)) (member : Member) (one : Result (Option ℕ) Fault)
+    → slice_get members k ≡ Some member → slice_get told k ≡ Some one
+    → limits_told t (drop k members) (drop k told) ≡ cons_option (limit_told member.factor t one) (limits_told t (drop (k + 1) members) (drop (k + 1) told))
 next_limit t k [] told member one member_is is = absurd (cc)
 next_limit t k (first ∷ members) [] member one member_is is = absurd (cc)
 next_limit t zero (first ∷ members) (given ∷ told) member one member_is is =
@@ -141,7 +162,8 @@ next_limit t zero (first ∷ members) (given ∷ told) member one member_is is =
     ∙ ap (λ some. cons_option (limit_told member.factor t some) (limits_told t members told)) (same_Some given one is)
 next_limit t (suc k) (first ∷ members) (given ∷ told) member one member_is is =
     let same : suc (k + 1) ≡ suc k + 1 = omega arith in
-    subst (λ next. limits_told t (drop k members) (drop k told) ≡ cons_option (limit_told member.factor t one) (limits_told t (drop next (first ∷ members)) (drop next (given ∷ told)))) same
+    subst (λ next. limits_told t (drop k members) (drop k told)
+    ≡ cons_option (limit_told member.factor t one) (limits_told t (drop next (first ∷ members)) (drop next (given ∷ told)))) same
     (next_limit t k members told member one member_is is)
 
 -- What an instance told, with its member.
@@ -151,11 +173,17 @@ pub record HasTold (t instance factor : ℕ) (members : List Member) (told : Lis
   pub factor_is : factor ≡ member.factor
   pub told_is : slice_get told instance ≡ Some one
 
-has_told : (t instance factor : ℕ) (run : Composition) (states inputs : List (List ℤ)) (one : Result (Option ℕ) Fault) → HaveStates run states → HaveInputs run inputs → instance < length run.members → ForMember run instance (λ member. factor ≡ member.factor) → ((member : Member) (state words : List ℤ) → slice_get run.members instance ≡ Some member → slice_get states instance ≡ Some state → slice_get inputs instance ≡ Some words → max_of member.component state words (local_time factor t) ≡ one) → HasTold t instance factor run.members (all_told t run.members states inputs) one
+has_told : (t instance factor : ℕ) (run : Composition) (states inputs : List (List ℤ)) (one : Result (Option ℕ) Fault) → HaveStates run states
+    → HaveInputs run inputs → instance < length run.members → ForMember run instance (λ member. factor ≡ member.factor)
+    → ((member : Member) (state words : List ℤ) → slice_get run.members instance ≡ Some member → slice_get states instance ≡ Some state
+    → slice_get inputs instance ≡ Some words → max_of member.component state words (local_time factor t) ≡ one)
+    → HasTold t instance factor run.members (all_told t run.members states inputs) one
 has_told t instance factor run states inputs one have_states have_inputs within factors gives =
     let at = at_place run.members instance within in
-    let state = zip_at (λ (member : Member) (state : List ℤ). length state ≡ length member.component.unit.states) run.members states instance at.0 have_states at.1 in
-    let fed = zip_at (λ (member : Member) (words : List ℤ). length words ≡ length member.component.unit.inputs) run.members inputs instance at.0 have_inputs at.1 in
+    let state =
+    zip_at (λ (member : Member) (state : List ℤ). length state ≡ length member.component.unit.states) run.members states instance at.0 have_states at.1 in
+    let fed =
+    zip_at (λ (member : Member) (words : List ℤ). length words ≡ length member.component.unit.inputs) run.members inputs instance at.0 have_inputs at.1 in
     let factor_is : factor ≡ at.0.factor = factors at.0 at.1 in
     let is : max_told t (at.0, (state.other, fed.other)) ≡ one =
     ap (λ n. max_of at.0.component state.other fed.other (local_time n t)) (sym factor_is) ∙ gives at.0 state.other fed.other at.1 state.is fed.is in
@@ -167,12 +195,20 @@ has_told t instance factor run states inputs one have_states have_inputs within 
     }
 
 -- Units of a plan are asked at a member's local time.
-pub unit_told : (t instance factor time : ℕ) (plan : Planned) (fleet now : Fleet) (one : Result (Option ℕ) Fault) → fleet.plan ≡ plan → now ≡ fleet → time ≡ local_time factor t → HaveStates fleet.plan.run fleet.states → HaveInputs fleet.plan.run fleet.inputs → instance < length fleet.plan.run.members → ForMember plan.run instance (λ member. factor ≡ member.factor) → ForUnit now instance (λ member state words. max_of member.component state words time ≡ one) → HasTold t instance factor plan.run.members (all_told t plan.run.members fleet.states fleet.inputs) one
+pub unit_told : (t instance factor time : ℕ) (plan : Planned) (fleet now : Fleet) (one : Result (Option ℕ) Fault) → fleet.plan ≡ plan → now ≡ fleet
+    → time ≡ local_time factor t → HaveStates fleet.plan.run fleet.states → HaveInputs fleet.plan.run fleet.inputs → instance < length fleet.plan.run.members
+    → ForMember plan.run instance (λ member. factor ≡ member.factor)
+    → ForUnit now instance (λ member state words. max_of member.component state words time ≡ one)
+    → HasTold t instance factor plan.run.members (all_told t plan.run.members fleet.states fleet.inputs) one
 unit_told t instance factor time plan fleet now one tied kept time_is have_states have_inputs within factors gives =
     let gives_then : ForUnit fleet instance (λ member state words. max_of member.component state words (local_time factor t) ≡ one) =
-    subst (λ n. ForUnit fleet instance (λ member state words. max_of member.component state words n ≡ one)) time_is (subst (λ some. ForUnit some instance (λ member state words. max_of member.component state words time ≡ one)) kept gives) in
-    has_told t instance factor plan.run fleet.states fleet.inputs one (subst (λ (p : Planned). HaveStates p.run fleet.states) tied have_states) (subst (λ (p : Planned). HaveInputs p.run fleet.inputs) tied have_inputs) (subst (λ (p : Planned). instance < length p.run.members) tied within) factors
-    (λ member state words member_is. gives_then member state words (subst (λ (p : Planned). slice_get p.run.members instance ≡ Some member) (sym tied) member_is))
+    subst (λ n. ForUnit fleet instance (λ member state words. max_of member.component state words n ≡ one)) time_is
+    (subst (λ some. ForUnit some instance (λ member state words. max_of member.component state words time ≡ one)) kept gives) in
+    has_told t instance factor plan.run fleet.states fleet.inputs one (subst (λ (p : Planned). HaveStates p.run fleet.states) tied have_states)
+    (subst (λ (p : Planned). HaveInputs p.run fleet.inputs) tied have_inputs)
+    (subst (λ (p : Planned). instance < length p.run.members) tied within) factors
+    (λ member state words member_is. gives_then member state words
+    (subst (λ (p : Planned). slice_get p.run.members instance ≡ Some member) (sym tied) member_is))
 
 -- None of the instances before a place ended the run, and their limits are there.
 pub record AskedSoFar (t : ℕ) (members : List Member) (told : List (Result (Option ℕ) Fault)) (place count : ℕ) (limits : List ℕ) : Type 0 where
@@ -184,33 +220,44 @@ module _ (t : ℕ) (members : List Member) (told : List (Result (Option ℕ) Fau
   read_told : (place : ℕ) (one : Result (Option ℕ) Fault) → slice_get told place ≡ Some one → one ≡ get_or told place one
   read_told place one is = sym (get_or_from_slice_get told place one one is)
 
-  pub next_without : (place count factor : ℕ) (limits : List ℕ) → HasTold t place factor members told (Ok None) → AskedSoFar t members told place count limits → AskedSoFar t members told (place + 1) count limits
+  pub next_without : (place count factor : ℕ) (limits : List ℕ) → HasTold t place factor members told (Ok None) → AskedSoFar t members told place count limits
+      → AskedSoFar t members told (place + 1) count limits
   next_without place count factor limits has so_far = record {
-    no_end = told_none max_end_of told place (Ok None) (slice_get_within told place (Ok None) has.told_is) (read_told place (Ok None) has.told_is) refl so_far.no_end;
+    no_end = told_none max_end_of told place (Ok None) (slice_get_within told place (Ok None) has.told_is)
+        (read_told place (Ok None) has.told_is) refl so_far.no_end;
     made = ap (λ rest. take count limits ++ rest) (sym (next_limit t place members told has.member (Ok None) has.member_is has.told_is)) ∙ so_far.made;
     few = let few = so_far.few in omega arith;
   }
 
-  pub next_with : (place count factor local : ℕ) (limits : List ℕ) → count < length limits → HasTold t place factor members told (Ok (Some local)) → AskedSoFar t members told place count limits → AskedSoFar t members told (place + 1) (count + 1) (set limits count (limit_of factor t local))
+  pub next_with : (place count factor local : ℕ) (limits : List ℕ) → count < length limits → HasTold t place factor members told (Ok (Some local))
+      → AskedSoFar t members told place count limits → AskedSoFar t members told (place + 1) (count + 1) (set limits count (limit_of factor t local))
   next_with place count factor local limits within has so_far = record {
-    no_end = told_none max_end_of told place (Ok (Some local)) (slice_get_within told place (Ok (Some local)) has.told_is) (read_told place (Ok (Some local)) has.told_is) refl so_far.no_end;
+    no_end = told_none max_end_of told place (Ok (Some local)) (slice_get_within told place (Ok (Some local)) has.told_is)
+        (read_told place (Ok (Some local)) has.told_is) refl so_far.no_end;
     made =
-        one_made limits count (limit_of factor t local) (limits_told t (drop (place + 1) members) (drop (place + 1) told)) (limits_told t (drop place members) (drop place told)) (limits_told t members told) within
+        one_made limits count (limit_of factor t local) (limits_told t (drop (place + 1) members) (drop (place + 1) told))
+        (limits_told t (drop place members) (drop place told)) (limits_told t members told) within
         (next_limit t place members told has.member (Ok (Some local)) has.member_is has.told_is
         ∙ ap (λ n. limit_of n t local ∷ limits_told t (drop (place + 1) members) (drop (place + 1) told)) (sym has.factor_is))
         so_far.made;
     few = let few = so_far.few in omega arith;
   }
 
-pub asked_fault : (run : Composition) (t place count factor : ℕ) (told : List (Result (Option ℕ) Fault)) (limits : List ℕ) (fault : Fault) → HasTold t place factor run.members told (Err fault) → AskedSoFar t run.members told place count limits → Err (UnitFault place call.Max fault) ≡ asked run t told
+pub asked_fault : (run : Composition) (t place count factor : ℕ) (told : List (Result (Option ℕ) Fault)) (limits : List ℕ) (fault : Fault)
+    → HasTold t place factor run.members told (Err fault) → AskedSoFar t run.members told place count limits
+    → Err (UnitFault place call.Max fault) ≡ asked run t told
 asked_fault run t place count factor told limits fault has so_far =
     ap (λ end. ending_or end (proposal_of run.stop run.longest t (limits_told t run.members told)))
-    (told_some max_end_of told place (Err fault) (UnitFault place call.Max fault) (slice_get_within told place (Err fault) has.told_is) (sym (get_or_from_slice_get told place (Err fault) (Err fault) has.told_is)) refl so_far.no_end)
+    (told_some max_end_of told place (Err fault) (UnitFault place call.Max fault) (slice_get_within told place (Err fault) has.told_is)
+    (sym (get_or_from_slice_get told place (Err fault) (Err fault) has.told_is)) refl so_far.no_end)
 
-pub all_asked : (run : Composition) (t place count : ℕ) (told : List (Result (Option ℕ) Fault)) (limits : List ℕ) → length run.members ≤ place → length told ≤ place → AskedSoFar t run.members told place count limits → Ok (proposal_of run.stop run.longest t (take count limits)) ≡ asked run t told
+pub all_asked : (run : Composition) (t place count : ℕ) (told : List (Result (Option ℕ) Fault)) (limits : List ℕ) → length run.members ≤ place
+    → length told ≤ place → AskedSoFar t run.members told place count limits → Ok (proposal_of run.stop run.longest t (take count limits)) ≡ asked run t told
 all_asked run t place count told limits past told_past so_far =
-    let rest : limits_told t (drop place run.members) (drop place told) ≡ [] = ap (λ some. limits_told t some (drop place told)) (drop_all place run.members past) in
-    let made : take count limits ≡ limits_told t run.members told = sym (append-nil (take count limits)) ∙ ap (λ some. take count limits ++ some) (sym rest) ∙ so_far.made in
+    let rest : limits_told t (drop place run.members) (drop place told) ≡ [] =
+    ap (λ some. limits_told t some (drop place told)) (drop_all place run.members past) in
+    let made : take count limits ≡ limits_told t run.members told = sym (append-nil (take count limits)) ∙ ap (λ some. take count limits ++ some) (sym rest)
+    ∙ so_far.made in
     ap (λ some. Ok (proposal_of run.stop run.longest t some)) made
     ∙ ap (λ end. ending_or end (proposal_of run.stop run.longest t (limits_told t run.members told))) (told_all max_end_of told place told_past so_far.no_end)
 
@@ -234,25 +281,32 @@ pub record Asking (t : ℕ) (members : List Member) (told : List (Result (Option
   pub so_far : AskedSoFar t members told place count limits
 
 -- The next one is asked.
-pub record AskedNext (t : ℕ) (members : List Member) (told : List (Result (Option ℕ) Fault)) (instance : ℕ) (waiting : List ℕ) (count : ℕ) (limits : List ℕ) : Type 0 where
+pub record AskedNext (t : ℕ) (members : List Member) (told : List (Result (Option ℕ) Fault)) (instance : ℕ) (waiting : List ℕ) (count : ℕ)
+    (limits : List ℕ) : Type 0 where
   pub within : instance < length members
   pub are : waiting ≡ places_from (instance + 1) (map has_max (drop (instance + 1) members))
   pub so_far : AskedSoFar t members told instance count limits
 
-module _ (t : ℕ) (run : Composition) (states inputs : List (List ℤ)) (have_states : HaveStates run states) (have_inputs : HaveInputs run inputs) (count : ℕ) (limits : List ℕ) where
+module _ (t : ℕ) (run : Composition) (states inputs : List (List ℤ)) (have_states : HaveStates run states) (have_inputs : HaveInputs run inputs) (count : ℕ)
+    (limits : List ℕ) where
   abbrev all : List (Result (Option ℕ) Fault)
   all = all_told t run.members states inputs
 
-  quiet : (place : ℕ) (member : Member) → place < length run.members → slice_get run.members place ≡ Some member → has_max member ≡ false → HasTold t place member.factor run.members all (Ok None)
+  quiet : (place : ℕ) (member : Member) → place < length run.members → slice_get run.members place ≡ Some member → has_max member ≡ false
+      → HasTold t place member.factor run.members all (Ok None)
   quiet place member within is no_max =
-      has_told t place member.factor run states inputs (Ok None) have_states have_inputs within (λ (one : Member) one_is. ap (λ (m : Member). m.factor) (same_Some member one (sym is ∙ one_is)))
+      has_told t place member.factor run states inputs (Ok None) have_states have_inputs within
+      (λ (one : Member) one_is. ap (λ (m : Member). m.factor) (same_Some member one (sym is ∙ one_is)))
       (λ (one : Member) state words one_is state_is words_are.
-      ap (λ limit. limit_by limit (environment_of one.component state words (local_time member.factor t) 0)) (none_told one.component.unit.max (ap has_max (sym (same_Some member one (sym is ∙ one_is))) ∙ no_max)))
+      ap (λ limit. limit_by limit (environment_of one.component state words (local_time member.factor t) 0))
+      (none_told one.component.unit.max (ap has_max (sym (same_Some member one (sym is ∙ one_is))) ∙ no_max)))
 
-  member_here : (place : ℕ) (member : Member) (left : List Member) → drop place run.members ≡ member ∷ left → (place < length run.members) × (slice_get run.members place ≡ Some member) × (drop (place + 1) run.members ≡ left)
+  member_here : (place : ℕ) (member : Member) (left : List Member) → drop place run.members ≡ member ∷ left
+      → (place < length run.members) × (slice_get run.members place ≡ Some member) × (drop (place + 1) run.members ≡ left)
   member_here place member left is = here_in run.members place is
     where
-      here_in : (members : List Member) (k : ℕ) → drop k members ≡ member ∷ left → (k < length members) × (slice_get members k ≡ Some member) × (drop (k + 1) members ≡ left)
+      here_in : (members : List Member) (k : ℕ) → drop k members ≡ member ∷ left
+          → (k < length members) × (slice_get members k ≡ Some member) × (drop (k + 1) members ≡ left)
       here_in [] zero is = absurd (let none : [] ≡ member ∷ left = is in cc)
       here_in [] (suc k) is = absurd (let none : [] ≡ member ∷ left = is in cc)
       here_in (first ∷ members) zero is = (omega arith, cc, cc)
@@ -261,22 +315,27 @@ module _ (t : ℕ) (run : Composition) (states inputs : List (List ℤ)) (have_s
           let same : suc (k + 1) ≡ suc k + 1 = omega arith in
           (omega (arith, behind.0), behind.1, subst (λ n. drop n (first ∷ members) ≡ left) same behind.2)
 
-  passed : (place : ℕ) (member : Member) (left : List Member) → drop place run.members ≡ member ∷ left → has_max member ≡ false → AskedSoFar t run.members all place count limits → AskedSoFar t run.members all (place + 1) count limits
+  passed : (place : ℕ) (member : Member) (left : List Member) → drop place run.members ≡ member ∷ left → has_max member ≡ false
+      → AskedSoFar t run.members all place count limits → AskedSoFar t run.members all (place + 1) count limits
   passed place member left is no_max so_far =
       let here = member_here place member left is in
       next_without t run.members all place count member.factor limits (quiet place member here.0 here.1 no_max) so_far
 
   -- Those that wait, by whether the first member sets a limit.
-  places_by : (place : ℕ) (member : Member) (left : List Member) (so : Bool) → has_max member ≡ so → places_from place (map has_max (member ∷ left)) ≡ (if so then place ∷ places_from (place + 1) (map has_max left) else places_from (place + 1) (map has_max left))
+  places_by : (place : ℕ) (member : Member) (left : List Member) (so : Bool) → has_max member ≡ so
+      → places_from place (map has_max (member ∷ left))
+      ≡ (if so then place ∷ places_from (place + 1) (map has_max left) else places_from (place + 1) (map has_max left))
   places_by place member left so is =
       let next : suc place ≡ place + 1 = omega arith in
       ap (λ b. if b then place ∷ places_from (suc place) (map has_max left) else places_from (suc place) (map has_max left)) is
       ∙ ap (λ k. if so then place ∷ places_from k (map has_max left) else places_from k (map has_max left)) next
 
   abbrev Further : (left : List Member) (place instance : ℕ) (waiting : List ℕ) → Type 0
-  Further left place instance waiting = instance ∷ waiting ≡ places_from place (map has_max left) → AskedSoFar t run.members all place count limits → AskedNext t run.members all instance waiting count limits
+  Further left place instance waiting = instance ∷ waiting ≡ places_from place (map has_max left) → AskedSoFar t run.members all place count limits
+      → AskedNext t run.members all instance waiting count limits
 
-  next_by : (member : Member) (left : List Member) (place instance : ℕ) (waiting : List ℕ) (so : Bool) → has_max member ≡ so → drop place run.members ≡ member ∷ left → Further left (place + 1) instance waiting → Further (member ∷ left) place instance waiting
+  next_by : (member : Member) (left : List Member) (place instance : ℕ) (waiting : List ℕ) (so : Bool) → has_max member ≡ so
+      → drop place run.members ≡ member ∷ left → Further left (place + 1) instance waiting → Further (member ∷ left) place instance waiting
   next_by member left place instance waiting true so is further are so_far =
       let here = member_here place member left is in
       let told : instance ∷ waiting ≡ place ∷ places_from (place + 1) (map has_max left) = are ∙ places_by place member left true so in
@@ -290,15 +349,19 @@ module _ (t : ℕ) (run : Composition) (states inputs : List (List ℤ)) (have_s
   next_from : (left : List Member) (place instance : ℕ) (waiting : List ℕ) → drop place run.members ≡ left → Further left place instance waiting
   next_from [] place instance waiting is are so_far = absurd (let none : instance ∷ waiting ≡ [] = are in cc)
   next_from (member ∷ left) place instance waiting is are so_far =
-      next_by member left place instance waiting (has_max member) refl is (next_from left (place + 1) instance waiting (member_here place member left is).2) are so_far
+      next_by member left place instance waiting (has_max member) refl is
+      (next_from left (place + 1) instance waiting (member_here place member left is).2) are so_far
 
-  pub next_asked : (instance : ℕ) (waiting : List ℕ) → Asking t run.members all (instance ∷ waiting) count limits → AskedNext t run.members all instance waiting count limits
+  pub next_asked : (instance : ℕ) (waiting : List ℕ) → Asking t run.members all (instance ∷ waiting) count limits
+      → AskedNext t run.members all instance waiting count limits
   next_asked instance waiting asking = next_from (drop asking.place run.members) asking.place instance waiting refl asking.are asking.so_far
 
   abbrev Past : Type 0
   Past = (past : ℕ) × (length run.members ≤ past) × AskedSoFar t run.members all past count limits
 
-  none_by : (member : Member) (left : List Member) (place : ℕ) (so : Bool) → has_max member ≡ so → drop place run.members ≡ member ∷ left → ([] ≡ places_from (place + 1) (map has_max left) → AskedSoFar t run.members all (place + 1) count limits → Past) → [] ≡ places_from place (map has_max (member ∷ left)) → AskedSoFar t run.members all place count limits → Past
+  none_by : (member : Member) (left : List Member) (place : ℕ) (so : Bool) → has_max member ≡ so → drop place run.members ≡ member ∷ left
+      → ([] ≡ places_from (place + 1) (map has_max left) → AskedSoFar t run.members all (place + 1) count limits → Past)
+      → [] ≡ places_from place (map has_max (member ∷ left)) → AskedSoFar t run.members all place count limits → Past
   none_by member left place true so is further are so_far =
       let told : [] ≡ place ∷ places_from (place + 1) (map has_max left) = are ∙ places_by place member left true so in
       absurd (cc)
@@ -309,7 +372,8 @@ module _ (t : ℕ) (run : Composition) (states inputs : List (List ℤ)) (have_s
   past_all (first ∷ members) zero is = absurd (let some : first ∷ members ≡ [] = is in cc)
   past_all (first ∷ members) (suc k) is = let behind = past_all members k is in omega (arith, behind)
 
-  none_from : (left : List Member) (place : ℕ) → drop place run.members ≡ left → [] ≡ places_from place (map has_max left) → AskedSoFar t run.members all place count limits → Past
+  none_from : (left : List Member) (place : ℕ) → drop place run.members ≡ left → [] ≡ places_from place (map has_max left)
+      → AskedSoFar t run.members all place count limits → Past
   none_from [] place is are so_far = (place, past_all run.members place is, so_far)
   none_from (member ∷ left) place is are so_far =
       none_by member left place (has_max member) refl is (none_from left (place + 1) (member_here place member left is).2) are so_far
@@ -321,22 +385,32 @@ pub none_asked : (t : ℕ) (members : List Member) (told : List (Result (Option 
 none_asked t members told limits = record { no_end = refl; made = refl; few = omega arith }
 
 -- Of the units of a plan, along the list of those that set a limit.
-module _ (t : ℕ) (plan : Planned) (fleet : Fleet) (tied : fleet.plan ≡ plan) (have_states : HaveStates fleet.plan.run fleet.states) (have_inputs : HaveInputs fleet.plan.run fleet.inputs) (count : ℕ) (limits : List ℕ) (items : List ℕ) (index : ℕ) (asking : Asking t plan.run.members (all_told t plan.run.members fleet.states fleet.inputs) (drop index items) count limits) where
+module _ (t : ℕ) (plan : Planned) (fleet : Fleet) (tied : fleet.plan ≡ plan) (have_states : HaveStates fleet.plan.run fleet.states)
+    (have_inputs : HaveInputs fleet.plan.run fleet.inputs) (count : ℕ) (limits : List ℕ) (items : List ℕ) (index : ℕ)
+    (asking : Asking t plan.run.members (all_told t plan.run.members fleet.states fleet.inputs) (drop index items) count limits) where
   states_there : HaveStates plan.run fleet.states
   states_there = subst (λ (p : Planned). HaveStates p.run fleet.states) tied have_states
 
   inputs_there : HaveInputs plan.run fleet.inputs
   inputs_there = subst (λ (p : Planned). HaveInputs p.run fleet.inputs) tied have_inputs
 
-  pub unit_next : index < length items → AskedNext t plan.run.members (all_told t plan.run.members fleet.states fleet.inputs) (get_or items index 0) (drop (index + 1) items) count limits
+  pub unit_next : index < length items
+      → AskedNext t plan.run.members (all_told t plan.run.members fleet.states fleet.inputs) (get_or items index 0) (drop (index + 1) items) count limits
   unit_next within =
       next_asked t plan.run fleet.states fleet.inputs states_there inputs_there count limits (get_or items index 0) (drop (index + 1) items)
-      (subst (λ waiting. Asking t plan.run.members (all_told t plan.run.members fleet.states fleet.inputs) waiting count limits) (drop_more items index 0 within) asking)
+      (subst (λ waiting. Asking t plan.run.members (all_told t plan.run.members fleet.states fleet.inputs) waiting count limits)
+      (drop_more items index 0 within) asking)
 
-  pub units_asked : length items ≤ index → Ok (proposal_of plan.run.stop plan.run.longest t (take count limits)) ≡ asked plan.run t (all_told t plan.run.members fleet.states fleet.inputs)
+  pub units_asked : length items ≤ index
+      → Ok (proposal_of plan.run.stop plan.run.longest t (take count limits)) ≡ asked plan.run t (all_told t plan.run.members fleet.states fleet.inputs)
   units_asked past =
-      let none = none_waits t plan.run fleet.states fleet.inputs states_there inputs_there count limits (subst (λ waiting. Asking t plan.run.members (all_told t plan.run.members fleet.states fleet.inputs) waiting count limits) (drop_all index items past) asking) in
-      let told_past : length (all_told t plan.run.members fleet.states fleet.inputs) ≤ none.0 = let many = told_many t plan.run.members fleet.states fleet.inputs in let past_members = none.1 in omega (arith, many, past_members) in
+      let none =
+      none_waits t plan.run fleet.states fleet.inputs states_there inputs_there count limits
+      (subst (λ waiting. Asking t plan.run.members (all_told t plan.run.members fleet.states fleet.inputs) waiting count limits)
+      (drop_all index items past) asking) in
+      let told_past : length (all_told t plan.run.members fleet.states fleet.inputs) ≤ none.0 = let many =
+      told_many t plan.run.members fleet.states fleet.inputs in
+      let past_members = none.1 in omega (arith, many, past_members) in
       all_asked plan.run t none.0 count (all_told t plan.run.members fleet.states fleet.inputs) limits none.1 told_past none.2
 
 -- ---- What all seats reply
@@ -353,7 +427,8 @@ ok_reply factor t h reply slot.Empty is = cc
 ok_reply factor t h reply (slot.Took accepted) is = cc
 ok_reply factor t h reply (slot.Failed fault) is = absurd (cc)
 
-err_end : (factor t h instance : ℕ) (fault : Fault) (given : Slot) → replied factor t h given ≡ Err fault → end_in instance given ≡ Some (UnitFault instance call.Step fault)
+err_end : (factor t h instance : ℕ) (fault : Fault) (given : Slot) → replied factor t h given ≡ Err fault
+    → end_in instance given ≡ Some (UnitFault instance call.Step fault)
 err_end factor t h instance fault slot.Held is = absurd (cc)
 err_end factor t h instance fault slot.Empty is = absurd (cc)
 err_end factor t h instance fault (slot.Took accepted) is = absurd (cc)
@@ -365,35 +440,51 @@ pub record ReadSoFar (t h : ℕ) (members : List Member) (seats : List Seat) (pl
   pub made : MadeSoFar replies place (map (slot_reply t h) (zip (drop place members) (drop place seats))) (map (slot_reply t h) (zip members seats))
 
 module _ (t h : ℕ) (members : List Member) (seats : List Seat) where
-  next_reply : (place : ℕ) (member : Member) (seat : Seat) → place < length members → place < length seats → slice_get members place ≡ Some member → seat ≡ get_or seats place seat → map (slot_reply t h) (zip (drop place members) (drop place seats)) ≡ slot_reply t h (member, seat) ∷ map (slot_reply t h) (zip (drop (place + 1) members) (drop (place + 1) seats))
+  next_reply : (place : ℕ) (member : Member) (seat : Seat) → place < length members → place < length seats → slice_get members place ≡ Some member
+      → seat ≡ get_or seats place seat
+      → map (slot_reply t h) (zip (drop place members) (drop place seats))
+      ≡ slot_reply t h (member, seat) ∷ map (slot_reply t h) (zip (drop (place + 1) members) (drop (place + 1) seats))
   next_reply place member seat in_members in_seats at is =
-      ap (λ some. map (slot_reply t h) (zip some (drop place seats))) (drop_more members place member in_members ∙ ap (λ one. one ∷ drop (place + 1) members) (get_or_from_slice_get members place member member at))
-      ∙ ap (λ some. map (slot_reply t h) (zip (member ∷ drop (place + 1) members) some)) (drop_more seats place seat in_seats ∙ ap (λ one. one ∷ drop (place + 1) seats) (sym is))
+      ap (λ some. map (slot_reply t h) (zip some (drop place seats)))
+      (drop_more members place member in_members ∙ ap (λ one. one ∷ drop (place + 1) members) (get_or_from_slice_get members place member member at))
+      ∙ ap (λ some. map (slot_reply t h) (zip (member ∷ drop (place + 1) members) some))
+      (drop_more seats place seat in_seats ∙ ap (λ one. one ∷ drop (place + 1) seats) (sym is))
 
-  pub next_read : (place factor reply : ℕ) (replies : List ℕ) (seat : Seat) → place < length members → place < length seats → place < length replies → ((member : Member) → slice_get members place ≡ Some member → factor ≡ member.factor) → seat ≡ get_or seats place seat → replied factor t h seat.slot ≡ Ok reply → ReadSoFar t h members seats place replies → ReadSoFar t h members seats (place + 1) (set replies place reply)
+  pub next_read : (place factor reply : ℕ) (replies : List ℕ) (seat : Seat) → place < length members → place < length seats → place < length replies
+      → ((member : Member) → slice_get members place ≡ Some member → factor ≡ member.factor) → seat ≡ get_or seats place seat
+      → replied factor t h seat.slot ≡ Ok reply → ReadSoFar t h members seats place replies
+      → ReadSoFar t h members seats (place + 1) (set replies place reply)
   next_read place factor reply replies seat in_members in_seats in_replies factors is told so_far =
       let at = at_place members place in_members in
-      let same : slot_reply t h (at.0, seat) ≡ reply = ap (λ n. reply_in n t h seat.slot) (sym (factors at.0 at.1)) ∙ ok_reply factor t h reply seat.slot told in
+      let same : slot_reply t h (at.0, seat) ≡ reply = ap (λ n. reply_in n t h seat.slot) (sym (factors at.0 at.1))
+      ∙ ok_reply factor t h reply seat.slot told in
       record {
         no_end = told_none slot_end seats place seat in_seats is (ok_end factor t h place reply seat.slot told) so_far.no_end;
         made =
-            one_made replies place reply (map (slot_reply t h) (zip (drop (place + 1) members) (drop (place + 1) seats))) (map (slot_reply t h) (zip (drop place members) (drop place seats))) (map (slot_reply t h) (zip members seats)) in_replies
-            (next_reply place at.0 seat in_members in_seats at.1 is ∙ ap (λ one. one ∷ map (slot_reply t h) (zip (drop (place + 1) members) (drop (place + 1) seats))) same)
+            one_made replies place reply (map (slot_reply t h) (zip (drop (place + 1) members) (drop (place + 1) seats)))
+            (map (slot_reply t h) (zip (drop place members) (drop place seats))) (map (slot_reply t h) (zip members seats)) in_replies
+            (next_reply place at.0 seat in_members in_seats at.1 is
+            ∙ ap (λ one. one ∷ map (slot_reply t h) (zip (drop (place + 1) members) (drop (place + 1) seats))) same)
             so_far.made;
       }
 
-  pub read_fault : (place factor : ℕ) (replies : List ℕ) (seat : Seat) (fault : Fault) → place < length seats → seat ≡ get_or seats place seat → replied factor t h seat.slot ≡ Err fault → ReadSoFar t h members seats place replies → Some (UnitFault place call.Step fault) ≡ first_told slot_end seats
+  pub read_fault : (place factor : ℕ) (replies : List ℕ) (seat : Seat) (fault : Fault) → place < length seats → seat ≡ get_or seats place seat
+      → replied factor t h seat.slot ≡ Err fault → ReadSoFar t h members seats place replies
+      → Some (UnitFault place call.Step fault) ≡ first_told slot_end seats
   read_fault place factor replies seat fault within is told so_far =
       told_some slot_end seats place seat (UnitFault place call.Step fault) within is (err_end factor t h place fault seat.slot told) so_far.no_end
 
-  pub all_replies : (place : ℕ) (replies : List ℕ) → length members ≤ place → length replies ≤ place → ReadSoFar t h members seats place replies → replies ≡ map (slot_reply t h) (zip members seats)
+  pub all_replies : (place : ℕ) (replies : List ℕ) → length members ≤ place → length replies ≤ place → ReadSoFar t h members seats place replies
+      → replies ≡ map (slot_reply t h) (zip members seats)
   all_replies place replies past full so_far =
       sym (take_all place replies full) ∙ sym (append-nil (take place replies))
       ∙ ap (λ some. take place replies ++ map (slot_reply t h) (zip some (drop place seats))) (sym (drop_all place members past)) ∙ so_far.made
 
 -- ---- States that are restored
 
-pub restored_one : (saved_states old : List (List ℤ)) (place : ℕ) (words : List ℤ) → place < length saved_states → AreAsLong saved_states old → words ≡ get_or saved_states place [] → set (take place saved_states ++ drop place old) place words ≡ take (place + 1) saved_states ++ drop (place + 1) old
+pub restored_one : (saved_states old : List (List ℤ)) (place : ℕ) (words : List ℤ) → place < length saved_states → AreAsLong saved_states old
+    → words ≡ get_or saved_states place []
+    → set (take place saved_states ++ drop place old) place words ≡ take (place + 1) saved_states ++ drop (place + 1) old
 restored_one saved_states old place words within long is =
     let many = long_as saved_states old long in
     ap (λ rest. set (take place saved_states ++ rest) place words) (drop_more old place [] (omega arith))
@@ -403,7 +494,8 @@ restored_one saved_states old place words within long is =
     ∙ ap (λ front. front ++ drop (place + 1) old) (sym (take_more saved_states place [] within))
 
 -- The state that stands where one is to be restored is as long.
-pub restored_long : (saved_states old : List (List ℤ)) (place : ℕ) → place < length saved_states → AreAsLong saved_states old → length (get_or saved_states place []) ≡ length (get_or (take place saved_states ++ drop place old) place [])
+pub restored_long : (saved_states old : List (List ℤ)) (place : ℕ) → place < length saved_states → AreAsLong saved_states old
+    → length (get_or saved_states place []) ≡ length (get_or (take place saved_states ++ drop place old) place [])
 restored_long saved_states old place within long =
     let many = long_as saved_states old long in
     long_at saved_states old place long
@@ -412,7 +504,8 @@ restored_long saved_states old place within long =
 
 -- ---- Snapshots
 
-pub saved_at : (store : Store) (seats : List Seat) (states : List (List ℤ)) (place : ℕ) (default : Seat) → AreSaved store seats states → place < length seats → words_of store (get_or seats place default).id ≡ Some (get_or states place [])
+pub saved_at : (store : Store) (seats : List Seat) (states : List (List ℤ)) (place : ℕ) (default : Seat) → AreSaved store seats states → place < length seats
+    → words_of store (get_or seats place default).id ≡ Some (get_or states place [])
 saved_at store seats states place default are within = zip_read (λ seat state. words_of store seat.id ≡ Some state) seats states place default [] are within
 
 pub live_words : (store : Store) (id : ℕ) (words : List ℤ) → words_of store id ≡ Some words → IsLive store id
@@ -435,14 +528,18 @@ none_saved seats old new store are = record {
   left = λ k default behind within. saved_at store seats old k default are within;
 }
 
-pub one_saved : (seats : List Seat) (old new : List (List ℤ)) (place id : ℕ) (store next : Store) → HaveOwnIds seats → place < length seats → ((default : Seat) → (get_or seats place default).id ≡ id) → words_of next id ≡ Some (get_or new place []) → KeepsOthers store next id → SavedSoFar seats old new place store → SavedSoFar seats old new (place + 1) next
+pub one_saved : (seats : List Seat) (old new : List (List ℤ)) (place id : ℕ) (store next : Store) → HaveOwnIds seats → place < length seats
+    → ((default : Seat) → (get_or seats place default).id ≡ id) → words_of next id ≡ Some (get_or new place []) → KeepsOthers store next id
+    → SavedSoFar seats old new place store → SavedSoFar seats old new (place + 1) next
 one_saved seats old new place id store next own within is written others so_far = record {
   written = λ k default before there. by_place k default before there (nat_eq k place) refl;
   left = λ k default behind there.
-      others (get_or seats k default).id (λ same. own default place k (omega (arith, behind)) there (is default ∙ sym same)) ∙ so_far.left k default (omega (arith, behind)) there;
+      others (get_or seats k default).id (λ same. own default place k (omega (arith, behind)) there (is default ∙ sym same))
+      ∙ so_far.left k default (omega (arith, behind)) there;
 }
   where
-    by_place : (k : ℕ) (default : Seat) → k < place + 1 → k < length seats → (same : Bool) → nat_eq k place ≡ same → words_of next (get_or seats k default).id ≡ Some (get_or new k [])
+    by_place : (k : ℕ) (default : Seat) → k < place + 1 → k < length seats → (same : Bool) → nat_eq k place ≡ same
+        → words_of next (get_or seats k default).id ≡ Some (get_or new k [])
     by_place k default before there true told =
         let at : k ≡ place = grind (arith, nat_tests) in
         subst (λ n. words_of next (get_or seats n default).id ≡ Some (get_or new n [])) (sym at) (ap (words_of next) (is default) ∙ written)
@@ -451,21 +548,27 @@ one_saved seats old new place id store next own within is written others so_far 
         others (get_or seats k default).id (λ same. own default k place below within (same ∙ sym (is default))) ∙ so_far.written k default below there
 
 -- A seat that is still to be committed is as it was.
-pub id_kept : (old_seats seats : List Seat) (inputs : List (List ℤ)) (place : ℕ) (default : Seat) → Turned (λ k one other. IsCommitted (get_or inputs k []) one other) old_seats seats place → (get_or seats place default).id ≡ (get_or old_seats place default).id
+pub id_kept : (old_seats seats : List Seat) (inputs : List (List ℤ)) (place : ℕ) (default : Seat)
+    → Turned (λ k one other. IsCommitted (get_or inputs k []) one other) old_seats seats place
+    → (get_or seats place default).id ≡ (get_or old_seats place default).id
 id_kept old_seats seats inputs place default turned = ap (λ (seat : Seat). seat.id) (turned.kept place default (omega arith))
 
-pub before_long : (old_seats seats : List Seat) (inputs : List (List ℤ)) (place : ℕ) (default : Seat) (words : List ℤ) → place < length old_seats → AreAsLong (map (λ seat. seat.before.items) old_seats) inputs → Turned (λ k one other. IsCommitted (get_or inputs k []) one other) old_seats seats place → slice_get inputs place ≡ Some words → length (get_or seats place default).before.items ≡ length words
+pub before_long : (old_seats seats : List Seat) (inputs : List (List ℤ)) (place : ℕ) (default : Seat) (words : List ℤ) → place < length old_seats
+    → AreAsLong (map (λ seat. seat.before.items) old_seats) inputs → Turned (λ k one other. IsCommitted (get_or inputs k []) one other) old_seats seats place
+    → slice_get inputs place ≡ Some words → length (get_or seats place default).before.items ≡ length words
 before_long old_seats seats inputs place default words within long turned is =
     ap (λ (seat : Seat). length seat.before.items) (turned.kept place default (omega arith))
     ∙ ap length (sym (get_or-map (λ (seat : Seat). seat.before.items) old_seats place default [] within))
     ∙ long_at (map (λ (seat : Seat). seat.before.items) old_seats) inputs place long
     ∙ ap length (get_or_from_slice_get inputs place words [] is)
 
-module _ (old_seats seats : List Seat) (inputs : List (List ℤ)) (place : ℕ) (past : length old_seats ≤ place) (turned : Turned (λ k one other. IsCommitted (get_or inputs k []) one other) old_seats seats place) where
+module _ (old_seats seats : List Seat) (inputs : List (List ℤ)) (place : ℕ) (past : length old_seats ≤ place)
+    (turned : Turned (λ k one other. IsCommitted (get_or inputs k []) one other) old_seats seats place) where
   commits : (k : ℕ) (default : Seat) → k < length old_seats → IsCommitted (get_or inputs k []) (get_or old_seats k default) (get_or seats k default)
   commits k default within = turned.changed k default (omega (arith, past, within)) within
 
-  pub all_saved : (old new : List (List ℤ)) (store : Store) → length new ≡ length old_seats → SavedSoFar old_seats old new place store → AreSaved store seats new
+  pub all_saved : (old new : List (List ℤ)) (store : Store) → length new ≡ length old_seats → SavedSoFar old_seats old new place store
+      → AreSaved store seats new
   all_saved old new store many so_far =
       zip_made (λ seat state. words_of store seat.id ≡ Some state) seats new [] (many ∙ sym turned.as_many) (λ k default within.
       let there : k < length old_seats = subst (λ count. k < count) turned.as_many within in
@@ -477,9 +580,12 @@ module _ (old_seats seats : List Seat) (inputs : List (List ℤ)) (place : ℕ) 
       own default one other below there (sym (commits one default (omega (arith, below, there))).id ∙ same ∙ (commits other default there).id)
 
   pub all_before : length inputs ≡ length old_seats → map (λ seat. seat.before.items) seats ≡ inputs
-  all_before many = befores seats inputs (many ∙ sym turned.as_many) (λ k default within. (commits k default (subst (λ count. k < count) turned.as_many within)).before)
+  all_before many =
+      befores seats inputs (many ∙ sym turned.as_many) (λ k default within. (commits k default (subst (λ count. k < count) turned.as_many within)).before)
     where
-      befores : (some : List Seat) (words : List (List ℤ)) → length words ≡ length some → ((k : ℕ) (default : Seat) → k < length some → (get_or some k default).before.items ≡ get_or words k []) → map (λ seat. seat.before.items) some ≡ words
+      befores : (some : List Seat) (words : List (List ℤ)) → length words ≡ length some
+          → ((k : ℕ) (default : Seat) → k < length some → (get_or some k default).before.items ≡ get_or words k [])
+          → map (λ seat. seat.before.items) some ≡ words
       befores [] [] as_many each = refl
       befores [] (one ∷ words) as_many each = absurd (omega (arith, as_many))
       befores (seat ∷ some) [] as_many each = absurd (omega (arith, as_many))
@@ -491,6 +597,7 @@ module _ (old_seats seats : List Seat) (inputs : List (List ℤ)) (place : ℕ) 
 abbrev pub restored_so_far : Fleet → List (List ℤ) → ℕ → Fleet
 restored_so_far fleet states place = record fleet { states = take place states ++ drop place fleet.states }
 
-pub next_restored : (fleet now : Fleet) (states : List (List ℤ)) (place : ℕ) (words : List ℤ) → place < length states → AreAsLong states fleet.states → words ≡ get_or states place [] → now ≡ restored_so_far fleet states place → with_state now place words ≡ restored_so_far fleet states (place + 1)
+pub next_restored : (fleet now : Fleet) (states : List (List ℤ)) (place : ℕ) (words : List ℤ) → place < length states → AreAsLong states fleet.states
+    → words ≡ get_or states place [] → now ≡ restored_so_far fleet states place → with_state now place words ≡ restored_so_far fleet states (place + 1)
 next_restored fleet now states place words within long is so_far =
     ap (λ some. with_state some place words) so_far ∙ ap (λ some. record fleet { states = some }) (restored_one states fleet.states place words within long is)

@@ -14,7 +14,8 @@ use Rattle.trace_core.specs.declared.phase.Phase.{Phase}
 use Rattle.trace_core.specs.declared.phase.Phase.TheVariants.{Ended}
 use Rattle.trace_core.specs.declared.run.Run.TheInside.{Inside}
 use Rattle.trace_core.specs.declared.seat.Seat.{Seat}
-use Rattle.trace_core.proofs.KeepLaws.{Arrival, none_is, is_some_not, going_solved, arrived_is, arrived_run, right_stand, same_position, before_kept, fault_there}
+use Rattle.trace_core.proofs.KeepLaws.{Arrival, none_is, is_some_not, going_solved, arrived_is, arrived_run, right_stand, same_position, before_kept}
+use Rattle.trace_core.proofs.KeepLaws.{fault_there}
 use Rattle.trace_core.proofs.SettleLaws.{Led, led}
 use Rattle.trace_core.proofs.StandLaws.{stands_opened, stands_moved, stands_redone, stands_ended}
 use Rattle.trace_units.specs.Fleets.{Fleet}
@@ -43,7 +44,8 @@ moved_on r units seats snaps ports known limits replies phase point solved = rec
   solved = solved;
 }
 
-module _ (r : Inside) (is : IsRun r) (have : HaveStates r.plan.value.run r.units.states) (going : is_ended r.phase ≡ false) (full : AreCellsFull (cells_seen r.phase r.seats.items r.units.states)) where
+module _ (r : Inside) (is : IsRun r) (have : HaveStates r.plan.value.run r.units.states) (going : is_ended r.phase ≡ false)
+    (full : AreCellsFull (cells_seen r.phase r.seats.items r.units.states)) where
   abbrev run : Composition
   run = r.plan.value.run
 
@@ -79,12 +81,16 @@ module _ (r : Inside) (is : IsRun r) (have : HaveStates r.plan.value.run r.units
     led_on = subst (Led r is have) to (led r is have going full)
 
     -- The number of the next row is within the budget, whatever its ports are.
-    pub next_in_rows : (next : Stand) → next.at ≡ record { point = point; states = r.units.states; number = r.number + 1 } → IsStand run next → r.number + 1 < run.row_budget
+    pub next_in_rows : (next : Stand) → next.at ≡ record { point = point; states = r.units.states; number = r.number + 1 } → IsStand run next
+        → r.number + 1 < run.row_budget
     next_in_rows next same right =
         let on : Goes run (stand_of r) next = (led_on.1 ∙ ap goes (sym same), right) in
         subst (λ at. at.number < run.row_budget) same (stands_moved (run_state r) next is.stands going on).in_rows
 
-    module _ (units : Fleet) (seats : Vec Seat Global) (snaps : Store) (ports : Vec ℤ Global) (known : Vec Bool Global) (limits replies : Vec ℕ Global) (phase : Phase) (solved : Bool) (fault : Option Ending) (old : List Seat) (come : Arrival (moved_on r units seats snaps ports known limits replies phase point solved) fault old) (kept : units.states ≡ r.units.states) (fed : inputs_before old ≡ r.units.inputs) where
+    module _ (units : Fleet) (seats : Vec Seat Global) (snaps : Store) (ports : Vec ℤ Global) (known : Vec Bool Global) (limits replies : Vec ℕ Global)
+        (phase : Phase) (solved : Bool) (fault : Option Ending) (old : List Seat)
+        (come : Arrival (moved_on r units seats snaps ports known limits replies phase point solved) fault old) (kept : units.states ≡ r.units.states)
+        (fed : inputs_before old ≡ r.units.inputs) where
       abbrev next : Inside
       next = moved_on r units seats snaps ports known limits replies phase point solved
 
@@ -115,13 +121,19 @@ module _ (r : Inside) (is : IsRun r) (have : HaveStates r.plan.value.run r.units
       next_moves = record { no_redo = led_on.0; goes = on; is = next_is }
 
 -- What settling came to at the next stand, by whether all its ports are known.
-pub settled_by : (solved : Bool) (old new : RunState) → Moves old new → solved ≡ is_none (port_fault new.plan.run new.stand.at.states new.stand.ports) → Settled old new (if solved then settle.Row else settle.Ended)
+pub settled_by : (solved : Bool) (old new : RunState) → Moves old new → solved ≡ is_none (port_fault new.plan.run new.stand.at.states new.stand.ports)
+    → Settled old new (if solved then settle.Row else settle.Ended)
 settled_by true old new moves is = (moves, none_is (port_fault new.plan.run new.stand.at.states new.stand.ports) (sym is))
 settled_by false old new moves is = inl (moves, is_some_not (port_fault new.plan.run new.stand.at.states new.stand.ports) (sym is))
 
 -- ---- At the opening
 
-module _ (n : Inside) (fault : Option Ending) (old : List Seat) (come : Arrival n fault old) (start : Position) (start_is : ◌≡◌ {A = Position} (record { point = n.point; states = n.units.states; number = n.number }) start) (order : List ℕ) (composed : n.plan.value.run ≡ run_of n.plan.value.system) (ordered : IsPlaceOrder n.plan.value.run order) (bounded : IsBounded n.plan.value.run) (members : AreMembers n.plan.value.run) (words : HasWords n.plan.value.run start) (in_bounds : IsInBounds n.plan.value.run start) (in_rows : IsInRows n.plan.value.run start) (opened : position_of n.opened ≡ start) (fed : inputs_before old ≡ n.units.inputs) (none_found : n.found ≡ 0) (none_own : n.own ≡ 0) where
+module _ (n : Inside) (fault : Option Ending) (old : List Seat) (come : Arrival n fault old) (start : Position)
+    (start_is : ◌≡◌ {A = Position} (record { point = n.point; states = n.units.states; number = n.number }) start) (order : List ℕ)
+    (composed : n.plan.value.run ≡ run_of n.plan.value.system) (ordered : IsPlaceOrder n.plan.value.run order) (bounded : IsBounded n.plan.value.run)
+    (members : AreMembers n.plan.value.run) (words : HasWords n.plan.value.run start) (in_bounds : IsInBounds n.plan.value.run start)
+    (in_rows : IsInRows n.plan.value.run start) (opened : position_of n.opened ≡ start) (fed : inputs_before old ≡ n.units.inputs) (none_found : n.found ≡ 0)
+    (none_own : n.own ≡ 0) where
   at_start : (stand_of n).at ≡ start
   at_start = same_position n fault old come ∙ start_is
 
@@ -130,9 +142,12 @@ module _ (n : Inside) (fault : Option Ending) (old : List Seat) (come : Arrival 
 
   fresh : Stands (arrived n.plan.value (stand_of n).at (stand_of n) (inputs_before n.seats.items) 0 0)
   fresh =
-      stands_opened n.plan.value (stand_of n) (inputs_before n.seats.items) order composed ordered bounded members (subst (HasWords n.plan.value.run) (sym at_start) words) (subst (IsInBounds n.plan.value.run) (sym at_start) in_bounds) (subst (IsInRows n.plan.value.run) (sym at_start) in_rows) (right_stand n fault old come) fed_start
+      stands_opened n.plan.value (stand_of n) (inputs_before n.seats.items) order composed ordered bounded members
+      (subst (HasWords n.plan.value.run) (sym at_start) words) (subst (IsInBounds n.plan.value.run) (sym at_start) in_bounds)
+      (subst (IsInRows n.plan.value.run) (sym at_start) in_rows) (right_stand n fault old come) fed_start
 
-  counted_none : arrived n.plan.value (position_of n.opened) (stand_of n) (inputs_before n.seats.items) n.found n.own ≡ arrived n.plan.value (stand_of n).at (stand_of n) (inputs_before n.seats.items) 0 0
+  counted_none : arrived n.plan.value (position_of n.opened) (stand_of n) (inputs_before n.seats.items) n.found n.own
+      ≡ arrived n.plan.value (stand_of n).at (stand_of n) (inputs_before n.seats.items) 0 0
   counted_none =
       ap (λ at. arrived n.plan.value at (stand_of n) (inputs_before n.seats.items) n.found n.own) (opened ∙ sym at_start)
       ∙ ap (λ found. arrived n.plan.value (stand_of n).at (stand_of n) (inputs_before n.seats.items) found n.own) none_found

@@ -1,5 +1,6 @@
 -- What making seats ready for a step keeps: their snapshots and the inputs at the row before; and which cells they have then.
-use Rattle.std.proofs.Common.{◌≡◌, ◌∙◌, ℕ, zero, suc, ◌<◌, Bool, true, false, ℤ, List, [], ◌∷◌, map, zip, length, get_or, set, Some, refl, sym, ap, subst, arith}
+use Rattle.std.proofs.Common.{◌≡◌, ◌∙◌, ℕ, zero, suc, ◌<◌, Bool, true, false, ℤ, List, [], ◌∷◌, map, zip, length, get_or, set, Some, refl, sym, ap, subst}
+use Rattle.std.proofs.Common.{arith}
 use Rattle.std.proofs.lemmas.List.{length-map}
 use Rattle.std.proofs.lemmas.Option.{same_Some}
 use Rattle.std.specs.Prelude.{slice_get, unwrap_or, if◌then◌else◌}
@@ -47,9 +48,11 @@ saved_kept store (seat ∷ old) [] same = absurd (cc)
 saved_kept store (had ∷ old) (seat ∷ new) same =
     let first : seat.id ≡ had.id = cc in
     let others : ids_of new ≡ ids_of old = cc in
-    ap (λ id. unwrap_or (words_of store id) [] ∷ saved store new) first ∙ ap (λ rest. unwrap_or (words_of store had.id) [] ∷ rest) (saved_kept store old new others)
+    ap (λ id. unwrap_or (words_of store id) [] ∷ saved store new) first
+    ∙ ap (λ rest. unwrap_or (words_of store had.id) [] ∷ rest) (saved_kept store old new others)
 
-pub are_saved_kept : (store : Store) (old new : List Seat) (states : List (List ℤ)) → ids_of new ≡ ids_of old → AreSaved store old states → AreSaved store new states
+pub are_saved_kept : (store : Store) (old new : List Seat) (states : List (List ℤ)) → ids_of new ≡ ids_of old → AreSaved store old states
+    → AreSaved store new states
 are_saved_kept store [] [] states same are = are
 are_saved_kept store [] (seat ∷ new) states same are = absurd (cc)
 are_saved_kept store (seat ∷ old) [] states same are = absurd (cc)
@@ -121,14 +124,16 @@ slots_in t h (member ∷ members) (pair ∷ pairs) begun =
     ap (λ made. made ∷ map (λ (one : Seat × Seat). one.1.slot) pairs) begun.0.slot
     ∙ ap (λ rest. fresh_slot t h member.factor ∷ rest) (slots_in t h members pairs begun.1)
 
-ids_in : (t h : ℕ) (members : List Member) (pairs : List (Seat × Seat)) → AllZip (Begun t h) members pairs → map (λ (pair : Seat × Seat). pair.1.id) pairs ≡ map (λ (pair : Seat × Seat). pair.0.id) pairs
+ids_in : (t h : ℕ) (members : List Member) (pairs : List (Seat × Seat)) → AllZip (Begun t h) members pairs
+    → map (λ (pair : Seat × Seat). pair.1.id) pairs ≡ map (λ (pair : Seat × Seat). pair.0.id) pairs
 ids_in t h [] [] begun = refl
 ids_in t h [] (pair ∷ pairs) begun = absurd begun
 ids_in t h (member ∷ members) [] begun = absurd begun
 ids_in t h (member ∷ members) (pair ∷ pairs) begun =
     ap (λ id. id ∷ map (λ (one : Seat × Seat). one.1.id) pairs) begun.0.id ∙ ap (λ rest. pair.0.id ∷ rest) (ids_in t h members pairs begun.1)
 
-before_in : (t h : ℕ) (members : List Member) (pairs : List (Seat × Seat)) → AllZip (Begun t h) members pairs → map (λ (pair : Seat × Seat). pair.1.before.items) pairs ≡ map (λ (pair : Seat × Seat). pair.0.before.items) pairs
+before_in : (t h : ℕ) (members : List Member) (pairs : List (Seat × Seat)) → AllZip (Begun t h) members pairs
+    → map (λ (pair : Seat × Seat). pair.1.before.items) pairs ≡ map (λ (pair : Seat × Seat). pair.0.before.items) pairs
 before_in t h [] [] begun = refl
 before_in t h [] (pair ∷ pairs) begun = absurd begun
 before_in t h (member ∷ members) [] begun = absurd begun
@@ -136,13 +141,15 @@ before_in t h (member ∷ members) (pair ∷ pairs) begun =
     ap (λ had. had.items ∷ map (λ (one : Seat × Seat). one.1.before.items) pairs) begun.0.before
     ∙ ap (λ rest. pair.0.before.items ∷ rest) (before_in t h members pairs begun.1)
 
-first_mapped : {A : Type 0} (f : Seat → A) (olds news : List Seat) → length news ≡ length olds → map (λ (pair : Seat × Seat). f pair.0) (zip olds news) ≡ map f olds
+first_mapped : {A : Type 0} (f : Seat → A) (olds news : List Seat) → length news ≡ length olds
+    → map (λ (pair : Seat × Seat). f pair.0) (zip olds news) ≡ map f olds
 first_mapped f [] [] long = refl
 first_mapped f [] (seat ∷ news) long = absurd (omega (arith, long))
 first_mapped f (seat ∷ olds) [] long = absurd (omega (arith, long))
 first_mapped f (had ∷ olds) (seat ∷ news) long = ap (λ rest. f had ∷ rest) (first_mapped f olds news (omega (arith, long)))
 
-second_mapped : {A : Type 0} (f : Seat → A) (olds news : List Seat) → length news ≡ length olds → map (λ (pair : Seat × Seat). f pair.1) (zip olds news) ≡ map f news
+second_mapped : {A : Type 0} (f : Seat → A) (olds news : List Seat) → length news ≡ length olds
+    → map (λ (pair : Seat × Seat). f pair.1) (zip olds news) ≡ map f news
 second_mapped f [] [] long = refl
 second_mapped f [] (seat ∷ news) long = absurd (omega (arith, long))
 second_mapped f (seat ∷ olds) [] long = absurd (omega (arith, long))

@@ -42,7 +42,8 @@ full_seats (seat ∷ seats) (state ∷ states) full = (sym (empty_by seat.slot s
 
 -- ---- Times of a step
 
-proposed_ends : (run : Composition) (stand : Stand) → stand.at.point.t ≤ run.stop → run.stop ≤ 10 ^ 15 → stand.at.point.t + proposed run stand.at stand.ports ≤ 10 ^ 15
+proposed_ends : (run : Composition) (stand : Stand) → stand.at.point.t ≤ run.stop → run.stop ≤ 10 ^ 15
+    → stand.at.point.t + proposed run stand.at stand.ports ≤ 10 ^ 15
 proposed_ends run stand before most =
     let within = (proposal_is_greatest run.stop run.longest stand.at.point.t (limits run stand.at stand.ports)).holds.within_stop in
     omega (arith, within, before, most)

@@ -1,12 +1,14 @@
 -- What a run keeps at its opening, and from one call to the next.
-use Rattle.std.proofs.Common.{◌≡◌, ◌∙◌, ℕ, suc, ◌+◌, ◌*◌, ◌<◌, ◌≤◌, true, false, ℤ, List, [], length, length-set, get_or, Some, Result, inl, inr, refl, sym, ap, subst, arith}
+use Rattle.std.proofs.Common.{◌≡◌, ◌∙◌, ℕ, suc, ◌+◌, ◌*◌, ◌<◌, ◌≤◌, true, false, ℤ, List, [], length, length-set, get_or, Some, Result, inl, inr, refl, sym, ap}
+use Rattle.std.proofs.Common.{subst, arith}
 use Rattle.std.proofs.lemmas.Bool.Decides.{eqb_tells}
 use Rattle.std.proofs.lemmas.List.{get_or-set_same, get_or-set_other}
 use Rattle.std.proofs.lemmas.Option.{slice_get_within, slice_get-get_or, get_or_from_slice_get}
 use Rattle.std.specs.Prelude.{is_some, is_none, slice_get, slice_set, ◌&&◌, if◌then◌else◌}
 use Rattle.std.specs.List.{count_by}
 use Rattle.fixed_words.specs.declared.types.Fault.{Fault}
-use Rattle.trace_core.specs.Runs.{Cell, Empty, Filled, RunState, Stands, IsPhase, IsTrial, AreCellsFull, IsWanted, ArePortsKnown, HoldSteps, arrived, phase_at, with_own, step_in, is_ended, is_filled, cells_now, first_end}
+use Rattle.trace_core.specs.Runs.{Cell, Empty, Filled, RunState, Stands, IsPhase, IsTrial, AreCellsFull, IsWanted, ArePortsKnown, HoldSteps, arrived, phase_at}
+use Rattle.trace_core.specs.Runs.{with_own, step_in, is_ended, is_filled, cells_now, first_end}
 use Rattle.trace_core.specs.Settling.{with_redo}
 use Rattle.trace_core.specs.declared.phase.Phase.{Phase}
 use Rattle.trace_core.specs.declared.phase.Phase.TheVariants.{Trial, Redo, Ended}
@@ -43,7 +45,8 @@ filled_at cells instance step = slice_set cells instance (Filled step)
 abbrev width : RunState → ℕ
 width r = 2 * length r.plan.run.members
 
-pub now_at_most : (run : Composition) (stand : Stand) (phase : Phase) (cells : List Cell) → is_ended phase ≡ false → HasWords run stand.at → IsPhase run stand phase cells → cells_now run stand phase cells ≤ 2 * length run.members
+pub now_at_most : (run : Composition) (stand : Stand) (phase : Phase) (cells : List Cell) → is_ended phase ≡ false → HasWords run stand.at
+    → IsPhase run stand phase cells → cells_now run stand phase cells ≤ 2 * length run.members
 now_at_most run stand (Trial h) cells going words is =
     let most = filled_at_most run stand.at.point.t h cells is.cells_fit in
     omega (arith, most)
@@ -55,7 +58,9 @@ now_at_most run stand (Ended ending) cells going words is = absurd (cc)
 
 -- ---- At the opening
 
-pub stands_opened : (plan : Planned) (stand : Stand) (before : List (List ℤ)) (order : List ℕ) → plan.run ≡ run_of plan.system → IsPlaceOrder plan.run order → IsBounded plan.run → AreMembers plan.run → HasWords plan.run stand.at → IsInBounds plan.run stand.at → IsInRows plan.run stand.at → IsStand plan.run stand → (ArePortsKnown plan.run stand → before ≡ all_inputs plan.run stand.ports) → Stands (arrived plan stand.at stand before 0 0)
+pub stands_opened : (plan : Planned) (stand : Stand) (before : List (List ℤ)) (order : List ℕ) → plan.run ≡ run_of plan.system → IsPlaceOrder plan.run order
+    → IsBounded plan.run → AreMembers plan.run → HasWords plan.run stand.at → IsInBounds plan.run stand.at → IsInRows plan.run stand.at
+    → IsStand plan.run stand → (ArePortsKnown plan.run stand → before ≡ all_inputs plan.run stand.ports) → Stands (arrived plan stand.at stand before 0 0)
 stands_opened plan stand before order composed ordered bounded members words in_bounds in_rows is_stand fed = record {
   composed = composed;
   order = order;
@@ -81,7 +86,8 @@ stands_opened plan stand before order composed ordered bounded members words in_
 
 -- ---- At the next stand
 
-pub stands_moved : (old : RunState) (next : Stand) → Stands old → is_ended old.phase ≡ false → Goes old.plan.run old.stand next → Stands (arrived old.plan old.opened next (all_inputs old.plan.run old.stand.ports) old.found old.own)
+pub stands_moved : (old : RunState) (next : Stand) → Stands old → is_ended old.phase ≡ false → Goes old.plan.run old.stand next
+    → Stands (arrived old.plan old.opened next (all_inputs old.plan.run old.stand.ports) old.found old.own)
 stands_moved old next stands going on =
     let right = step_is_right old.plan.run old.stand next stands.members on in
     let number : next.at.number ≡ suc old.stand.at.number = ap (λ (at : Position). at.number) right.agreed in
@@ -105,7 +111,9 @@ stands_moved old next stands going on =
       before = λ known. refl;
       phase_is = phase_is_right old.plan.run next;
       steps = λ instance step is. absurd (none_begun old.plan.run next.at.point.t (phase_at old.plan.run next) instance step is);
-      counted = bound_more stands.count (width old) (old.found + old.own) (cells_now old.plan.run old.stand old.phase old.cells) _ stands.counted (now_at_most old.plan.run old.stand old.phase old.cells going stands.words stands.phase_is);
+      counted =
+          bound_more stands.count (width old) (old.found + old.own) (cells_now old.plan.run old.stand old.phase old.cells) _ stands.counted
+          (now_at_most old.plan.run old.stand old.phase old.cells going stands.words stands.phase_is);
     }
 
 -- ---- Where the step is made anew
@@ -161,11 +169,16 @@ module _ (old : RunState) (stands : Stands old) (h : ℕ) (is : old.phase ≡ Tr
 not_before : (run : Composition) (stand : Stand) → IsGoing run stand → is_some (first_end run stand) ≡ false
 not_before run stand going = rw (going.ports_known, going.before_stop, going.rows_left, going.limits_told) refl
 
-cells_there : (run : Composition) (stand : Stand) → IsGoing run stand → cells_at run stand ≡ cells_of_trial run stand + (if is_none (trial_end run stand.at stand.ports) && is_redone run stand.at stand.ports then cells_of_redo run stand else 0)
+cells_there : (run : Composition) (stand : Stand) → IsGoing run stand
+    → cells_at run stand
+    ≡ cells_of_trial run stand + (if is_none (trial_end run stand.at stand.ports) && is_redone run stand.at stand.ports then cells_of_redo run stand else 0)
 cells_there run stand going =
-    ap (λ ended. if ended then 0 else cells_of_trial run stand + (if is_none (trial_end run stand.at stand.ports) && is_redone run stand.at stand.ports then cells_of_redo run stand else 0)) (not_before run stand going)
+    ap (λ ended. if ended then 0 else cells_of_trial run stand
+    + (if is_none (trial_end run stand.at stand.ports) && is_redone run stand.at stand.ports then cells_of_redo run stand else 0))
+    (not_before run stand going)
 
-now_by : (run : Composition) (stand : Stand) (phase : Phase) (cells : List Cell) → is_ended phase ≡ false → HasWords run stand.at → IsPhase run stand phase cells → AreCellsFull cells → cells_now run stand phase cells ≤ cells_at run stand
+now_by : (run : Composition) (stand : Stand) (phase : Phase) (cells : List Cell) → is_ended phase ≡ false → HasWords run stand.at
+    → IsPhase run stand phase cells → AreCellsFull cells → cells_now run stand phase cells ≤ cells_at run stand
 now_by run stand (Trial h) cells going words is full =
     let steps : count_by is_filled cells ≡ cells_of_trial run stand =
     full_are_steps run stand.at stand.ports h cells (one_state run stand.at words) is.cells_fit full ∙ ap (cells_by run stand) is.is in
@@ -181,7 +194,8 @@ now_by run stand (Redo h) cells going words is full =
     omega (arith, steps, there)
 now_by run stand (Ended ending) cells going words is full = absurd (cc)
 
-pub stands_ended : (old : RunState) (ending : Ending) → Stands old → is_ended old.phase ≡ false → AreCellsFull old.cells → successor old.plan.run old.stand.at old.stand.ports ≡ ends ending → Stands (record old { phase = Ended ending; cells = [] })
+pub stands_ended : (old : RunState) (ending : Ending) → Stands old → is_ended old.phase ≡ false → AreCellsFull old.cells
+    → successor old.plan.run old.stand.at old.stand.ports ≡ ends ending → Stands (record old { phase = Ended ending; cells = [] })
 stands_ended old ending stands going full ended = record {
   composed = stands.composed;
   order = stands.order;

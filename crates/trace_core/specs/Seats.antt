@@ -1,5 +1,6 @@
 -- Seats: what a run keeps of each instance beside its unit, and what that stands for.
-use Rattle.std.specs.Prelude.{⊤, ◌≡◌, ◌≢◌, ◌<◌, ◌≤◌, ℕ, false, ℤ, List, [], ◌∷◌, map, zip, length, get_or, if◌then◌else◌, nat_lt, Option, Some, None, Result, Ok, Err}
+use Rattle.std.specs.Prelude.{⊤, ◌≡◌, ◌≢◌, ◌<◌, ◌≤◌, ℕ, false, ℤ, List, [], ◌∷◌, map, zip, length, get_or, if◌then◌else◌, nat_lt, Option, Some, None, Result}
+use Rattle.std.specs.Prelude.{Ok, Err}
 use Rattle.std.specs.List.{AllZip, AllByRecursion}
 use Rattle.std.specs.Option.{unwrap_or}
 use Rattle.fixed_words.specs.declared.types.Fault.{Fault}

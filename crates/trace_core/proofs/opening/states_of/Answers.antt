@@ -17,5 +17,10 @@ loop-instance-preserved c =
 pub returns : goal.returns
 returns c =
     let past : length c.args.units.now.states ≤ c.loop-instance.instance =
-    omega (arith, c.loop-instance-test.false, c.count-instance-end.ensures.count, states_long c.args.units.now.plan.run c.args.units.now.states c.count-instance-end.ensures.states) in
+    omega (
+      arith,
+      c.loop-instance-test.false,
+      c.count-instance-end.ensures.count,
+      states_long c.args.units.now.plan.run c.args.units.now.states c.count-instance-end.ensures.states,
+    ) in
     c.loop-instance.invariant ∙ take_all c.loop-instance.instance c.args.units.now.states past

@@ -13,37 +13,67 @@ loop-instance-init c =
     let told = all_told c.args.t c.args.plan.now.run.members c.args.units.now.states c.args.units.now.inputs in
     record {
       kept = refl;
-      so_far = record { place = 0; within = omega arith; are = c.limited-instance-items.ensures; so_far = none_asked c.args.t c.args.plan.now.run.members told c.args.limits.now };
+      so_far = record {
+        place = 0;
+        within = omega arith;
+        are = c.limited-instance-items.ensures;
+        so_far =
+            none_asked c.args.t c.args.plan.now.run.members told c.args.limits.now;
+      };
     }
 
 pub factor-factor-requires : goal.factor-factor-requires
 factor-factor-requires c =
-    let next = unit_next c.args.t c.args.plan.now c.args.units.now c.requires.tied c.count.ensures.states c.count.ensures.inputs c.loop-instance.count c.loop-instance.limits c.limited-instance-items.result.now c.loop-instance.instance-index c.loop-instance.invariant.so_far c.loop-instance-test.true in
+    let next =
+    unit_next c.args.t c.args.plan.now c.args.units.now c.requires.tied c.count.ensures.states c.count.ensures.inputs c.loop-instance.count
+    c.loop-instance.limits c.limited-instance-items.result.now c.loop-instance.instance-index c.loop-instance.invariant.so_far c.loop-instance-test.true
+    in
     record { there = next.within }
 
 pub max_step-requires-clause-there : goal.max_step-requires-clause-there
 max_step-requires-clause-there c =
-    let next = unit_next c.args.t c.args.plan.now c.args.units.now c.requires.tied c.count.ensures.states c.count.ensures.inputs c.loop-instance.count c.loop-instance.limits c.limited-instance-items.result.now c.loop-instance.instance-index c.loop-instance.invariant.so_far c.loop-instance-test.true in
-    subst (λ (p : Planned). (get_or c.limited-instance-items.result.now c.loop-instance.instance-index 0) < length p.run.members) (sym (ap (λ (f : Fleet). f.plan) c.loop-instance.invariant.kept ∙ c.requires.tied)) next.within
+    let next =
+    unit_next c.args.t c.args.plan.now c.args.units.now c.requires.tied c.count.ensures.states c.count.ensures.inputs c.loop-instance.count
+    c.loop-instance.limits c.limited-instance-items.result.now c.loop-instance.instance-index c.loop-instance.invariant.so_far c.loop-instance-test.true
+    in
+    subst (λ (p : Planned). (get_or c.limited-instance-items.result.now c.loop-instance.instance-index 0) < length p.run.members)
+    (sym (ap (λ (f : Fleet). f.plan) c.loop-instance.invariant.kept ∙ c.requires.tied)) next.within
 
 pub returns-in-Err-clause-asked : goal.returns-in-Err-clause-asked
 returns-in-Err-clause-asked c =
     let told = all_told c.args.t c.args.plan.now.run.members c.args.units.now.states c.args.units.now.inputs in
-    let next = unit_next c.args.t c.args.plan.now c.args.units.now c.requires.tied c.count.ensures.states c.count.ensures.inputs c.loop-instance.count c.loop-instance.limits c.limited-instance-items.result.now c.loop-instance.instance-index c.loop-instance.invariant.so_far c.loop-instance-test.true in
-    let within = subst (λ (p : Planned). (get_or c.limited-instance-items.result.now c.loop-instance.instance-index 0) < length p.run.members) (sym c.requires.tied) next.within in
-    let has = unit_told c.args.t (get_or c.limited-instance-items.result.now c.loop-instance.instance-index 0) c.factor-factor.result c.local_time.result c.args.plan.now c.args.units.now c.loop-instance.units (Err c.in-Err.fault) c.requires.tied c.loop-instance.invariant.kept c.local_time.ensures c.count.ensures.states c.count.ensures.inputs within c.factor-factor.ensures.factor c.in-Err.ensures.gives in
-    asked_fault c.args.plan.now.run c.args.t (get_or c.limited-instance-items.result.now c.loop-instance.instance-index 0) c.loop-instance.count c.factor-factor.result told c.loop-instance.limits c.in-Err.fault has next.so_far
+    let next =
+    unit_next c.args.t c.args.plan.now c.args.units.now c.requires.tied c.count.ensures.states c.count.ensures.inputs c.loop-instance.count
+    c.loop-instance.limits c.limited-instance-items.result.now c.loop-instance.instance-index c.loop-instance.invariant.so_far c.loop-instance-test.true
+    in
+    let within =
+    subst (λ (p : Planned). (get_or c.limited-instance-items.result.now c.loop-instance.instance-index 0) < length p.run.members)
+    (sym c.requires.tied) next.within in
+    let has =
+    unit_told c.args.t
+    (get_or c.limited-instance-items.result.now c.loop-instance.instance-index 0) c.factor-factor.result c.local_time.result c.args.plan.now c.args.units.now
+    c.loop-instance.units
+    (Err c.in-Err.fault) c.requires.tied c.loop-instance.invariant.kept c.local_time.ensures c.count.ensures.states c.count.ensures.inputs within
+    c.factor-factor.ensures.factor c.in-Err.ensures.gives in
+    asked_fault c.args.plan.now.run c.args.t
+    (get_or c.limited-instance-items.result.now c.loop-instance.instance-index 0) c.loop-instance.count c.factor-factor.result told c.loop-instance.limits
+    c.in-Err.fault has next.so_far
 
 pub loop-instance-preserved : goal.loop-instance-preserved
 loop-instance-preserved c =
     let members = c.args.plan.now.run.members in
     let told = all_told c.args.t members c.args.units.now.states c.args.units.now.inputs in
     let place = (get_or c.limited-instance-items.result.now c.loop-instance.instance-index 0) in
-    let next = unit_next c.args.t c.args.plan.now c.args.units.now c.requires.tied c.count.ensures.states c.count.ensures.inputs c.loop-instance.count c.loop-instance.limits c.limited-instance-items.result.now c.loop-instance.instance-index c.loop-instance.invariant.so_far c.loop-instance-test.true in
+    let next =
+    unit_next c.args.t c.args.plan.now c.args.units.now c.requires.tied c.count.ensures.states c.count.ensures.inputs c.loop-instance.count
+    c.loop-instance.limits c.limited-instance-items.result.now c.loop-instance.instance-index c.loop-instance.invariant.so_far c.loop-instance-test.true
+    in
     let in_members : place < length members = next.within in
     let within = subst (λ (p : Planned). place < length p.run.members) (sym c.requires.tied) in_members in
     let has : HasTold c.args.t place c.factor-factor.result members told (Ok c.in-Ok.told) =
-    unit_told c.args.t place c.factor-factor.result c.local_time.result c.args.plan.now c.args.units.now c.loop-instance.units (Ok c.in-Ok.told) c.requires.tied c.loop-instance.invariant.kept c.local_time.ensures c.count.ensures.states c.count.ensures.inputs within c.factor-factor.ensures.factor c.in-Ok.ensures.gives in
+    unit_told c.args.t place c.factor-factor.result c.local_time.result c.args.plan.now c.args.units.now c.loop-instance.units
+    (Ok c.in-Ok.told) c.requires.tied c.loop-instance.invariant.kept c.local_time.ensures c.count.ensures.states c.count.ensures.inputs within
+    c.factor-factor.ensures.factor c.in-Ok.ensures.gives in
     record {
       kept = c.max_step.ensures.kept ∙ c.loop-instance.invariant.kept;
       so_far = record {
@@ -52,12 +82,17 @@ loop-instance-preserved c =
         are = next.are;
         so_far = elim c.match-told.branch [
           | in-Some w ↦
-              (let room : c.loop-instance.count < length c.loop-instance.limits = let few = next.so_far.few in omega (arith, in_members, c.requires.limits, c.loop-instance.auto.limits, few) in
+              (let room : c.loop-instance.count < length c.loop-instance.limits = let few = next.so_far.few in
+              omega (arith, in_members, c.requires.limits, c.loop-instance.auto.limits, few) in
               let some = subst (λ (one : Option ℕ). HasTold c.args.t place c.factor-factor.result members told (Ok one)) w.in-Some.is has in
-              let more = next_with c.args.t members told place c.loop-instance.count c.factor-factor.result w.in-Some.local c.loop-instance.limits room some next.so_far in
+              let more =
+              next_with c.args.t members told place c.loop-instance.count c.factor-factor.result w.in-Some.local c.loop-instance.limits room some next.so_far in
               subst (λ limits. AskedSoFar c.args.t members told (place + 1) c.match-told.count limits) (sym w.limits-is)
-              (subst (λ count. AskedSoFar c.args.t members told (place + 1) count (set c.loop-instance.limits c.loop-instance.count w.limit.result)) (sym w.count-is)
-              (subst (λ limit. AskedSoFar c.args.t members told (place + 1) (c.loop-instance.count + 1) (set c.loop-instance.limits c.loop-instance.count limit)) (sym w.limit.ensures) more)))
+              (subst (λ count. AskedSoFar c.args.t members told (place + 1) count (set c.loop-instance.limits c.loop-instance.count w.limit.result))
+              (sym w.count-is)
+              (subst (λ limit. AskedSoFar c.args.t members told (place + 1) (c.loop-instance.count + 1)
+              (set c.loop-instance.limits c.loop-instance.count limit))
+              (sym w.limit.ensures) more)))
           | in_default w ↦
               (let none = subst (λ (one : Option ℕ). HasTold c.args.t place c.factor-factor.result members told (Ok one)) w.in_default.is has in
               let more = next_without c.args.t members told place c.loop-instance.count c.factor-factor.result c.loop-instance.limits none next.so_far in
@@ -92,4 +127,5 @@ returns-clause-asked c =
     ∙ ap (λ stop. proposal_of stop c.longest.result c.args.t limits) c.stop-stop.ensures.value
     ∙ ap (λ longest. proposal_of run.stop longest c.args.t limits) c.longest.ensures.value in
     ap (λ h. Ok h) proposed
-    ∙ units_asked c.args.t c.args.plan.now c.args.units.now c.requires.tied c.count.ensures.states c.count.ensures.inputs c.loop-instance.count c.loop-instance.limits c.limited-instance-items.result.now c.loop-instance.instance-index c.loop-instance.invariant.so_far c.loop-instance-test.false
+    ∙ units_asked c.args.t c.args.plan.now c.args.units.now c.requires.tied c.count.ensures.states c.count.ensures.inputs c.loop-instance.count
+    c.loop-instance.limits c.limited-instance-items.result.now c.loop-instance.instance-index c.loop-instance.invariant.so_far c.loop-instance-test.false

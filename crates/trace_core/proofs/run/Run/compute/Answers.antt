@@ -55,7 +55,8 @@ invariant_of-self c =
     let there = seat_there r.seats.items c.args.instance seat (wanted_seat r c.args.instance wanted) c.index_mut-seat.ensures.value in
     let have = subst (λ (plan : Planned). HaveStates plan.run r.units.states) is.tied c.count.ensures.states in
     let solved = going_solved r is (is_going r is seat c.args.instance (long r is have) there wanted) in
-    stepped_run r is seat c.args.instance (long r is have) there wanted c.do_step.result c.do_step.new.self c.do_step.ensures solved (with_item r.seats c.args.instance (record seat { slot = c.slot_of-seat.result }))
+    stepped_run r is seat c.args.instance (long r is have) there wanted c.do_step.result c.do_step.new.self c.do_step.ensures solved
+    (with_item r.seats c.args.instance (record seat { slot = c.slot_of-seat.result }))
     (ap (λ made. set r.seats.items c.args.instance (record seat { slot = made })) c.slot_of-seat.ensures)
 
 pub returns : goal.returns

@@ -24,9 +24,11 @@ open_from-requires-clause-words c =
     let shared : c.in_ok-shared.shared.value ≡ c.args.plan.value = search rules in
     let states : c.in_ok-units.units.states ≡ (first_position c.args.plan.value.run).states =
     c.in_ok-units.ensures.states ∙ ap (λ (plan : Planned). (first_position plan.run).states) shared in
-    subst (λ all. HasWords c.args.plan.value.run (position_with (record { t = 0; n = 0 }) all 0)) (sym states) (positions_keep c.args.plan.value.run members).first
+    subst (λ all. HasWords c.args.plan.value.run (position_with (record { t = 0; n = 0 }) all 0)) (sym states)
+    (positions_keep c.args.plan.value.run members).first
 
 pub open_from-requires-clause-in_rows : goal.open_from-requires-clause-in_rows
 open_from-requires-clause-in_rows c =
-    let some : 1 ≤ c.args.plan.value.run.row_budget = subst (λ (plan : Planned). 1 ≤ plan.run.row_budget) c.deref-2.ensures c.instances.ensures.bounded.some_row in
+    let some : 1 ≤ c.args.plan.value.run.row_budget =
+    subst (λ (plan : Planned). 1 ≤ plan.run.row_budget) c.deref-2.ensures c.instances.ensures.bounded.some_row in
     omega (arith, some)

@@ -24,7 +24,8 @@ commit_all-requires-clause-saved c =
     let s = c.solve_ports-fault in
     let seated : AreSeated c.seats_of.new.snaps c.in_ok-seats.seats.items c.args.units = c.in_ok-seats.ensures in
     subst (λ seats. AreSaved c.seats_of.new.snaps seats (saved c.seats_of.new.snaps seats)) (sym c.deref_mut-3.ensures.value)
-    (subst (AreSaved c.seats_of.new.snaps c.in_ok-seats.seats.items) (sym (saved_is c.seats_of.new.snaps c.in_ok-seats.seats.items c.args.units.states seated.saved)) seated.saved)
+    (subst (AreSaved c.seats_of.new.snaps c.in_ok-seats.seats.items)
+    (sym (saved_is c.seats_of.new.snaps c.in_ok-seats.seats.items c.args.units.states seated.saved)) seated.saved)
 
 pub commit_all-requires-clause-as_long : goal.commit_all-requires-clause-as_long
 commit_all-requires-clause-as_long c =
@@ -58,7 +59,8 @@ invariant_of-result c =
     let put_limits = items_put c.in_ok-limits.limits b.new.limits (b.ensures.limits ∙ ap length c.deref_mut-5.ensures.value) in
     let begun : IsBegunWith run c.args.point c.args.number s.new.units s.result b.result c.commit_all.new.seats b.new.seats =
     subst (λ old. IsBegunWith run c.args.point c.args.number s.new.units s.result b.result old b.new.seats) (c.deref_mut-4.ensures.value ∙ put0)
-    (subst (λ (plan : Planned). IsBegunWith plan.run c.args.point c.args.number s.new.units s.result b.result c.deref_mut-4.result.now b.new.seats) c.deref-4.ensures
+    (subst (λ
+    (plan : Planned). IsBegunWith plan.run c.args.point c.args.number s.new.units s.result b.result c.deref_mut-4.result.now b.new.seats) c.deref-4.ensures
     (record { phase_is = b.ensures.phase; begun = b.ensures.begun })) in
     let n : Inside = record {
       plan = c.args.plan;
@@ -78,32 +80,42 @@ invariant_of-result c =
       opened = record { point = c.args.point; states = c.in_ok-states.states; number = c.args.number };
     } in
     let places : length c.routes.result.now.outputs ≡ length (routes_of run).outputs =
-    ap (λ (routes : Routes). length routes.outputs) (c.routes.ensures.routes ∙ c.order.ensures.routes) ∙ ap (λ (plan : Planned). length (routes_of plan.run).outputs) c.deref.ensures in
-    let count : c.instances-count.result ≡ length run.members = c.instances-count.ensures.count ∙ ap (λ (plan : Planned). length plan.run.members) c.deref-2.ensures in
-    let ports_long : length c.in_ok-ports.ports.items ≡ length (routes_of run).outputs = sym c.in_ok-ports.ports.ok.0 ∙ c.in_ok-ports.ensures.len ∙ c.len-places.ensures ∙ places in
-    let known_long : length c.in_ok-known.known.items ≡ length (routes_of run).outputs = sym c.in_ok-known.known.ok.0 ∙ c.in_ok-known.ensures.len ∙ c.len-places.ensures ∙ places in
+    ap (λ (routes : Routes). length routes.outputs) (c.routes.ensures.routes ∙ c.order.ensures.routes)
+    ∙ ap (λ (plan : Planned). length (routes_of plan.run).outputs) c.deref.ensures in
+    let count : c.instances-count.result ≡ length run.members = c.instances-count.ensures.count
+    ∙ ap (λ (plan : Planned). length plan.run.members) c.deref-2.ensures in
+    let ports_long : length c.in_ok-ports.ports.items ≡ length (routes_of run).outputs = sym c.in_ok-ports.ports.ok.0 ∙ c.in_ok-ports.ensures.len
+    ∙ c.len-places.ensures ∙ places in
+    let known_long : length c.in_ok-known.known.items ≡ length (routes_of run).outputs = sym c.in_ok-known.known.ok.0 ∙ c.in_ok-known.ensures.len
+    ∙ c.len-places.ensures ∙ places in
     let limits_long : length c.in_ok-limits.limits.items ≡ length run.members = sym c.in_ok-limits.limits.ok.0 ∙ c.in_ok-limits.ensures.len ∙ count in
     let replies_long : length c.in_ok-replies.replies.items ≡ length run.members = sym c.in_ok-replies.replies.ok.0 ∙ c.in_ok-replies.ensures.len ∙ count in
     let room : HasRoom run n = record {
       ports = ap length put_ports ∙ s.ensures.as_many_ports ∙ ap length c.deref_mut.ensures.value ∙ ports_long;
       known = ap length put_known ∙ s.ensures.as_many_known ∙ ap length c.deref_mut-2.ensures.value ∙ known_long;
-      seats = ap length put ∙ as_many ∙ ap length (c.deref_mut-4.ensures.value ∙ put0) ∙ c.commit_all.ensures.as_many ∙ ap length c.deref_mut-3.ensures.value ∙ seated.as_many ∙ ap (λ (plan : Planned). length plan.run.members) c.requires.tied;
+      seats = ap length put ∙ as_many ∙ ap length (c.deref_mut-4.ensures.value ∙ put0) ∙ c.commit_all.ensures.as_many ∙ ap length c.deref_mut-3.ensures.value
+          ∙ seated.as_many ∙ ap (λ (plan : Planned). length plan.run.members) c.requires.tied;
       limits = ap length put_limits ∙ b.ensures.limits ∙ ap length c.deref_mut-5.ensures.value ∙ limits_long;
       replies = replies_long;
     } in
     let tied : b.new.units.plan ≡ c.args.plan.value = ap (λ (f : Fleet). f.plan) b.ensures.kept ∙ s.ensures.plan ∙ c.requires.tied in
     let fed : AreAsLong (inputs_before c.commit_all.new.seats) s.new.units.inputs = ap (map length) c.commit_all.ensures.before in
     let told : c.is_none.result ≡ is_none s.result = search rules in
-    let come = arrival_of n s.result c.commit_all.new.seats b.new.seats s.new.units c.args.units.states s.new.ports s.new.known b.ensures.kept put put_ports put_known tied room c.commit_all.ensures.own (subst (AreSaved c.commit_all.new.snaps c.commit_all.new.seats) s.ensures.states c.commit_all.ensures.saved) fed is_solved begun told in
+    let come =
+    arrival_of n s.result c.commit_all.new.seats b.new.seats s.new.units c.args.units.states s.new.ports s.new.known b.ensures.kept put put_ports put_known
+    tied room c.commit_all.ensures.own
+    (subst (AreSaved c.commit_all.new.snaps c.commit_all.new.seats) s.ensures.states c.commit_all.ensures.saved) fed is_solved begun told in
     let same : b.new.units.states ≡ c.args.units.states = ap (λ (f : Fleet). f.states) b.ensures.kept ∙ s.ensures.states in
     let start = position_with c.args.point c.args.units.states c.args.number in
-    let start_is : ◌≡◌ {A = Position} (position_with c.args.point b.new.units.states c.args.number) start = ap (λ states. position_with c.args.point states c.args.number) same in
+    let start_is : ◌≡◌ {A = Position} (position_with c.args.point b.new.units.states c.args.number) start =
+    ap (λ states. position_with c.args.point states c.args.number) same in
     let order = c.order.result.now.places in
     let ordered : IsPlaceOrder run order = subst (λ (plan : Planned). IsPlaceOrder plan.run order) c.deref.ensures c.order.ensures.places in
     let bounded : IsBounded run = subst (λ (plan : Planned). IsBounded plan.run) c.deref-2.ensures c.instances-count.ensures.bounded in
     let opened : position_of n.opened ≡ start = ap (λ states. position_with c.args.point states c.args.number) c.in_ok-states.ensures in
     let before : inputs_before c.commit_all.new.seats ≡ b.new.units.inputs = c.commit_all.ensures.before ∙ sym (ap (λ (f : Fleet). f.inputs) b.ensures.kept) in
-    open_run n s.result c.commit_all.new.seats come start start_is order c.requires.composed ordered bounded c.requires.members c.requires.words c.requires.in_bounds c.requires.in_rows opened before refl refl
+    open_run n s.result c.commit_all.new.seats come start start_is order c.requires.composed ordered bounded c.requires.members c.requires.words
+    c.requires.in_bounds c.requires.in_rows opened before refl refl
 
 pub returns-clause-opened : goal.returns-clause-opened
 returns-clause-opened c =
@@ -128,7 +140,8 @@ returns-clause-opened c =
     let put_limits = items_put c.in_ok-limits.limits b.new.limits (b.ensures.limits ∙ ap length c.deref_mut-5.ensures.value) in
     let begun : IsBegunWith run c.args.point c.args.number s.new.units s.result b.result c.commit_all.new.seats b.new.seats =
     subst (λ old. IsBegunWith run c.args.point c.args.number s.new.units s.result b.result old b.new.seats) (c.deref_mut-4.ensures.value ∙ put0)
-    (subst (λ (plan : Planned). IsBegunWith plan.run c.args.point c.args.number s.new.units s.result b.result c.deref_mut-4.result.now b.new.seats) c.deref-4.ensures
+    (subst (λ
+    (plan : Planned). IsBegunWith plan.run c.args.point c.args.number s.new.units s.result b.result c.deref_mut-4.result.now b.new.seats) c.deref-4.ensures
     (record { phase_is = b.ensures.phase; begun = b.ensures.begun })) in
     let n : Inside = record {
       plan = c.args.plan;
@@ -148,32 +161,42 @@ returns-clause-opened c =
       opened = record { point = c.args.point; states = c.in_ok-states.states; number = c.args.number };
     } in
     let places : length c.routes.result.now.outputs ≡ length (routes_of run).outputs =
-    ap (λ (routes : Routes). length routes.outputs) (c.routes.ensures.routes ∙ c.order.ensures.routes) ∙ ap (λ (plan : Planned). length (routes_of plan.run).outputs) c.deref.ensures in
-    let count : c.instances-count.result ≡ length run.members = c.instances-count.ensures.count ∙ ap (λ (plan : Planned). length plan.run.members) c.deref-2.ensures in
-    let ports_long : length c.in_ok-ports.ports.items ≡ length (routes_of run).outputs = sym c.in_ok-ports.ports.ok.0 ∙ c.in_ok-ports.ensures.len ∙ c.len-places.ensures ∙ places in
-    let known_long : length c.in_ok-known.known.items ≡ length (routes_of run).outputs = sym c.in_ok-known.known.ok.0 ∙ c.in_ok-known.ensures.len ∙ c.len-places.ensures ∙ places in
+    ap (λ (routes : Routes). length routes.outputs) (c.routes.ensures.routes ∙ c.order.ensures.routes)
+    ∙ ap (λ (plan : Planned). length (routes_of plan.run).outputs) c.deref.ensures in
+    let count : c.instances-count.result ≡ length run.members = c.instances-count.ensures.count
+    ∙ ap (λ (plan : Planned). length plan.run.members) c.deref-2.ensures in
+    let ports_long : length c.in_ok-ports.ports.items ≡ length (routes_of run).outputs = sym c.in_ok-ports.ports.ok.0 ∙ c.in_ok-ports.ensures.len
+    ∙ c.len-places.ensures ∙ places in
+    let known_long : length c.in_ok-known.known.items ≡ length (routes_of run).outputs = sym c.in_ok-known.known.ok.0 ∙ c.in_ok-known.ensures.len
+    ∙ c.len-places.ensures ∙ places in
     let limits_long : length c.in_ok-limits.limits.items ≡ length run.members = sym c.in_ok-limits.limits.ok.0 ∙ c.in_ok-limits.ensures.len ∙ count in
     let replies_long : length c.in_ok-replies.replies.items ≡ length run.members = sym c.in_ok-replies.replies.ok.0 ∙ c.in_ok-replies.ensures.len ∙ count in
     let room : HasRoom run n = record {
       ports = ap length put_ports ∙ s.ensures.as_many_ports ∙ ap length c.deref_mut.ensures.value ∙ ports_long;
       known = ap length put_known ∙ s.ensures.as_many_known ∙ ap length c.deref_mut-2.ensures.value ∙ known_long;
-      seats = ap length put ∙ as_many ∙ ap length (c.deref_mut-4.ensures.value ∙ put0) ∙ c.commit_all.ensures.as_many ∙ ap length c.deref_mut-3.ensures.value ∙ seated.as_many ∙ ap (λ (plan : Planned). length plan.run.members) c.requires.tied;
+      seats = ap length put ∙ as_many ∙ ap length (c.deref_mut-4.ensures.value ∙ put0) ∙ c.commit_all.ensures.as_many ∙ ap length c.deref_mut-3.ensures.value
+          ∙ seated.as_many ∙ ap (λ (plan : Planned). length plan.run.members) c.requires.tied;
       limits = ap length put_limits ∙ b.ensures.limits ∙ ap length c.deref_mut-5.ensures.value ∙ limits_long;
       replies = replies_long;
     } in
     let tied : b.new.units.plan ≡ c.args.plan.value = ap (λ (f : Fleet). f.plan) b.ensures.kept ∙ s.ensures.plan ∙ c.requires.tied in
     let fed : AreAsLong (inputs_before c.commit_all.new.seats) s.new.units.inputs = ap (map length) c.commit_all.ensures.before in
     let told : c.is_none.result ≡ is_none s.result = search rules in
-    let come = arrival_of n s.result c.commit_all.new.seats b.new.seats s.new.units c.args.units.states s.new.ports s.new.known b.ensures.kept put put_ports put_known tied room c.commit_all.ensures.own (subst (AreSaved c.commit_all.new.snaps c.commit_all.new.seats) s.ensures.states c.commit_all.ensures.saved) fed is_solved begun told in
+    let come =
+    arrival_of n s.result c.commit_all.new.seats b.new.seats s.new.units c.args.units.states s.new.ports s.new.known b.ensures.kept put put_ports put_known
+    tied room c.commit_all.ensures.own
+    (subst (AreSaved c.commit_all.new.snaps c.commit_all.new.seats) s.ensures.states c.commit_all.ensures.saved) fed is_solved begun told in
     let same : b.new.units.states ≡ c.args.units.states = ap (λ (f : Fleet). f.states) b.ensures.kept ∙ s.ensures.states in
     let start = position_with c.args.point c.args.units.states c.args.number in
-    let start_is : ◌≡◌ {A = Position} (position_with c.args.point b.new.units.states c.args.number) start = ap (λ states. position_with c.args.point states c.args.number) same in
+    let start_is : ◌≡◌ {A = Position} (position_with c.args.point b.new.units.states c.args.number) start =
+    ap (λ states. position_with c.args.point states c.args.number) same in
     let order = c.order.result.now.places in
     let ordered : IsPlaceOrder run order = subst (λ (plan : Planned). IsPlaceOrder plan.run order) c.deref.ensures c.order.ensures.places in
     let bounded : IsBounded run = subst (λ (plan : Planned). IsBounded plan.run) c.deref-2.ensures c.instances-count.ensures.bounded in
     let opened : position_of n.opened ≡ start = ap (λ states. position_with c.args.point states c.args.number) c.in_ok-states.ensures in
     let before : inputs_before c.commit_all.new.seats ≡ b.new.units.inputs = c.commit_all.ensures.before ∙ sym (ap (λ (f : Fleet). f.inputs) b.ensures.kept) in
-    is_opened n s.result c.commit_all.new.seats come start start_is order c.requires.composed ordered bounded c.requires.members c.requires.words c.requires.in_bounds c.requires.in_rows opened before refl refl
+    is_opened n s.result c.commit_all.new.seats come start start_is order c.requires.composed ordered bounded c.requires.members c.requires.words
+    c.requires.in_bounds c.requires.in_rows opened before refl refl
 
 pub returns-clause-stands : goal.returns-clause-stands
 returns-clause-stands c =
@@ -198,7 +221,8 @@ returns-clause-stands c =
     let put_limits = items_put c.in_ok-limits.limits b.new.limits (b.ensures.limits ∙ ap length c.deref_mut-5.ensures.value) in
     let begun : IsBegunWith run c.args.point c.args.number s.new.units s.result b.result c.commit_all.new.seats b.new.seats =
     subst (λ old. IsBegunWith run c.args.point c.args.number s.new.units s.result b.result old b.new.seats) (c.deref_mut-4.ensures.value ∙ put0)
-    (subst (λ (plan : Planned). IsBegunWith plan.run c.args.point c.args.number s.new.units s.result b.result c.deref_mut-4.result.now b.new.seats) c.deref-4.ensures
+    (subst (λ
+    (plan : Planned). IsBegunWith plan.run c.args.point c.args.number s.new.units s.result b.result c.deref_mut-4.result.now b.new.seats) c.deref-4.ensures
     (record { phase_is = b.ensures.phase; begun = b.ensures.begun })) in
     let n : Inside = record {
       plan = c.args.plan;
@@ -218,29 +242,39 @@ returns-clause-stands c =
       opened = record { point = c.args.point; states = c.in_ok-states.states; number = c.args.number };
     } in
     let places : length c.routes.result.now.outputs ≡ length (routes_of run).outputs =
-    ap (λ (routes : Routes). length routes.outputs) (c.routes.ensures.routes ∙ c.order.ensures.routes) ∙ ap (λ (plan : Planned). length (routes_of plan.run).outputs) c.deref.ensures in
-    let count : c.instances-count.result ≡ length run.members = c.instances-count.ensures.count ∙ ap (λ (plan : Planned). length plan.run.members) c.deref-2.ensures in
-    let ports_long : length c.in_ok-ports.ports.items ≡ length (routes_of run).outputs = sym c.in_ok-ports.ports.ok.0 ∙ c.in_ok-ports.ensures.len ∙ c.len-places.ensures ∙ places in
-    let known_long : length c.in_ok-known.known.items ≡ length (routes_of run).outputs = sym c.in_ok-known.known.ok.0 ∙ c.in_ok-known.ensures.len ∙ c.len-places.ensures ∙ places in
+    ap (λ (routes : Routes). length routes.outputs) (c.routes.ensures.routes ∙ c.order.ensures.routes)
+    ∙ ap (λ (plan : Planned). length (routes_of plan.run).outputs) c.deref.ensures in
+    let count : c.instances-count.result ≡ length run.members = c.instances-count.ensures.count
+    ∙ ap (λ (plan : Planned). length plan.run.members) c.deref-2.ensures in
+    let ports_long : length c.in_ok-ports.ports.items ≡ length (routes_of run).outputs = sym c.in_ok-ports.ports.ok.0 ∙ c.in_ok-ports.ensures.len
+    ∙ c.len-places.ensures ∙ places in
+    let known_long : length c.in_ok-known.known.items ≡ length (routes_of run).outputs = sym c.in_ok-known.known.ok.0 ∙ c.in_ok-known.ensures.len
+    ∙ c.len-places.ensures ∙ places in
     let limits_long : length c.in_ok-limits.limits.items ≡ length run.members = sym c.in_ok-limits.limits.ok.0 ∙ c.in_ok-limits.ensures.len ∙ count in
     let replies_long : length c.in_ok-replies.replies.items ≡ length run.members = sym c.in_ok-replies.replies.ok.0 ∙ c.in_ok-replies.ensures.len ∙ count in
     let room : HasRoom run n = record {
       ports = ap length put_ports ∙ s.ensures.as_many_ports ∙ ap length c.deref_mut.ensures.value ∙ ports_long;
       known = ap length put_known ∙ s.ensures.as_many_known ∙ ap length c.deref_mut-2.ensures.value ∙ known_long;
-      seats = ap length put ∙ as_many ∙ ap length (c.deref_mut-4.ensures.value ∙ put0) ∙ c.commit_all.ensures.as_many ∙ ap length c.deref_mut-3.ensures.value ∙ seated.as_many ∙ ap (λ (plan : Planned). length plan.run.members) c.requires.tied;
+      seats = ap length put ∙ as_many ∙ ap length (c.deref_mut-4.ensures.value ∙ put0) ∙ c.commit_all.ensures.as_many ∙ ap length c.deref_mut-3.ensures.value
+          ∙ seated.as_many ∙ ap (λ (plan : Planned). length plan.run.members) c.requires.tied;
       limits = ap length put_limits ∙ b.ensures.limits ∙ ap length c.deref_mut-5.ensures.value ∙ limits_long;
       replies = replies_long;
     } in
     let tied : b.new.units.plan ≡ c.args.plan.value = ap (λ (f : Fleet). f.plan) b.ensures.kept ∙ s.ensures.plan ∙ c.requires.tied in
     let fed : AreAsLong (inputs_before c.commit_all.new.seats) s.new.units.inputs = ap (map length) c.commit_all.ensures.before in
     let told : c.is_none.result ≡ is_none s.result = search rules in
-    let come = arrival_of n s.result c.commit_all.new.seats b.new.seats s.new.units c.args.units.states s.new.ports s.new.known b.ensures.kept put put_ports put_known tied room c.commit_all.ensures.own (subst (AreSaved c.commit_all.new.snaps c.commit_all.new.seats) s.ensures.states c.commit_all.ensures.saved) fed is_solved begun told in
+    let come =
+    arrival_of n s.result c.commit_all.new.seats b.new.seats s.new.units c.args.units.states s.new.ports s.new.known b.ensures.kept put put_ports put_known
+    tied room c.commit_all.ensures.own
+    (subst (AreSaved c.commit_all.new.snaps c.commit_all.new.seats) s.ensures.states c.commit_all.ensures.saved) fed is_solved begun told in
     let same : b.new.units.states ≡ c.args.units.states = ap (λ (f : Fleet). f.states) b.ensures.kept ∙ s.ensures.states in
     let start = position_with c.args.point c.args.units.states c.args.number in
-    let start_is : ◌≡◌ {A = Position} (position_with c.args.point b.new.units.states c.args.number) start = ap (λ states. position_with c.args.point states c.args.number) same in
+    let start_is : ◌≡◌ {A = Position} (position_with c.args.point b.new.units.states c.args.number) start =
+    ap (λ states. position_with c.args.point states c.args.number) same in
     let order = c.order.result.now.places in
     let ordered : IsPlaceOrder run order = subst (λ (plan : Planned). IsPlaceOrder plan.run order) c.deref.ensures c.order.ensures.places in
     let bounded : IsBounded run = subst (λ (plan : Planned). IsBounded plan.run) c.deref-2.ensures c.instances-count.ensures.bounded in
     let opened : position_of n.opened ≡ start = ap (λ states. position_with c.args.point states c.args.number) c.in_ok-states.ensures in
     let before : inputs_before c.commit_all.new.seats ≡ b.new.units.inputs = c.commit_all.ensures.before ∙ sym (ap (λ (f : Fleet). f.inputs) b.ensures.kept) in
-    open_stands n s.result c.commit_all.new.seats come start start_is order c.requires.composed ordered bounded c.requires.members c.requires.words c.requires.in_bounds c.requires.in_rows opened before refl refl
+    open_stands n s.result c.commit_all.new.seats come start start_is order c.requires.composed ordered bounded c.requires.members c.requires.words
+    c.requires.in_bounds c.requires.in_rows opened before refl refl

@@ -14,5 +14,7 @@ returns c =
     let is = c.self.invariant in
     let solved = c.if-not-self.false in
     ap (as_row r.point) c.deref.ensures.value
-    ∙ sym (row_there r.plan.value.run (stand_of r) r.known.items r.ports.items (none_is (port_fault r.plan.value.run (stand_of r).at.states (stand_of r).ports) (sym is.solved ∙ solved)) refl (is.room.known ∙ sym is.room.ports) (is.known solved))
+    ∙ sym (row_there r.plan.value.run (stand_of r) r.known.items r.ports.items
+    (none_is (port_fault r.plan.value.run (stand_of r).at.states (stand_of r).ports) (sym is.solved ∙ solved)) refl (is.room.known ∙ sym is.room.ports)
+    (is.known solved))
     ∙ ap (λ (s : RunState). row_at s.plan.run s.stand) c.self.view_is

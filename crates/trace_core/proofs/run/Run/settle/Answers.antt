@@ -11,7 +11,8 @@ use Rattle.trace_core.specs.Settling.{Settled, Ends, Moves, IsRedoDue, with_redo
 use Rattle.trace_core.specs.declared.course.Course.TheVariants as course
 use Rattle.trace_core.proofs.KeepLaws.{AreSolved, IsBegunWith, arrival_of, redone_is, redone_run, ended_run}
 use Rattle.trace_core.proofs.LengthLaws.{states_as_long}
-use Rattle.trace_core.proofs.MoveLaws.{end_stands, end_settled, redo_due, redo_length, redo_stands, moved_on, next_in_rows, next_run, next_stands, next_moves, settled_by}
+use Rattle.trace_core.proofs.MoveLaws.{end_stands, end_settled, redo_due, redo_length, redo_stands, moved_on, next_in_rows, next_run, next_stands, next_moves}
+use Rattle.trace_core.proofs.MoveLaws.{settled_by}
 use Rattle.trace_core.proofs.SeatLaws.{as_many_kept, kept_in_phase}
 use Rattle.trace_core.proofs.SettleLaws.{is_ready}
 use Rattle.trace_core.proofs.VecLaws.{items_put}
@@ -76,10 +77,15 @@ invariant_of-self-in-Redo c =
     let begun : AreBegun r.point.t c.in-Redo.h r.plan.value.run.members r.seats.items seats.items =
     subst (AreBegun r.point.t c.in-Redo.h r.plan.value.run.members r.seats.items) (sym put_seats)
     (subst (λ old. AreBegun r.point.t c.in-Redo.h r.plan.value.run.members old c.begin_all.new.seats) c.deref_mut-in-Redo.ensures.value
-    (subst (λ (plan : Planned). AreBegun r.point.t c.in-Redo.h plan.run.members c.deref_mut-in-Redo.result.now c.begin_all.new.seats) c.deref-in-Redo-2.ensures c.begin_all.ensures)) in
+    (subst (λ
+    (plan : Planned). AreBegun r.point.t c.in-Redo.h plan.run.members c.deref_mut-in-Redo.result.now c.begin_all.new.seats) c.deref-in-Redo-2.ensures
+    c.begin_all.ensures))
+    in
     let length_is = redo_length r is have going full c.in-Redo.h to in
-    let restored : c.restore_all.new.units.states ≡ saved r.snaps r.seats.items = c.restore_all.ensures.states ∙ ap (saved r.snaps) c.deref-in-Redo.ensures.value in
-    redone_run r is c.restore_all.new.units seats replies c.in-Redo.h length_is begun (redo_stands r is have going full c.in-Redo.h to) c.restore_all.ensures.plan restored c.restore_all.ensures.inputs long_replies
+    let restored : c.restore_all.new.units.states ≡ saved r.snaps r.seats.items = c.restore_all.ensures.states
+    ∙ ap (saved r.snaps) c.deref-in-Redo.ensures.value in
+    redone_run r is c.restore_all.new.units seats replies c.in-Redo.h length_is begun
+    (redo_stands r is have going full c.in-Redo.h to) c.restore_all.ensures.plan restored c.restore_all.ensures.inputs long_replies
 
 pub commit_all-requires-clause-as_long : goal.commit_all-requires-clause-as_long
 commit_all-requires-clause-as_long c =
@@ -105,7 +111,8 @@ begin_phase-self-inside-requires-clause-rows c =
     let is_solved : AreSolved r.plan.value.run s.new.units r.units.states s.new.ports s.new.known s.result =
     subst (λ (plan : Planned). AreSolved plan.run s.new.units r.units.states s.new.ports s.new.known s.result) c.deref-in-On.ensures
     (record { right = s.ensures.right; fault_is = s.ensures.fault; known_all = s.ensures.known; inputs = s.ensures.inputs; kept = s.ensures.states }) in
-    let next : Stand = record { at = record { point = c.in-On.point; states = r.units.states; number = r.number + 1 }; ports = ports_told s.new.known s.new.ports } in
+    let next : Stand =
+    record { at = record { point = c.in-On.point; states = r.units.states; number = r.number + 1 }; ports = ports_told s.new.known s.new.ports } in
     subst (λ (plan : Planned). r.number + 1 < plan.run.row_budget) (sym c.deref-in-On-2.ensures)
     (next_in_rows r is have going full c.in-On.point to next refl is_solved.right)
 
@@ -141,23 +148,29 @@ invariant_of-self-in-On c =
     let replies = with_items r.replies c.course_of-course.new.replies in
     let put_replies = items_put r.replies c.course_of-course.new.replies (c.course_of-course.ensures.as_many ∙ ap length c.deref_mut.ensures.value) in
     let begun : IsBegunWith r.plan.value.run c.in-On.point (r.number + 1) s.new.units s.result b.result c.commit_all.new.seats b.new.seats =
-    subst (λ old. IsBegunWith r.plan.value.run c.in-On.point (r.number + 1) s.new.units s.result b.result old b.new.seats) (c.deref_mut-in-On-4.ensures.value ∙ put0)
-    (subst (λ (plan : Planned). IsBegunWith plan.run c.in-On.point (r.number + 1) s.new.units s.result b.result c.deref_mut-in-On-4.result.now b.new.seats) c.deref-in-On-2.ensures
+    subst (λ old. IsBegunWith r.plan.value.run c.in-On.point (r.number + 1) s.new.units s.result b.result old b.new.seats)
+    (c.deref_mut-in-On-4.ensures.value ∙ put0)
+    (subst (λ (plan : Planned). IsBegunWith plan.run c.in-On.point
+    (r.number + 1) s.new.units s.result b.result c.deref_mut-in-On-4.result.now b.new.seats) c.deref-in-On-2.ensures
     (record { phase_is = b.ensures.phase; begun = b.ensures.begun })) in
     let n = moved_on r b.new.units seats c.commit_all.new.snaps ports known limits replies b.result c.in-On.point c.is_none-self-inside.result in
     let room : HasRoom r.plan.value.run n = record {
       ports = ap length put_ports ∙ s.ensures.as_many_ports ∙ ap length c.deref_mut-in-On-2.ensures.value ∙ is.room.ports;
       known = ap length put_known ∙ s.ensures.as_many_known ∙ ap length c.deref_mut-in-On-3.ensures.value ∙ is.room.known;
-      seats = ap length put ∙ as_many ∙ ap length (c.deref_mut-in-On-4.ensures.value ∙ put0) ∙ c.commit_all.ensures.as_many ∙ ap length c.deref_mut-in-On.ensures.value ∙ is.room.seats;
+      seats = ap length put ∙ as_many ∙ ap length (c.deref_mut-in-On-4.ensures.value ∙ put0) ∙ c.commit_all.ensures.as_many
+          ∙ ap length c.deref_mut-in-On.ensures.value ∙ is.room.seats;
       limits = ap length put_limits ∙ b.ensures.limits ∙ ap length c.deref_mut-in-On-5.ensures.value ∙ is.room.limits;
       replies = ap length put_replies ∙ c.course_of-course.ensures.as_many ∙ ap length c.deref_mut.ensures.value ∙ is.room.replies;
     } in
     let tied : b.new.units.plan ≡ r.plan.value = ap (λ (f : Fleet). f.plan) b.ensures.kept ∙ s.ensures.plan ∙ is.tied in
     let fed : AreAsLong (inputs_before c.commit_all.new.seats) s.new.units.inputs = ap (map length) c.commit_all.ensures.before ∙ s.ensures.as_long in
     let told : c.is_none-self-inside.result ≡ is_none s.result = search rules in
-    let come = arrival_of n s.result c.commit_all.new.seats b.new.seats s.new.units r.units.states s.new.ports s.new.known b.ensures.kept put put_ports put_known tied room c.commit_all.ensures.own c.commit_all.ensures.saved fed is_solved begun told in
+    let come =
+    arrival_of n s.result c.commit_all.new.seats b.new.seats s.new.units r.units.states s.new.ports s.new.known b.ensures.kept put put_ports put_known tied
+    room c.commit_all.ensures.own c.commit_all.ensures.saved fed is_solved begun told in
     let same = ap (λ (f : Fleet). f.states) b.ensures.kept ∙ s.ensures.states in
-    next_run r is have going full c.in-On.point to b.new.units seats c.commit_all.new.snaps ports known limits replies b.result c.is_none-self-inside.result s.result c.commit_all.new.seats come same c.commit_all.ensures.before
+    next_run r is have going full c.in-On.point to b.new.units seats c.commit_all.new.snaps ports known limits replies b.result c.is_none-self-inside.result
+    s.result c.commit_all.new.seats come same c.commit_all.ensures.before
 
 pub returns-in-End-clause-settled : goal.returns-in-End-clause-settled
 returns-in-End-clause-settled c =
@@ -171,7 +184,8 @@ returns-in-End-clause-settled c =
     ∙ ap (course_in c.deref.result.now.run r.point r.phase) (sym c.deref-2.ensures.value)
     ∙ sym c.course_of-course.ensures.course
     ∙ c.in-End.is in
-    inr (subst (λ old. Ends old (record (run_state r) { phase = Ended c.in-End.ending; cells = [] })) c.self.view_is (end_settled r is have going full c.in-End.ending to))
+    inr (subst (λ old. Ends old (record (run_state r) { phase = Ended c.in-End.ending; cells = [] })) c.self.view_is
+    (end_settled r is have going full c.in-End.ending to))
 
 pub returns-in-End-clause-stands : goal.returns-in-End-clause-stands
 returns-in-End-clause-stands c =
@@ -208,7 +222,10 @@ returns-in-Redo-clause-settled c =
     let begun : AreBegun r.point.t c.in-Redo.h r.plan.value.run.members r.seats.items seats.items =
     subst (AreBegun r.point.t c.in-Redo.h r.plan.value.run.members r.seats.items) (sym put_seats)
     (subst (λ old. AreBegun r.point.t c.in-Redo.h r.plan.value.run.members old c.begin_all.new.seats) c.deref_mut-in-Redo.ensures.value
-    (subst (λ (plan : Planned). AreBegun r.point.t c.in-Redo.h plan.run.members c.deref_mut-in-Redo.result.now c.begin_all.new.seats) c.deref-in-Redo-2.ensures c.begin_all.ensures)) in
+    (subst (λ
+    (plan : Planned). AreBegun r.point.t c.in-Redo.h plan.run.members c.deref_mut-in-Redo.result.now c.begin_all.new.seats) c.deref-in-Redo-2.ensures
+    c.begin_all.ensures))
+    in
     let length_is = redo_length r is have going full c.in-Redo.h to in (
       subst IsRedoDue c.self.view_is (redo_due r is have going full c.in-Redo.h to),
       redone_is r is c.restore_all.new.units seats replies c.in-Redo.h length_is begun ∙ ap with_redo c.self.view_is,
@@ -235,7 +252,10 @@ returns-in-Redo-clause-stands c =
     let begun : AreBegun r.point.t c.in-Redo.h r.plan.value.run.members r.seats.items seats.items =
     subst (AreBegun r.point.t c.in-Redo.h r.plan.value.run.members r.seats.items) (sym put_seats)
     (subst (λ old. AreBegun r.point.t c.in-Redo.h r.plan.value.run.members old c.begin_all.new.seats) c.deref_mut-in-Redo.ensures.value
-    (subst (λ (plan : Planned). AreBegun r.point.t c.in-Redo.h plan.run.members c.deref_mut-in-Redo.result.now c.begin_all.new.seats) c.deref-in-Redo-2.ensures c.begin_all.ensures)) in
+    (subst (λ
+    (plan : Planned). AreBegun r.point.t c.in-Redo.h plan.run.members c.deref_mut-in-Redo.result.now c.begin_all.new.seats) c.deref-in-Redo-2.ensures
+    c.begin_all.ensures))
+    in
     let length_is = redo_length r is have going full c.in-Redo.h to in
     subst Stands (sym (redone_is r is c.restore_all.new.units seats replies c.in-Redo.h length_is begun)) (redo_stands r is have going full c.in-Redo.h to)
 
@@ -271,25 +291,36 @@ returns-in-On-clause-settled c =
     let replies = with_items r.replies c.course_of-course.new.replies in
     let put_replies = items_put r.replies c.course_of-course.new.replies (c.course_of-course.ensures.as_many ∙ ap length c.deref_mut.ensures.value) in
     let begun : IsBegunWith r.plan.value.run c.in-On.point (r.number + 1) s.new.units s.result b.result c.commit_all.new.seats b.new.seats =
-    subst (λ old. IsBegunWith r.plan.value.run c.in-On.point (r.number + 1) s.new.units s.result b.result old b.new.seats) (c.deref_mut-in-On-4.ensures.value ∙ put0)
-    (subst (λ (plan : Planned). IsBegunWith plan.run c.in-On.point (r.number + 1) s.new.units s.result b.result c.deref_mut-in-On-4.result.now b.new.seats) c.deref-in-On-2.ensures
+    subst (λ old. IsBegunWith r.plan.value.run c.in-On.point (r.number + 1) s.new.units s.result b.result old b.new.seats)
+    (c.deref_mut-in-On-4.ensures.value ∙ put0)
+    (subst (λ (plan : Planned). IsBegunWith plan.run c.in-On.point
+    (r.number + 1) s.new.units s.result b.result c.deref_mut-in-On-4.result.now b.new.seats) c.deref-in-On-2.ensures
     (record { phase_is = b.ensures.phase; begun = b.ensures.begun })) in
     let n = moved_on r b.new.units seats c.commit_all.new.snaps ports known limits replies b.result c.in-On.point c.is_none-self-inside.result in
     let room : HasRoom r.plan.value.run n = record {
       ports = ap length put_ports ∙ s.ensures.as_many_ports ∙ ap length c.deref_mut-in-On-2.ensures.value ∙ is.room.ports;
       known = ap length put_known ∙ s.ensures.as_many_known ∙ ap length c.deref_mut-in-On-3.ensures.value ∙ is.room.known;
-      seats = ap length put ∙ as_many ∙ ap length (c.deref_mut-in-On-4.ensures.value ∙ put0) ∙ c.commit_all.ensures.as_many ∙ ap length c.deref_mut-in-On.ensures.value ∙ is.room.seats;
+      seats = ap length put ∙ as_many ∙ ap length (c.deref_mut-in-On-4.ensures.value ∙ put0) ∙ c.commit_all.ensures.as_many
+          ∙ ap length c.deref_mut-in-On.ensures.value ∙ is.room.seats;
       limits = ap length put_limits ∙ b.ensures.limits ∙ ap length c.deref_mut-in-On-5.ensures.value ∙ is.room.limits;
       replies = ap length put_replies ∙ c.course_of-course.ensures.as_many ∙ ap length c.deref_mut.ensures.value ∙ is.room.replies;
     } in
     let tied : b.new.units.plan ≡ r.plan.value = ap (λ (f : Fleet). f.plan) b.ensures.kept ∙ s.ensures.plan ∙ is.tied in
     let fed : AreAsLong (inputs_before c.commit_all.new.seats) s.new.units.inputs = ap (map length) c.commit_all.ensures.before ∙ s.ensures.as_long in
     let told : c.is_none-self-inside.result ≡ is_none s.result = search rules in
-    let come = arrival_of n s.result c.commit_all.new.seats b.new.seats s.new.units r.units.states s.new.ports s.new.known b.ensures.kept put put_ports put_known tied room c.commit_all.ensures.own c.commit_all.ensures.saved fed is_solved begun told in
+    let come =
+    arrival_of n s.result c.commit_all.new.seats b.new.seats s.new.units r.units.states s.new.ports s.new.known b.ensures.kept put put_ports put_known tied
+    room c.commit_all.ensures.own c.commit_all.ensures.saved fed is_solved begun told in
     let same = ap (λ (f : Fleet). f.states) b.ensures.kept ∙ s.ensures.states in
-    let moves = subst (λ old. Moves old (run_state n)) c.self.view_is (next_moves r is have going full c.in-On.point to b.new.units seats c.commit_all.new.snaps ports known limits replies b.result c.is_none-self-inside.result s.result c.commit_all.new.seats come same c.commit_all.ensures.before) in
+    let moves =
+    subst (λ old. Moves old (run_state n)) c.self.view_is
+    (next_moves r is have going full c.in-On.point to b.new.units seats c.commit_all.new.snaps ports known limits replies b.result
+    c.is_none-self-inside.result s.result c.commit_all.new.seats come same c.commit_all.ensures.before)
+    in
     subst (Settled c.args.self.now (run_state n)) (sym c.come_to.ensures)
-    (settled_by c.is_none-self-inside.result c.args.self.now (run_state n) moves (next_run r is have going full c.in-On.point to b.new.units seats c.commit_all.new.snaps ports known limits replies b.result c.is_none-self-inside.result s.result c.commit_all.new.seats come same c.commit_all.ensures.before).solved)
+    (settled_by c.is_none-self-inside.result c.args.self.now (run_state n) moves
+    (next_run r is have going full c.in-On.point to b.new.units seats c.commit_all.new.snaps ports known limits replies b.result c.is_none-self-inside.result
+    s.result c.commit_all.new.seats come same c.commit_all.ensures.before).solved)
 
 pub returns-in-On-clause-stands : goal.returns-in-On-clause-stands
 returns-in-On-clause-stands c =
@@ -323,20 +354,26 @@ returns-in-On-clause-stands c =
     let replies = with_items r.replies c.course_of-course.new.replies in
     let put_replies = items_put r.replies c.course_of-course.new.replies (c.course_of-course.ensures.as_many ∙ ap length c.deref_mut.ensures.value) in
     let begun : IsBegunWith r.plan.value.run c.in-On.point (r.number + 1) s.new.units s.result b.result c.commit_all.new.seats b.new.seats =
-    subst (λ old. IsBegunWith r.plan.value.run c.in-On.point (r.number + 1) s.new.units s.result b.result old b.new.seats) (c.deref_mut-in-On-4.ensures.value ∙ put0)
-    (subst (λ (plan : Planned). IsBegunWith plan.run c.in-On.point (r.number + 1) s.new.units s.result b.result c.deref_mut-in-On-4.result.now b.new.seats) c.deref-in-On-2.ensures
+    subst (λ old. IsBegunWith r.plan.value.run c.in-On.point (r.number + 1) s.new.units s.result b.result old b.new.seats)
+    (c.deref_mut-in-On-4.ensures.value ∙ put0)
+    (subst (λ (plan : Planned). IsBegunWith plan.run c.in-On.point
+    (r.number + 1) s.new.units s.result b.result c.deref_mut-in-On-4.result.now b.new.seats) c.deref-in-On-2.ensures
     (record { phase_is = b.ensures.phase; begun = b.ensures.begun })) in
     let n = moved_on r b.new.units seats c.commit_all.new.snaps ports known limits replies b.result c.in-On.point c.is_none-self-inside.result in
     let room : HasRoom r.plan.value.run n = record {
       ports = ap length put_ports ∙ s.ensures.as_many_ports ∙ ap length c.deref_mut-in-On-2.ensures.value ∙ is.room.ports;
       known = ap length put_known ∙ s.ensures.as_many_known ∙ ap length c.deref_mut-in-On-3.ensures.value ∙ is.room.known;
-      seats = ap length put ∙ as_many ∙ ap length (c.deref_mut-in-On-4.ensures.value ∙ put0) ∙ c.commit_all.ensures.as_many ∙ ap length c.deref_mut-in-On.ensures.value ∙ is.room.seats;
+      seats = ap length put ∙ as_many ∙ ap length (c.deref_mut-in-On-4.ensures.value ∙ put0) ∙ c.commit_all.ensures.as_many
+          ∙ ap length c.deref_mut-in-On.ensures.value ∙ is.room.seats;
       limits = ap length put_limits ∙ b.ensures.limits ∙ ap length c.deref_mut-in-On-5.ensures.value ∙ is.room.limits;
       replies = ap length put_replies ∙ c.course_of-course.ensures.as_many ∙ ap length c.deref_mut.ensures.value ∙ is.room.replies;
     } in
     let tied : b.new.units.plan ≡ r.plan.value = ap (λ (f : Fleet). f.plan) b.ensures.kept ∙ s.ensures.plan ∙ is.tied in
     let fed : AreAsLong (inputs_before c.commit_all.new.seats) s.new.units.inputs = ap (map length) c.commit_all.ensures.before ∙ s.ensures.as_long in
     let told : c.is_none-self-inside.result ≡ is_none s.result = search rules in
-    let come = arrival_of n s.result c.commit_all.new.seats b.new.seats s.new.units r.units.states s.new.ports s.new.known b.ensures.kept put put_ports put_known tied room c.commit_all.ensures.own c.commit_all.ensures.saved fed is_solved begun told in
+    let come =
+    arrival_of n s.result c.commit_all.new.seats b.new.seats s.new.units r.units.states s.new.ports s.new.known b.ensures.kept put put_ports put_known tied
+    room c.commit_all.ensures.own c.commit_all.ensures.saved fed is_solved begun told in
     let same = ap (λ (f : Fleet). f.states) b.ensures.kept ∙ s.ensures.states in
-    next_stands r is have going full c.in-On.point to b.new.units seats c.commit_all.new.snaps ports known limits replies b.result c.is_none-self-inside.result s.result c.commit_all.new.seats come same c.commit_all.ensures.before
+    next_stands r is have going full c.in-On.point to b.new.units seats c.commit_all.new.snaps ports known limits replies b.result
+    c.is_none-self-inside.result s.result c.commit_all.new.seats come same c.commit_all.ensures.before
