@@ -10,7 +10,7 @@ ghost use Rattle.unit_tree.specs.declared.line_form.LineForm.TheVariants as form
 
 use crate::units::UnitNames;
 use fixed_words::{Kind, Ty};
-use unit_tree::{BinOp, Expr, UnOp};
+use unit_tree::{BinOp, Expr, UnOp, kind_of_number};
 
 /// Whether two kinds are one.
 pub fn is_same_kind(one: Kind, other: Kind) -> bool
