@@ -15,7 +15,6 @@ use Rattle.unit_tree.specs.declared.system.Instance.{Instance}
 use Rattle.unit_tree.specs.declared.system.System.{System}
 use Rattle.unit_tree.specs.declared.unit.Unit.{Unit}
 use Rattle.language_laws.proofs.PartLaws.{unit_is}
-use Rattle.language_laws.proofs.NameLaws.{instance_heads}
 
 -- ---- Parts as lines with their blocks
 
@@ -101,6 +100,16 @@ instance_block instance = map alone (map form.Setting instance.settings) ++ (alo
 
 abbrev pub instance_head : Instance → Headed
 instance_head instance = record { head = form.Instance instance.name instance.unit; block = sites (InstanceScope instance) [] (instance_block instance) }
+
+-- As `NameLaws` has it, but with the `end` of a block as a piece of its own.
+instance_heads : (instances : List Instance) → flat_map headed_part (map parts.HasInstance instances) ≡ map instance_head instances
+instance_heads [] = refl
+instance_heads (instance ∷ instances) =
+    let with : List Headed → List Headed = λ lines.
+    record { head = form.Instance instance.name instance.unit; block = sites (InstanceScope instance) [] lines }
+    ∷ flat_map headed_part (map parts.HasInstance instances) in
+    ap with (map-append alone (map form.Setting instance.settings) (form.End ∷ []))
+    ∙ ap (λ rest. instance_head instance ∷ rest) (instance_heads instances)
 
 -- ---- A system
 

@@ -35,7 +35,7 @@ number_of by.TargetsMayChange = 22
 number_of by.InstanceIsThere = 23
 number_of by.NothingRepeats = 24
 
--- The test of a line that breaks the rule.
+-- The test of a line that breaks the rule, as `WellFormed` has it under the number of the rule.
 unfoldable pub breaks_of : SystemRule → System → Site → Bool
 breaks_of by.NamesDiffer = redeclares
 breaks_of by.NamesAreDeclared = λ system site. misnames system site.scope site.line
@@ -55,7 +55,7 @@ breaks_of by.InstanceIsThere = λ system site. lacks_instance system site.line
 breaks_of by.NothingRepeats = repeats_itself
 
 -- The rule as the definitions have it.
-abbrev pub defined : SystemRule → well_formed.SystemRule
+abbrev pub defined : SystemRule → well_formed.Rule
 defined some = rule (number_of some) (breaks_of some)
 
 -- The same test, by the place of the line.
@@ -86,7 +86,7 @@ all_rules =
     ∷ by.RowsFit ∷ by.TargetsMayChange ∷ by.InstanceIsThere ∷ by.NothingRepeats
     ∷ []
 
-abbrev pub judged : List well_formed.SystemRule
+abbrev pub judged : List well_formed.Rule
 judged = map defined all_rules
 
 -- ---- What the code answers
