@@ -4,7 +4,8 @@ use Rattle.std.specs.List.{filter_map, cons_option}
 use Rattle.std.proofs.lemmas.List.{append-nil, map-append}
 use Rattle.std.proofs.lemmas.List.Elements.{filter_map-append}
 use Rattle.unit_check.proofs.SiteWalks.{heads, heads_alone}
-use Rattle.unit_check.proofs.SystemLines.{plain_names, port_lines, step_heads, block, unit_head, instance_block, instance_head, header, units, instances, wires, limits, samples, whole}
+use Rattle.unit_check.proofs.SystemLines.{plain_names, port_lines, step_heads, block, unit_head, instance_block, instance_head, header, units, instances, wires}
+use Rattle.unit_check.proofs.SystemLines.{limits, samples, whole}
 use Rattle.unit_names.specs.Found.{declared_names}
 use Rattle.unit_tree.specs.Canonical.{optional}
 use Rattle.unit_tree.specs.Sites.{Headed, alone}
@@ -24,13 +25,17 @@ module _ {A : Type 0} (asked : LineForm → Option A) where
   pub told_both : (front behind : List Headed) → told (front ++ behind) ≡ told front ++ told behind
   told_both front behind = ap (filter_map asked) (map-append (λ (h : Headed). h.head) front behind) ∙ filter_map-append asked (heads front) (heads behind)
 
-  pub lines_tell : {B : Type 0} (said : B → LineForm) (name : B → A) → ((x : B) → asked (said x) ≡ Some (name x)) → (xs : List B) → filter_map asked (map said xs) ≡ map name xs
+  pub lines_tell : {B : Type 0} (said : B → LineForm) (name : B → A) → ((x : B) → asked (said x) ≡ Some (name x)) → (xs : List B)
+      → filter_map asked (map said xs) ≡ map name xs
   lines_tell said name tells [] = refl
-  lines_tell said name tells (x ∷ xs) = ap (λ here. cons_option here (filter_map asked (map said xs))) (tells x) ∙ ap (λ rest. name x ∷ rest) (lines_tell said name tells xs)
+  lines_tell said name tells (x ∷ xs) = ap (λ here. cons_option here (filter_map asked (map said xs))) (tells x)
+      ∙ ap (λ rest. name x ∷ rest) (lines_tell said name tells xs)
 
-  pub heads_tell : {B : Type 0} (head : B → Headed) (name : B → A) → ((x : B) → asked (head x).head ≡ Some (name x)) → (xs : List B) → told (map head xs) ≡ map name xs
+  pub heads_tell : {B : Type 0} (head : B → Headed) (name : B → A) → ((x : B) → asked (head x).head ≡ Some (name x)) → (xs : List B)
+      → told (map head xs) ≡ map name xs
   heads_tell head name tells [] = refl
-  heads_tell head name tells (x ∷ xs) = ap (λ here. cons_option here (told (map head xs))) (tells x) ∙ ap (λ rest. name x ∷ rest) (heads_tell head name tells xs)
+  heads_tell head name tells (x ∷ xs) = ap (λ here. cons_option here (told (map head xs))) (tells x)
+      ∙ ap (λ rest. name x ∷ rest) (heads_tell head name tells xs)
 
   pub none_tell : {B : Type 0} (head : B → Headed) → ((x : B) → asked (head x).head ≡ None) → (xs : List B) → told (map head xs) ≡ []
   none_tell head none [] = refl
@@ -40,9 +45,11 @@ module _ {A : Type 0} (asked : LineForm → Option A) where
   none_given said none None = refl
   none_given said none (Some x) = ap (λ here. cons_option here []) (none x)
 
-  pub alone_tell : {B : Type 0} (said : B → LineForm) (name : B → A) → ((x : B) → asked (said x) ≡ Some (name x)) → (xs : List B) → told (map alone (map said xs)) ≡ map name xs
+  pub alone_tell : {B : Type 0} (said : B → LineForm) (name : B → A) → ((x : B) → asked (said x) ≡ Some (name x)) → (xs : List B)
+      → told (map alone (map said xs)) ≡ map name xs
   alone_tell said name tells [] = refl
-  alone_tell said name tells (x ∷ xs) = ap (λ here. cons_option here (told (map alone (map said xs)))) (tells x) ∙ ap (λ rest. name x ∷ rest) (alone_tell said name tells xs)
+  alone_tell said name tells (x ∷ xs) = ap (λ here. cons_option here (told (map alone (map said xs)))) (tells x)
+      ∙ ap (λ rest. name x ∷ rest) (alone_tell said name tells xs)
 
   pub none_alone : {B : Type 0} (said : B → LineForm) → ((x : B) → asked (said x) ≡ None) → (xs : List B) → told (map alone (map said xs)) ≡ []
   none_alone said none [] = refl
@@ -76,8 +83,12 @@ module _ (unit : Unit) where
       let m = none_given name_declared form.Max (λ x. refl) unit.max in
       let s = step_tells unit.step in
       told_both name_declared (resolution ++ names) ((greatest ++ step_heads unit unit.step) ++ (alone form.End ∷ []))
-      ∙ ap (λ front. front ++ told name_declared ((greatest ++ step_heads unit unit.step) ++ (alone form.End ∷ []))) (told_both name_declared resolution names ∙ ap (λ front. front ++ told name_declared names) r ∙ n)
-      ∙ ap (λ behind. declared_names unit ++ behind) (told_both name_declared (greatest ++ step_heads unit unit.step) (alone form.End ∷ []) ∙ ap (λ front. front ++ []) (told_both name_declared greatest (step_heads unit unit.step) ∙ ap (λ front. front ++ told name_declared (step_heads unit unit.step)) m ∙ s))
+      ∙ ap (λ front. front ++ told name_declared ((greatest ++ step_heads unit unit.step) ++ (alone form.End ∷ [])))
+      (told_both name_declared resolution names ∙ ap (λ front. front ++ told name_declared names) r ∙ n)
+      ∙ ap (λ behind. declared_names unit ++ behind)
+      (told_both name_declared (greatest ++ step_heads unit unit.step) (alone form.End ∷ [])
+      ∙ ap (λ front. front ++ [])
+      (told_both name_declared greatest (step_heads unit unit.step) ∙ ap (λ front. front ++ told name_declared (step_heads unit unit.step)) m ∙ s))
       ∙ append-nil (declared_names unit)
 
 pub instance_tells : (instance : Instance) → told param_set (instance_block instance) ≡ map (λ setting. setting.name) instance.settings
@@ -89,7 +100,9 @@ instance_tells instance =
 -- ---- A system
 
 module _ (system : System) where
-  module _ {A : Type 0} (asked : LineForm → Option A) (header_tells : asked (form.Header system.version) ≡ None) (stop_tells : (x : _) → asked (form.Stop x) ≡ None) (longest_tells : (x : _) → asked (form.Longest x) ≡ None) (zero_tells : (x : _) → asked (form.Zero x) ≡ None) (rows_tells : (x : _) → asked (form.Rows x) ≡ None) where
+  module _ {A : Type 0} (asked : LineForm → Option A) (header_tells : asked (form.Header system.version) ≡ None)
+      (stop_tells : (x : _) → asked (form.Stop x) ≡ None) (longest_tells : (x : _) → asked (form.Longest x) ≡ None)
+      (zero_tells : (x : _) → asked (form.Zero x) ≡ None) (rows_tells : (x : _) → asked (form.Rows x) ≡ None) where
     limits_tell : told asked (limits system) ≡ []
     limits_tell =
         let s : List Headed = map alone (optional form.Stop system.stop) in
@@ -99,11 +112,14 @@ module _ (system : System) where
         told_both asked (s ++ l ++ z) r
         ∙ ap (λ front. front ++ told asked r)
         (told_both asked (s ++ l) z
-        ∙ ap (λ front. front ++ told asked z) (told_both asked s l ∙ ap (λ front. front ++ told asked l) (none_given asked form.Stop stop_tells system.stop) ∙ none_given asked form.Longest longest_tells system.longest)
+        ∙ ap (λ front. front ++ told asked z)
+        (told_both asked s l ∙ ap (λ front. front ++ told asked l) (none_given asked form.Stop stop_tells system.stop)
+        ∙ none_given asked form.Longest longest_tells system.longest)
         ∙ none_given asked form.Zero zero_tells system.zero)
         ∙ none_given asked form.Rows rows_tells system.rows
 
-    pub whole_tells : told asked (whole system) ≡ ((told asked (units system) ++ told asked (instances system)) ++ told asked (wires system)) ++ told asked (samples system)
+    pub whole_tells : told asked (whole system)
+        ≡ ((told asked (units system) ++ told asked (instances system)) ++ told asked (wires system)) ++ told asked (samples system)
     whole_tells =
         let made : List Headed = (units system ++ instances system) ++ wires system in
         told_both asked ((header system ++ made) ++ limits system) (samples system)

@@ -17,7 +17,8 @@ says test number [] = refl
 says test number (site ∷ sites) = step (test site) (nat_eq number 4294967295) refl (says test (number + 1) sites)
   where
     step : (broken full : Bool) → test site ≡ broken → Says (walk test (number + 1) sites) (broken_in test (number + 1) sites)
-        → Says (onward (if broken then Err (stop.At number) else (if full then Err stop.Full else Ok (suc number))) (λ n. walk test n sites)) (broken_in test number (site ∷ sites))
+        → Says (onward (if broken then Err (stop.At number) else (if full then Err stop.Full else Ok (suc number))) (λ n. walk test n sites))
+        (broken_in test number (site ∷ sites))
     step true full is rest = (broken_in test (number + 1) sites, rw is refl)
     step false true is rest = _
     step false false is rest =
@@ -25,7 +26,8 @@ says test number (site ∷ sites) = step (test site) (nat_eq number 4294967295) 
         rw is here
 
 -- Two tests that agree on all sites break the same lines.
-pub broken_same : (one other : Site → Bool) (number : ℕ) (sites : List Site) → AllByRecursion (λ site. one site ≡ other site) sites → broken_in one number sites ≡ broken_in other number sites
+pub broken_same : (one other : Site → Bool) (number : ℕ) (sites : List Site) → AllByRecursion (λ site. one site ≡ other site) sites
+    → broken_in one number sites ≡ broken_in other number sites
 broken_same one other number [] same = refl
 broken_same one other number (site ∷ sites) same =
     let rest = broken_same one other (number + 1) sites same.1 in

@@ -14,12 +14,14 @@ use Rattle.unit_tree.specs.declared.line_form.LineForm.TheVariants as form
 use Rattle.unit_tree.specs.declared.unit.Unit.{Unit}
 
 -- Lines of one scope, each of which counts for the next ones.
-module _ (test : Test) (scope : Scope) (count : List LineForm → ℕ) (adds : (front behind : List LineForm) → count (front ++ behind) ≡ count front + count behind) (first : ℕ) where
+module _ (test : Test) (scope : Scope) (count : List LineForm → ℕ)
+    (adds : (front behind : List LineForm) → count (front ++ behind) ≡ count front + count behind) (first : ℕ) where
   -- A walk goes along these lines behind earlier ones.
   abbrev pub Counts : List LineForm → Walk → List LineForm → Type 0
   Counts earlier walked lines = (number : ℕ) → number ≡ first + count earlier → walked number ≡ walk (test_at test) number (line_sites scope earlier lines)
 
-  pub both : (earlier front behind : List LineForm) (one next : Walk) → count front ≡ length front → Counts earlier one front → Counts (earlier ++ front) next behind → Counts earlier (one >=> next) (front ++ behind)
+  pub both : (earlier front behind : List LineForm) (one next : Walk) → count front ≡ length front → Counts earlier one front
+      → Counts (earlier ++ front) next behind → Counts earlier (one >=> next) (front ++ behind)
   both earlier front behind one next each_counts goes on number at =
       let t = test_at test in
       let met = walk t number (line_sites scope earlier front) in
@@ -34,13 +36,15 @@ module _ (test : Test) (scope : Scope) (count : List LineForm → ℕ) (adds : (
       ∙ sym (walk_on t number (line_sites scope earlier front) (line_sites scope (earlier ++ front) behind))
       ∙ ap (walk t number) (sym (line_sites_on scope earlier front behind))
 
-  pub one : (earlier : List LineForm) (line : LineForm) → place_of scope earlier line ≡ count earlier → Counts earlier (past_from (test scope) first line) (line ∷ [])
+  pub one : (earlier : List LineForm) (line : LineForm) → place_of scope earlier line ≡ count earlier
+      → Counts earlier (past_from (test scope) first line) (line ∷ [])
   one earlier line placed number at =
       let place : number - first ≡ place_of scope earlier line = omega arith in
       ap (λ n. past (test scope n line) number) place ∙ sym (onward_none (past (test scope (place_of scope earlier line) line) number))
 
   -- Lines of one form.
-  module _ {A : Type 0} (said : A → LineForm) (placed : (earlier : List LineForm) (x : A) → place_of scope earlier (said x) ≡ count earlier) (counts : (x : A) → count (said x ∷ []) ≡ 1) where
+  module _ {A : Type 0} (said : A → LineForm) (placed : (earlier : List LineForm) (x : A) → place_of scope earlier (said x) ≡ count earlier)
+      (counts : (x : A) → count (said x ∷ []) ≡ 1) where
     pub all_of : (earlier : List LineForm) (xs : List A) → Counts earlier (each (λ x. past_from (test scope) first (said x)) xs) (map said xs)
     all_of earlier [] = λ number at. refl
     all_of earlier (x ∷ xs) =
@@ -82,32 +86,44 @@ module _ (test : Test) (unit : Unit) (first : ℕ) where
 
   turns : (lines : List ((line : Line) × Claim line)) → Goes (in_turn (map (line_walk past_line) (map bare lines))) (joined (map line_forms (map bare lines)))
   turns [] = λ earlier number at. refl
-  turns (head ∷ others) = then_on (line_walk past_line head.0) (in_turn (map (line_walk past_line) (map bare others))) (line_forms head.0) (joined (map line_forms (map bare others))) head.1 (turns others)
+  turns (head ∷ others) =
+      then_on (line_walk past_line head.0) (in_turn (map (line_walk past_line) (map bare others))) (line_forms head.0)
+      (joined (map line_forms (map bare others))) head.1 (turns others)
 
-  layer : (y : Line-F Proved) → Goes (node_walk past_line (map-Line Line Walk (line_walk past_line) (map-Line Proved Line bare y))) (block_forms (map-Line Line (List LineForm) line_forms (map-Line Proved Line bare y)))
+  layer : (y : Line-F Proved)
+      → Goes (node_walk past_line (map-Line Line Walk (line_walk past_line) (map-Line Proved Line bare y)))
+      (block_forms (map-Line Line (List LineForm) line_forms (map-Line Proved Line bare y)))
   layer (Line-F.Assign target value) = line_goes (form.Assign target value)
   layer (Line-F.If condition then_lines None) =
       let lines = joined (map line_forms (map bare then_lines)) in
       then_on (past_line (form.If condition)) _ (form.If condition ∷ []) _ (line_goes (form.If condition))
-      (subst (λ l. Goes (in_turn (map (line_walk past_line) (map bare then_lines)) >=> past_line form.End) (l ++ (form.End ∷ []))) (sym (append-nil lines)) (then_on _ (past_line form.End) _ (form.End ∷ []) (turns then_lines) (line_goes form.End)))
+      (subst (λ l. Goes (in_turn (map (line_walk past_line) (map bare then_lines)) >=> past_line form.End) (l ++ (form.End ∷ []))) (sym (append-nil lines))
+      (then_on _ (past_line form.End) _ (form.End ∷ []) (turns then_lines) (line_goes form.End)))
   layer (Line-F.If condition then_lines (Some else_lines)) =
       let lines = joined (map line_forms (map bare then_lines)) in
       let others = joined (map line_forms (map bare else_lines)) in
       then_on (past_line (form.If condition)) _ (form.If condition ∷ []) _ (line_goes (form.If condition))
-      (subst (Goes (in_turn (map (line_walk past_line) (map bare then_lines)) >=> else_walk past_line (Some (map (line_walk past_line) (map bare else_lines))))) (sym (append_assoc lines (form.Else ∷ others) (form.End ∷ [])))
-      (then_on _ _ _ _ (turns then_lines) (then_on (past_line form.Else) _ (form.Else ∷ []) _ (line_goes form.Else) (then_on _ (past_line form.End) _ (form.End ∷ []) (turns else_lines) (line_goes form.End)))))
-  layer (Line-F.Repeat times body) = then_on (past_line (form.Repeat times)) _ (form.Repeat times ∷ []) _ (line_goes (form.Repeat times)) (then_on _ (past_line form.End) _ (form.End ∷ []) (turns body) (line_goes form.End))
+      (subst (Goes (in_turn (map (line_walk past_line) (map bare then_lines)) >=> else_walk past_line (Some (map (line_walk past_line) (map bare else_lines)))))
+      (sym (append_assoc lines (form.Else ∷ others) (form.End ∷ [])))
+      (then_on _ _ _ _ (turns then_lines)
+      (then_on (past_line form.Else) _ (form.Else ∷ []) _ (line_goes form.Else)
+      (then_on _ (past_line form.End) _ (form.End ∷ []) (turns else_lines) (line_goes form.End)))))
+  layer (Line-F.Repeat times body) =
+      then_on (past_line (form.Repeat times)) _ (form.Repeat times ∷ []) _ (line_goes (form.Repeat times))
+      (then_on _ (past_line form.End) _ (form.End ∷ []) (turns body) (line_goes form.End))
   layer (Line-F.Accept value) = line_goes (form.Accept value)
 
   node : (y : Line-F Proved) → Claim (roll-Line (map-Line Proved Line bare y))
   node y earlier number at =
       ap (λ (walked : Walk). walked number) (fold-roll-Line Walk (node_walk past_line) (map-Line Proved Line bare y))
       ∙ layer y earlier number at
-      ∙ ap (λ lines. walk (test_at test) number (line_sites (StepScope unit) earlier lines)) (sym (fold-roll-Line (List LineForm) block_forms (map-Line Proved Line bare y)))
+      ∙ ap (λ lines. walk (test_at test) number (line_sites (StepScope unit) earlier lines))
+      (sym (fold-roll-Line (List LineForm) block_forms (map-Line Proved Line bare y)))
 
   along : (line : Line) → Claim line
   along = ind-Line Claim (λ x y is. subst (λ z. Claim (roll-Line z)) is (node y))
 
   pub all_along : (lines : List Line) → Goes (each (line_walk past_line) lines) (flat_map line_forms lines)
   all_along [] = λ earlier number at. refl
-  all_along (line ∷ lines) = then_on (line_walk past_line line) (each (line_walk past_line) lines) (line_forms line) (flat_map line_forms lines) (along line) (all_along lines)
+  all_along (line ∷ lines) =
+      then_on (line_walk past_line line) (each (line_walk past_line) lines) (line_forms line) (flat_map line_forms lines) (along line) (all_along lines)

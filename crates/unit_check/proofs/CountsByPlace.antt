@@ -1,5 +1,6 @@
 -- Rule 16 by the place of a line.
-use Rattle.std.proofs.Common.{◌≡◌, ℕ, suc, ◌+◌, ◌-◌, ◌*◌, nat_lt, Bool, true, false, ◌||◌, ◌&&◌, List, [], ◌∷◌, ◌++◌, map, length, take, Option, Some, None, append_assoc, refl, ap, sym, subst, ◌∙◌, arith}
+use Rattle.std.proofs.Common.{◌≡◌, ℕ, suc, ◌+◌, ◌-◌, ◌*◌, nat_lt, Bool, true, false, ◌||◌, ◌&&◌, List, [], ◌∷◌, ◌++◌, map, length, take, Option, Some, None}
+use Rattle.std.proofs.Common.{append_assoc, refl, ap, sym, subst, ◌∙◌, arith}
 use Rattle.std.specs.Prelude.{if◌then◌else◌, ⊤}
 use Rattle.std.specs.List.{AllByRecursion, count_by, flat_map, filter_map, list_all, list_any}
 use Rattle.std.proofs.lemmas.Grind.{flat_map-append}
@@ -53,13 +54,15 @@ module _ (system : System) (scope : Scope) where
   abbrev Measured : LineForm → List LineForm → ℕ → ℕ → Type 0
   Measured probe lines count names = (alike probe lines ≡ count) × (bridge.told name_declared lines ≡ names)
 
-  measured_both : (probe : LineForm) (front behind : List LineForm) (c n d m : ℕ) → Measured probe front c n → Measured probe behind d m → Measured probe (front ++ behind) (c + d) (n + m)
+  measured_both : (probe : LineForm) (front behind : List LineForm) (c n d m : ℕ) → Measured probe front c n → Measured probe behind d m
+      → Measured probe (front ++ behind) (c + d) (n + m)
   measured_both probe front behind c n d m one other =
       let counts = alike_adds probe front behind in
       let names = bridge.told_adds name_declared front behind in
       (simp (one.0, other.0) at counts, simp (one.1, other.1) at names)
 
-  measured_each : {A : Type 0} (probe : LineForm) (weight : ℕ) (said : A → LineForm) → ((x : A) → alike probe (said x ∷ []) ≡ weight) → ((x : A) → bridge.told name_declared (said x ∷ []) ≡ 1) → (xs : List A) → Measured probe (map said xs) (weight * length xs) (length xs)
+  measured_each : {A : Type 0} (probe : LineForm) (weight : ℕ) (said : A → LineForm) → ((x : A) → alike probe (said x ∷ []) ≡ weight)
+      → ((x : A) → bridge.told name_declared (said x ∷ []) ≡ 1) → (xs : List A) → Measured probe (map said xs) (weight * length xs) (length xs)
   measured_each probe weight said weighs tells [] = (grind (arith), refl)
   measured_each probe weight said weighs tells (x ∷ xs) =
       let rest = measured_each probe weight said weighs tells xs in
@@ -75,17 +78,21 @@ module _ (system : System) (scope : Scope) where
   abbrev EachBehind : {A : Type 0} → (Site → Type 0) → (A → LineForm) → List LineForm → Type 0
   EachBehind {A} P said before = (front : List A) (x : A) → P (record { scope = scope; earlier = before ++ map said front; line = said x })
 
-  each_behind : {A : Type 0} (P : Site → Type 0) (said : A → LineForm) (before : List LineForm) → EachBehind P said before → (front xs : List A) → AllByRecursion P (line_sites scope (before ++ map said front) (map said xs))
+  each_behind : {A : Type 0} (P : Site → Type 0) (said : A → LineForm) (before : List LineForm) → EachBehind P said before → (front xs : List A)
+      → AllByRecursion P (line_sites scope (before ++ map said front) (map said xs))
   each_behind P said before holds front [] = _
   each_behind P said before holds front (x ∷ xs) = (
     holds front x,
-    subst (λ earlier. AllByRecursion P (line_sites scope earlier (map said xs))) (ap (λ lines. before ++ lines) (map-append said front (x ∷ [])) ∙ sym (append_assoc before (map said front) (said x ∷ [])))
+    subst (λ earlier. AllByRecursion P (line_sites scope earlier (map said xs)))
+        (ap (λ lines. before ++ lines) (map-append said front (x ∷ [])) ∙ sym (append_assoc before (map said front) (said x ∷ [])))
         (each_behind P said before holds (front ++ (x ∷ [])) xs),
   )
 
   -- How many are alike to a line of a form, with it, and which place it has.
-  counts_at : {A : Type 0} (probe : LineForm) (weight : ℕ) (said : A → LineForm) → ((x : A) → alike probe (said x ∷ []) ≡ weight) → ((x : A) → bridge.told name_declared (said x ∷ []) ≡ 1) → (before : List LineForm) (c n : ℕ) → Measured probe before c n → (front : List A) (x : A)
-      → (alike probe ((before ++ map said front) ++ (said x ∷ [])) ≡ (c + weight * length front) + weight) × (bridge.told name_declared (before ++ map said front) ≡ n + length front)
+  counts_at : {A : Type 0} (probe : LineForm) (weight : ℕ) (said : A → LineForm) → ((x : A) → alike probe (said x ∷ []) ≡ weight)
+      → ((x : A) → bridge.told name_declared (said x ∷ []) ≡ 1) → (before : List LineForm) (c n : ℕ) → Measured probe before c n → (front : List A) (x : A)
+      → (alike probe ((before ++ map said front) ++ (said x ∷ [])) ≡ (c + weight * length front) + weight)
+      × (bridge.told name_declared (before ++ map said front) ≡ n + length front)
   counts_at probe weight said weighs tells before c n measured front x =
       let each = measured_each probe weight said weighs tells front in
       let earlier = measured_both probe before (map said front) c n (weight * length front) (length front) measured each in
@@ -108,13 +115,17 @@ module _ (system : System) where
   abbrev pub InUnit : Site → Type 0
   InUnit site = OfUnit site.scope (Agrees site)
 
-  all_on : (scope : Scope) (earlier : List LineForm) (front behind : List Headed) → AllByRecursion InUnit (sites scope earlier front) → AllByRecursion InUnit (sites scope (earlier ++ heads front) behind) → AllByRecursion InUnit (sites scope earlier (front ++ behind))
+  all_on : (scope : Scope) (earlier : List LineForm) (front behind : List Headed) → AllByRecursion InUnit (sites scope earlier front)
+      → AllByRecursion InUnit (sites scope (earlier ++ heads front) behind) → AllByRecursion InUnit (sites scope earlier (front ++ behind))
   all_on scope earlier front behind one other =
-      subst (AllByRecursion InUnit) (sym (sites_on scope earlier front behind)) (all_both InUnit (sites scope earlier front) (sites scope (earlier ++ heads front) behind) one other)
+      subst (AllByRecursion InUnit) (sym (sites_on scope earlier front behind))
+      (all_both InUnit (sites scope earlier front) (sites scope (earlier ++ heads front) behind) one other)
 
-  lines_on : (scope : Scope) (earlier front behind : List LineForm) → AllByRecursion InUnit (line_sites scope earlier front) → AllByRecursion InUnit (line_sites scope (earlier ++ front) behind) → AllByRecursion InUnit (line_sites scope earlier (front ++ behind))
+  lines_on : (scope : Scope) (earlier front behind : List LineForm) → AllByRecursion InUnit (line_sites scope earlier front)
+      → AllByRecursion InUnit (line_sites scope (earlier ++ front) behind) → AllByRecursion InUnit (line_sites scope earlier (front ++ behind))
   lines_on scope earlier front behind one other =
-      subst (AllByRecursion InUnit) (sym (line_sites_on scope earlier front behind)) (all_both InUnit (line_sites scope earlier front) (line_sites scope (earlier ++ front) behind) one other)
+      subst (AllByRecursion InUnit) (sym (line_sites_on scope earlier front behind))
+      (all_both InUnit (line_sites scope earlier front) (line_sites scope (earlier ++ front) behind) one other)
 
   in_step : (unit : Unit) (earlier lines : List LineForm) → AllByRecursion InUnit (line_sites (StepScope unit) earlier lines)
   in_step unit earlier [] = _
@@ -159,7 +170,8 @@ module _ (system : System) where
 
       module _ (on_param : (x : _) → alike system scope probe (form.Param x ∷ []) ≡ 0) where
         behind_params : Counted probe (resolution ++ params) (0 + 0 * length unit.params) (0 + length unit.params)
-        behind_params = measured_both system scope probe resolution params _ _ _ _ at_first (measured_each system scope probe 0 form.Param on_param (λ x. refl) unit.params)
+        behind_params =
+            measured_both system scope probe resolution params _ _ _ _ at_first (measured_each system scope probe 0 form.Param on_param (λ x. refl) unit.params)
 
         module _ (on_state : (x : _) → alike system scope probe (form.State x ∷ []) ≡ 0) where
           plain_states : Counted probe (params ++ states) (0 * length unit.params + 0 * length unit.states) (length unit.params + length unit.states)
@@ -167,32 +179,47 @@ module _ (system : System) where
               measured_both system scope probe params states _ _ _ _ (measured_each system scope probe 0 form.Param on_param (λ x. refl) unit.params)
               (measured_each system scope probe 0 form.State on_state (λ x. refl) unit.states)
 
-          behind_states : Counted probe (resolution ++ (params ++ states)) (0 + (0 * length unit.params + 0 * length unit.states)) (0 + (length unit.params + length unit.states))
+          behind_states : Counted probe (resolution ++ (params ++ states)) (0 + (0 * length unit.params + 0 * length unit.states))
+              (0 + (length unit.params + length unit.states))
           behind_states = measured_both system scope probe resolution (params ++ states) _ _ _ _ at_first plain_states
 
           module _ (on_local : (x : _) → alike system scope probe (form.Local x ∷ []) ≡ 0) where
-            behind_locals : Counted probe (resolution ++ plain_names unit) (0 + ((0 * length unit.params + 0 * length unit.states) + 0 * length unit.locals)) (0 + ((length unit.params + length unit.states) + length unit.locals))
+            behind_locals : Counted probe (resolution ++ plain_names unit) (0 + ((0 * length unit.params + 0 * length unit.states) + 0 * length unit.locals))
+                (0 + ((length unit.params + length unit.states) + length unit.locals))
             behind_locals =
                 measured_both system scope probe resolution (plain_names unit) _ _ _ _ at_first
-                (measured_both system scope probe (params ++ states) locals _ _ _ _ plain_states (measured_each system scope probe 0 form.Local on_local (λ x. refl) unit.locals))
+                (measured_both system scope probe (params ++ states) locals _ _ _ _ plain_states
+                (measured_each system scope probe 0 form.Local on_local (λ x. refl) unit.locals))
 
-            module _ (w v : ℕ) (on_input : (x : _) → alike system scope probe (form.Input x ∷ []) ≡ w) (on_event : (x : _) → alike system scope probe (form.EventInput x ∷ []) ≡ v) where
-              behind_inputs : Counted probe ((resolution ++ plain_names unit) ++ inputs) ((0 + ((0 * length unit.params + 0 * length unit.states) + 0 * length unit.locals)) + w * length unit.inputs) ((0 + ((length unit.params + length unit.states) + length unit.locals)) + length unit.inputs)
-              behind_inputs = measured_both system scope probe (resolution ++ plain_names unit) inputs _ _ _ _ behind_locals (measured_each system scope probe w form.Input on_input (λ x. refl) unit.inputs)
+            module _ (w v : ℕ) (on_input : (x : _) → alike system scope probe (form.Input x ∷ []) ≡ w)
+                (on_event : (x : _) → alike system scope probe (form.EventInput x ∷ []) ≡ v) where
+              behind_inputs : Counted probe ((resolution ++ plain_names unit) ++ inputs)
+                  ((0 + ((0 * length unit.params + 0 * length unit.states) + 0 * length unit.locals)) + w * length unit.inputs)
+                  ((0 + ((length unit.params + length unit.states) + length unit.locals)) + length unit.inputs)
+              behind_inputs =
+                  measured_both system scope probe (resolution ++ plain_names unit) inputs _ _ _ _ behind_locals
+                  (measured_each system scope probe w form.Input on_input (λ x. refl) unit.inputs)
 
               all_inputs : Counted probe (inputs ++ events_in) (w * length unit.inputs + v * length unit.events_in) (length unit.inputs + length unit.events_in)
               all_inputs =
                   measured_both system scope probe inputs events_in _ _ _ _ (measured_each system scope probe w form.Input on_input (λ x. refl) unit.inputs)
                   (measured_each system scope probe v form.EventInput on_event (λ x. refl) unit.events_in)
 
-              behind_events : Counted probe ((resolution ++ plain_names unit) ++ (inputs ++ events_in)) ((0 + ((0 * length unit.params + 0 * length unit.states) + 0 * length unit.locals)) + (w * length unit.inputs + v * length unit.events_in)) ((0 + ((length unit.params + length unit.states) + length unit.locals)) + (length unit.inputs + length unit.events_in))
+              behind_events : Counted probe ((resolution ++ plain_names unit) ++ (inputs ++ events_in))
+                  ((0 + ((0 * length unit.params + 0 * length unit.states) + 0 * length unit.locals)) + (w * length unit.inputs + v * length unit.events_in))
+                  ((0 + ((length unit.params + length unit.states) + length unit.locals)) + (length unit.inputs + length unit.events_in))
               behind_events = measured_both system scope probe (resolution ++ plain_names unit) (inputs ++ events_in) _ _ _ _ behind_locals all_inputs
 
               module _ (u : ℕ) (on_output : (x : _) → alike system scope probe (form.Output x ∷ []) ≡ u) where
-                behind_outputs : Counted probe ((resolution ++ plain_names unit) ++ ((inputs ++ events_in) ++ outputs)) ((0 + ((0 * length unit.params + 0 * length unit.states) + 0 * length unit.locals)) + ((w * length unit.inputs + v * length unit.events_in) + u * length unit.outputs)) ((0 + ((length unit.params + length unit.states) + length unit.locals)) + ((length unit.inputs + length unit.events_in) + length unit.outputs))
+                behind_outputs : Counted probe ((resolution ++ plain_names unit) ++ ((inputs ++ events_in) ++ outputs))
+                    ((0 + ((0 * length unit.params + 0 * length unit.states) + 0 * length unit.locals))
+                    + ((w * length unit.inputs + v * length unit.events_in) + u * length unit.outputs))
+                    ((0 + ((length unit.params + length unit.states) + length unit.locals))
+                    + ((length unit.inputs + length unit.events_in) + length unit.outputs))
                 behind_outputs =
                     measured_both system scope probe (resolution ++ plain_names unit) ((inputs ++ events_in) ++ outputs) _ _ _ _ behind_locals
-                    (measured_both system scope probe (inputs ++ events_in) outputs _ _ _ _ all_inputs (measured_each system scope probe u form.Output on_output (λ x. refl) unit.outputs))
+                    (measured_both system scope probe (inputs ++ events_in) outputs _ _ _ _ all_inputs
+                    (measured_each system scope probe u form.Output on_output (λ x. refl) unit.outputs))
 
     params_agree : EachBehind system scope InUnit form.Param resolution
     params_agree front x =
@@ -201,49 +228,72 @@ module _ (system : System) where
 
     states_agree : EachBehind system scope InUnit form.State (resolution ++ params)
     states_agree front x =
-        let counts = counts_at system scope (form.State x) 1 form.State (λ y. refl) (λ y. refl) (resolution ++ params) _ _ (behind_params (form.State x) (λ y. refl) (λ y. refl)) front x in
+        let counts =
+        counts_at system scope (form.State x) 1 form.State (λ y. refl) (λ y. refl) (resolution ++ params) _ _
+        (behind_params (form.State x) (λ y. refl) (λ y. refl)) front x in
         ap (nat_lt 64) (omega (arith, counts.0, counts.1)) ∙ or_nothing _
 
     locals_agree : EachBehind system scope InUnit form.Local (resolution ++ (params ++ states))
     locals_agree front x =
-        let counts = counts_at system scope (form.Local x) 1 form.Local (λ y. refl) (λ y. refl) (resolution ++ (params ++ states)) _ _ (behind_states (form.Local x) (λ y. refl) (λ y. refl) (λ y. refl)) front x in
+        let counts =
+        counts_at system scope (form.Local x) 1 form.Local (λ y. refl) (λ y. refl) (resolution ++ (params ++ states)) _ _
+        (behind_states (form.Local x) (λ y. refl) (λ y. refl) (λ y. refl)) front x in
         ap (nat_lt 64) (omega (arith, counts.0, counts.1)) ∙ or_nothing _
 
     inputs_agree : EachBehind system scope InUnit form.Input (resolution ++ plain_names unit)
     inputs_agree front x =
-        let counts = counts_at system scope (form.Input x) 1 form.Input (λ y. refl) (λ y. refl) (resolution ++ plain_names unit) _ _ (behind_locals (form.Input x) (λ y. refl) (λ y. refl) (λ y. refl) (λ y. refl)) front x in
+        let counts =
+        counts_at system scope (form.Input x) 1 form.Input (λ y. refl) (λ y. refl) (resolution ++ plain_names unit) _ _
+        (behind_locals (form.Input x) (λ y. refl) (λ y. refl) (λ y. refl) (λ y. refl)) front x in
         ap (nat_lt 32) (omega (arith, counts.0, counts.1)) ∙ or_nothing _
 
     events_in_agree : EachBehind system scope InUnit form.EventInput ((resolution ++ plain_names unit) ++ inputs)
     events_in_agree front x =
         let probe : LineForm = form.Input (record { name = x.name; ty = x.ty; start = literal.Truth false }) in
-        let counts = counts_at system scope probe 2 form.EventInput (λ y. refl) (λ y. refl) ((resolution ++ plain_names unit) ++ inputs) _ _ (behind_inputs probe (λ y. refl) (λ y. refl) (λ y. refl) (λ y. refl) 1 2 (λ y. refl) (λ y. refl)) front x in
+        let counts =
+        counts_at system scope probe 2 form.EventInput (λ y. refl) (λ y. refl) ((resolution ++ plain_names unit) ++ inputs) _ _
+        (behind_inputs probe (λ y. refl) (λ y. refl) (λ y. refl) (λ y. refl) 1 2 (λ y. refl) (λ y. refl)) front x in
         let earlier : List LineForm = ((resolution ++ plain_names unit) ++ inputs) ++ map form.EventInput front in
-        let same : length unit.inputs + 2 * (bridge.told name_declared earlier - length unit.params - length unit.states - length unit.locals - length unit.inputs + 1) ≡ alike system scope probe (earlier ++ (form.EventInput x ∷ [])) = omega (arith, counts.0, counts.1) in
+        let same : length unit.inputs
+        + 2 * (bridge.told name_declared earlier - length unit.params - length unit.states - length unit.locals - length unit.inputs + 1)
+        ≡ alike system scope probe (earlier ++ (form.EventInput x ∷ [])) =
+        omega (arith, counts.0, counts.1) in
         ap (nat_lt 32) same ∙ or_twice (nat_lt 32 (alike system scope probe (earlier ++ (form.EventInput x ∷ []))))
 
     outputs_agree : EachBehind system scope InUnit form.Output ((resolution ++ plain_names unit) ++ (inputs ++ events_in))
     outputs_agree front x =
-        let counts = counts_at system scope (form.Output x) 1 form.Output (λ y. refl) (λ y. refl) ((resolution ++ plain_names unit) ++ (inputs ++ events_in)) _ _ (behind_events (form.Output x) (λ y. refl) (λ y. refl) (λ y. refl) (λ y. refl) 0 0 (λ y. refl) (λ y. refl)) front x in
+        let counts =
+        counts_at system scope (form.Output x) 1 form.Output (λ y. refl) (λ y. refl) ((resolution ++ plain_names unit) ++ (inputs ++ events_in)) _ _
+        (behind_events (form.Output x) (λ y. refl) (λ y. refl) (λ y. refl) (λ y. refl) 0 0 (λ y. refl) (λ y. refl)) front x in
         ap (nat_lt 32) (omega (arith, counts.0, counts.1)) ∙ or_nothing _
 
     events_out_agree : EachBehind system scope InUnit form.EventOutput ((resolution ++ plain_names unit) ++ ((inputs ++ events_in) ++ outputs))
     events_out_agree front x =
         let probe : LineForm = form.Output (record { name = x.name; ty = x.ty; needs = x.needs; value = x.value }) in
-        let counts = counts_at system scope probe 2 form.EventOutput (λ y. refl) (λ y. refl) ((resolution ++ plain_names unit) ++ ((inputs ++ events_in) ++ outputs)) _ _ (behind_outputs probe (λ y. refl) (λ y. refl) (λ y. refl) (λ y. refl) 0 0 (λ y. refl) (λ y. refl) 1 (λ y. refl)) front x in
+        let counts =
+        counts_at system scope probe 2 form.EventOutput (λ y. refl) (λ y. refl) ((resolution ++ plain_names unit) ++ ((inputs ++ events_in) ++ outputs)) _ _
+        (behind_outputs probe (λ y. refl) (λ y. refl) (λ y. refl) (λ y. refl) 0 0 (λ y. refl) (λ y. refl) 1 (λ y. refl)) front x in
         let earlier : List LineForm = ((resolution ++ plain_names unit) ++ ((inputs ++ events_in) ++ outputs)) ++ map form.EventOutput front in
-        let same : length unit.outputs + 2 * (bridge.told name_declared earlier - length unit.params - length unit.states - length unit.locals - length unit.inputs - length unit.events_in - length unit.outputs + 1) ≡ alike system scope probe (earlier ++ (form.EventOutput x ∷ [])) = omega (arith, counts.0, counts.1) in
+        let same : length unit.outputs
+        + 2 * (bridge.told name_declared earlier - length unit.params - length unit.states - length unit.locals - length unit.inputs - length unit.events_in -
+        length unit.outputs
+        + 1)
+        ≡ alike system scope probe (earlier ++ (form.EventOutput x ∷ [])) =
+        omega (arith, counts.0, counts.1) in
         ap (nat_lt 32) same ∙ or_twice (nat_lt 32 (alike system scope probe (earlier ++ (form.EventOutput x ∷ []))))
 
     -- All lines of one list, behind what stands in front.
-    list_agrees : {A : Type 0} (said : A → LineForm) (before : List LineForm) → EachBehind system scope InUnit said before → (xs : List A) → AllByRecursion InUnit (line_sites scope before (map said xs))
+    list_agrees : {A : Type 0} (said : A → LineForm) (before : List LineForm) → EachBehind system scope InUnit said before → (xs : List A)
+        → AllByRecursion InUnit (line_sites scope before (map said xs))
     list_agrees said before holds xs =
-        subst (λ earlier. AllByRecursion InUnit (line_sites scope earlier (map said xs))) (append-nil before) (each_behind system scope InUnit said before holds [] xs)
+        subst (λ earlier. AllByRecursion InUnit (line_sites scope earlier (map said xs))) (append-nil before)
+        (each_behind system scope InUnit said before holds [] xs)
 
     plain_agree : AllByRecursion InUnit (line_sites scope resolution (plain_names unit))
     plain_agree =
         lines_on scope resolution (params ++ states) locals
-        (lines_on scope resolution params states (list_agrees form.Param resolution params_agree unit.params) (list_agrees form.State (resolution ++ params) states_agree unit.states))
+        (lines_on scope resolution params states (list_agrees form.Param resolution params_agree unit.params)
+        (list_agrees form.State (resolution ++ params) states_agree unit.states))
         (list_agrees form.Local (resolution ++ (params ++ states)) locals_agree unit.locals)
 
     ports_agree : AllByRecursion InUnit (line_sites scope (resolution ++ plain_names unit) (port_lines unit))
@@ -251,19 +301,25 @@ module _ (system : System) where
         let before : List LineForm = resolution ++ plain_names unit in
         lines_on scope before ((inputs ++ events_in) ++ outputs) (map form.EventOutput unit.events_out)
         (lines_on scope before (inputs ++ events_in) outputs
-        (lines_on scope before inputs events_in (list_agrees form.Input before inputs_agree unit.inputs) (list_agrees form.EventInput (before ++ inputs) events_in_agree unit.events_in))
+        (lines_on scope before inputs events_in (list_agrees form.Input before inputs_agree unit.inputs)
+        (list_agrees form.EventInput (before ++ inputs) events_in_agree unit.events_in))
         (list_agrees form.Output (before ++ (inputs ++ events_in)) outputs_agree unit.outputs))
         (list_agrees form.EventOutput (before ++ ((inputs ++ events_in) ++ outputs)) events_out_agree unit.events_out)
 
-    given_agrees : {A : Type 0} (said : A → LineForm) → ((earlier : List LineForm) (x : A) → InUnit (record { scope = scope; earlier = earlier; line = said x })) → (earlier : List LineForm) (given : Option A) → AllByRecursion InUnit (sites scope earlier (map alone (optional said given)))
+    given_agrees : {A : Type 0} (said : A → LineForm)
+        → ((earlier : List LineForm) (x : A) → InUnit (record { scope = scope; earlier = earlier; line = said x }))
+        → (earlier : List LineForm) (given : Option A) → AllByRecursion InUnit (sites scope earlier (map alone (optional said given)))
     given_agrees said holds earlier None = _
     given_agrees said holds earlier (Some x) = (holds earlier x, _)
 
     step_agrees : (earlier : List LineForm) (step : Option (List Line)) → AllByRecursion InUnit (sites scope earlier (step_heads unit step))
     step_agrees earlier None = _
     step_agrees earlier (Some lines) =
-        let inside : List LineForm = flat_map line_forms lines in
-        (refl, all_both InUnit (line_sites (StepScope unit) [] inside) (sites scope (earlier ++ (form.Step ∷ [])) (alone form.End ∷ [])) (in_step unit [] inside) (refl, _))
+        let inside : List LineForm = flat_map line_forms lines in (
+          refl,
+          all_both InUnit (line_sites (StepScope unit) [] inside) (sites scope (earlier ++ (form.Step ∷ [])) (alone form.End ∷ []))
+              (in_step unit [] inside) (refl, _),
+        )
 
     pub unit_agrees : AllByRecursion InUnit (sites scope [] (block unit))
     unit_agrees =
@@ -271,9 +327,11 @@ module _ (system : System) where
         let greatest : List Headed = map alone (optional form.Max unit.max) in
         let front : List Headed = map alone (optional form.Resolution unit.resolution) ++ names in
         all_on scope [] front ((greatest ++ step_heads unit unit.step) ++ (alone form.End ∷ []))
-        (all_on scope [] (map alone (optional form.Resolution unit.resolution)) names (given_agrees form.Resolution (λ e x. refl) [] unit.resolution) (lines_on scope resolution (plain_names unit) (port_lines unit) plain_agree ports_agree))
+        (all_on scope [] (map alone (optional form.Resolution unit.resolution)) names (given_agrees form.Resolution (λ e x. refl) [] unit.resolution)
+        (lines_on scope resolution (plain_names unit) (port_lines unit) plain_agree ports_agree))
         (all_on scope (heads front) (greatest ++ step_heads unit unit.step) (alone form.End ∷ [])
-        (all_on scope (heads front) greatest (step_heads unit unit.step) (given_agrees form.Max (λ e x. refl) (heads front) unit.max) (step_agrees (heads front ++ heads greatest) unit.step))
+        (all_on scope (heads front) greatest (step_heads unit unit.step) (given_agrees form.Max (λ e x. refl) (heads front) unit.max)
+        (step_agrees (heads front ++ heads greatest) unit.step))
         (refl, _))
 
 -- ---- Outside of blocks and in steps
@@ -284,12 +342,17 @@ module _ (system : System) where
   wire_on (form.Connect wire) = Some wire
   wire_on _ = None
 
-  wire_weight : (probe : LineForm) (wire : Wire) (is_event : Bool) → ((other : Wire) → are_alike probe (form.Connect other) ≡ false) → count_by (are_alike probe) (map form.Connect (if is_event then record { from = presence_port wire.from; to = presence_port wire.to } ∷ wire ∷ [] else wire ∷ []) ++ []) ≡ 0
+  wire_weight : (probe : LineForm) (wire : Wire) (is_event : Bool) → ((other : Wire) → are_alike probe (form.Connect other) ≡ false)
+      → count_by (are_alike probe)
+      (map form.Connect (if is_event then record { from = presence_port wire.from; to = presence_port wire.to } ∷ wire ∷ [] else wire ∷ []) ++ [])
+      ≡ 0
   wire_weight probe wire true none = rw (none wire) refl
   wire_weight probe wire false none = rw (none wire) refl
 
   -- Lines that tell what is asked are those that are alike to a line, one for one.
-  counted_on_top : {A : Type 0} (asked : LineForm → Option A) (probe : LineForm) → ((line : LineForm) → alike system TopScope probe (line ∷ []) ≡ length (filter_map asked (line ∷ []))) → (lines : List LineForm) → alike system TopScope probe lines ≡ bridge.told asked lines
+  counted_on_top : {A : Type 0} (asked : LineForm → Option A) (probe : LineForm)
+      → ((line : LineForm) → alike system TopScope probe (line ∷ []) ≡ length (filter_map asked (line ∷ []))) → (lines : List LineForm)
+      → alike system TopScope probe lines ≡ bridge.told asked lines
   counted_on_top asked probe each [] = refl
   counted_on_top asked probe each (line ∷ lines) =
       let one = each line in
@@ -302,7 +365,8 @@ module _ (system : System) where
   unit_line name (form.Connect wire) = wire_weight (form.Unit name) wire (is_event_output system wire.from) (λ other. refl)
   unit_line name _ = refl
 
-  instance_line : (name unit : List ℕ) (line : LineForm) → alike system TopScope (form.Instance name unit) (line ∷ []) ≡ length (filter_map instance_declared (line ∷ []))
+  instance_line : (name unit : List ℕ) (line : LineForm)
+      → alike system TopScope (form.Instance name unit) (line ∷ []) ≡ length (filter_map instance_declared (line ∷ []))
   instance_line name unit (form.Connect wire) = wire_weight (form.Instance name unit) wire (is_event_output system wire.from) (λ other. refl)
   instance_line name unit _ = refl
 
@@ -323,7 +387,8 @@ module _ (system : System) where
   abbrev either_wires : Bool → Wire → List Wire
   either_wires is_event wire = if is_event then record { from = presence_port wire.from; to = presence_port wire.to } ∷ wire ∷ [] else wire ∷ []
 
-  weighs_itself : (probe wire : Wire) (is_event : Bool) → count_by (are_alike (form.Connect probe)) (map form.Connect (either_wires is_event wire) ++ []) ≡ length (either_wires is_event wire ++ [])
+  weighs_itself : (probe wire : Wire) (is_event : Bool)
+      → count_by (are_alike (form.Connect probe)) (map form.Connect (either_wires is_event wire) ++ []) ≡ length (either_wires is_event wire ++ [])
   weighs_itself probe wire true = refl
   weighs_itself probe wire false = refl
 
@@ -343,7 +408,8 @@ module _ (system : System) where
   wires_told [] = refl
   wires_told (line ∷ lines) = step line (wires_told lines)
     where
-      step : (line : LineForm) → length (filter_map input_connected lines) ≡ length (filter_map wire_on lines) → length (filter_map input_connected (line ∷ lines)) ≡ length (filter_map wire_on (line ∷ lines))
+      step : (line : LineForm) → length (filter_map input_connected lines) ≡ length (filter_map wire_on lines)
+          → length (filter_map input_connected (line ∷ lines)) ≡ length (filter_map wire_on (line ∷ lines))
       step (form.Connect wire) rest = ap suc rest
       step _ rest = rest
 
@@ -357,28 +423,36 @@ module _ (system : System) where
       let i = none_tell wire_on instance_head (λ x. refl) system.instances in
       let w = alone_tell wire_on form.Connect (λ x. x) (λ x. refl) system.wires in
       let s = none_alone wire_on form.Sample (λ x. refl) system.samples in
-      whole_tells system wire_on refl (λ x. refl) (λ x. refl) (λ x. refl) (λ x. refl) ∙ rw (u, i, w, s) (append-nil (map (λ x. x) system.wires) ∙ same system.wires)
+      whole_tells system wire_on refl (λ x. refl) (λ x. refl) (λ x. refl) (λ x. refl)
+      ∙ rw (u, i, w, s) (append-nil (map (λ x. x) system.wires) ∙ same system.wires)
 
   -- The connections up to one of them.
-  taken : (earlier rest : List LineForm) (wire : Wire) → lines_of system TopScope ≡ earlier ++ (form.Connect wire ∷ rest) → take (length (filter_map input_connected earlier) + 1) system.wires ≡ filter_map wire_on (earlier ++ (form.Connect wire ∷ []))
+  taken : (earlier rest : List LineForm) (wire : Wire) → lines_of system TopScope ≡ earlier ++ (form.Connect wire ∷ rest)
+      → take (length (filter_map input_connected earlier) + 1) system.wires ≡ filter_map wire_on (earlier ++ (form.Connect wire ∷ []))
   taken earlier rest wire cut =
       let front : List Wire = filter_map wire_on (earlier ++ (form.Connect wire ∷ [])) in
       let behind : List Wire = filter_map wire_on rest in
       let parted : system.wires ≡ front ++ behind =
-      sym wires_are ∙ ap (filter_map wire_on) (cut ∙ sym (append_assoc earlier (form.Connect wire ∷ []) rest)) ∙ filter_map-append wire_on (earlier ++ (form.Connect wire ∷ [])) rest in
+      sym wires_are ∙ ap (filter_map wire_on) (cut ∙ sym (append_assoc earlier (form.Connect wire ∷ []) rest))
+      ∙ filter_map-append wire_on (earlier ++ (form.Connect wire ∷ [])) rest in
       let told = wires_told earlier in
-      let longer : length front ≡ length (filter_map wire_on earlier) + 1 = ap length (filter_map-append wire_on earlier (form.Connect wire ∷ [])) ∙ length-append (filter_map wire_on earlier) (wire ∷ []) in
+      let longer : length front ≡ length (filter_map wire_on earlier) + 1 = ap length (filter_map-append wire_on earlier (form.Connect wire ∷ []))
+      ∙ length-append (filter_map wire_on earlier) (wire ∷ []) in
       let place : length (filter_map input_connected earlier) + 1 ≡ length front = omega arith in
       ap (λ n. take n system.wires) place ∙ ap (take (length front)) parted ∙ take-append_seam front behind
 
-  wires_exceed : (earlier rest : List LineForm) (wire : Wire) → lines_of system TopScope ≡ earlier ++ (form.Connect wire ∷ rest) → nat_lt 2048 (plain_wire_count system (length (filter_map input_connected earlier) + 1)) ≡ exceeds system TopScope earlier (form.Connect wire)
+  wires_exceed : (earlier rest : List LineForm) (wire : Wire) → lines_of system TopScope ≡ earlier ++ (form.Connect wire ∷ rest)
+      → nat_lt 2048 (plain_wire_count system (length (filter_map input_connected earlier) + 1)) ≡ exceeds system TopScope earlier (form.Connect wire)
   wires_exceed earlier rest wire cut =
       let all : List LineForm = earlier ++ (form.Connect wire ∷ []) in
       let counts : plain_wire_count system (length (filter_map input_connected earlier) + 1) ≡ alike system TopScope (form.Connect wire) all =
       ap (λ wires. length (flat_map (plain_wires system) wires)) (taken earlier rest wire cut) ∙ sym (wires_counted wire all) in
       ap (nat_lt 2048) counts ∙ step (is_event_output system wire.from)
     where
-      step : (is_event : Bool) → nat_lt 2048 (alike system TopScope (form.Connect wire) (earlier ++ (form.Connect wire ∷ []))) ≡ list_any (is_one_too_many TopScope (flat_map (plain_forms system TopScope) (earlier ++ (form.Connect wire ∷ [])))) (map form.Connect (either_wires is_event wire))
+      step : (is_event : Bool)
+          → nat_lt 2048 (alike system TopScope (form.Connect wire) (earlier ++ (form.Connect wire ∷ [])))
+          ≡ list_any (is_one_too_many TopScope (flat_map (plain_forms system TopScope) (earlier ++ (form.Connect wire ∷ []))))
+          (map form.Connect (either_wires is_event wire))
       step true = or_twice (nat_lt 2048 (alike system TopScope (form.Connect wire) (earlier ++ (form.Connect wire ∷ []))))
       step false = or_nothing (nat_lt 2048 (alike system TopScope (form.Connect wire) (earlier ++ (form.Connect wire ∷ []))))
 
@@ -392,7 +466,8 @@ module _ (system : System) where
   step_single unit form.End step = refl
   step_single unit _ step = absurd (cc)
 
-  step_count : (unit : Unit) (lines : List LineForm) → list_all is_step_line lines ≡ true → length (flat_map (plain_forms system (StepScope unit)) lines) ≡ length lines
+  step_count : (unit : Unit) (lines : List LineForm) → list_all is_step_line lines ≡ true
+      → length (flat_map (plain_forms system (StepScope unit)) lines) ≡ length lines
   step_count unit [] steps = refl
   step_count unit (line ∷ lines) steps =
       let parts = and_parts (is_step_line line) (list_all is_step_line lines) steps in
@@ -409,11 +484,14 @@ module _ (system : System) where
   all_steps None = refl
   all_steps (Some lines) = all_step_lines lines
 
-  step_exceeds : (unit : Unit) (earlier rest : List LineForm) (line : LineForm) → lines_in_step unit.step ≡ earlier ++ (line ∷ rest) → is_step_line line ≡ true → nat_lt 500 (length earlier + 1) ≡ exceeds system (StepScope unit) earlier line
+  step_exceeds : (unit : Unit) (earlier rest : List LineForm) (line : LineForm) → lines_in_step unit.step ≡ earlier ++ (line ∷ rest)
+      → is_step_line line ≡ true → nat_lt 500 (length earlier + 1) ≡ exceeds system (StepScope unit) earlier line
   step_exceeds unit earlier rest line cut is =
       let all : List LineForm = earlier ++ (line ∷ []) in
-      let steps : list_all is_step_line all ≡ true = step_front all rest (ap (list_all is_step_line) (append_assoc earlier (line ∷ []) rest ∙ sym cut) ∙ all_steps unit.step) in
-      let many : length earlier + 1 ≡ length (flat_map (plain_forms system (StepScope unit)) all) = sym (step_count unit all steps ∙ length-append earlier (line ∷ [])) in
+      let steps : list_all is_step_line all ≡ true =
+      step_front all rest (ap (list_all is_step_line) (append_assoc earlier (line ∷ []) rest ∙ sym cut) ∙ all_steps unit.step) in
+      let many : length earlier + 1 ≡ length (flat_map (plain_forms system (StepScope unit)) all) =
+      sym (step_count unit all steps ∙ length-append earlier (line ∷ [])) in
       ap (nat_lt 500) many ∙ single line is (nat_lt 500 (length (flat_map (plain_forms system (StepScope unit)) all)))
     where
       single : (line : LineForm) → is_step_line line ≡ true → (met : Bool) → met ≡ list_any (λ other. met) (plain_forms system (StepScope unit) line)
@@ -425,7 +503,10 @@ module _ (system : System) where
       single form.End step met = or_nothing met
       single _ step met = absurd (cc)
 
-  on_top : (bound : ℕ) {A : Type 0} (asked : LineForm → Option A) (line : LineForm) → ((other : LineForm) → alike system TopScope line (other ∷ []) ≡ length (filter_map asked (other ∷ []))) → length (filter_map asked (line ∷ [])) ≡ 1 → (earlier : List LineForm) → nat_lt bound (length (filter_map asked earlier) + 1) ≡ (nat_lt bound (alike system TopScope line (earlier ++ (line ∷ []))) || false)
+  on_top : (bound : ℕ) {A : Type 0} (asked : LineForm → Option A) (line : LineForm)
+      → ((other : LineForm) → alike system TopScope line (other ∷ []) ≡ length (filter_map asked (other ∷ []))) → length (filter_map asked (line ∷ [])) ≡ 1
+      → (earlier : List LineForm)
+      → nat_lt bound (length (filter_map asked earlier) + 1) ≡ (nat_lt bound (alike system TopScope line (earlier ++ (line ∷ []))) || false)
   on_top bound asked line each itself earlier =
       let counts = counted_on_top asked line each (earlier ++ (line ∷ [])) in
       let tells = bridge.told_adds asked earlier (line ∷ []) in
@@ -433,14 +514,17 @@ module _ (system : System) where
       ap (nat_lt bound) same ∙ or_nothing (nat_lt bound (alike system TopScope line (earlier ++ (line ∷ []))))
 
 -- Rule 16.
-pub exceeds_is : (system : System) (scope : Scope) (earlier : List LineForm) (line : LineForm) (rest : List LineForm) → lines_of system scope ≡ earlier ++ (line ∷ rest) → holds scope line ≡ true → InUnit system (record { scope = scope; earlier = earlier; line = line })
+pub exceeds_is : (system : System) (scope : Scope) (earlier : List LineForm) (line : LineForm) (rest : List LineForm)
+    → lines_of system scope ≡ earlier ++ (line ∷ rest) → holds scope line ≡ true → InUnit system (record { scope = scope; earlier = earlier; line = line })
     → exceeds_at system scope (place_of scope earlier line) line ≡ exceeds system scope earlier line
 exceeds_is system (UnitScope unit) earlier line rest cut held in_unit = in_unit
 exceeds_is system (StepScope unit) earlier line rest cut held in_unit = step_exceeds system unit earlier rest line cut held
 exceeds_is system TopScope earlier (form.Unit name) rest cut held in_unit = on_top system 64 unit_declared (form.Unit name) (unit_line system name) refl earlier
-exceeds_is system TopScope earlier (form.Instance name unit) rest cut held in_unit = on_top system 64 instance_declared (form.Instance name unit) (instance_line system name unit) refl earlier
+exceeds_is system TopScope earlier (form.Instance name unit) rest cut held in_unit =
+    on_top system 64 instance_declared (form.Instance name unit) (instance_line system name unit) refl earlier
 exceeds_is system TopScope earlier (form.Connect wire) rest cut held in_unit = wires_exceed system earlier rest wire cut
-exceeds_is system TopScope earlier (form.Sample port) rest cut held in_unit = on_top system 2048 port_sampled (form.Sample port) (sample_line system port) refl earlier
+exceeds_is system TopScope earlier (form.Sample port) rest cut held in_unit =
+    on_top system 2048 port_sampled (form.Sample port) (sample_line system port) refl earlier
 exceeds_is system TopScope earlier (form.Param param) rest cut held in_unit = absurd (cc)
 exceeds_is system TopScope earlier (form.State state) rest cut held in_unit = absurd (cc)
 exceeds_is system TopScope earlier (form.Local local) rest cut held in_unit = absurd (cc)

@@ -30,7 +30,8 @@ walk_finds test number [] = refl
 walk_finds test number (site ∷ sites) = step (test site) (nat_eq number 4294967295) refl (walk_finds test (number + 1) sites)
   where
     step : (met full : Bool) → test site ≡ met → Finds (walk test (number + 1) sites) (first_at test (number + 1) sites)
-        → Finds (onward (if met then Err (stop.At number) else (if full then Err stop.Full else Ok (suc number))) (λ n. walk test n sites)) (first_at test number (site ∷ sites))
+        → Finds (onward (if met then Err (stop.At number) else (if full then Err stop.Full else Ok (suc number))) (λ n. walk test n sites))
+        (first_at test number (site ∷ sites))
     step true full is rest = rw is refl
     step false true is rest = tt
     step false false is rest =
@@ -45,7 +46,8 @@ abbrev pub declaring : List ℕ → Unit → Test
 declaring name unit = λ scope place line. declares_output name (Some unit) scope line
 
 -- In a system whose port has a unit.
-pub line_found : (system : System) (port : PortName) (unit : Unit) → unit_at system port ≡ Some unit → Finds (system_walk (declaring port.port unit) system 1) (line_of_output system port)
+pub line_found : (system : System) (port : PortName) (unit : Unit) → unit_at system port ≡ Some unit
+    → Finds (system_walk (declaring port.port unit) system 1) (line_of_output system port)
 line_found system port unit is =
     let met = system_walk (declaring port.port unit) system 1 in
     let along : met ≡ walk (test_at (declaring port.port unit)) 1 (sites_of system) = system_goes (declaring port.port unit) system 1 in
@@ -62,12 +64,14 @@ pub none_found : (system : System) (port : PortName) → unit_at system port ≡
 none_found system port is = ap (line_in system port.port) is ∙ none_first port.port 1 (sites_of system)
 
 -- What the end of the walk, and its stop at a line, say.
-pub none_at_end : (system : System) (port : PortName) (unit : Unit) (met : Result ℕ Stop) (behind : ℕ) → Some unit ≡ unit_at system port → met ≡ system_walk (declaring port.port unit) system 1 → met ≡ Ok behind → None ≡ line_of_output system port
+pub none_at_end : (system : System) (port : PortName) (unit : Unit) (met : Result ℕ Stop) (behind : ℕ) → Some unit ≡ unit_at system port
+    → met ≡ system_walk (declaring port.port unit) system 1 → met ≡ Ok behind → None ≡ line_of_output system port
 none_at_end system port unit met behind at walked ended =
     let found = subst (λ result. Finds result (line_of_output system port)) (sym walked ∙ ended) (line_found system port unit (sym at)) in
     sym found
 
-pub some_at_stop : (system : System) (port : PortName) (unit : Unit) (met : Result ℕ Stop) (line : ℕ) → Some unit ≡ unit_at system port → met ≡ system_walk (declaring port.port unit) system 1 → met ≡ Err (stop.At line) → Some line ≡ line_of_output system port
+pub some_at_stop : (system : System) (port : PortName) (unit : Unit) (met : Result ℕ Stop) (line : ℕ) → Some unit ≡ unit_at system port
+    → met ≡ system_walk (declaring port.port unit) system 1 → met ≡ Err (stop.At line) → Some line ≡ line_of_output system port
 some_at_stop system port unit met line at walked stopped =
     let found = subst (λ result. Finds result (line_of_output system port)) (sym walked ∙ stopped) (line_found system port unit (sym at)) in
     sym found

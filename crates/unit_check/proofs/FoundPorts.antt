@@ -23,16 +23,19 @@ Same _ _ = ⊥
 
 same_from : (place : ℕ) (ports : List Port) (name : List ℕ) → Same (declared_from place (map port_as_named ports) name) (port_named ports name)
 same_from place [] name = _
-same_from place (port ∷ ports) name = step (bytes_eq name port.name) (bytes_eq port.name name) (nat_list_eq_equiv.symm name port.name) (same_from (place + 1) ports name)
+same_from place (port ∷ ports) name =
+    step (bytes_eq name port.name) (bytes_eq port.name name) (nat_list_eq_equiv.symm name port.name) (same_from (place + 1) ports name)
   where
     step : (asked stored : Bool) → asked ≡ stored → Same (declared_from (place + 1) (map port_as_named ports) name) (port_named ports name)
-        → Same (cond asked (Some (record { place = place; ty = port.ty; is_event = port.is_event })) (declared_from (place + 1) (map port_as_named ports) name)) (cond stored (Some port) (port_named ports name))
+        → Same (cond asked (Some (record { place = place; ty = port.ty; is_event = port.is_event })) (declared_from (place + 1) (map port_as_named ports) name))
+        (cond stored (Some port) (port_named ports name))
     step true true is rest = (refl, refl)
     step false false is rest = rest
     step true false is rest = absurd (cc)
     step false true is rest = absurd (cc)
 
-in_unit : (ports : Unit → List Port) (name : List ℕ) (unit : Option Unit) → Same (option_and_then (λ u. port_among (ports u) name) unit) (option_and_then (λ u. port_named (ports u) name) unit)
+in_unit : (ports : Unit → List Port) (name : List ℕ) (unit : Option Unit)
+    → Same (option_and_then (λ u. port_among (ports u) name) unit) (option_and_then (λ u. port_named (ports u) name) unit)
 in_unit ports name None = _
 in_unit ports name (Some unit) = same_from 0 (ports unit) name
 
@@ -63,5 +66,7 @@ same_differ (Some one) other None to is also = absurd is
 same_differ (Some one) None (Some from) (Some to) is also = absurd also
 same_differ (Some one) (Some other) (Some from) None is also = absurd also
 
-pub ends_differ : (system : System) (from to : PortName) → differ_found (output_found system from) (input_found system to) ≡ differ (output_at system from) (input_at system to)
-ends_differ system from to = same_differ (output_found system from) (input_found system to) (output_at system from) (input_at system to) (output_is system from) (input_is system to)
+pub ends_differ : (system : System) (from to : PortName)
+    → differ_found (output_found system from) (input_found system to) ≡ differ (output_at system from) (input_at system to)
+ends_differ system from to =
+    same_differ (output_found system from) (input_found system to) (output_at system from) (input_at system to) (output_is system from) (input_is system to)

@@ -36,12 +36,16 @@ one_is value = or_nothing (nat_lt 32 (depth_of value)) ∙ deep_is value
 plain_is : (value : Expr) → (nat_lt 32 (depth_of (plain_expression value)) || false) ≡ is_deeper value
 plain_is value = ap (λ depth. nat_lt 32 depth || false) (plain_depth value) ∙ one_is value
 
-two_are : (one other : Expr) → (nat_lt 32 (depth_of (plain_expression one)) || (nat_lt 32 (depth_of (plain_expression other)) || false)) ≡ (is_deeper one || is_deeper other)
+two_are : (one other : Expr)
+    → (nat_lt 32 (depth_of (plain_expression one)) || (nat_lt 32 (depth_of (plain_expression other)) || false)) ≡ (is_deeper one || is_deeper other)
 two_are one other =
     ap (λ met. nat_lt 32 (depth_of (plain_expression one)) || met) (plain_is other)
     ∙ ap (λ met. met || is_deeper other) (ap (nat_lt 32) (plain_depth one) ∙ deep_is one)
 
-wires_are_flat : (wire : Wire) (is_event : Bool) → list_any (λ plain. is_deep (expression_on plain)) (map form.Connect (if is_event then record { from = presence_port wire.from; to = presence_port wire.to } ∷ wire ∷ [] else wire ∷ [])) ≡ false
+wires_are_flat : (wire : Wire) (is_event : Bool)
+    → list_any (λ plain. is_deep (expression_on plain))
+    (map form.Connect (if is_event then record { from = presence_port wire.from; to = presence_port wire.to } ∷ wire ∷ [] else wire ∷ []))
+    ≡ false
 wires_are_flat wire true = refl
 wires_are_flat wire false = refl
 
@@ -93,14 +97,17 @@ steps_are lines = capped (sum (map line_cost lines))
 plain_dear : (value : Expr) → (nat_lt 100000 (expression_call_cost (plain_expression value)) || false) ≡ is_dearer value
 plain_dear value = or_nothing (nat_lt 100000 (expression_call_cost (plain_expression value))) ∙ ap (λ cost. nat_lt 100000 (cost + 1)) (plain_cost value)
 
-two_dear : (one other : Expr) → (nat_lt 100000 (expression_call_cost (plain_expression one)) || (nat_lt 100000 (expression_call_cost (plain_expression other)) || false)) ≡ (is_dearer one || is_dearer other)
+two_dear : (one other : Expr)
+    → (nat_lt 100000 (expression_call_cost (plain_expression one)) || (nat_lt 100000 (expression_call_cost (plain_expression other)) || false))
+    ≡ (is_dearer one || is_dearer other)
 two_dear one other =
     ap (λ met. nat_lt 100000 (expression_call_cost (plain_expression one)) || met) (plain_dear other)
     ∙ ap (λ cost. nat_lt 100000 (cost + 1) || is_dearer other) (plain_cost one)
 
 same_list : (lines : List Line) → map line_cost (map plain_line lines) ≡ map line_cost lines
 same_list [] = refl
-same_list (line ∷ lines) = ap (λ cost. cost ∷ map line_cost (map plain_line lines)) (plain_line_cost line) ∙ ap (λ rest. line_cost line ∷ rest) (same_list lines)
+same_list (line ∷ lines) = ap (λ cost. cost ∷ map line_cost (map plain_line lines)) (plain_line_cost line)
+    ∙ ap (λ rest. line_cost line ∷ rest) (same_list lines)
 
 same_costs : (lines : List Line) → sum (map line_cost (map plain_line lines)) ≡ sum (map line_cost lines)
 same_costs lines = ap sum (same_list lines)
@@ -113,7 +120,10 @@ none_dear : (lines : List LineForm) → list_any (λ line. false) lines ≡ fals
 none_dear [] = refl
 none_dear (line ∷ lines) = none_dear lines
 
-wires_are_cheap : (unit : Unit) (wire : Wire) (is_event : Bool) → list_any (is_dear (UnitScope unit)) (map form.Connect (if is_event then record { from = presence_port wire.from; to = presence_port wire.to } ∷ wire ∷ [] else wire ∷ [])) ≡ false
+wires_are_cheap : (unit : Unit) (wire : Wire) (is_event : Bool)
+    → list_any (is_dear (UnitScope unit))
+    (map form.Connect (if is_event then record { from = presence_port wire.from; to = presence_port wire.to } ∷ wire ∷ [] else wire ∷ []))
+    ≡ false
 wires_are_cheap unit wire true = refl
 wires_are_cheap unit wire false = refl
 

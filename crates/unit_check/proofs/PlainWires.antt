@@ -1,5 +1,6 @@
 -- How many connections the first connections of a system become in the plain form.
-use Rattle.std.proofs.Common.{◌≡◌, ℕ, zero, suc, ◌+◌, ◌≤◌, ◌<◌, nat_lt, nat_le, Bool, true, false, List, [], ◌∷◌, take, length, get_or, add-one, Option, Some, None, refl, arith}
+use Rattle.std.proofs.Common.{◌≡◌, ℕ, zero, suc, ◌+◌, ◌≤◌, ◌<◌, nat_lt, nat_le, Bool, true, false, List, [], ◌∷◌, take, length, get_or, add-one, Option, Some}
+use Rattle.std.proofs.Common.{None, refl, arith}
 use Rattle.std.specs.Prelude.{if◌then◌else◌}
 use Rattle.std.specs.List.{flat_map}
 use Rattle.std.specs.Option.{option_map, unwrap_or}
@@ -35,7 +36,8 @@ within_all f (wire ∷ wires) (suc many) =
     let other = length-append (f wire) (flat_map f wires) in
     omega arith
 
-pub first_exceeds : (system : System) (place : ℕ) → plain_wire_count system place ≤ 2048 → 2048 < plain_wire_count system (place + 1) → (asked : ℕ) → nat_lt 2048 (plain_wire_count system (asked + 1)) ≡ nat_le place asked
+pub first_exceeds : (system : System) (place : ℕ) → plain_wire_count system place ≤ 2048 → 2048 < plain_wire_count system (place + 1) → (asked : ℕ)
+    → nat_lt 2048 (plain_wire_count system (asked + 1)) ≡ nat_le place asked
 first_exceeds system place few many asked = step (nat_le place asked) refl
   where
     step : (is : Bool) → nat_le place asked ≡ is → nat_lt 2048 (plain_wire_count system (asked + 1)) ≡ is
@@ -58,13 +60,15 @@ all_taken f (wire ∷ wires) (suc many) within =
     let other = length-append (f wire) (flat_map f wires) in
     omega arith
 
-pub none_exceeds : (system : System) (place : ℕ) → plain_wire_count system place ≤ 2048 → length system.wires ≤ place → (asked : ℕ) → nat_lt 2048 (plain_wire_count system (asked + 1)) ≡ false
+pub none_exceeds : (system : System) (place : ℕ) → plain_wire_count system place ≤ 2048 → length system.wires ≤ place → (asked : ℕ)
+    → nat_lt 2048 (plain_wire_count system (asked + 1)) ≡ false
 none_exceeds system place few within asked =
     let less = within_all (plain_wires system) system.wires (asked + 1) in
     let all = all_taken (plain_wires system) system.wires place within in
     grind (arith)
 
-is_event_in : (found : Option Declared) (port : Option Port) → Same found port → is_event_found found ≡ unwrap_or (option_map (λ (one : Port). one.is_event) port) false
+is_event_in : (found : Option Declared) (port : Option Port) → Same found port
+    → is_event_found found ≡ unwrap_or (option_map (λ (one : Port). one.is_event) port) false
 is_event_in None None same = refl
 is_event_in (Some one) (Some port) same = same.1
 is_event_in None (Some port) same = absurd same
@@ -73,14 +77,18 @@ is_event_in (Some one) None same = absurd same
 pub event_is : (system : System) (port : PortName) → is_event_found (output_found system port) ≡ is_event_output system port
 event_is system port = is_event_in (output_found system port) (output_at system port) (output_is system port)
 
-pub two_or_one : (system : System) (wire : Wire) (is_event : Bool) → is_event ≡ is_event_output system wire.from → (if is_event then 2 else 1) ≡ length (plain_wires system wire)
+pub two_or_one : (system : System) (wire : Wire) (is_event : Bool) → is_event ≡ is_event_output system wire.from
+    → (if is_event then 2 else 1) ≡ length (plain_wires system wire)
 two_or_one system wire true is = rw (← is) refl
 two_or_one system wire false is = rw (← is) refl
 
-pub next_count : (system : System) (place : ℕ) (wire : Wire) → place < length system.wires → plain_wire_count system (place + 1) ≡ plain_wire_count system place + length (plain_wires system (get_or system.wires place wire))
+pub next_count : (system : System) (place : ℕ) (wire : Wire) → place < length system.wires
+    → plain_wire_count system (place + 1) ≡ plain_wire_count system place + length (plain_wires system (get_or system.wires place wire))
 next_count system place wire within = rw add-one (step system.wires place within)
   where
-    step : (wires : List Wire) (at : ℕ) → at < length wires → length (flat_map (plain_wires system) (take (suc at) wires)) ≡ length (flat_map (plain_wires system) (take at wires)) + length (plain_wires system (get_or wires at wire))
+    step : (wires : List Wire) (at : ℕ) → at < length wires
+        → length (flat_map (plain_wires system) (take (suc at) wires))
+        ≡ length (flat_map (plain_wires system) (take at wires)) + length (plain_wires system (get_or wires at wire))
     step [] at within = absurd (omega arith)
     step (first ∷ wires) zero within = rw append-nil (grind (arith))
     step (first ∷ wires) (suc at) within =

@@ -4,10 +4,10 @@ use mathlib.Core.Bool.{cond}
 use Rattle.std.specs.Borrow.{Bor}
 use Rattle.std.specs.Map.{lookup, KeepsOthers}
 use Rattle.std.specs.Cmp.Lexicographic.{bytes_decides, nat_list_eq_equiv}
-use Rattle.unit_check.specs.PortTables.{the_first}
 use Rattle.unit_tree.specs.Names.{same_port}
 use Rattle.unit_tree.specs.declared.system.PortName.{PortName}
 use Rattle.std.proofs.lemmas.Bool.{and_parts}
+use Rattle.list_laws.specs.Options.{the_first}
 
 abbrev pub Key : Type 0
 Key = Bor (List ℕ) × Bor (List ℕ)
@@ -44,13 +44,17 @@ are_apart port other apart key is =
 same_test : (port other : PortName) → same_port port other ≡ true → names_port port ≡ names_port other
 same_test port other is =
     let names = both_is port.instance port.port other.instance other.port is in
-    ap (λ i. λ (key : Key). bytes_eq i key.0.now && bytes_eq port.port key.1.now) names.0 ∙ ap (λ p. λ (key : Key). bytes_eq other.instance key.0.now && bytes_eq p key.1.now) names.1
+    ap (λ i. λ (key : Key). bytes_eq i key.0.now && bytes_eq port.port key.1.now) names.0
+    ∙ ap (λ p. λ (key : Key). bytes_eq other.instance key.0.now && bytes_eq p key.1.now) names.1
 
-others_stay : (port other : PortName) (old new : List (Key × ℕ)) → KeepsOthers same_key (names_port port) old new → same_port port other ≡ false → lookup (names_port other) new ≡ lookup (names_port other) old
+others_stay : (port other : PortName) (old new : List (Key × ℕ)) → KeepsOthers same_key (names_port port) old new → same_port port other ≡ false
+    → lookup (names_port other) new ≡ lookup (names_port other) old
 unfolding KeepsOthers
 others_stay port other old new keeps apart = keeps (names_port other) (is_key_test other) (are_apart port other apart)
 
-pub put : (port other : PortName) (value : ℕ) (old new : List (Key × ℕ)) → lookup (names_port port) new ≡ Some value → KeepsOthers same_key (names_port port) old new → lookup (names_port other) new ≡ cond (same_port port other) (Some value) (lookup (names_port other) old)
+pub put : (port other : PortName) (value : ℕ) (old new : List (Key × ℕ)) → lookup (names_port port) new ≡ Some value
+    → KeepsOthers same_key (names_port port) old new
+    → lookup (names_port other) new ≡ cond (same_port port other) (Some value) (lookup (names_port other) old)
 put port other value old new here keeps = step (same_port port other) refl
   where
     step : (same : Bool) → same_port port other ≡ same → lookup (names_port other) new ≡ cond same (Some value) (lookup (names_port other) old)
@@ -61,21 +65,25 @@ or_none : {A : Type 0} (one : Option A) → the_first one None ≡ one
 or_none None = refl
 or_none (Some x) = refl
 
-pub newly : (asked stored : Bool) (old new : Option ℕ) (value : ℕ) → asked ≡ stored → (asked ≡ true → old ≡ None) → new ≡ cond stored (Some value) old → new ≡ the_first old (cond asked (Some value) None)
+pub newly : (asked stored : Bool) (old new : Option ℕ) (value : ℕ) → asked ≡ stored → (asked ≡ true → old ≡ None) → new ≡ cond stored (Some value) old
+    → new ≡ the_first old (cond asked (Some value) None)
 newly true true old new value same none put = rw (none refl) put
 newly false false old new value same none put = put ∙ sym (or_none old)
 newly true false old new value same none put = absurd (cc)
 newly false true old new value same none put = absurd (cc)
 
-pub same_found : (port other : PortName) (old : List (Key × ℕ)) → same_port other port ≡ true → lookup (names_port port) old ≡ None → lookup (names_port other) old ≡ None
+pub same_found : (port other : PortName) (old : List (Key × ℕ)) → same_port other port ≡ true → lookup (names_port port) old ≡ None
+    → lookup (names_port other) old ≡ None
 same_found port other old is none = ap (λ test. lookup test old) (same_test other port is) ∙ none
 
 same_tests : (key : Key) (port : PortName) → key.0.now ≡ port.instance → key.1.now ≡ port.port → same_key key ≡ names_port port
 same_tests key port instance_is port_is =
-    ap (λ i. λ (other : Key). bytes_eq i other.0.now && bytes_eq key.1.now other.1.now) instance_is ∙ ap (λ p. λ (other : Key). bytes_eq port.instance other.0.now && bytes_eq p other.1.now) port_is
+    ap (λ i. λ (other : Key). bytes_eq i other.0.now && bytes_eq key.1.now other.1.now) instance_is
+    ∙ ap (λ p. λ (other : Key). bytes_eq port.instance other.0.now && bytes_eq p other.1.now) port_is
 
 -- The same where the key was made of the names of the port.
-pub put_key : (key : Key) (port other : PortName) (value : ℕ) (old new : List (Key × ℕ)) → key.0.now ≡ port.instance → key.1.now ≡ port.port → lookup (same_key key) new ≡ Some value → KeepsOthers same_key (same_key key) old new
+pub put_key : (key : Key) (port other : PortName) (value : ℕ) (old new : List (Key × ℕ)) → key.0.now ≡ port.instance → key.1.now ≡ port.port
+    → lookup (same_key key) new ≡ Some value → KeepsOthers same_key (same_key key) old new
     → lookup (names_port other) new ≡ cond (same_port port other) (Some value) (lookup (names_port other) old)
 put_key key port other value old new instance_is port_is here keeps =
     let is = same_tests key port instance_is port_is in

@@ -56,7 +56,8 @@ pub record UnitInRange (unit : Unit) : Type 0 where
   pub params : AllByRecursion (λ (param : Param). AreDecimals param.ty) unit.params
   pub resolution : unwrap_or unit.resolution 0 ≤ 9
 
-params_in : (params : List Param) → AllByRecursion IsInRange (flat_map unit_part_forms (map parts.HasParam params)) → AllByRecursion (λ (param : Param). AreDecimals param.ty) params
+params_in : (params : List Param) → AllByRecursion IsInRange (flat_map unit_part_forms (map parts.HasParam params))
+    → AllByRecursion (λ (param : Param). AreDecimals param.ty) params
 params_in [] all = _
 params_in (param ∷ params) all = (all.0.0, params_in params all.1)
 
@@ -69,10 +70,19 @@ unit_in unit all =
     let r : List UnitPart = optional parts.Resolution unit.resolution in
     let p : List UnitPart = map parts.HasParam unit.params in
     let inside = (all_parts IsInRange (flat_map unit_part_forms (unit_parts unit)) (form.End ∷ []) all.1).0 in
-    let behind : List UnitPart = map parts.HasState unit.states ++ (map parts.HasLocal unit.locals ++ (map parts.HasInput unit.inputs ++ (map parts.HasEventIn unit.events_in ++ (map parts.HasOutput unit.outputs ++ (map parts.HasEventOut unit.events_out ++ (optional parts.Max unit.max ++ optional parts.Step unit.step)))))) in
+    let behind : List UnitPart =
+    map parts.HasState unit.states
+    ++ (map parts.HasLocal unit.locals
+    ++ (map parts.HasInput unit.inputs
+    ++ (map parts.HasEventIn unit.events_in
+    ++ (map parts.HasOutput unit.outputs ++ (map parts.HasEventOut unit.events_out ++ (optional parts.Max unit.max ++ optional parts.Step unit.step)))))) in
     let is : unit_parts unit ≡ r ++ (p ++ behind) =
-    grouped_ten r p (map parts.HasState unit.states) (map parts.HasLocal unit.locals) (map parts.HasInput unit.inputs) (map parts.HasEventIn unit.events_in) (map parts.HasOutput unit.outputs) (map parts.HasEventOut unit.events_out) (optional parts.Max unit.max) (optional parts.Step unit.step) in
-    let parted = subst (AllByRecursion IsInRange) (ap (flat_map unit_part_forms) is ∙ flat_map-append unit_part_forms r (p ++ behind) ∙ ap (λ rest. flat_map unit_part_forms r ++ rest) (flat_map-append unit_part_forms p behind)) inside in
+    grouped_ten r p (map parts.HasState unit.states) (map parts.HasLocal unit.locals) (map parts.HasInput unit.inputs) (map parts.HasEventIn unit.events_in)
+    (map parts.HasOutput unit.outputs) (map parts.HasEventOut unit.events_out) (optional parts.Max unit.max) (optional parts.Step unit.step) in
+    let parted =
+    subst (AllByRecursion IsInRange)
+    (ap (flat_map unit_part_forms) is ∙ flat_map-append unit_part_forms r (p ++ behind)
+    ∙ ap (λ rest. flat_map unit_part_forms r ++ rest) (flat_map-append unit_part_forms p behind)) inside in
     let first = all_parts IsInRange (flat_map unit_part_forms r) (flat_map unit_part_forms p ++ flat_map unit_part_forms behind) parted in
     let second = all_parts IsInRange (flat_map unit_part_forms p) (flat_map unit_part_forms behind) first.1 in
     record { params = params_in unit.params second.0; resolution = resolution_in unit.resolution first.0 }
@@ -86,7 +96,9 @@ units_from (unit ∷ units) all =
 pub units_in_range : (system : System) → IsRanged system → AllByRecursion UnitInRange system.units
 units_in_range system ranged =
     let behind : List Part = map parts.HasInstance system.instances ++ parts_behind system in
-    let parted = subst (AllByRecursion IsInRange) (ap (flat_map part_forms) (canonical_are system) ∙ flat_map-append part_forms (map unit_part system.units) behind) ranged.numbers.1 in
+    let parted =
+    subst (AllByRecursion IsInRange)
+    (ap (flat_map part_forms) (canonical_are system) ∙ flat_map-append part_forms (map unit_part system.units) behind) ranged.numbers.1 in
     units_from system.units (all_parts IsInRange (flat_map part_forms (map unit_part system.units)) (flat_map part_forms behind) parted).0
 
 pub unit_in_range : (units : List Unit) (name : List ℕ) → AllByRecursion UnitInRange units → OfSome UnitInRange (unit_named units name)
@@ -106,19 +118,26 @@ few_decimals _ few = refl
 word_is : (ty : Ty) (value : Literal) → AreDecimals ty → word_read ty value ≡ word_of_literal ty value
 word_is ty value few = ap (λ met. if met then word_of_literal ty value else Ok (pos 0)) (few_decimals ty few)
 
-setting_is : (name : List ℕ) (value : Literal) (found : Option Unit) → OfSome UnitInRange found → option_map (λ ty. word_read ty value) (option_map (λ (param : Param). param.ty) (option_and_then (param_named name) found)) ≡ option_map (λ (param : Param). word_of_literal param.ty value) (option_and_then (param_named name) found)
+setting_is : (name : List ℕ) (value : Literal) (found : Option Unit) → OfSome UnitInRange found
+    → option_map (λ ty. word_read ty value) (option_map (λ (param : Param). param.ty) (option_and_then (param_named name) found))
+    ≡ option_map (λ (param : Param). word_of_literal param.ty value) (option_and_then (param_named name) found)
 setting_is name value None ranged = refl
-setting_is name value (Some unit) ranged = step (param_named name unit) (found_has (λ (param : Param). AreDecimals param.ty) (λ param. bytes_eq param.name name) unit.params ranged.params)
+setting_is name value (Some unit) ranged =
+    step (param_named name unit) (found_has (λ (param : Param). AreDecimals param.ty) (λ param. bytes_eq param.name name) unit.params ranged.params)
   where
-    step : (param : Option Param) → OfSome (λ (given : Param). AreDecimals given.ty) param → option_map (λ ty. word_read ty value) (option_map (λ (given : Param). given.ty) param) ≡ option_map (λ (given : Param). word_of_literal given.ty value) param
+    step : (param : Option Param) → OfSome (λ (given : Param). AreDecimals given.ty) param
+        → option_map (λ ty. word_read ty value) (option_map (λ (given : Param). given.ty) param)
+        ≡ option_map (λ (given : Param). word_of_literal given.ty value) param
     step None few = refl
     step (Some param) few = ap (λ r. Some r) (word_is param.ty value few)
 
-pub literal_is : (system : System) → AllByRecursion UnitInRange system.units → (scope : Scope) (line : LineForm) → IsInRange line → literal_read system scope line ≡ literal_on system scope line
+pub literal_is : (system : System) → AllByRecursion UnitInRange system.units → (scope : Scope) (line : LineForm) → IsInRange line
+    → literal_read system scope line ≡ literal_on system scope line
 literal_is system units scope (form.Param param) ranged = ap (λ r. Some r) (word_is param.ty param.start ranged.0)
 literal_is system units scope (form.State state) ranged = ap (λ r. Some r) (word_is state.ty state.start ranged.0)
 literal_is system units scope (form.Input input) ranged = ap (λ r. Some r) (word_is input.ty input.start ranged.0)
-literal_is system units (InstanceScope instance) (form.Setting setting) ranged = setting_is setting.name setting.value (unit_of_instance system instance) (unit_in_range system.units instance.unit units)
+literal_is system units (InstanceScope instance) (form.Setting setting) ranged =
+    setting_is setting.name setting.value (unit_of_instance system instance) (unit_in_range system.units instance.unit units)
 literal_is system units TopScope (form.Setting setting) ranged = refl
 literal_is system units (UnitScope unit) (form.Setting setting) ranged = refl
 literal_is system units (StepScope unit) (form.Setting setting) ranged = refl
@@ -130,7 +149,8 @@ resolution_at_most : (found : Option Unit) → OfSome UnitInRange found → unit
 resolution_at_most None ranged = omega arith
 resolution_at_most (Some unit) ranged = ranged.resolution
 
-greatest_at_most : (least : ℕ) (system : System) (instances : List Instance) → least ≤ 9 → AllByRecursion UnitInRange system.units → fold max least (map (λ instance. unit_resolution (unit_of_instance system instance)) instances) ≤ 9
+greatest_at_most : (least : ℕ) (system : System) (instances : List Instance) → least ≤ 9 → AllByRecursion UnitInRange system.units
+    → fold max least (map (λ instance. unit_resolution (unit_of_instance system instance)) instances) ≤ 9
 greatest_at_most least system [] few units = few
 greatest_at_most least system (instance ∷ instances) few units =
     let here = resolution_at_most (unit_of_instance system instance) (unit_in_range system.units instance.unit units) in
@@ -143,10 +163,12 @@ places_are_few : (seconds : Literal) → IsLiteralInRange seconds → has_few_pl
 places_are_few (literal.Truth told) few = refl
 places_are_few (literal.Number number decimals) few = grind (arith)
 
-length_is : (least : ℕ) (system : System) (seconds : Literal) → AllByRecursion UnitInRange system.units → IsLiteralInRange seconds → is_length_read least (resolution_of system) seconds ≡ is_length least (seconds_of (resolution_of system) seconds)
+length_is : (least : ℕ) (system : System) (seconds : Literal) → AllByRecursion UnitInRange system.units → IsLiteralInRange seconds
+    → is_length_read least (resolution_of system) seconds ≡ is_length least (seconds_of (resolution_of system) seconds)
 length_is least system seconds units few = rw (resolution_is system units, places_are_few seconds few) refl
 
-pub times_are : (system : System) → AllByRecursion UnitInRange system.units → (line : LineForm) → IsInRange line → mistimes_at system line ≡ mistimes system line
+pub times_are : (system : System) → AllByRecursion UnitInRange system.units → (line : LineForm) → IsInRange line
+    → mistimes_at system line ≡ mistimes system line
 times_are system units (form.Stop seconds) ranged = ap not (length_is 0 system seconds units ranged.1)
 times_are system units (form.Longest seconds) ranged = ap not (length_is 1 system seconds units ranged.1)
 times_are system units _ ranged = refl
@@ -154,4 +176,5 @@ times_are system units _ ranged = refl
 -- ---- Lines
 
 pub lines_in_range : (system : System) → IsRanged system → AllByRecursion (λ site. IsInRange site.line) (sites_of system)
-lines_in_range system ranged = of_mapped IsInRange site_laws.line_at (sites_of system) (subst (AllByRecursion IsInRange) (sym (site_laws.sites_are system)) ranged.numbers)
+lines_in_range system ranged =
+    of_mapped IsInRange site_laws.line_at (sites_of system) (subst (AllByRecursion IsInRange) (sym (site_laws.sites_are system)) ranged.numbers)

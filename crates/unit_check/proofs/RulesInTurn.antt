@@ -9,13 +9,16 @@ use Rattle.unit_tree.specs.declared.system.System.{System}
 use Rattle.language_laws.proofs.JudgementLaws.{well_formed}
 
 -- A rule that no line breaks is passed over.
-pub passed : (rule : SystemRule) (later : List SystemRule) (system : System) → lines_breaking (defined rule) system ≡ [] → refusal_by (map defined (rule ∷ later)) system ≡ refusal_by (map defined later) system
+pub passed : (rule : SystemRule) (later : List SystemRule) (system : System) → lines_breaking (defined rule) system ≡ []
+    → refusal_by (map defined (rule ∷ later)) system ≡ refusal_by (map defined later) system
 passed rule later system none = ap (or_later (defined rule) (refusal_by (map defined later) system)) none
 
 -- A rule that a line breaks is the refusal.
-pub stopped : (why : CheckFault) (rule : SystemRule) (later : List SystemRule) (system : System) → TellsRule (number_of rule) (lines_breaking (defined rule) system) why → Tells why (refusal_by (map defined (rule ∷ later)) system)
+pub stopped : (why : CheckFault) (rule : SystemRule) (later : List SystemRule) (system : System)
+    → TellsRule (number_of rule) (lines_breaking (defined rule) system) why → Tells why (refusal_by (map defined (rule ∷ later)) system)
 stopped (fault.Line item number) rule later system (is, (others, broken)) =
-    ap (or_later (defined rule) (refusal_by (map defined later) system)) broken ∙ ap (λ n. Some (record { by = n; at = item })) (let back : number_of rule ≡ number = cc in back)
+    ap (or_later (defined rule) (refusal_by (map defined later) system)) broken
+    ∙ ap (λ n. Some (record { by = n; at = item })) (let back : number_of rule ≡ number = cc in back)
 stopped fault.NoMemory rule later system told = _
 
 -- The rules that are judged are all rules.

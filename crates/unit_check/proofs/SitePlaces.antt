@@ -2,7 +2,8 @@
 use Rattle.std.proofs.Common.{◌≡◌, List, [], ◌∷◌, ◌++◌, map, Option, Some, None, append_assoc, refl, ap, sym, subst, ◌∙◌}
 use Rattle.std.specs.List.{AllByRecursion, flat_map}
 use Rattle.unit_check.proofs.SiteWalks.{heads, heads_alone, line_sites}
-use Rattle.unit_check.proofs.SystemLines.{plain_names, port_lines, step_heads, block, unit_head, instance_block, instance_head, header, units, instances, wires, limits, samples, whole, sites_are}
+use Rattle.unit_check.proofs.SystemLines.{plain_names, port_lines, step_heads, block, unit_head, instance_block, instance_head, header, units, instances, wires}
+use Rattle.unit_check.proofs.SystemLines.{limits, samples, whole, sites_are}
 use Rattle.unit_tree.specs.Canonical.{optional}
 use Rattle.unit_tree.specs.Parts.{line_forms}
 use Rattle.unit_tree.specs.Sites.{Scope, TopScope, UnitScope, StepScope, InstanceScope, Site, Headed, alone, sites, sites_of}
@@ -44,7 +45,8 @@ module _ (P : Site → Type 0) where
   abbrev Block : Headed → Type 0
   Block headed = AllByRecursion P headed.block
 
-  pub inside_unit : (unit : Unit) → ((lines : List Line) → unit.step ≡ Some lines → AllByRecursion P (line_sites (StepScope unit) [] (flat_map line_forms lines))) → Inside (block unit)
+  pub inside_unit : (unit : Unit)
+      → ((lines : List Line) → unit.step ≡ Some lines → AllByRecursion P (line_sites (StepScope unit) [] (flat_map line_forms lines))) → Inside (block unit)
   inside_unit unit steps =
       let resolution : List Headed = map alone (optional form.Resolution unit.resolution) in
       let names : List Headed = map alone (plain_names unit ++ port_lines unit) in
@@ -59,15 +61,19 @@ module _ (P : Site → Type 0) where
       in_step (Some lines) is = (steps lines is, inside_alone (form.End ∷ []))
 
   pub inside_instance : (instance : Instance) → Inside (instance_block instance)
-  inside_instance instance = all_both Block (map alone (map form.Setting instance.settings)) (alone form.End ∷ []) (inside_alone (map form.Setting instance.settings)) (inside_alone (form.End ∷ []))
+  inside_instance instance =
+      all_both Block (map alone (map form.Setting instance.settings)) (alone form.End ∷ []) (inside_alone (map form.Setting instance.settings))
+      (inside_alone (form.End ∷ []))
 
-  pub inside_system : (system : System) → ((unit : Unit) → AllByRecursion P (sites (UnitScope unit) [] (block unit))) → ((instance : Instance) → AllByRecursion P (sites (InstanceScope instance) [] (instance_block instance))) → Inside (whole system)
+  pub inside_system : (system : System) → ((unit : Unit) → AllByRecursion P (sites (UnitScope unit) [] (block unit)))
+      → ((instance : Instance) → AllByRecursion P (sites (InstanceScope instance) [] (instance_block instance))) → Inside (whole system)
   inside_system system in_unit in_instance =
       all_both Block ((header system ++ ((units system ++ instances system) ++ wires system)) ++ limits system) (samples system)
       (all_both Block (header system ++ ((units system ++ instances system) ++ wires system)) (limits system)
       (all_both Block (header system) ((units system ++ instances system) ++ wires system) (inside_alone (form.Header system.version ∷ []))
       (all_both Block (units system ++ instances system) (wires system)
-      (all_both Block (units system) (instances system) (all_map Block unit_head in_unit system.units) (all_map Block instance_head in_instance system.instances))
+      (all_both Block (units system) (instances system) (all_map Block unit_head in_unit system.units)
+      (all_map Block instance_head in_instance system.instances))
       (inside_alone (map form.Connect system.wires))))
       in_limits)
       (inside_alone (map form.Sample system.samples))
@@ -79,7 +85,9 @@ module _ (P : Site → Type 0) where
           let z : List Headed = map alone (optional form.Zero system.zero) in
           let r : List Headed = map alone (optional form.Rows system.rows) in
           all_both Block (s ++ l ++ z) r
-          (all_both Block (s ++ l) z (all_both Block s l (inside_alone (optional form.Stop system.stop)) (inside_alone (optional form.Longest system.longest))) (inside_alone (optional form.Zero system.zero)))
+          (all_both Block (s ++ l) z
+          (all_both Block s l (inside_alone (optional form.Stop system.stop)) (inside_alone (optional form.Longest system.longest)))
+          (inside_alone (optional form.Zero system.zero)))
           (inside_alone (optional form.Rows system.rows))
 
 -- ---- Standing
@@ -100,7 +108,8 @@ pub record Stands (system : System) (site : Site) : Type 0 where
   pub cut : lines_of system site.scope ≡ site.earlier ++ (site.line ∷ rest)
 
 module _ (system : System) where
-  each_stands : (scope : Scope) (earlier : List LineForm) (headed : List Headed) → lines_of system scope ≡ earlier ++ heads headed → Inside (Stands system) headed → AllByRecursion (Stands system) (sites scope earlier headed)
+  each_stands : (scope : Scope) (earlier : List LineForm) (headed : List Headed) → lines_of system scope ≡ earlier ++ heads headed
+      → Inside (Stands system) headed → AllByRecursion (Stands system) (sites scope earlier headed)
   each_stands scope earlier [] cut inside = _
   each_stands scope earlier (first ∷ others) cut inside = (
     record { rest = heads others; cut = cut },
@@ -111,7 +120,8 @@ module _ (system : System) where
   in_instance : (instance : Instance) → AllByRecursion (Stands system) (sites (InstanceScope instance) [] (instance_block instance))
   in_instance instance = each_stands (InstanceScope instance) [] (instance_block instance) refl (inside_instance (Stands system) instance)
 
-  in_step : (unit : Unit) (lines : List Line) → unit.step ≡ Some lines → AllByRecursion (Stands system) (line_sites (StepScope unit) [] (flat_map line_forms lines))
+  in_step : (unit : Unit) (lines : List Line) → unit.step ≡ Some lines
+      → AllByRecursion (Stands system) (line_sites (StepScope unit) [] (flat_map line_forms lines))
   in_step unit lines is =
       let all : List LineForm = flat_map line_forms lines in
       each_stands (StepScope unit) [] (map alone all) (ap lines_in_step is ∙ sym (heads_alone all)) (inside_alone (Stands system) all)

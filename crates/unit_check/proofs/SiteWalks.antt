@@ -17,7 +17,8 @@ pub heads_alone : (lines : List LineForm) → heads (map alone lines) ≡ lines
 heads_alone [] = refl
 heads_alone (line ∷ lines) = ap (λ rest. line ∷ rest) (heads_alone lines)
 
-pub sites_on : (scope : Scope) (earlier : List LineForm) (front behind : List Headed) → sites scope earlier (front ++ behind) ≡ sites scope earlier front ++ sites scope (earlier ++ heads front) behind
+pub sites_on : (scope : Scope) (earlier : List LineForm) (front behind : List Headed)
+    → sites scope earlier (front ++ behind) ≡ sites scope earlier front ++ sites scope (earlier ++ heads front) behind
 sites_on scope earlier [] behind = ap (λ e. sites scope e behind) (sym (append-nil earlier))
 sites_on scope earlier (first ∷ front) behind =
     let site : Site = record { scope = scope; earlier = earlier; line = first.head } in
@@ -31,7 +32,8 @@ sites_on scope earlier (first ∷ front) behind =
 abbrev pub line_sites : Scope → List LineForm → List LineForm → List Site
 line_sites scope earlier lines = sites scope earlier (map alone lines)
 
-pub line_sites_on : (scope : Scope) (earlier front behind : List LineForm) → line_sites scope earlier (front ++ behind) ≡ line_sites scope earlier front ++ line_sites scope (earlier ++ front) behind
+pub line_sites_on : (scope : Scope) (earlier front behind : List LineForm)
+    → line_sites scope earlier (front ++ behind) ≡ line_sites scope earlier front ++ line_sites scope (earlier ++ front) behind
 line_sites_on scope earlier front behind =
     ap (sites scope earlier) (map-append alone front behind)
     ∙ sites_on scope earlier (map alone front) (map alone behind)
@@ -60,10 +62,12 @@ abbrev pub walk : (Site → Bool) → ℕ → List Site → Result ℕ Stop
 walk test number [] = Ok number
 walk test number (site ∷ sites) = onward (past (test site) number) (λ n. walk test n sites)
 
-pub walk_on : (test : Site → Bool) (number : ℕ) (front behind : List Site) → walk test number (front ++ behind) ≡ onward (walk test number front) (λ n. walk test n behind)
+pub walk_on : (test : Site → Bool) (number : ℕ) (front behind : List Site)
+    → walk test number (front ++ behind) ≡ onward (walk test number front) (λ n. walk test n behind)
 walk_on test number [] behind = refl
 walk_on test number (site ∷ front) behind =
-    onward_same (past (test site) number) (λ n. walk test n (front ++ behind)) (λ n. onward (walk test n front) (λ m. walk test m behind)) (λ n is. walk_on test n front behind)
+    onward_same (past (test site) number) (λ n. walk test n (front ++ behind)) (λ n. onward (walk test n front) (λ m. walk test m behind))
+    (λ n is. walk_on test n front behind)
     ∙ sym (onward_onward (past (test site) number) (λ n. walk test n front) (λ n. walk test n behind))
 
 -- The number behind a line is the next one.

@@ -41,9 +41,14 @@ module _ (system : System) where
   -- What lines outside of units keep is nothing.
   outside : (earlier : List LineForm) (headed : List Headed) → Inside (InUnit system) headed → AllByRecursion (InUnit system) (sites TopScope earlier headed)
   outside earlier [] inside = _
-  outside earlier (first ∷ others) inside = (_, all_both (InUnit system) first.block (sites TopScope (earlier ++ (first.head ∷ [])) others) inside.0 (outside (earlier ++ (first.head ∷ [])) others inside.1))
+  outside earlier (first ∷ others) inside = (
+    _,
+    all_both (InUnit system) first.block (sites TopScope (earlier ++ (first.head ∷ [])) others) inside.0
+        (outside (earlier ++ (first.head ∷ [])) others inside.1),
+  )
 
-  in_instance : (instance : Instance) (earlier : List LineForm) (headed : List Headed) → Inside (InUnit system) headed → AllByRecursion (InUnit system) (sites (InstanceScope instance) earlier headed)
+  in_instance : (instance : Instance) (earlier : List LineForm) (headed : List Headed) → Inside (InUnit system) headed
+      → AllByRecursion (InUnit system) (sites (InstanceScope instance) earlier headed)
   in_instance instance earlier [] inside = _
   in_instance instance earlier (first ∷ others) inside = (
     _,
@@ -54,7 +59,9 @@ module _ (system : System) where
   all_in_units : AllByRecursion (InUnit system) (sites_of system)
   all_in_units =
       subst (AllByRecursion (InUnit system)) (sym (sites_are system))
-      (outside [] (whole system) (inside_system (InUnit system) system (unit_agrees system) (λ instance. in_instance instance [] (instance_block instance) (inside_instance (InUnit system) instance))))
+      (outside [] (whole system)
+      (inside_system (InUnit system) system (unit_agrees system)
+      (λ instance. in_instance instance [] (instance_block instance) (inside_instance (InUnit system) instance))))
 
 -- A line with what is known of it.
 record Known (system : System) (site : Site) : Type 0 where
@@ -68,8 +75,11 @@ all_known system ranged =
     let Both : Site → Type 0 = λ site. Stands system site × Held site in
     let Rest : Site → Type 0 = λ site. IsInRange site.line × InUnit system site in
     let both = all_two (Stands system) Held Both (λ site one other. (one, other)) (sites_of system) (all_stand system) (all_held system) in
-    let rest = all_two (λ site. IsInRange site.line) (InUnit system) Rest (λ site one other. (one, other)) (sites_of system) (lines_in_range system ranged) (all_in_units system) in
-    all_two Both Rest (Known system) (λ site one other. record { stands = one.0; held = one.1; ranged = other.0; in_unit = other.1 }) (sites_of system) both rest
+    let rest =
+    all_two (λ site. IsInRange site.line) (InUnit system) Rest (λ site one other. (one, other)) (sites_of system) (lines_in_range system ranged)
+    (all_in_units system) in
+    all_two Both Rest (Known system) (λ site one other. record { stands = one.0; held = one.1; ranged = other.0; in_unit = other.1 })
+    (sites_of system) both rest
 
 -- ---- The rules
 
@@ -81,7 +91,8 @@ unfolding test_of breaks_of
 agree_at by.NamesDiffer system units site known = redeclares_is system site.scope site.earlier site.line known.stands.rest known.stands.cut known.held
 agree_at by.NamesAreDeclared system units site known = refl
 agree_at by.KindsFit system units site known =
-    ap (λ read. mistakes_kind site.scope site.line || (((system.version == 1) && tail_speaks_of_events (tail_of site.line)) || on_literal is_misformed read)) (literal_is system units site.scope site.line known.ranged)
+    ap (λ read. mistakes_kind site.scope site.line || (((system.version == 1) && tail_speaks_of_events (tail_of site.line)) || on_literal is_misformed read))
+    (literal_is system units site.scope site.line known.ranged)
 agree_at by.LiteralsFit system units site known = ap (on_literal is_beyond) (literal_is system units site.scope site.line known.ranged)
 agree_at by.NeedsAreNamed system units site known = refl
 agree_at by.InputsConnectOnce system units site known = connects_is system site.scope site.earlier site.line known.stands.rest known.stands.cut known.held
@@ -96,10 +107,12 @@ agree_at by.TargetsMayChange system units site known = refl
 agree_at by.InstanceIsThere system units site known = refl
 agree_at by.NothingRepeats system units site known = repeats_is system site.scope site.earlier site.line known.stands.rest known.stands.cut known.held
 
-pub says_rule : (rule : SystemRule) (system : System) → IsRanged system → Says (system_walk (test_of rule system) system 1) (lines_breaking (defined rule) system)
+pub says_rule : (rule : SystemRule) (system : System) → IsRanged system
+    → Says (system_walk (test_of rule system) system 1) (lines_breaking (defined rule) system)
 says_rule rule system ranged =
     let along = system_goes (test_of rule system) system 1 in
-    let agree = all_leads (Known system) (Agrees rule system) (agree_at rule system (units_in_range system ranged)) (sites_of system) (all_known system ranged) in
+    let agree =
+    all_leads (Known system) (Agrees rule system) (agree_at rule system (units_in_range system ranged)) (sites_of system) (all_known system ranged) in
     let lines = broken_same (test_at (test_of rule system)) (breaks_of rule system) 1 (sites_of system) agree in
     let here = says (test_at (test_of rule system)) 1 (sites_of system) in
     rw along (rw lines at here)

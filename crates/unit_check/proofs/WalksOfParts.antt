@@ -5,7 +5,8 @@ use Rattle.std.proofs.lemmas.List.{append-nil, length-append, map-append}
 use Rattle.std.proofs.lemmas.List.Elements.{filter_map-append}
 use Rattle.unit_check.proofs.CountedWalks.{Counts, both, one, all_of, all_count, all_along}
 use Rattle.unit_check.proofs.SiteWalks.{heads, sites_on, line_sites, onward_same, onward_none, walk, walk_on}
-use Rattle.unit_check.specs.Walks.{Test, Walk, test_at, place_of, onward, past, past_from, ◌>=>◌, each, if_given, line_walk, step_walk, plain_names_walk, ports_walk, names_walk, unit_walk, units_walk, instance_walk, instances_walk, limits_walk, parts_walk, system_walk}
+use Rattle.unit_check.specs.Walks.{Test, Walk, test_at, place_of, onward, past, past_from, ◌>=>◌, each, if_given, line_walk, step_walk, plain_names_walk}
+use Rattle.unit_check.specs.Walks.{ports_walk, names_walk, unit_walk, units_walk, instance_walk, instances_walk, limits_walk, parts_walk, system_walk}
 use Rattle.unit_tree.specs.Canonical.{optional}
 use Rattle.unit_tree.specs.Parts.{line_forms}
 use Rattle.unit_tree.specs.Sites.{Scope, TopScope, UnitScope, StepScope, InstanceScope, Headed, alone, sites, sites_of}
@@ -16,7 +17,8 @@ use Rattle.unit_tree.specs.declared.line_form.LineForm.TheVariants as form
 use Rattle.unit_tree.specs.declared.system.Instance.{Instance}
 use Rattle.unit_tree.specs.declared.system.System.{System}
 use Rattle.unit_tree.specs.declared.unit.Unit.{Unit}
-use Rattle.unit_check.proofs.SystemLines.{plain_names, port_lines, step_heads, block, unit_head, instance_block, instance_head, header, units, instances, wires, limits, samples, whole, sites_are}
+use Rattle.unit_check.proofs.SystemLines.{plain_names, port_lines, step_heads, block, unit_head, instance_block, instance_head, header, units, instances, wires}
+use Rattle.unit_check.proofs.SystemLines.{limits, samples, whole, sites_are}
 
 -- ---- How many lines are asked
 
@@ -30,20 +32,24 @@ told_adds asked front behind = ap length (filter_map-append asked front behind) 
 abbrev Untold : {A : Type 0} → (LineForm → Option A) → List Headed → Type 0
 Untold asked headed = told asked (heads headed) ≡ 0
 
-untold_both : {A : Type 0} (asked : LineForm → Option A) (front behind : List Headed) → Untold asked front → Untold asked behind → Untold asked (front ++ behind)
+untold_both : {A : Type 0} (asked : LineForm → Option A) (front behind : List Headed) → Untold asked front → Untold asked behind
+    → Untold asked (front ++ behind)
 untold_both asked front behind one other =
     let all = ap (told asked) (map-append (λ (h : Headed). h.head) front behind) ∙ told_adds asked (heads front) (heads behind) in
     omega arith
 
-untold_each : {A B : Type 0} (asked : LineForm → Option A) (head : B → Headed) → ((x : B) → asked (head x).head ≡ None) → (xs : List B) → Untold asked (map head xs)
+untold_each : {A B : Type 0} (asked : LineForm → Option A) (head : B → Headed) → ((x : B) → asked (head x).head ≡ None) → (xs : List B)
+    → Untold asked (map head xs)
 untold_each asked head none [] = refl
 untold_each asked head none (x ∷ xs) = ap (λ here. length (cons_option here (filter_map asked (heads (map head xs))))) (none x) ∙ untold_each asked head none xs
 
-untold_given : {A B : Type 0} (asked : LineForm → Option A) (said : B → LineForm) → ((x : B) → asked (said x) ≡ None) → (given : Option B) → Untold asked (map alone (optional said given))
+untold_given : {A B : Type 0} (asked : LineForm → Option A) (said : B → LineForm) → ((x : B) → asked (said x) ≡ None) → (given : Option B)
+    → Untold asked (map alone (optional said given))
 untold_given asked said none None = refl
 untold_given asked said none (Some x) = ap (λ here. length (cons_option here [])) (none x)
 
-untold_behind : {A : Type 0} (asked : LineForm → Option A) (earlier : List LineForm) (headed : List Headed) → told asked earlier ≡ 0 → Untold asked headed → told asked (earlier ++ heads headed) ≡ 0
+untold_behind : {A : Type 0} (asked : LineForm → Option A) (earlier : List LineForm) (headed : List Headed) → told asked earlier ≡ 0 → Untold asked headed
+    → told asked (earlier ++ heads headed) ≡ 0
 untold_behind asked earlier headed one other = let all = told_adds asked earlier (heads headed) in omega arith
 
 module _ (test : Test) where
@@ -51,7 +57,8 @@ module _ (test : Test) where
   abbrev Along : Scope → List LineForm → Walk → List Headed → Type 0
   Along scope earlier walked headed = (number : ℕ) → walked number ≡ walk (test_at test) number (sites scope earlier headed)
 
-  join : (scope : Scope) (earlier : List LineForm) (front behind : List Headed) (one next : Walk) → Along scope earlier one front → Along scope (earlier ++ heads front) next behind → Along scope earlier (one >=> next) (front ++ behind)
+  join : (scope : Scope) (earlier : List LineForm) (front behind : List Headed) (one next : Walk) → Along scope earlier one front
+      → Along scope (earlier ++ heads front) next behind → Along scope earlier (one >=> next) (front ++ behind)
   join scope earlier front behind one next goes on number =
       let t = test_at test in
       let met = walk t number (sites scope earlier front) in
@@ -60,24 +67,32 @@ module _ (test : Test) where
       ∙ sym (walk_on t number (sites scope earlier front) (sites scope (earlier ++ heads front) behind))
       ∙ ap (walk t number) (sym (sites_on scope earlier front behind))
 
-  single : (scope : Scope) (earlier : List LineForm) (place : ℕ) (line : LineForm) → place_of scope earlier line ≡ place → Along scope earlier (past (test scope place line)) (alone line ∷ [])
+  single : (scope : Scope) (earlier : List LineForm) (place : ℕ) (line : LineForm) → place_of scope earlier line ≡ place
+      → Along scope earlier (past (test scope place line)) (alone line ∷ [])
   single scope earlier place line placed number =
       ap (λ n. past (test scope n line) number) (sym placed) ∙ sym (onward_none (past (test scope (place_of scope earlier line) line) number))
 
-  with_block : (scope : Scope) (earlier : List LineForm) (place : ℕ) (headed : Headed) (inside : Walk) → place_of scope earlier headed.head ≡ place → ((number : ℕ) → inside number ≡ walk (test_at test) number headed.block) → Along scope earlier (past (test scope place headed.head) >=> inside) (headed ∷ [])
+  with_block : (scope : Scope) (earlier : List LineForm) (place : ℕ) (headed : Headed) (inside : Walk) → place_of scope earlier headed.head ≡ place
+      → ((number : ℕ) → inside number ≡ walk (test_at test) number headed.block)
+      → Along scope earlier (past (test scope place headed.head) >=> inside) (headed ∷ [])
   with_block scope earlier place headed inside placed goes number =
       let t = test_at test in
       let here = past (test scope (place_of scope earlier headed.head) headed.head) number in
       ap (λ n. onward (past (test scope n headed.head) number) inside) (sym placed)
       ∙ onward_same here inside (λ n. walk t n (headed.block ++ [])) (λ n is. goes n ∙ ap (walk t n) (sym (append-nil headed.block)))
 
-  given_one : {A : Type 0} (said : A → LineForm) (scope : Scope) (earlier : List LineForm) → ((x : A) → place_of scope earlier (said x) ≡ 0) → (given : Option A) → Along scope earlier (if_given (λ x. past (test scope 0 (said x))) given) (map alone (optional said given))
+  given_one : {A : Type 0} (said : A → LineForm) (scope : Scope) (earlier : List LineForm) → ((x : A) → place_of scope earlier (said x) ≡ 0)
+      → (given : Option A) → Along scope earlier (if_given (λ x. past (test scope 0 (said x))) given) (map alone (optional said given))
   given_one said scope earlier placed None = λ number. refl
   given_one said scope earlier placed (Some x) = single scope earlier 0 (said x) (placed x)
 
   -- Lines of one form, from the first one on.
-  all_from : {A B : Type 0} (asked : LineForm → Option B) (said : A → LineForm) (scope : Scope) → ((earlier : List LineForm) (x : A) → place_of scope earlier (said x) ≡ told asked earlier) → ((x : A) → told asked (said x ∷ []) ≡ 1) → (earlier : List LineForm) → told asked earlier ≡ 0 → (xs : List A) → Along scope earlier (λ first. each (λ x. past_from (test scope) first (said x)) xs first) (map alone (map said xs))
-  all_from asked said scope placed counts earlier none xs number = all_of test scope (told asked) (told_adds asked) number said placed counts earlier xs number (omega arith)
+  all_from : {A B : Type 0} (asked : LineForm → Option B) (said : A → LineForm) (scope : Scope)
+      → ((earlier : List LineForm) (x : A) → place_of scope earlier (said x) ≡ told asked earlier) → ((x : A) → told asked (said x ∷ []) ≡ 1)
+      → (earlier : List LineForm) → told asked earlier ≡ 0 → (xs : List A)
+      → Along scope earlier (λ first. each (λ x. past_from (test scope) first (said x)) xs first) (map alone (map said xs))
+  all_from asked said scope placed counts earlier none xs number =
+      all_of test scope (told asked) (told_adds asked) number said placed counts earlier xs number (omega arith)
 
   -- ---- Units
 
@@ -96,27 +111,39 @@ module _ (test : Test) where
       named_both : (front behind : List LineForm) (one next : Walk) → Named one front → Named next behind → Named (one >=> next) (front ++ behind)
       named_both front behind one next goes on =
           let counts = told_adds name_declared front behind in
-          let long = length-append front behind in
-          (λ earlier. both test scope (told name_declared) (told_adds name_declared) first earlier front behind one next goes.1 (goes.0 earlier) (on.0 (earlier ++ front)), simp (goes.1, on.1) at (counts ∙ refl) ∙ sym long)
+          let long = length-append front behind in (
+            λ earlier. both test scope (told name_declared) (told_adds name_declared) first earlier front behind one next goes.1 (goes.0 earlier)
+                (on.0 (earlier ++ front)),
+            simp (goes.1, on.1) at (counts ∙ refl)
+                ∙ sym long,
+          )
 
-      named : {A : Type 0} (said : A → LineForm) → ((earlier : List LineForm) (x : A) → place_of scope earlier (said x) ≡ told name_declared earlier) → ((x : A) → told name_declared (said x ∷ []) ≡ 1) → (xs : List A) → Named (each (λ x. past_from (test scope) first (said x)) xs) (map said xs)
-      named said placed counts xs =
-          (λ earlier. all_of test scope (told name_declared) (told_adds name_declared) first said placed counts earlier xs, all_count test scope (told name_declared) (told_adds name_declared) first said placed counts refl xs)
+      named : {A : Type 0} (said : A → LineForm) → ((earlier : List LineForm) (x : A) → place_of scope earlier (said x) ≡ told name_declared earlier)
+          → ((x : A) → told name_declared (said x ∷ []) ≡ 1) → (xs : List A) → Named (each (λ x. past_from (test scope) first (said x)) xs) (map said xs)
+      named said placed counts xs = (
+        λ earlier. all_of test scope (told name_declared) (told_adds name_declared) first said placed counts earlier xs,
+        all_count test scope (told name_declared) (told_adds name_declared) first said placed counts refl xs,
+      )
 
       plain_named : Named (plain_names_walk (past_from (test scope) first) unit) (plain_names unit)
       plain_named =
-          named_both _ _ _ _ (named_both _ _ _ _ (named form.Param (λ e x. refl) (λ x. refl) unit.params) (named form.State (λ e x. refl) (λ x. refl) unit.states)) (named form.Local (λ e x. refl) (λ x. refl) unit.locals)
+          named_both _ _ _ _
+          (named_both _ _ _ _ (named form.Param (λ e x. refl) (λ x. refl) unit.params) (named form.State (λ e x. refl) (λ x. refl) unit.states))
+          (named form.Local (λ e x. refl) (λ x. refl) unit.locals)
 
       ports_named : Named (ports_walk (past_from (test scope) first) unit) (port_lines unit)
       ports_named =
           named_both _ _ _ _
-          (named_both _ _ _ _ (named_both _ _ _ _ (named form.Input (λ e x. refl) (λ x. refl) unit.inputs) (named form.EventInput (λ e x. refl) (λ x. refl) unit.events_in)) (named form.Output (λ e x. refl) (λ x. refl) unit.outputs))
+          (named_both _ _ _ _
+          (named_both _ _ _ _ (named form.Input (λ e x. refl) (λ x. refl) unit.inputs) (named form.EventInput (λ e x. refl) (λ x. refl) unit.events_in))
+          (named form.Output (λ e x. refl) (λ x. refl) unit.outputs))
           (named form.EventOutput (λ e x. refl) (λ x. refl) unit.events_out)
 
       all_named : Named (names_walk (past_from (test scope) first) unit) ((plain_names unit) ++ (port_lines unit))
       all_named = named_both (plain_names unit) (port_lines unit) _ _ plain_named ports_named
 
-    names_along : (earlier : List LineForm) → told name_declared earlier ≡ 0 → Along scope earlier (λ first. names_walk (past_from (test scope) first) unit first) (map alone ((plain_names unit) ++ (port_lines unit)))
+    names_along : (earlier : List LineForm) → told name_declared earlier ≡ 0
+        → Along scope earlier (λ first. names_walk (past_from (test scope) first) unit first) (map alone ((plain_names unit) ++ (port_lines unit)))
     names_along earlier none number = (all_named number).0 earlier number (omega arith)
 
     -- The step.
@@ -125,7 +152,8 @@ module _ (test : Test) where
     step_along earlier (Some lines) =
         let headed : Headed = record { head = form.Step; block = line_sites (StepScope unit) [] (flat_map line_forms lines) } in
         join scope earlier (headed ∷ []) (alone form.End ∷ []) _ _
-        (with_block scope earlier 0 headed (λ first. each (line_walk (past_from (test (StepScope unit)) first)) lines first) refl (λ number. all_along test unit number lines [] number (omega arith)))
+        (with_block scope earlier 0 headed (λ first. each (line_walk (past_from (test (StepScope unit)) first)) lines first) refl
+        (λ number. all_along test unit number lines [] number (omega arith)))
         (single scope (earlier ++ (form.Step ∷ [])) 0 form.End refl)
 
     unit_along : Along scope [] (unit_walk test unit) (block unit)
@@ -138,16 +166,19 @@ module _ (test : Test) where
         join scope [] (resolution ++ names) ((greatest ++ step_heads unit unit.step) ++ (alone form.End ∷ [])) _ _
         (join scope [] resolution names _ _ (given_one form.Resolution scope [] (λ x. refl) unit.resolution) (names_along (heads resolution) none))
         (join scope before (greatest ++ step_heads unit unit.step) (alone form.End ∷ []) _ _
-        (join scope before greatest (step_heads unit unit.step) _ _ (given_one form.Max scope before (λ x. refl) unit.max) (step_along (before ++ heads greatest) unit.step))
+        (join scope before greatest (step_heads unit unit.step) _ _ (given_one form.Max scope before (λ x. refl) unit.max)
+        (step_along (before ++ heads greatest) unit.step))
         (single scope (before ++ heads (greatest ++ step_heads unit unit.step)) 0 form.End refl))
 
-  units_along : (earlier : List LineForm) (place : ℕ) → told unit_declared earlier ≡ place → (units : List Unit) → Along TopScope earlier (units_walk test place units) (map unit_head units)
+  units_along : (earlier : List LineForm) (place : ℕ) → told unit_declared earlier ≡ place → (units : List Unit)
+      → Along TopScope earlier (units_walk test place units) (map unit_head units)
   units_along earlier place at [] = λ number. refl
   units_along earlier place at (unit ∷ units) =
       let more = told_adds unit_declared earlier (form.Unit unit.name ∷ []) in
       let next : told unit_declared (earlier ++ (form.Unit unit.name ∷ [])) ≡ suc place = omega arith in
       join TopScope earlier (unit_head unit ∷ []) (map unit_head units) _ _
-      (with_block TopScope earlier place (unit_head unit) (unit_walk test unit) at (unit_along unit)) (units_along (earlier ++ (form.Unit unit.name ∷ [])) (suc place) next units)
+      (with_block TopScope earlier place (unit_head unit) (unit_walk test unit) at (unit_along unit))
+      (units_along (earlier ++ (form.Unit unit.name ∷ [])) (suc place) next units)
 
   -- ---- Instances
 
@@ -157,26 +188,31 @@ module _ (test : Test) where
       (all_from param_set form.Setting (InstanceScope instance) (λ e x. refl) (λ x. refl) [] refl instance.settings)
       (single (InstanceScope instance) (heads (map alone (map form.Setting instance.settings))) 0 form.End refl)
 
-  instances_along : (earlier : List LineForm) (place : ℕ) → told instance_declared earlier ≡ place → (instances : List Instance) → Along TopScope earlier (instances_walk test place instances) (map instance_head instances)
+  instances_along : (earlier : List LineForm) (place : ℕ) → told instance_declared earlier ≡ place → (instances : List Instance)
+      → Along TopScope earlier (instances_walk test place instances) (map instance_head instances)
   instances_along earlier place at [] = λ number. refl
   instances_along earlier place at (instance ∷ instances) =
       let more = told_adds instance_declared earlier (form.Instance instance.name instance.unit ∷ []) in
       let next : told instance_declared (earlier ++ (form.Instance instance.name instance.unit ∷ [])) ≡ suc place = omega arith in
       join TopScope earlier (instance_head instance ∷ []) (map instance_head instances) _ _
-      (with_block TopScope earlier place (instance_head instance) (instance_walk test instance) at (instance_along instance)) (instances_along (earlier ++ (form.Instance instance.name instance.unit ∷ [])) (suc place) next instances)
+      (with_block TopScope earlier place (instance_head instance) (instance_walk test instance) at (instance_along instance))
+      (instances_along (earlier ++ (form.Instance instance.name instance.unit ∷ [])) (suc place) next instances)
 
   -- ---- A system
 
   module _ (system : System) where
     -- What is not told by the lines of (units system) and (instances system).
-    untold_parts : {A : Type 0} (asked : LineForm → Option A) → ((name : List ℕ) → asked (form.Unit name) ≡ None) → ((name unit : List ℕ) → asked (form.Instance name unit) ≡ None) → Untold asked ((units system) ++ (instances system))
+    untold_parts : {A : Type 0} (asked : LineForm → Option A) → ((name : List ℕ) → asked (form.Unit name) ≡ None)
+        → ((name unit : List ℕ) → asked (form.Instance name unit) ≡ None) → Untold asked ((units system) ++ (instances system))
     untold_parts asked no_unit no_instance =
         untold_both asked (units system) (instances system) (untold_each asked unit_head (λ unit. no_unit unit.name) system.units)
         (untold_each asked instance_head (λ instance. no_instance instance.name instance.unit) system.instances)
 
-    untold_alone : {A B : Type 0} (asked : LineForm → Option A) (said : B → LineForm) → ((x : B) → asked (said x) ≡ None) → (xs : List B) → Untold asked (map alone (map said xs))
+    untold_alone : {A B : Type 0} (asked : LineForm → Option A) (said : B → LineForm) → ((x : B) → asked (said x) ≡ None) → (xs : List B)
+        → Untold asked (map alone (map said xs))
     untold_alone asked said none [] = refl
-    untold_alone asked said none (x ∷ xs) = ap (λ here. length (cons_option here (filter_map asked (heads (map alone (map said xs)))))) (none x) ∙ untold_alone asked said none xs
+    untold_alone asked said none (x ∷ xs) = ap (λ here. length (cons_option here (filter_map asked (heads (map alone (map said xs)))))) (none x)
+        ∙ untold_alone asked said none xs
 
     limits_untold : Untold port_sampled (limits system)
     limits_untold =
@@ -186,7 +222,8 @@ module _ (test : Test) where
         let r : List Headed = map alone (optional form.Rows system.rows) in
         untold_both port_sampled (s ++ l ++ z) r
         (untold_both port_sampled (s ++ l) z
-        (untold_both port_sampled s l (untold_given port_sampled form.Stop (λ x. refl) system.stop) (untold_given port_sampled form.Longest (λ x. refl) system.longest))
+        (untold_both port_sampled s l (untold_given port_sampled form.Stop (λ x. refl) system.stop)
+        (untold_given port_sampled form.Longest (λ x. refl) system.longest))
         (untold_given port_sampled form.Zero (λ x. refl) system.zero))
         (untold_given port_sampled form.Rows (λ x. refl) system.rows)
 
@@ -198,23 +235,31 @@ module _ (test : Test) where
         let r : List Headed = map alone (optional form.Rows system.rows) in
         join TopScope earlier (s ++ l ++ z) r _ _
         (join TopScope earlier (s ++ l) z _ _
-        (join TopScope earlier s l _ _ (given_one form.Stop TopScope earlier (λ x. refl) system.stop) (given_one form.Longest TopScope (earlier ++ heads s) (λ x. refl) system.longest))
+        (join TopScope earlier s l _ _ (given_one form.Stop TopScope earlier (λ x. refl) system.stop)
+        (given_one form.Longest TopScope (earlier ++ heads s) (λ x. refl) system.longest))
         (given_one form.Zero TopScope (earlier ++ heads (s ++ l)) (λ x. refl) system.zero))
         (given_one form.Rows TopScope (earlier ++ heads (s ++ l ++ z)) (λ x. refl) system.rows)
 
     parts_along : Along TopScope (heads (header system)) (parts_walk test system) (((units system) ++ (instances system)) ++ (wires system))
     parts_along =
-        let before_instances = untold_behind instance_declared (heads (header system)) (units system) refl (untold_each instance_declared unit_head (λ x. refl) system.units) in
-        let before_wires = untold_behind input_connected (heads (header system)) ((units system) ++ (instances system)) refl (untold_parts input_connected (λ x. refl) (λ x y. refl)) in
+        let before_instances =
+        untold_behind instance_declared (heads (header system)) (units system) refl (untold_each instance_declared unit_head (λ x. refl) system.units) in
+        let before_wires =
+        untold_behind input_connected (heads (header system)) ((units system) ++ (instances system)) refl
+        (untold_parts input_connected (λ x. refl) (λ x y. refl)) in
         join TopScope (heads (header system)) ((units system) ++ (instances system)) (wires system) _ _
-        (join TopScope (heads (header system)) (units system) (instances system) _ _ (units_along (heads (header system)) 0 refl system.units) (instances_along (heads (header system) ++ heads (units system)) 0 before_instances system.instances))
-        (all_from input_connected form.Connect TopScope (λ e x. refl) (λ x. refl) (heads (header system) ++ heads ((units system) ++ (instances system))) before_wires system.wires)
+        (join TopScope (heads (header system)) (units system) (instances system) _ _ (units_along (heads (header system)) 0 refl system.units)
+        (instances_along (heads (header system) ++ heads (units system)) 0 before_instances system.instances))
+        (all_from input_connected form.Connect TopScope (λ e x. refl) (λ x. refl)
+        (heads (header system) ++ heads ((units system) ++ (instances system))) before_wires system.wires)
 
     whole_along : Along TopScope [] (system_walk test system) (whole system)
     whole_along =
         let inside : List Headed = ((units system) ++ (instances system)) ++ (wires system) in
         let front : List Headed = (header system) ++ inside in
-        let untold_inside = untold_both port_sampled ((units system) ++ (instances system)) (wires system) (untold_parts port_sampled (λ x. refl) (λ x y. refl)) (untold_alone port_sampled form.Connect (λ x. refl) system.wires) in
+        let untold_inside =
+        untold_both port_sampled ((units system) ++ (instances system)) (wires system) (untold_parts port_sampled (λ x. refl) (λ x y. refl))
+        (untold_alone port_sampled form.Connect (λ x. refl) system.wires) in
         let untold_front = untold_both port_sampled front (limits system) (untold_both port_sampled (header system) inside refl untold_inside) limits_untold in
         join TopScope [] (front ++ (limits system)) (samples system) _ _
         (join TopScope [] front (limits system) _ _

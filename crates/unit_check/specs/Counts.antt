@@ -1,4 +1,4 @@
--- How many of a kind there may be, by the place of a line alone.
+-- Rule 16: how many of a kind there may be, by the place of a line alone.
 use Rattle.std.specs.Prelude.{ℕ, ◌+◌, ◌-◌, ◌*◌, nat_lt, nat_le, Bool, false, length, take, Option, Some, None}
 use Rattle.std.specs.List.{flat_map}
 use Rattle.unit_tree.specs.Plain.{plain_wires}
@@ -29,7 +29,9 @@ exceeds_in_unit unit place (form.EventInput event) =
 exceeds_in_unit unit place (form.Output output) =
     nat_lt 32 (place - length unit.params - length unit.states - length unit.locals - length unit.inputs - length unit.events_in + 1)
 exceeds_in_unit unit place (form.EventOutput event) =
-    nat_lt 32 (length unit.outputs + 2 * (place - length unit.params - length unit.states - length unit.locals - length unit.inputs - length unit.events_in - length unit.outputs + 1))
+    nat_lt 32
+    (length unit.outputs
+    + 2 * (place - length unit.params - length unit.states - length unit.locals - length unit.inputs - length unit.events_in - length unit.outputs + 1))
 exceeds_in_unit unit place line = false
 
 -- Too many outside of blocks.
@@ -40,7 +42,7 @@ exceeds_on_top system place (form.Connect wire) = nat_lt 2048 (plain_wire_count 
 exceeds_on_top system place (form.Sample port) = nat_lt 2048 (place + 1)
 exceeds_on_top system place line = false
 
--- Rule 16.
+-- Rule 16: there are too many of the line's kind, up to the line.
 abbrev pub exceeds_at : System → Scope → ℕ → LineForm → Bool
 exceeds_at system TopScope place line = exceeds_on_top system place line
 exceeds_at system (UnitScope unit) place line = exceeds_in_unit unit place line

@@ -17,7 +17,7 @@ abbrev pub is_given_deeper : Option Expr → Bool
 is_given_deeper None = false
 is_given_deeper (Some value) = is_deeper value
 
--- Rule 17. An event output is judged by both outputs that it becomes.
+-- Rule 17: an expression is too deep. An event output is judged by both outputs that it becomes.
 abbrev pub is_deep_at : Scope → LineForm → Bool
 is_deep_at (UnitScope unit) (form.EventOutput event) = is_deeper (presence_of event.value) || is_deeper (word_expression_of event.ty event.value)
 is_deep_at scope line = is_given_deeper (expression_on line)
@@ -26,7 +26,7 @@ is_deep_at scope line = is_given_deeper (expression_on line)
 abbrev pub is_dearer : Expr → Bool
 is_dearer value = nat_lt 100000 (expression_call_cost value)
 
--- Rule 18.
+-- Rule 18: a call costs too much.
 abbrev pub is_dear_at : Scope → LineForm → Bool
 is_dear_at (UnitScope unit) (form.Output output) = is_dearer output.value
 is_dear_at (UnitScope unit) (form.EventOutput event) = is_dearer (presence_of event.value) || is_dearer (word_expression_of event.ty event.value)

@@ -26,20 +26,21 @@ abbrev pub declares_again : Unit → ℕ → Option (List ℕ) → Bool
 declares_again unit place None = false
 declares_again unit place (Some name) = is_before place (first_place (declared_names unit) name)
 
--- Rule 8.
+-- Rule 8: a name is declared again.
 abbrev pub redeclares_at : System → Scope → ℕ → LineForm → Bool
 redeclares_at system TopScope place (form.Unit name) = is_before place (first_place (map (λ unit. unit.name) system.units) name)
 redeclares_at system TopScope place (form.Instance name unit) = is_before place (first_place (map (λ instance. instance.name) system.instances) name)
 redeclares_at system (UnitScope unit) place line = declares_again unit place (name_declared line)
 redeclares_at system scope place line = false
 
--- Rule 13.
+-- Rule 13: an input is connected again.
 abbrev pub connects_again_at : System → ℕ → LineForm → Bool
 connects_again_at system place (form.Connect wire) = is_before place (first_port (map (λ wire. wire.to) system.wires) wire.to)
 connects_again_at system place line = false
 
--- Rule 24.
+-- Rule 24: a parameter is set again, a port is sampled again, or a need is named twice.
 abbrev pub repeats_at : System → Scope → ℕ → LineForm → Bool
-repeats_at system (InstanceScope instance) place (form.Setting setting) = is_before place (first_place (map (λ setting. setting.name) instance.settings) setting.name)
+repeats_at system (InstanceScope instance) place (form.Setting setting) =
+    is_before place (first_place (map (λ setting. setting.name) instance.settings) setting.name)
 repeats_at system scope place (form.Sample port) = is_before place (first_port system.samples port)
 repeats_at system scope place line = repeats_need line

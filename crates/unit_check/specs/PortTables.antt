@@ -5,11 +5,7 @@ use Rattle.std.specs.Str.{bytes_eq}
 use Rattle.indexmap.specs.IndexMap.{IndexMap, get_by}
 use Rattle.unit_check.specs.Places.{first_port}
 use Rattle.unit_tree.specs.declared.system.PortName.{PortName}
-
--- The first of two, where there is one.
-abbrev pub the_first : {A : Type 0} → Option A → Option A → Option A
-the_first None other = other
-the_first (Some one) other = Some one
+use Rattle.list_laws.specs.Options.{the_first}
 
 -- What a table finds by the names of a port.
 abbrev pub found_port : {S : Type 0} → IndexMap (Bor (List ℕ) × Bor (List ℕ)) ℕ S → PortName → Option ℕ

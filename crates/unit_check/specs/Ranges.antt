@@ -39,12 +39,12 @@ literal_read system scope (form.Input input) = Some (word_read input.ty input.st
 literal_read system (InstanceScope instance) (form.Setting setting) = option_map (λ ty. word_read ty setting.value) (setting_type system instance setting.name)
 literal_read system scope _ = None
 
--- Rule 10.
+-- Rule 10: a kind is wrong, version 1 speaks of events, or a literal has the wrong form.
 abbrev pub is_of_wrong_kind_at : System → Scope → LineForm → Bool
 is_of_wrong_kind_at system scope line =
     mistakes_kind scope line || (((system.version == 1) && tail_speaks_of_events (tail_of line)) || on_literal is_misformed (literal_read system scope line))
 
--- Rule 11.
+-- Rule 11: a literal is out of its type's range.
 abbrev pub is_out_of_range_at : System → Scope → LineForm → Bool
 is_out_of_range_at system scope line = on_literal is_beyond (literal_read system scope line)
 
@@ -58,7 +58,7 @@ has_few_places (literal.Number number decimals) = nat_le decimals 9
 abbrev pub is_length_read : ℕ → ℕ → Literal → Bool
 is_length_read least resolution seconds = (nat_le resolution 9 && has_few_places seconds) && is_length least (seconds_of resolution seconds)
 
--- Rule 20.
+-- Rule 20: `stop` or `longest` is no whole number of ticks, or not in its range.
 abbrev pub mistimes_at : System → LineForm → Bool
 mistimes_at system (form.Stop seconds) = not (is_length_read 0 (resolution_of system) seconds)
 mistimes_at system (form.Longest seconds) = not (is_length_read 1 (resolution_of system) seconds)

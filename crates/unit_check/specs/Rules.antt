@@ -13,7 +13,9 @@ use Rattle.unit_check.specs.declared.walk.Stop.{Stop}
 use Rattle.unit_check.specs.declared.walk.Stop.TheVariants as stop
 use Rattle.unit_tree.specs.Sites.{Site}
 use Rattle.unit_tree.specs.WellFormed as well_formed
-use Rattle.unit_tree.specs.WellFormed.{Refusal, rule, redeclares, misnames, is_of_wrong_kind, is_out_of_range, hides_need, connects_again, joins_other_types, exceeds, has_deep_expression, costs_too_much, lacks_stop, mistimes, has_too_many_rows, assigns_read_only, lacks_instance, repeats_itself, refusal_of}
+use Rattle.unit_tree.specs.WellFormed.{Refusal, rule, redeclares, misnames, is_of_wrong_kind, is_out_of_range, hides_need, connects_again, joins_other_types}
+use Rattle.unit_tree.specs.WellFormed.{exceeds, has_deep_expression, costs_too_much, lacks_stop, mistimes, has_too_many_rows, assigns_read_only, lacks_instance}
+use Rattle.unit_tree.specs.WellFormed.{repeats_itself, refusal_of}
 use Rattle.unit_tree.specs.declared.system.System.{System}
 
 -- The number of a rule.
@@ -35,7 +37,7 @@ number_of by.TargetsMayChange = 22
 number_of by.InstanceIsThere = 23
 number_of by.NothingRepeats = 24
 
--- The test of a line that breaks the rule.
+-- The test of a line that breaks the rule, as `WellFormed` has it under the number of the rule.
 unfoldable pub breaks_of : SystemRule → System → Site → Bool
 breaks_of by.NamesDiffer = redeclares
 breaks_of by.NamesAreDeclared = λ system site. misnames system site.scope site.line
@@ -55,7 +57,7 @@ breaks_of by.InstanceIsThere = λ system site. lacks_instance system site.line
 breaks_of by.NothingRepeats = repeats_itself
 
 -- The rule as the definitions have it.
-abbrev pub defined : SystemRule → well_formed.SystemRule
+abbrev pub defined : SystemRule → well_formed.Rule
 defined some = rule (number_of some) (breaks_of some)
 
 -- The same test, by the place of the line.
@@ -86,7 +88,7 @@ all_rules =
     ∷ by.RowsFit ∷ by.TargetsMayChange ∷ by.InstanceIsThere ∷ by.NothingRepeats
     ∷ []
 
-abbrev pub judged : List well_formed.SystemRule
+abbrev pub judged : List well_formed.Rule
 judged = map defined all_rules
 
 -- ---- What the code answers

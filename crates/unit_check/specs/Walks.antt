@@ -156,7 +156,8 @@ instance_walk test instance =
 abbrev pub instances_walk : Test → ℕ → List Instance → Walk
 instances_walk test place [] number = Ok number
 instances_walk test place (instance ∷ instances) number =
-    (past (test TopScope place (form.Instance instance.name instance.unit)) >=> instance_walk test instance >=> instances_walk test (suc place) instances) number
+    (past (test TopScope place (form.Instance instance.name instance.unit)) >=> instance_walk test instance >=> instances_walk test
+    (suc place) instances) number
 
 -- Along the lines that say how a system is run.
 abbrev pub limits_walk : (LineForm → Bool) → System → Walk

@@ -1,4 +1,4 @@
-//! The rule on how many of a kind there may be.
+//! Rule 16: how many of a kind there may be.
 ghost use Rattle.std.specs.Prelude.{◌≡◌, ◌+◌, ◌-◌, ◌*◌, nat_lt, length};
 ghost use Rattle.unit_check.specs.Counts.{exceeds_in_unit, exceeds_on_top, exceeds_at};
 ghost use Rattle.unit_check.specs.Walks.{scope_of, form_of};
@@ -34,7 +34,7 @@ fn are_too_many_ports(plain: usize, place: usize) -> bool
     plain as u128 + 2 * (place as u128 + 1) > 32
 }
 
-/// Rule 16, in a unit.
+/// Rule 16, in a unit: whether there are too many declarations of the line's sort, up to the line.
 fn exceeds_in_unit(unit: &Unit, place: usize, line: FormRef<'_>) -> bool
     ensures { result ≡ exceeds_in_unit unit.now place (form_of line.entry) }
 {
@@ -61,7 +61,7 @@ fn exceeds_in_unit(unit: &Unit, place: usize, line: FormRef<'_>) -> bool
     }
 }
 
-/// Rule 16, outside of blocks.
+/// Rule 16, outside of blocks: whether there are too many units, instances, connections or samples, up to the line.
 fn exceeds_on_top(tables: &SystemTables<'_>, place: usize, line: FormRef<'_>) -> bool
     ensures { result ≡ exceeds_on_top tables.now place (form_of line.entry) }
 {
@@ -73,7 +73,7 @@ fn exceeds_on_top(tables: &SystemTables<'_>, place: usize, line: FormRef<'_>) ->
     }
 }
 
-/// Rule 16.
+/// Rule 16: whether there are too many of the line's kind, up to the line.
 pub(crate) fn exceeds(
     tables: &SystemTables<'_>,
     scope: ScopeRef<'_, '_>,

@@ -171,7 +171,7 @@ fn is_misformed_literal(read: Option<Result<i64, LiteralFault>>) -> bool
     }
 }
 
-/// Rule 10.
+/// Rule 10: whether a kind is wrong, or a literal has none of its type's forms.
 pub(crate) fn is_of_wrong_kind(
     names: &SystemNames<'_>,
     scope: ScopeRef<'_, '_>,
@@ -184,7 +184,7 @@ pub(crate) fn is_of_wrong_kind(
             || is_misformed_literal(literal_read(names, scope, line)))
 }
 
-/// Rule 11.
+/// Rule 11: whether a literal is out of its type's range.
 pub(crate) fn is_out_of_range(
     names: &SystemNames<'_>,
     scope: ScopeRef<'_, '_>,

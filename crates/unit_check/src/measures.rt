@@ -52,7 +52,7 @@ fn is_deep_line(line: FormRef<'_>) -> bool
     }
 }
 
-/// Rule 17.
+/// Rule 17: whether an expression is too deep.
 pub(crate) fn has_deep_expression(scope: ScopeRef<'_, '_>, line: FormRef<'_>) -> bool
     ensures { result ≡ is_deep_at (scope_of scope.entry) (form_of line.entry) }
 {
@@ -89,7 +89,7 @@ fn is_dear_step(step: &Option<List<Line>>) -> bool
     }
 }
 
-/// Rule 18.
+/// Rule 18: whether a call costs too much.
 pub(crate) fn costs_too_much(scope: ScopeRef<'_, '_>, line: FormRef<'_>) -> bool
     ensures { result ≡ is_dear_at (scope_of scope.entry) (form_of line.entry) }
 {

@@ -58,7 +58,7 @@ fn redeclares_in_unit(unit: &UnitNames<'_>, place: usize, line: FormRef<'_>) -> 
     }
 }
 
-/// Rule 8.
+/// Rule 8: whether a name is declared again.
 pub(crate) fn redeclares(
     names: &SystemNames<'_>,
     scope: ScopeRef<'_, '_>,
@@ -162,7 +162,7 @@ fn misnames_on_top(names: &SystemNames<'_>, line: FormRef<'_>) -> bool
     }
 }
 
-/// Rule 9.
+/// Rule 9: whether a name isn't there, or may not be used.
 pub(crate) fn misnames(names: &SystemNames<'_>, scope: ScopeRef<'_, '_>, line: FormRef<'_>) -> bool
     ensures { result ≡ misnames names.now (scope_of scope.entry) (form_of line.entry) }
 {
@@ -174,7 +174,7 @@ pub(crate) fn misnames(names: &SystemNames<'_>, scope: ScopeRef<'_, '_>, line: F
     }
 }
 
-/// Rule 12.
+/// Rule 12: whether an output uses an input that is none of its needs.
 pub(crate) fn hides_need(scope: ScopeRef<'_, '_>, line: FormRef<'_>) -> bool
     ensures { result ≡ hides_need (scope_of scope.entry) (form_of line.entry) }
 {
@@ -189,7 +189,7 @@ pub(crate) fn hides_need(scope: ScopeRef<'_, '_>, line: FormRef<'_>) -> bool
     }
 }
 
-/// Rule 22.
+/// Rule 22: whether what can't change is assigned.
 pub(crate) fn assigns_read_only(scope: ScopeRef<'_, '_>, line: FormRef<'_>) -> bool
     ensures { result ≡ assigns_read_only (scope_of scope.entry) (form_of line.entry) }
 {

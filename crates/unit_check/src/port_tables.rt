@@ -1,6 +1,7 @@
 //! Tables of ports.
 ghost use Rattle.std.specs.Prelude.{◌≡◌, IfOk, Some, None, cond, map};
-ghost use Rattle.unit_check.specs.PortTables.{found_port, the_first, FindsPorts};
+ghost use Rattle.list_laws.specs.Options.{the_first};
+ghost use Rattle.unit_check.specs.PortTables.{found_port, FindsPorts};
 ghost use Rattle.unit_tree.specs.Names.{same_port};
 ghost use Rattle.unit_tree.specs.declared.system.PortName.{PortName};
 

@@ -28,7 +28,7 @@ fn first_setting(settings: &[Setting], name: &Name) -> Option<usize>
     None
 }
 
-/// Rule 13.
+/// Rule 13: whether a connection leads to an input that is connected before.
 pub(crate) fn connects_again(tables: &SystemTables<'_>, place: usize, line: FormRef<'_>) -> bool
     ensures { result ≡ connects_again_at tables.now place (form_of line.entry) }
 {
@@ -84,7 +84,7 @@ fn joins_other_ports(names: &SystemNames<'_>, wire: &Wire) -> bool
     differ(names.output_at(&wire.from), names.input_at(&wire.to))
 }
 
-/// Rule 14.
+/// Rule 14: whether the ends of a connection have other types, or one alone is an event port.
 pub(crate) fn joins_other_types(names: &SystemNames<'_>, line: FormRef<'_>) -> bool
     ensures { result ≡ joins_other_types names.now (form_of line.entry) }
 {
@@ -107,7 +107,7 @@ fn sets_again(scope: ScopeRef<'_, '_>, place: usize, setting: &Setting) -> bool
     }
 }
 
-/// Rule 24.
+/// Rule 24: whether a thing is set, sampled or needed twice.
 pub(crate) fn repeats(
     tables: &SystemTables<'_>,
     scope: ScopeRef<'_, '_>,

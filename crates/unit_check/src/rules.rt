@@ -12,45 +12,45 @@ use crate::run_lines::{has_too_many_rows, lacks_instance, lacks_stop, mistimes};
 use crate::tables::SystemTables;
 use crate::walk::{FormRef, ScopeRef};
 
-/// A rule of a system.
+/// A rule of a system. Each has the number under which a refusal names it; 15, on cycles, is judged by the order of outputs.
 #[derive(Clone, Copy, Debug, PartialEq, Eq)]
 pub(crate) enum SystemRule {
-    /// Names of units, of instances, and in one unit differ.
+    /// Rule 8: names of units, of instances, and in one unit differ.
     NamesDiffer,
-    /// Names are declared, and may be used where they are.
+    /// Rule 9: names are declared, and may be used where they are.
     NamesAreDeclared,
-    /// Expressions have the kinds that are asked for, and literals the forms of their types.
+    /// Rule 10: expressions have the kinds that are asked for, and literals the forms of their types.
     KindsFit,
-    /// Literals are in the ranges of their types.
+    /// Rule 11: literals are in the ranges of their types.
     LiteralsFit,
-    /// Outputs use no inputs but their needs.
+    /// Rule 12: outputs use no inputs but their needs.
     NeedsAreNamed,
-    /// An input is connected once.
+    /// Rule 13: an input is connected once.
     InputsConnectOnce,
-    /// The ends of a connection have one type.
+    /// Rule 14: the ends of a connection have one type.
     EndsMatch,
-    /// There are not too many of a kind.
+    /// Rule 16: there are not too many of a kind.
     CountsFit,
-    /// No expression is too deep.
+    /// Rule 17: no expression is too deep.
     DepthFits,
-    /// No call costs too much.
+    /// Rule 18: no call costs too much.
     CostFits,
-    /// There is a `stop`.
+    /// Rule 19: there is a `stop`.
     StopIsThere,
-    /// `stop` and `longest` are whole numbers of ticks.
+    /// Rule 20: `stop` and `longest` are whole numbers of ticks.
     TimesAreTicks,
-    /// There are not too many rows for so many instances.
+    /// Rule 21: there are not too many rows for so many instances.
     RowsFit,
-    /// What is assigned may change.
+    /// Rule 22: what is assigned may change.
     TargetsMayChange,
-    /// There is an instance.
+    /// Rule 23: there is an instance.
     InstanceIsThere,
-    /// Nothing is set, sampled or needed twice.
+    /// Rule 24: nothing is set, sampled or needed twice.
     NothingRepeats,
 }
 
 impl SystemRule {
-    /// Its number.
+    /// Its number in a refusal.
     pub(crate) fn number(self) -> u8
         ensures { result ≡ number_of self }
     {
@@ -86,22 +86,23 @@ pub(crate) fn breaks(
 ) -> bool
     ensures { result ≡ test_of rule tables.now (scope_of scope.entry) place (form_of line.entry) }
 {
+    let names = tables.names();
     match rule {
-        SystemRule::NamesDiffer => redeclares(tables.names(), scope, place, line),
-        SystemRule::NamesAreDeclared => misnames(tables.names(), scope, line),
-        SystemRule::KindsFit => is_of_wrong_kind(tables.names(), scope, line),
-        SystemRule::LiteralsFit => is_out_of_range(tables.names(), scope, line),
+        SystemRule::NamesDiffer => redeclares(names, scope, place, line),
+        SystemRule::NamesAreDeclared => misnames(names, scope, line),
+        SystemRule::KindsFit => is_of_wrong_kind(names, scope, line),
+        SystemRule::LiteralsFit => is_out_of_range(names, scope, line),
         SystemRule::NeedsAreNamed => hides_need(scope, line),
         SystemRule::InputsConnectOnce => connects_again(tables, place, line),
-        SystemRule::EndsMatch => joins_other_types(tables.names(), line),
+        SystemRule::EndsMatch => joins_other_types(names, line),
         SystemRule::CountsFit => exceeds(tables, scope, place, line),
         SystemRule::DepthFits => has_deep_expression(scope, line),
         SystemRule::CostFits => costs_too_much(scope, line),
-        SystemRule::StopIsThere => lacks_stop(tables.names(), line),
-        SystemRule::TimesAreTicks => mistimes(tables.names(), line),
-        SystemRule::RowsFit => has_too_many_rows(tables.names(), line),
+        SystemRule::StopIsThere => lacks_stop(names, line),
+        SystemRule::TimesAreTicks => mistimes(names, line),
+        SystemRule::RowsFit => has_too_many_rows(names, line),
         SystemRule::TargetsMayChange => assigns_read_only(scope, line),
-        SystemRule::InstanceIsThere => lacks_instance(tables.names(), line),
+        SystemRule::InstanceIsThere => lacks_instance(names, line),
         SystemRule::NothingRepeats => repeats(tables, scope, place, line),
     }
 }

@@ -92,9 +92,10 @@ impl<'a> SystemTables<'a> {
     pub(crate) fn new(alloc: Global, system: &'a System) -> Result<SystemTables<'a>, NoMemory>
         ensures { IfOk result (λ tables. tables ≡ system.now) }
     {
-        let names = SystemNames::new(alloc, system)?;
+        // The names come last: a proof grows by what is dropped on a way out.
         let connected = places_of_connections(alloc, system.wires.as_slice())?;
         let sampled = places_of_samples(alloc, system.samples.as_slice())?;
+        let names = SystemNames::new(alloc, system)?;
         let wire_too_many = first_wire_too_many(&names);
         Ok(SystemTables {
             names,

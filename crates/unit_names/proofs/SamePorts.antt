@@ -20,7 +20,8 @@ from_on : (test : List ℕ → Bool) (from found : ℕ) (names : List (List ℕ)
 from_on test from found [] is = absurd (cc)
 from_on test from found (name ∷ names) is = step (test name) (from_on test (from + 1) found names) is
   where
-    step : (passes : Bool) → (position_from test (from + 1) names ≡ Some found → from + 1 ≤ found) → cond passes (Some from) (position_from test (from + 1) names) ≡ Some found → from ≤ found
+    step : (passes : Bool) → (position_from test (from + 1) names ≡ Some found → from + 1 ≤ found)
+        → cond passes (Some from) (position_from test (from + 1) names) ≡ Some found → from ≤ found
     step true rest here = let same : from ≡ found = cc in omega arith
     step false rest there = let behind = rest there in omega arith
 
@@ -43,14 +44,17 @@ turned one other = step (bytes_eq one other) (bytes_eq other one) refl refl
     step false true is also = let back = bytes_of one other (sym (same_bytes other one also)) in absurd (cc)
 
 -- Two names that stand in a list are equal exactly where their first places are.
-pub by_places : (from : ℕ) (names : List (List ℕ)) (one other : List ℕ) (i j : ℕ) → position_from (bytes_eq one) from names ≡ Some i → position_from (bytes_eq other) from names ≡ Some j → bytes_eq one other ≡ nat_eq i j
+pub by_places : (from : ℕ) (names : List (List ℕ)) (one other : List ℕ) (i j : ℕ) → position_from (bytes_eq one) from names ≡ Some i
+    → position_from (bytes_eq other) from names ≡ Some j → bytes_eq one other ≡ nat_eq i j
 by_places from [] one other i j is also = absurd (cc)
-by_places from (name ∷ names) one other i j is also = step (bytes_eq one name) (bytes_eq other name) (by_places (from + 1) names one other i j) refl refl is also
+by_places from (name ∷ names) one other i j is also =
+    step (bytes_eq one name) (bytes_eq other name) (by_places (from + 1) names one other i j) refl refl is also
   where
     step : (this that : Bool)
         → (position_from (bytes_eq one) (from + 1) names ≡ Some i → position_from (bytes_eq other) (from + 1) names ≡ Some j → bytes_eq one other ≡ nat_eq i j)
         → bytes_eq one name ≡ this → bytes_eq other name ≡ that
-        → cond this (Some from) (position_from (bytes_eq one) (from + 1) names) ≡ Some i → cond that (Some from) (position_from (bytes_eq other) (from + 1) names) ≡ Some j
+        → cond this (Some from) (position_from (bytes_eq one) (from + 1) names) ≡ Some i
+        → cond that (Some from) (position_from (bytes_eq other) (from + 1) names) ≡ Some j
         → bytes_eq one other ≡ nat_eq i j
     step true true rest this that at_i at_j =
         let equal = bytes_of one other (same_bytes one name this ∙ sym (same_bytes other name that)) in
@@ -69,7 +73,8 @@ by_places from (name ∷ names) one other i j is also = step (bytes_eq one name)
 
 -- ---- Ports
 
-port_place : (ports : List Port) (q : List ℕ) (found : Declared) → port_among ports q ≡ Some found → position_from (bytes_eq q) 0 (map (λ (one : Named). one.name) (map port_as_named ports)) ≡ Some found.place
+port_place : (ports : List Port) (q : List ℕ) (found : Declared) → port_among ports q ≡ Some found
+    → position_from (bytes_eq q) 0 (map (λ (one : Named). one.name) (map port_as_named ports)) ≡ Some found.place
 port_place ports q found is = sym (stands_at 0 (map port_as_named ports) q) ∙ ap (option_map (λ (one : Declared). one.place)) is
 
 pub record Inside {U : Type 0} (ports : U → List Port) (at : Option U) (q : List ℕ) (found : Declared) : Type 0 where
@@ -77,12 +82,14 @@ pub record Inside {U : Type 0} (ports : U → List Port) (at : Option U) (q : Li
   pub is : at ≡ Some one
   pub stands : port_among (ports one) q ≡ Some found
 
-inside : {U : Type 0} (ports : U → List Port) (at : Option U) (q : List ℕ) (found : Declared) → option_and_then (λ unit. port_among (ports unit) q) at ≡ Some found → Inside ports at q found
+inside : {U : Type 0} (ports : U → List Port) (at : Option U) (q : List ℕ) (found : Declared)
+    → option_and_then (λ unit. port_among (ports unit) q) at ≡ Some found → Inside ports at q found
 inside ports None q found is = absurd (cc)
 inside ports (Some one) q found is = record { one = one; is = refl; stands = is }
 
 unit_by_name : (system : System) (one other : PortName) → bytes_eq one.instance other.instance ≡ true → unit_at system one ≡ unit_at system other
-unit_by_name system one other is = ap (λ name. option_and_then (unit_of_instance system) (instance_named system name)) (same_bytes one.instance other.instance is)
+unit_by_name system one other is =
+    ap (λ name. option_and_then (unit_of_instance system) (instance_named system name)) (same_bytes one.instance other.instance is)
 
 -- Two ports that resolve are the same exactly where the first places of their instances and their own places are equal.
 resolved : (ports : Unit → List Port) (system : System) (one other : PortName) (i j : ℕ) (a b : Declared)
@@ -96,7 +103,8 @@ resolved ports system one other i j a b at_i at_j at_a at_b =
     instances : bytes_eq one.instance other.instance ≡ nat_eq i j
     instances = by_places 0 (instance_names system) one.instance other.instance i j at_i at_j
 
-    step : (same equal : Bool) → bytes_eq one.instance other.instance ≡ same → same ≡ equal → (equal && bytes_eq one.port other.port) ≡ (equal && nat_eq a.place b.place)
+    step : (same equal : Bool) → bytes_eq one.instance other.instance ≡ same → same ≡ equal
+        → (equal && bytes_eq one.port other.port) ≡ (equal && nat_eq a.place b.place)
     step true true is also =
         let first = inside ports (unit_at system one) one.port a at_a in
         let second = inside ports (unit_at system other) other.port b at_b in

@@ -9,10 +9,12 @@ use Rattle.std.specs.Option.{option_map}
 use Rattle.std.specs.Cmp.Lexicographic.{nat_list_eq_equiv}
 use Rattle.fixed_words.specs.declared.types.Ty.{Ty}
 use Rattle.unit_tree.specs.Components.{variable}
-use Rattle.unit_tree.specs.Names.{is_among, declared_in, type_among, type_in, input_ports, output_ports, input_names, output_names, param_names, shared_names, param_named, event_input_names}
+use Rattle.unit_tree.specs.Names.{is_among, declared_in, type_among, type_in, input_ports, output_ports, input_names, output_names, param_names, shared_names}
+use Rattle.unit_tree.specs.Names.{param_named, event_input_names}
 use Rattle.unit_tree.specs.declared.environment.Variable.{Variable}
 use Rattle.unit_tree.specs.declared.unit.Unit.{Unit}
-use Rattle.unit_names.specs.Entries.{Named, port_as_named, params_named, locals_named, events_in_named, lines_named, types_named, shared_named, all_inputs_named, all_outputs_named}
+use Rattle.unit_names.specs.Entries.{Named, port_as_named, params_named, locals_named, events_in_named, lines_named, types_named, shared_named}
+use Rattle.unit_names.specs.Entries.{all_inputs_named, all_outputs_named}
 use Rattle.unit_names.specs.Found.{declared_from, declared_among, declared_names, first_place, port_among}
 use Rattle.unit_names.specs.declared.tables.Declared.{Declared}
 
@@ -35,7 +37,8 @@ stands_from place [] q = refl
 stands_from place (first ∷ others) q = step (bytes_eq q first.name) (stands_from (place + 1) others q)
   where
     step : (same : Bool) → is_some (declared_from (place + 1) others q) ≡ list_any (bytes_eq q) (map name_of others)
-        → is_some (cond same (Some (record { place = place; ty = first.ty; is_event = first.is_event })) (declared_from (place + 1) others q)) ≡ (same || list_any (bytes_eq q) (map name_of others))
+        → is_some (cond same (Some (record { place = place; ty = first.ty; is_event = first.is_event })) (declared_from (place + 1) others q))
+        ≡ (same || list_any (bytes_eq q) (map name_of others))
     step true rest = refl
     step false rest = rest
 
@@ -44,24 +47,32 @@ pub stands : (all : List Named) (q : List ℕ) → is_some (declared_among all q
 stands all q = stands_from 0 all q
 
 -- It is found at its first place.
-pub stands_at : (place : ℕ) (all : List Named) (q : List ℕ) → option_map place_of (declared_from place all q) ≡ position_from (bytes_eq q) place (map name_of all)
+pub stands_at : (place : ℕ) (all : List Named) (q : List ℕ)
+    → option_map place_of (declared_from place all q) ≡ position_from (bytes_eq q) place (map name_of all)
 stands_at place [] q = refl
 stands_at place (first ∷ others) q = step (bytes_eq q first.name) (stands_at (place + 1) others q)
   where
     step : (same : Bool) → option_map place_of (declared_from (place + 1) others q) ≡ position_from (bytes_eq q) (place + 1) (map name_of others)
-        → option_map place_of (cond same (Some (record { place = place; ty = first.ty; is_event = first.is_event })) (declared_from (place + 1) others q)) ≡ cond same (Some place) (position_from (bytes_eq q) (place + 1) (map name_of others))
+        → option_map place_of (cond same (Some (record { place = place; ty = first.ty; is_event = first.is_event })) (declared_from (place + 1) others q))
+        ≡ cond same (Some place) (position_from (bytes_eq q) (place + 1) (map name_of others))
     step true rest = refl
     step false rest = rest
 
 -- It is found with the type of the first thing that has it.
 typed_from : {D : Type 0} (name : D → List ℕ) (ty : D → Ty) (event : Bool) (place : ℕ) (all : List D) (q : List ℕ)
-    → option_map type_of (declared_from place (map (λ d. record { name = name d; ty = ty d; is_event = event }) all) q) ≡ option_map ty (find (λ d. bytes_eq (name d) q) all)
+    → option_map type_of (declared_from place (map (λ d. record { name = name d; ty = ty d; is_event = event }) all) q)
+    ≡ option_map ty (find (λ d. bytes_eq (name d) q) all)
 typed_from name ty event place [] q = refl
 typed_from name ty event place (first ∷ others) q =
     step (bytes_eq q (name first)) (bytes_eq (name first) q) (nat_list_eq_equiv.symm q (name first)) (typed_from name ty event (place + 1) others q)
   where
-    step : (asked stored : Bool) → asked ≡ stored → option_map type_of (declared_from (place + 1) (map (λ d. record { name = name d; ty = ty d; is_event = event }) others) q) ≡ option_map ty (find (λ d. bytes_eq (name d) q) others)
-        → option_map type_of (cond asked (Some (record { place = place; ty = ty first; is_event = event })) (declared_from (place + 1) (map (λ d. record { name = name d; ty = ty d; is_event = event }) others) q)) ≡ option_map ty (cond stored (Some first) (find (λ d. bytes_eq (name d) q) others))
+    step : (asked stored : Bool) → asked ≡ stored
+        → option_map type_of (declared_from (place + 1) (map (λ d. record { name = name d; ty = ty d; is_event = event }) others) q)
+        ≡ option_map ty (find (λ d. bytes_eq (name d) q) others)
+        → option_map type_of
+        (cond asked (Some (record { place = place; ty = ty first; is_event = event }))
+        (declared_from (place + 1) (map (λ d. record { name = name d; ty = ty d; is_event = event }) others) q))
+        ≡ option_map ty (cond stored (Some first) (find (λ d. bytes_eq (name d) q) others))
     step true true same rest = refl
     step false false same rest = rest
     step true false same rest = absurd (cc)
@@ -73,7 +84,9 @@ types_from place (first ∷ others) q =
     step (bytes_eq q first.name) (bytes_eq first.name q) (nat_list_eq_equiv.symm q first.name) (types_from (place + 1) others q)
   where
     step : (asked stored : Bool) → asked ≡ stored → option_map type_of (declared_from (place + 1) others q) ≡ type_among (map variable_of others) q
-        → option_map type_of (cond asked (Some (record { place = place; ty = first.ty; is_event = first.is_event })) (declared_from (place + 1) others q)) ≡ option_map (λ (declared : Variable). declared.ty) (cond stored (Some (variable_of first)) (find (λ (declared : Variable). bytes_eq declared.name q) (map variable_of others)))
+        → option_map type_of (cond asked (Some (record { place = place; ty = first.ty; is_event = first.is_event })) (declared_from (place + 1) others q))
+        ≡ option_map (λ (declared : Variable). declared.ty)
+        (cond stored (Some (variable_of first)) (find (λ (declared : Variable). bytes_eq declared.name q) (map variable_of others)))
     step true true same rest = refl
     step false false same rest = rest
     step true false same rest = absurd (cc)
@@ -88,7 +101,8 @@ types_are unit = simp (map-append, map-map, append_assoc)
 pub type_found : (unit : Unit) (q : List ℕ) → option_map type_of (declared_among (types_named unit) q) ≡ type_in unit q
 type_found unit q = types_from 0 (types_named unit) q ∙ ap (λ variables. type_among variables q) (types_are unit)
 
-pub param_found : (unit : Unit) (q : List ℕ) → option_map type_of (declared_among (params_named unit.params) q) ≡ option_map (λ param. param.ty) (param_named q unit)
+pub param_found : (unit : Unit) (q : List ℕ)
+    → option_map type_of (declared_among (params_named unit.params) q) ≡ option_map (λ param. param.ty) (param_named q unit)
 param_found unit q = typed_from (λ param. param.name) (λ param. param.ty) false 0 unit.params q
 
 pub line_names : (unit : Unit) → map name_of (lines_named unit) ≡ declared_names unit
@@ -145,7 +159,8 @@ input_found unit q = ap (λ all. declared_among all q) (inputs_are unit)
 pub output_found : (unit : Unit) (q : List ℕ) → port_among (output_ports unit) q ≡ declared_among (all_outputs_named unit) q
 output_found unit q = ap (λ all. declared_among all q) (outputs_are unit)
 
-pub among_three : (one other third : List (List ℕ)) (q : List ℕ) → is_among (one ++ other ++ third) q ≡ ((is_among one q || is_among other q) || is_among third q)
+pub among_three : (one other third : List (List ℕ)) (q : List ℕ)
+    → is_among (one ++ other ++ third) q ≡ ((is_among one q || is_among other q) || is_among third q)
 among_three one other third q = list_any-append (bytes_eq q) (one ++ other) third ∙ ap (λ b. b || is_among third q) (list_any-append (bytes_eq q) one other)
 
 pub among_two : (one other : List (List ℕ)) (q : List ℕ) → is_among (one ++ other) q ≡ (is_among one q || is_among other q)

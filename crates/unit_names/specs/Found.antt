@@ -9,6 +9,7 @@ use Rattle.unit_names.specs.declared.tables.Declared.{Declared}
 use Rattle.unit_names.specs.declared.tables.Entry.{Entry}
 use Rattle.unit_tree.specs.Names.{Port}
 use Rattle.unit_tree.specs.declared.unit.Unit.{Unit}
+use Rattle.list_laws.specs.Options.{the_first}
 
 -- The first place of a name in a list, from 0.
 abbrev pub first_place : List (List ℕ) → List ℕ → Option ℕ
@@ -41,11 +42,6 @@ declared_among all name = declared_from 0 all name
 -- The first port of a name, with its place among the ports.
 abbrev pub port_among : List Port → List ℕ → Option Declared
 port_among ports name = declared_among (map port_as_named ports) name
-
--- The first of two, where there is one.
-abbrev pub the_first : {A : Type 0} → Option A → Option A → Option A
-the_first None other = other
-the_first (Some one) other = Some one
 
 -- An entry of a table's list, as it is named.
 abbrev pub as_named : Entry → Named

@@ -1,110 +1,128 @@
 //! A unit's declarations in the lists of which its tables are made.
 ghost use Rattle.std.specs.Prelude.{◌≡◌, ◌++◌, OnOk, IfOk, map};
-ghost use Rattle.unit_names.specs.Entries.{params_named, states_named, locals_named, inputs_named, events_in_named, outputs_named, events_out_named, lines_named, types_named, shared_named, all_inputs_named, all_outputs_named};
+ghost use Rattle.unit_names.specs.Entries.{named, event, params_named, locals_named, events_in_named, lines_named, types_named, shared_named, all_inputs_named, all_outputs_named};
 ghost use Rattle.unit_names.specs.Found.{as_named, Finds};
 
 use crate::tables::{Entry, Table, table_of};
-use fixed_words::NoMemory;
+use fixed_words::{NoMemory, Ty};
 use std::alloc::Global;
-use unit_tree::{EventIn, EventOut, Input, Local, Output, Param, State, Unit};
+use unit_tree::{EventIn, EventOut, Input, Local, Name, Output, Param, State, Unit};
 
-/// Adds a unit's parameters.
-fn put_params<'a>(entries: &mut Vec<Entry<'a>>, params: &'a [Param]) -> Result<(), NoMemory>
-    ensures { OnOk result (map as_named entries.new.items ≡ map as_named entries.old.items ++ params_named params.now) }
-{
-    for param in params {
-        entries.push(Entry {
-            name: param.name.as_slice(),
-            ty: param.ty,
-            is_event: false,
-        })?;
-    }
-    Ok(())
+/// What a unit declares by a name and a type.
+trait Declaration {
+    ghost use Rattle.std.specs.Prelude.{◌≡◌};
+    ghost use Rattle.unit_names.specs.Entries.{Named};
+    ghost use Rattle.unit_names.specs.Found.{as_named};
+
+    /// The declaration, as it is named.
+    ghost named_by: { Self → Named };
+
+    /// Its name and its type, and whether it is an event port.
+    fn entry(&self) -> Entry<'_>
+        ensures { as_named result ≡ named_by self.now };
 }
 
-/// Adds its states.
-fn put_states<'a>(entries: &mut Vec<Entry<'a>>, states: &'a [State]) -> Result<(), NoMemory>
-    ensures { OnOk result (map as_named entries.new.items ≡ map as_named entries.old.items ++ states_named states.now) }
+/// What is declared by a line without `event`.
+fn plain(name: &Name, ty: Ty) -> Entry<'_>
+    ensures { as_named result ≡ named name.now ty }
 {
-    for state in states {
-        entries.push(Entry {
-            name: state.name.as_slice(),
-            ty: state.ty,
-            is_event: false,
-        })?;
+    Entry {
+        name: name.as_slice(),
+        ty,
+        is_event: false,
     }
-    Ok(())
 }
 
-/// Adds its locals.
-fn put_locals<'a>(entries: &mut Vec<Entry<'a>>, locals: &'a [Local]) -> Result<(), NoMemory>
-    ensures { OnOk result (map as_named entries.new.items ≡ map as_named entries.old.items ++ locals_named locals.now) }
+/// An event port.
+fn event(name: &Name, ty: Ty) -> Entry<'_>
+    ensures { as_named result ≡ event name.now ty }
 {
-    for local in locals {
-        entries.push(Entry {
-            name: local.name.as_slice(),
-            ty: local.ty,
-            is_event: false,
-        })?;
+    Entry {
+        name: name.as_slice(),
+        ty,
+        is_event: true,
     }
-    Ok(())
 }
 
-/// Adds its plain inputs.
-fn put_inputs<'a>(entries: &mut Vec<Entry<'a>>, inputs: &'a [Input]) -> Result<(), NoMemory>
-    ensures { OnOk result (map as_named entries.new.items ≡ map as_named entries.old.items ++ inputs_named inputs.now) }
-{
-    for input in inputs {
-        entries.push(Entry {
-            name: input.name.as_slice(),
-            ty: input.ty,
-            is_event: false,
-        })?;
+impl Declaration for Param {
+    ghost use Rattle.unit_names.specs.Entries.{named};
+
+    ghost named_by = { λ param. named param.name param.ty };
+
+    fn entry(&self) -> Entry<'_> {
+        plain(&self.name, self.ty)
     }
-    Ok(())
 }
 
-/// Adds its event inputs.
-fn put_events_in<'a>(entries: &mut Vec<Entry<'a>>, events_in: &'a [EventIn]) -> Result<(), NoMemory>
-    ensures { OnOk result (map as_named entries.new.items ≡ map as_named entries.old.items ++ events_in_named events_in.now) }
-{
-    for event in events_in {
-        entries.push(Entry {
-            name: event.name.as_slice(),
-            ty: event.ty,
-            is_event: true,
-        })?;
+impl Declaration for State {
+    ghost use Rattle.unit_names.specs.Entries.{named};
+
+    ghost named_by = { λ state. named state.name state.ty };
+
+    fn entry(&self) -> Entry<'_> {
+        plain(&self.name, self.ty)
     }
-    Ok(())
 }
 
-/// Adds its plain outputs.
-fn put_outputs<'a>(entries: &mut Vec<Entry<'a>>, outputs: &'a [Output]) -> Result<(), NoMemory>
-    ensures { OnOk result (map as_named entries.new.items ≡ map as_named entries.old.items ++ outputs_named outputs.now) }
-{
-    for output in outputs {
-        entries.push(Entry {
-            name: output.name.as_slice(),
-            ty: output.ty,
-            is_event: false,
-        })?;
+impl Declaration for Local {
+    ghost use Rattle.unit_names.specs.Entries.{named};
+
+    ghost named_by = { λ local. named local.name local.ty };
+
+    fn entry(&self) -> Entry<'_> {
+        plain(&self.name, self.ty)
     }
-    Ok(())
 }
 
-/// Adds its event outputs.
-fn put_events_out<'a>(
+impl Declaration for Input {
+    ghost use Rattle.unit_names.specs.Entries.{named};
+
+    ghost named_by = { λ input. named input.name input.ty };
+
+    fn entry(&self) -> Entry<'_> {
+        plain(&self.name, self.ty)
+    }
+}
+
+impl Declaration for EventIn {
+    ghost use Rattle.unit_names.specs.Entries.{event};
+
+    ghost named_by = { λ input. event input.name input.ty };
+
+    fn entry(&self) -> Entry<'_> {
+        event(&self.name, self.ty)
+    }
+}
+
+impl Declaration for Output {
+    ghost use Rattle.unit_names.specs.Entries.{named};
+
+    ghost named_by = { λ output. named output.name output.ty };
+
+    fn entry(&self) -> Entry<'_> {
+        plain(&self.name, self.ty)
+    }
+}
+
+impl Declaration for EventOut {
+    ghost use Rattle.unit_names.specs.Entries.{event};
+
+    ghost named_by = { λ output. event output.name output.ty };
+
+    fn entry(&self) -> Entry<'_> {
+        event(&self.name, self.ty)
+    }
+}
+
+/// Adds what is declared, in its order.
+fn put_all<'a, D: Declaration>(
     entries: &mut Vec<Entry<'a>>,
-    events_out: &'a [EventOut],
+    declarations: &'a [D],
 ) -> Result<(), NoMemory>
-    ensures { OnOk result (map as_named entries.new.items ≡ map as_named entries.old.items ++ events_out_named events_out.now) }
+    ensures { OnOk result (map as_named entries.new.items ≡ map as_named entries.old.items ++ map D.named_by declarations.now) }
 {
-    for event in events_out {
-        entries.push(Entry {
-            name: event.name.as_slice(),
-            ty: event.ty,
-            is_event: true,
-        })?;
+    for declaration in declarations {
+        entries.push(declaration.entry())?;
     }
     Ok(())
 }
@@ -114,13 +132,13 @@ pub(crate) fn lines_table<'a>(alloc: Global, unit: &'a Unit) -> Result<Table<'a>
     ensures { IfOk result (Finds (lines_named unit.now)) }
 {
     let mut entries = Vec::new(alloc);
-    put_params(&mut entries, unit.params.as_slice())?;
-    put_states(&mut entries, unit.states.as_slice())?;
-    put_locals(&mut entries, unit.locals.as_slice())?;
-    put_inputs(&mut entries, unit.inputs.as_slice())?;
-    put_events_in(&mut entries, unit.events_in.as_slice())?;
-    put_outputs(&mut entries, unit.outputs.as_slice())?;
-    put_events_out(&mut entries, unit.events_out.as_slice())?;
+    put_all(&mut entries, unit.params.as_slice())?;
+    put_all(&mut entries, unit.states.as_slice())?;
+    put_all(&mut entries, unit.locals.as_slice())?;
+    put_all(&mut entries, unit.inputs.as_slice())?;
+    put_all(&mut entries, unit.events_in.as_slice())?;
+    put_all(&mut entries, unit.outputs.as_slice())?;
+    put_all(&mut entries, unit.events_out.as_slice())?;
     table_of(alloc, entries.as_slice())
 }
 
@@ -129,13 +147,13 @@ pub(crate) fn types_table<'a>(alloc: Global, unit: &'a Unit) -> Result<Table<'a>
     ensures { IfOk result (Finds (types_named unit.now)) }
 {
     let mut entries = Vec::new(alloc);
-    put_params(&mut entries, unit.params.as_slice())?;
-    put_states(&mut entries, unit.states.as_slice())?;
-    put_inputs(&mut entries, unit.inputs.as_slice())?;
-    put_locals(&mut entries, unit.locals.as_slice())?;
-    put_events_in(&mut entries, unit.events_in.as_slice())?;
-    put_outputs(&mut entries, unit.outputs.as_slice())?;
-    put_events_out(&mut entries, unit.events_out.as_slice())?;
+    put_all(&mut entries, unit.params.as_slice())?;
+    put_all(&mut entries, unit.states.as_slice())?;
+    put_all(&mut entries, unit.inputs.as_slice())?;
+    put_all(&mut entries, unit.locals.as_slice())?;
+    put_all(&mut entries, unit.events_in.as_slice())?;
+    put_all(&mut entries, unit.outputs.as_slice())?;
+    put_all(&mut entries, unit.events_out.as_slice())?;
     table_of(alloc, entries.as_slice())
 }
 
@@ -144,10 +162,10 @@ pub(crate) fn shared_table<'a>(alloc: Global, unit: &'a Unit) -> Result<Table<'a
     ensures { IfOk result (Finds (shared_named unit.now)) }
 {
     let mut entries = Vec::new(alloc);
-    put_params(&mut entries, unit.params.as_slice())?;
-    put_states(&mut entries, unit.states.as_slice())?;
-    put_inputs(&mut entries, unit.inputs.as_slice())?;
-    put_events_in(&mut entries, unit.events_in.as_slice())?;
+    put_all(&mut entries, unit.params.as_slice())?;
+    put_all(&mut entries, unit.states.as_slice())?;
+    put_all(&mut entries, unit.inputs.as_slice())?;
+    put_all(&mut entries, unit.events_in.as_slice())?;
     table_of(alloc, entries.as_slice())
 }
 
@@ -156,8 +174,8 @@ pub(crate) fn inputs_table<'a>(alloc: Global, unit: &'a Unit) -> Result<Table<'a
     ensures { IfOk result (Finds (all_inputs_named unit.now)) }
 {
     let mut entries = Vec::new(alloc);
-    put_inputs(&mut entries, unit.inputs.as_slice())?;
-    put_events_in(&mut entries, unit.events_in.as_slice())?;
+    put_all(&mut entries, unit.inputs.as_slice())?;
+    put_all(&mut entries, unit.events_in.as_slice())?;
     table_of(alloc, entries.as_slice())
 }
 
@@ -166,8 +184,8 @@ pub(crate) fn outputs_table<'a>(alloc: Global, unit: &'a Unit) -> Result<Table<'
     ensures { IfOk result (Finds (all_outputs_named unit.now)) }
 {
     let mut entries = Vec::new(alloc);
-    put_outputs(&mut entries, unit.outputs.as_slice())?;
-    put_events_out(&mut entries, unit.events_out.as_slice())?;
+    put_all(&mut entries, unit.outputs.as_slice())?;
+    put_all(&mut entries, unit.events_out.as_slice())?;
     table_of(alloc, entries.as_slice())
 }
 
@@ -176,7 +194,7 @@ pub(crate) fn params_table<'a>(alloc: Global, unit: &'a Unit) -> Result<Table<'a
     ensures { IfOk result (Finds (params_named unit.now.params)) }
 {
     let mut entries = Vec::new(alloc);
-    put_params(&mut entries, unit.params.as_slice())?;
+    put_all(&mut entries, unit.params.as_slice())?;
     table_of(alloc, entries.as_slice())
 }
 
@@ -185,7 +203,7 @@ pub(crate) fn locals_table<'a>(alloc: Global, unit: &'a Unit) -> Result<Table<'a
     ensures { IfOk result (Finds (locals_named unit.now.locals)) }
 {
     let mut entries = Vec::new(alloc);
-    put_locals(&mut entries, unit.locals.as_slice())?;
+    put_all(&mut entries, unit.locals.as_slice())?;
     table_of(alloc, entries.as_slice())
 }
 
@@ -194,6 +212,6 @@ pub(crate) fn events_table<'a>(alloc: Global, unit: &'a Unit) -> Result<Table<'a
     ensures { IfOk result (Finds (events_in_named unit.now.events_in)) }
 {
     let mut entries = Vec::new(alloc);
-    put_events_in(&mut entries, unit.events_in.as_slice())?;
+    put_all(&mut entries, unit.events_in.as_slice())?;
     table_of(alloc, entries.as_slice())
 }

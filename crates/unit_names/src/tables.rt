@@ -1,6 +1,7 @@
 //! Tables of names: the first declaration of each name, found without going through a list.
 ghost use Rattle.std.specs.Prelude.{◌≡◌, ℕ, List, Some, None, IfOk, map, bytes_eq, if◌then◌else◌};
-ghost use Rattle.unit_names.specs.Found.{the_first, as_named, found_in, Finds};
+ghost use Rattle.list_laws.specs.Options.{the_first};
+ghost use Rattle.unit_names.specs.Found.{as_named, found_in, Finds};
 
 use fixed_words::{NoMemory, Ty};
 use indexmap::IndexMap;

@@ -63,6 +63,27 @@ fn usable_of<'a>(alloc: Global, unit: &'a Unit) -> Result<Usable<'a>, NoMemory>
     })
 }
 
+/// The tables of a unit, but for those of its ports.
+#[derive(Drop)]
+struct NameTables<'a> {
+    declared: Declarations<'a>,
+    usable: Usable<'a>,
+}
+
+fn name_tables_of<'a>(alloc: Global, unit: &'a Unit) -> Result<NameTables<'a>, NoMemory>
+    ensures { IfOk result (λ all.
+        Finds (lines_named unit.now) all.declared.lines
+        × Finds (types_named unit.now) all.declared.types
+        × Finds (params_named unit.now.params) all.declared.params
+        × Finds (shared_named unit.now) all.usable.shared
+        × Finds (locals_named unit.now.locals) all.usable.locals
+        × Finds (events_in_named unit.now.events_in) all.usable.events) }
+{
+    let declared = declarations_of(alloc, unit)?;
+    let usable = usable_of(alloc, unit)?;
+    Ok(NameTables { declared, usable })
+}
+
 /// The ports of a unit.
 #[derive(Drop)]
 struct Ports<'a> {
@@ -93,8 +114,7 @@ fn place_of(found: Option<Declared>) -> Option<usize>
 #[derive(Drop)]
 pub struct UnitNames<'a> {
     unit: &'a Unit,
-    declared: Declarations<'a>,
-    usable: Usable<'a>,
+    names: NameTables<'a>,
     ports: Ports<'a>,
 }
 
@@ -110,17 +130,17 @@ impl<'a> Model for UnitNames<'a> {
 
     ghost coded = { Prim.hlevel (codes, expr.the_row.coded, line.the_row.coded) };
 
-    ghost view = { λ names. names.unit.now };
+    ghost view = { λ tables. tables.unit.now };
 
-    ghost invariant = { λ names.
-        Finds (lines_named names.unit.now) names.declared.lines
-        × Finds (types_named names.unit.now) names.declared.types
-        × Finds (shared_named names.unit.now) names.usable.shared
-        × Finds (locals_named names.unit.now.locals) names.usable.locals
-        × Finds (events_in_named names.unit.now.events_in) names.usable.events
-        × Finds (params_named names.unit.now.params) names.declared.params
-        × Finds (all_inputs_named names.unit.now) names.ports.inputs
-        × Finds (all_outputs_named names.unit.now) names.ports.outputs };
+    ghost invariant = { λ tables.
+        Finds (lines_named tables.unit.now) tables.names.declared.lines
+        × Finds (types_named tables.unit.now) tables.names.declared.types
+        × Finds (params_named tables.unit.now.params) tables.names.declared.params
+        × Finds (shared_named tables.unit.now) tables.names.usable.shared
+        × Finds (locals_named tables.unit.now.locals) tables.names.usable.locals
+        × Finds (events_in_named tables.unit.now.events_in) tables.names.usable.events
+        × Finds (all_inputs_named tables.unit.now) tables.ports.inputs
+        × Finds (all_outputs_named tables.unit.now) tables.ports.outputs };
 }
 
 impl<'a> UnitNames<'a> {
@@ -128,15 +148,10 @@ impl<'a> UnitNames<'a> {
     pub fn new(alloc: Global, unit: &'a Unit) -> Result<UnitNames<'a>, NoMemory>
         ensures { IfOk result (λ names. names ≡ unit.now) }
     {
-        let declared = declarations_of(alloc, unit)?;
-        let usable = usable_of(alloc, unit)?;
+        // The larger part comes last: a proof grows by what is dropped on a way out.
         let ports = ports_of(alloc, unit)?;
-        Ok(UnitNames {
-            unit,
-            declared,
-            usable,
-            ports,
-        })
+        let names = name_tables_of(alloc, unit)?;
+        Ok(UnitNames { unit, names, ports })
     }
 
     /// The unit itself.
@@ -152,7 +167,7 @@ impl<'a> UnitNames<'a> {
     pub fn first_place(&self, name: &[u8]) -> Option<usize>
         ensures { result ≡ first_place (declared_names self.now) name.now }
     {
-        place_of(find(&self.declared.lines, name))
+        place_of(find(&self.names.declared.lines, name))
     }
 
     /// The type that a name is declared with.
@@ -160,7 +175,7 @@ impl<'a> UnitNames<'a> {
     pub fn type_in(&self, name: &[u8]) -> Option<Ty>
         ensures { result ≡ type_in self.now name.now }
     {
-        Some(find(&self.declared.types, name)?.ty)
+        Some(find(&self.names.declared.types, name)?.ty)
     }
 
     /// The type of a parameter.
@@ -168,7 +183,7 @@ impl<'a> UnitNames<'a> {
     pub fn param_type(&self, name: &[u8]) -> Option<Ty>
         ensures { result ≡ option_map (λ param. param.ty) (param_named name.now self.now) }
     {
-        Some(find(&self.declared.params, name)?.ty)
+        Some(find(&self.names.declared.params, name)?.ty)
     }
 
     /// Whether a name is a parameter.
@@ -176,7 +191,7 @@ impl<'a> UnitNames<'a> {
     pub fn is_param(&self, name: &[u8]) -> bool
         ensures { result ≡ is_among (param_names self.now) name.now }
     {
-        find(&self.declared.params, name).is_some()
+        find(&self.names.declared.params, name).is_some()
     }
 
     /// Whether a name is an input, be it an event input.
@@ -236,7 +251,7 @@ impl<'a> UnitNames<'a> {
     pub(crate) fn is_shared(&self, name: &[u8]) -> bool
         ensures { result ≡ is_among (shared_names self.now) name.now }
     {
-        find(&self.usable.shared, name).is_some()
+        find(&self.names.usable.shared, name).is_some()
     }
 
     /// Whether a name is a local.
@@ -244,7 +259,7 @@ impl<'a> UnitNames<'a> {
     pub(crate) fn is_local(&self, name: &[u8]) -> bool
         ensures { result ≡ is_among (map (λ local. local.name) self.now.locals) name.now }
     {
-        find(&self.usable.locals, name).is_some()
+        find(&self.names.usable.locals, name).is_some()
     }
 
     /// Whether a name is an event input.
@@ -252,6 +267,6 @@ impl<'a> UnitNames<'a> {
     pub(crate) fn is_event(&self, name: &[u8]) -> bool
         ensures { result ≡ is_among (event_input_names self.now) name.now }
     {
-        find(&self.usable.events, name).is_some()
+        find(&self.names.usable.events, name).is_some()
     }
 }

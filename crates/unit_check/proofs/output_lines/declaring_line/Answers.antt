@@ -17,4 +17,5 @@ returns-in-Ok c =
 pub returns-in-Err-At : goal.returns-in-Err-At
 returns-in-Err-At c =
     let port : PortName = record { instance = c.args.instance.now; port = c.args.output.now } in
-    some_at_stop c.args.tables.now port c.in-Some.unit.now c.past_all.result c.in-Err-At.line c.in-Some.ensures c.past_all.ensures (c.in-Err-At.is ∙ ap (λ (why : Stop). Err why) c.in-Err-At.field-0-is)
+    some_at_stop c.args.tables.now port c.in-Some.unit.now c.past_all.result c.in-Err-At.line c.in-Some.ensures c.past_all.ensures
+    (c.in-Err-At.is ∙ ap (λ (why : Stop). Err why) c.in-Err-At.field-0-is)

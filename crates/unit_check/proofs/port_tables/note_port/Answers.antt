@@ -9,5 +9,8 @@ returns-in_ok-insert c = λ q.
     let port = c.args.port.now in
     let updates = c.in_ok-insert.ensures.updates in
     let none : found_port c.args.places.now port ≡ None = search rules in
-    let is = put_key (c.as_slice.result, c.as_slice-then-is_none.result) port q c.args.place c.args.places.now.entries c.insert.new.self.entries c.as_slice.ensures c.as_slice-then-is_none.ensures updates.1 updates.3 in
+    let is = put_key (
+      c.as_slice.result,
+      c.as_slice-then-is_none.result,
+    ) port q c.args.place c.args.places.now.entries c.insert.new.self.entries c.as_slice.ensures c.as_slice-then-is_none.ensures updates.1 updates.3 in
     newly (same_port q port) (same_port port q) _ _ c.args.place (turned q port) (λ same. same_found port q c.args.places.now.entries same none) is

@@ -7,4 +7,5 @@ use Rattle.unit_check.proofs.run_lines.resolution.Given as goal
 
 abbrev pub invariant-loop-instance : goal.invariant-loop-instance
 invariant-loop-instance l =
-    resolution_of l.names ≡ fold max l.greatest (map (λ instance. unit_resolution (unit_of_instance l.names instance)) (drop l.instance-index l.names.instances))
+    resolution_of l.names
+    ≡ fold max l.greatest (map (λ instance. unit_resolution (unit_of_instance l.names instance)) (drop l.instance-index l.names.instances))

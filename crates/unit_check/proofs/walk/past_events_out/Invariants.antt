@@ -6,4 +6,7 @@ use Rattle.unit_check.specs.Walks.{each, past_from}
 use Rattle.unit_check.proofs.walk.past_events_out.Given as goal
 
 abbrev pub invariant-loop-event : goal.invariant-loop-event
-invariant-loop-event l = each (λ event. past_from (asked_of l.walker.question l.walker.tables.now (UnitScope l.unit)) l.first (form.EventOutput event)) l.unit.events_out l.number ≡ each (λ event. past_from (asked_of l.walker.question l.walker.tables.now (UnitScope l.unit)) l.first (form.EventOutput event)) (drop l.event-index l.unit.events_out) l.next
+invariant-loop-event l =
+    each (λ event. past_from (asked_of l.walker.question l.walker.tables.now (UnitScope l.unit)) l.first (form.EventOutput event)) l.unit.events_out l.number
+    ≡ each (λ event. past_from (asked_of l.walker.question l.walker.tables.now (UnitScope l.unit)) l.first (form.EventOutput event))
+    (drop l.event-index l.unit.events_out) l.next

@@ -6,4 +6,7 @@ use Rattle.unit_check.specs.Walks.{each, past_from}
 use Rattle.unit_check.proofs.walk.past_inputs.Given as goal
 
 abbrev pub invariant-loop-input : goal.invariant-loop-input
-invariant-loop-input l = each (λ input. past_from (asked_of l.walker.question l.walker.tables.now (UnitScope l.unit)) l.first (form.Input input)) l.unit.inputs l.number ≡ each (λ input. past_from (asked_of l.walker.question l.walker.tables.now (UnitScope l.unit)) l.first (form.Input input)) (drop l.input-index l.unit.inputs) l.next
+invariant-loop-input l =
+    each (λ input. past_from (asked_of l.walker.question l.walker.tables.now (UnitScope l.unit)) l.first (form.Input input)) l.unit.inputs l.number
+    ≡ each (λ input. past_from (asked_of l.walker.question l.walker.tables.now (UnitScope l.unit)) l.first (form.Input input))
+    (drop l.input-index l.unit.inputs) l.next

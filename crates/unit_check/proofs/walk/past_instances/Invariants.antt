@@ -4,4 +4,6 @@ use Rattle.unit_check.specs.Walks.{instances_walk}
 use Rattle.unit_check.proofs.walk.past_instances.Given as goal
 
 abbrev pub invariant-loop-place : goal.invariant-loop-place
-invariant-loop-place l = instances_walk (asked_of l.walker.question l.walker.tables.now) 0 l.walker.tables.now.instances l.number ≡ instances_walk (asked_of l.walker.question l.walker.tables.now) l.place (drop l.place l.walker.tables.now.instances) l.next
+invariant-loop-place l =
+    instances_walk (asked_of l.walker.question l.walker.tables.now) 0 l.walker.tables.now.instances l.number
+    ≡ instances_walk (asked_of l.walker.question l.walker.tables.now) l.place (drop l.place l.walker.tables.now.instances) l.next

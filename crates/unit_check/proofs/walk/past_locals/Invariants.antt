@@ -6,4 +6,7 @@ use Rattle.unit_check.specs.Walks.{each, past_from}
 use Rattle.unit_check.proofs.walk.past_locals.Given as goal
 
 abbrev pub invariant-loop-local : goal.invariant-loop-local
-invariant-loop-local l = each (λ local. past_from (asked_of l.walker.question l.walker.tables.now (UnitScope l.unit)) l.first (form.Local local)) l.unit.locals l.number ≡ each (λ local. past_from (asked_of l.walker.question l.walker.tables.now (UnitScope l.unit)) l.first (form.Local local)) (drop l.local-index l.unit.locals) l.next
+invariant-loop-local l =
+    each (λ local. past_from (asked_of l.walker.question l.walker.tables.now (UnitScope l.unit)) l.first (form.Local local)) l.unit.locals l.number
+    ≡ each (λ local. past_from (asked_of l.walker.question l.walker.tables.now (UnitScope l.unit)) l.first (form.Local local))
+    (drop l.local-index l.unit.locals) l.next

@@ -6,4 +6,7 @@ use Rattle.unit_check.specs.Walks.{each, past_from}
 use Rattle.unit_check.proofs.walk.past_outputs.Given as goal
 
 abbrev pub invariant-loop-output : goal.invariant-loop-output
-invariant-loop-output l = each (λ output. past_from (asked_of l.walker.question l.walker.tables.now (UnitScope l.unit)) l.first (form.Output output)) l.unit.outputs l.number ≡ each (λ output. past_from (asked_of l.walker.question l.walker.tables.now (UnitScope l.unit)) l.first (form.Output output)) (drop l.output-index l.unit.outputs) l.next
+invariant-loop-output l =
+    each (λ output. past_from (asked_of l.walker.question l.walker.tables.now (UnitScope l.unit)) l.first (form.Output output)) l.unit.outputs l.number
+    ≡ each (λ output. past_from (asked_of l.walker.question l.walker.tables.now (UnitScope l.unit)) l.first (form.Output output))
+    (drop l.output-index l.unit.outputs) l.next

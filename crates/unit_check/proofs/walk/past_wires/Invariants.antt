@@ -6,4 +6,7 @@ use Rattle.unit_check.specs.Walks.{each, past_from}
 use Rattle.unit_check.proofs.walk.past_wires.Given as goal
 
 abbrev pub invariant-loop-wire : goal.invariant-loop-wire
-invariant-loop-wire l = each (λ wire. past_from (asked_of l.walker.question l.walker.tables.now (TopScope)) l.number (form.Connect wire)) l.walker.tables.now.wires l.number ≡ each (λ wire. past_from (asked_of l.walker.question l.walker.tables.now (TopScope)) l.number (form.Connect wire)) (drop l.wire-index l.walker.tables.now.wires) l.next
+invariant-loop-wire l =
+    each (λ wire. past_from (asked_of l.walker.question l.walker.tables.now (TopScope)) l.number (form.Connect wire)) l.walker.tables.now.wires l.number
+    ≡ each (λ wire. past_from (asked_of l.walker.question l.walker.tables.now (TopScope)) l.number (form.Connect wire))
+    (drop l.wire-index l.walker.tables.now.wires) l.next

@@ -1,7 +1,8 @@
 use Rattle.std.proofs.Common.{◌≡◌, ℕ, List, drop, map, bytes_eq}
 use Rattle.std.specs.List.{position_from}
-use Rattle.unit_names.specs.Found.{the_first, found_in, first_place}
+use Rattle.unit_names.specs.Found.{found_in, first_place}
 use Rattle.unit_names.proofs.systems.places_of_units.Given as goal
+use Rattle.list_laws.specs.Options.{the_first}
 
 abbrev pub invariant-loop-place : goal.invariant-loop-place
 invariant-loop-place l = (q : List ℕ) →

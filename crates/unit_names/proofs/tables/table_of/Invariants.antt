@@ -1,6 +1,7 @@
 use Rattle.std.proofs.Common.{◌≡◌, ℕ, List, drop, map}
-use Rattle.unit_names.specs.Found.{declared_from, declared_among, the_first, as_named, found_in}
+use Rattle.unit_names.specs.Found.{declared_from, declared_among, as_named, found_in}
 use Rattle.unit_names.proofs.tables.table_of.Given as goal
+use Rattle.list_laws.specs.Options.{the_first}
 
 abbrev pub invariant-loop-place : goal.invariant-loop-place
 invariant-loop-place l = (q : List ℕ) →
