@@ -71,4 +71,3 @@ ports_put before between after instance unit outputs events same_outputs same_ev
     ∙ ap (λ others. (before ++ map (λ output. port_of instance output.name) others) ++ map (λ event. port_of instance event.name) events) same_outputs
     ∙ ap (λ others. (before ++ map (λ output. port_of instance output.name) unit.outputs) ++ map (λ event. port_of instance event.name) others) same_events
     ∙ ports_of_unit before instance unit
-
