@@ -14,8 +14,11 @@ use fixed_words::{List, NoMemory};
 use std::alloc::Global;
 use unit_tree::{EventOut, Instance, Name, Output, PortName, System, Unit, Wire};
 
-/// A copy of a system.
-fn copied_system(alloc: Global, system: &System) -> Result<System, NoMemory>
+/// A copy of a system, of either version: all that it holds, its event ports too. It is independent of the system that
+/// it was copied from, which stays as it is.
+///
+/// The one error is want of memory.
+pub fn copy_system(alloc: Global, system: &System) -> Result<System, NoMemory>
     ensures { IfOk result (λ copy. copy ≡ system.now) }
 {
     Ok(System {
@@ -281,6 +284,6 @@ pub fn plain_form(alloc: Global, system: &System) -> Result<System, NoMemory>
     if system.version == 2 {
         with_plain_ports(alloc, system)
     } else {
-        copied_system(alloc, system)
+        copy_system(alloc, system)
     }
 }

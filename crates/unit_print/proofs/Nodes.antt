@@ -1,5 +1,5 @@
 -- What one node of an expression puts behind a text.
-use Rattle.std.proofs.Common.{◌≡◌, ℕ, true, List, ◌∷◌, ◌++◌, refl, sym, ap, ◌∙◌, Result, Ok, Err, OnOk}
+use Rattle.std.proofs.Common.{◌≡◌, ℕ, true, List, ◌∷◌, ◌++◌, refl, sym, ap, ◌∙◌}
 use Rattle.std.specs.Prelude.{IsTrue, IsFalse}
 use Rattle.unit_tree.specs.Canonical.{canonical_phrase, node_phrase, placed, expression_tokens}
 use Rattle.unit_tree.specs.Phrases as phrase
@@ -27,7 +27,7 @@ whole_allows Product = refl
 whole_allows Negation = refl
 whole_allows Primary = refl
 
-in_a_call : (inner : Phrase) → placed Whole inner ≡ inner
+pub in_a_call : (inner : Phrase) → placed Whole inner ≡ inner
 in_a_call inner = rw (whole_allows (level_of inner)) refl
 
 call_phrase : (op : BinOp) (left right : Phrase) → IsTrue (is_call op) → phrase_tokens (phrase.Binary op (placed (left_level (binary_level op)) left) (placed (right_level (binary_level op)) right)) ≡ call_of_two (operation op) (phrase_tokens left) (phrase_tokens right)

@@ -1,0 +1,103 @@
+//! Names: words that are not reserved.
+ghost use Rattle.std.specs.Prelude.{◌≡◌, ◌&&◌, nat_lt, length};
+ghost use Rattle.std.specs.List.{list_all};
+ghost use Rattle.unit_tree.specs.Tokens.{is_letter, is_word_byte};
+ghost use Rattle.unit_print.specs.Fitting.{is_word, reserved_words, is_reserved, is_name};
+
+use unit_tree::{Keyword, is_word_byte};
+
+/// The most bytes of a word.
+const LONGEST_WORD: usize = 32;
+
+fn is_letter(byte: u8) -> bool
+    ensures { result ≡ is_letter byte }
+{
+    byte.is_ascii_alphabetic() || byte == b'_'
+}
+
+fn are_word_bytes(bytes: &[u8]) -> bool
+    ensures { result ≡ list_all is_word_byte bytes.now }
+{
+    bytes.iter().all(|byte| is_word_byte(*byte))
+}
+
+/// Whether bytes may stand behind the first of a word.
+fn goes_on(others: &[u8]) -> bool
+    ensures { result ≡ (list_all is_word_byte others.now && nat_lt (length others.now) 32) }
+{
+    are_word_bytes(others) && others.len() < LONGEST_WORD
+}
+
+fn is_word(text: &[u8]) -> bool
+    ensures { result ≡ is_word text.now }
+{
+    match text {
+        [] => false,
+        [first, others @ ..] => is_letter(*first) && goes_on(others),
+    }
+}
+
+fn reserved_words() -> &'static [Keyword]
+    ensures { result.now ≡ reserved_words }
+{
+    &[
+        Keyword::Cosim,
+        Keyword::Unit,
+        Keyword::Resolution,
+        Keyword::Param,
+        Keyword::State,
+        Keyword::Local,
+        Keyword::Input,
+        Keyword::Output,
+        Keyword::Needs,
+        Keyword::Max,
+        Keyword::Step,
+        Keyword::Repeat,
+        Keyword::Accept,
+        Keyword::End,
+        Keyword::Instance,
+        Keyword::Connect,
+        Keyword::Stop,
+        Keyword::Longest,
+        Keyword::Zero,
+        Keyword::Rows,
+        Keyword::Sample,
+        Keyword::If,
+        Keyword::Then,
+        Keyword::Else,
+        Keyword::And,
+        Keyword::Or,
+        Keyword::Not,
+        Keyword::Div,
+        Keyword::Mod,
+        Keyword::Abs,
+        Keyword::Min,
+        Keyword::Clamp,
+        Keyword::Int,
+        Keyword::Fix,
+        Keyword::True,
+        Keyword::False,
+        Keyword::Time,
+        Keyword::Length,
+        Keyword::Event,
+        Keyword::Present,
+        Keyword::Absent,
+    ]
+}
+
+#[tactic(auto, unfolding(crate::specs::Fitting::is_reserved))]
+fn is_reserved(text: &[u8]) -> bool
+    ensures { result ≡ is_reserved text.now }
+{
+    reserved_words()
+        .iter()
+        .any(|reserved| text == reserved.text())
+}
+
+/// Whether a text is a name.
+#[tactic(auto, unfolding(crate::specs::Fitting::is_name))]
+pub(crate) fn is_name(text: &[u8]) -> bool
+    ensures { result ≡ is_name text.now }
+{
+    is_word(text) && !is_reserved(text)
+}
