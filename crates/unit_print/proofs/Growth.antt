@@ -1,12 +1,14 @@
 -- Text that grows from the left is the text that is joined from the right.
-use Rattle.std.proofs.Common.{◌≡◌, ℕ, ◌-◌, Bool, true, false, List, [], ◌∷◌, ◌++◌, length, Option, Some, None, refl, sym, ap, ◌∙◌, append_assoc, arith, suc, zero, ◌<◌, ◌^◌, ◌+◌, take, drop, replicate, decimal, if◌then◌else◌}
+use Rattle.std.proofs.Common.{◌≡◌, ℕ, ◌-◌, Bool, true, false, List, [], ◌∷◌, ◌++◌, length, Option, Some, None, refl, sym, ap, ◌∙◌, append_assoc, arith, suc}
+use Rattle.std.proofs.Common.{zero, ◌<◌, ◌^◌, ◌+◌, take, drop, replicate, decimal, if◌then◌else◌}
 use Rattle.std.specs.Prelude.{IsTrue, IsFalse, slice_get, map, ◌&&◌, ◌||◌}
 use Rattle.std.specs.List.{last_or, flat_map, list_all}
 use Rattle.std.proofs.lemmas.List.{append-nil, length-append, length-replicate}
 use Rattle.fixed_words.specs.Digits.{pointed}
 use Rattle.fixed_words.specs.Texts.{fixed_text, padded}
 use Rattle.fixed_words.proofs.Numbers.{decimal_is, zeros_before}
-use Rattle.unit_tree.specs.Canonical.{spaced, ends_in_word, token_text, tokens_text, form_tokens, line_text, optional, unit_parts, canonical_parts, canonical_forms, canonical_text}
+use Rattle.unit_tree.specs.Canonical.{spaced, ends_in_word, token_text, tokens_text, form_tokens, line_text, optional, unit_parts, canonical_parts}
+use Rattle.unit_tree.specs.Canonical.{canonical_forms, canonical_text}
 use Rattle.unit_tree.specs.LineForms.{names_tokens}
 use Rattle.unit_tree.specs.Parts as parts
 use Rattle.unit_tree.specs.Parts.{Part, UnitPart, part_forms, unit_part_forms, joined, line_forms}
@@ -48,25 +50,36 @@ or_holds : (one other : Bool) → IsTrue other → IsTrue (one || other)
 or_holds true other holds = refl
 or_holds false other holds = holds
 
-begins_in_word : (place : ℕ) (digits rest : List ℕ) → 0 < place → 0 < length digits → IsTrue (list_all is_digit digits) → begins_with is_word_byte (take place digits ++ rest) ≡ true
+begins_in_word : (place : ℕ) (digits rest : List ℕ) → 0 < place → 0 < length digits → IsTrue (list_all is_digit digits)
+    → begins_with is_word_byte (take place digits ++ rest) ≡ true
 begins_in_word zero digits rest far long all = absurd (omega arith)
 begins_in_word (suc place) [] rest far long all = absurd (omega arith)
-begins_in_word (suc place) (digit ∷ digits) rest far long all = or_holds (is_letter digit) (is_digit digit) (first_holds (is_digit digit) (list_all is_digit digits) all)
+begins_in_word (suc place) (digit ∷ digits) rest far long all =
+    or_holds (is_letter digit) (is_digit digit) (first_holds (is_digit digit) (list_all is_digit digits) all)
 
 number_begins : (decimals all : ℕ) → all < 2 ^ 64 → begins_with is_word_byte (fixed_text decimals all) ≡ true
 number_begins decimals all fits =
     let digits = padded decimals (decimal all) in
-    let longer : decimals < length digits = omega (arith, length-append (replicate (decimals + 1 - length (decimal all)) 48) (decimal all), length-replicate {A = ℕ} (decimals + 1 - length (decimal all)) 48) in
+    let longer : decimals < length digits =
+    omega (
+      arith,
+      length-append (replicate (decimals + 1 - length (decimal all)) 48) (decimal all),
+      length-replicate {A = ℕ} (decimals + 1 - length (decimal all)) 48,
+    ) in
     let far : 0 < length digits - decimals = omega arith in
     let some : 0 < length digits = omega arith in
-    begins_in_word (length digits - decimals) digits (pointed (drop (length digits - decimals) digits)) far some ((zeros_before (decimals + 1 - length (decimal all)) all (decimal all) (decimal_is all fits)).0)
+    begins_in_word (length digits - decimals) digits (pointed (drop (length digits - decimals) digits)) far some
+    ((zeros_before (decimals + 1 - length (decimal all)) all (decimal all) (decimal_is all fits)).0)
 
-where_it_begins : (ends begins : Bool) (text others : List ℕ) → begins ≡ true → (if ends && begins then text ++ (32 ∷ others) else text ++ others) ≡ (if ends then text ++ (32 ∷ []) else text) ++ others
+where_it_begins : (ends begins : Bool) (text others : List ℕ) → begins ≡ true
+    → (if ends && begins then text ++ (32 ∷ others) else text ++ others) ≡ (if ends then text ++ (32 ∷ []) else text) ++ others
 where_it_begins true begins text others is = rw is (sym (append_assoc text (32 ∷ []) others))
 where_it_begins false begins text others is = refl
 
-pub number_behind : (text : List ℕ) (decimals all : ℕ) → all < 2 ^ 64 → spaced text (fixed_text decimals all) ≡ (if ends_in_word text then text ++ (32 ∷ []) else text) ++ fixed_text decimals all
-number_behind text decimals all fits = where_it_begins (ends_in_word text) (begins_with is_word_byte (fixed_text decimals all)) text (fixed_text decimals all) (number_begins decimals all fits)
+pub number_behind : (text : List ℕ) (decimals all : ℕ) → all < 2 ^ 64
+    → spaced text (fixed_text decimals all) ≡ (if ends_in_word text then text ++ (32 ∷ []) else text) ++ fixed_text decimals all
+number_behind text decimals all fits =
+    where_it_begins (ends_in_word text) (begins_with is_word_byte (fixed_text decimals all)) text (fixed_text decimals all) (number_begins decimals all fits)
 
 -- ---- Growing by lists
 
@@ -78,7 +91,8 @@ pub lines_append : (text : List ℕ) (first others : List LineForm) → with_lin
 lines_append text [] others = refl
 lines_append text (line ∷ first) others = lines_append (with_tokens text (form_tokens line) ++ (10 ∷ [])) first others
 
-pub unit_parts_append : (text : List ℕ) (first others : List UnitPart) → with_unit_parts text (first ++ others) ≡ with_unit_parts (with_unit_parts text first) others
+pub unit_parts_append : (text : List ℕ) (first others : List UnitPart)
+    → with_unit_parts text (first ++ others) ≡ with_unit_parts (with_unit_parts text first) others
 unit_parts_append text [] others = refl
 unit_parts_append text (part ∷ first) others = unit_parts_append (with_lines text (unit_part_forms part)) first others
 
@@ -88,7 +102,8 @@ parts_append text (part ∷ first) others = parts_append (with_lines text (part_
 
 pub unit_parts_are : (text : List ℕ) (parts : List UnitPart) → with_lines text (flat_map unit_part_forms parts) ≡ with_unit_parts text parts
 unit_parts_are text [] = refl
-unit_parts_are text (part ∷ parts) = lines_append text (unit_part_forms part) (flat_map unit_part_forms parts) ∙ unit_parts_are (with_lines text (unit_part_forms part)) parts
+unit_parts_are text (part ∷ parts) = lines_append text (unit_part_forms part) (flat_map unit_part_forms parts)
+    ∙ unit_parts_are (with_lines text (unit_part_forms part)) parts
 
 pub parts_are : (text : List ℕ) (parts : List Part) → with_lines text (flat_map part_forms parts) ≡ with_parts text parts
 parts_are text [] = refl
@@ -153,11 +168,14 @@ settings_are text (setting ∷ settings) = settings_are (with_lines text (form.S
 -- ---- Blocks
 
 -- A block: its head, what stands in it, and its end.
-pub block_is : (text : List ℕ) (head : LineForm) (body : List LineForm) → with_lines text (head ∷ body ++ (form.End ∷ [])) ≡ with_lines (with_lines (with_lines text (head ∷ [])) body) (form.End ∷ [])
+pub block_is : (text : List ℕ) (head : LineForm) (body : List LineForm)
+    → with_lines text (head ∷ body ++ (form.End ∷ [])) ≡ with_lines (with_lines (with_lines text (head ∷ [])) body) (form.End ∷ [])
 block_is text head body = lines_append (with_lines text (head ∷ [])) body (form.End ∷ [])
 
 pub unit_is : (text : List ℕ) (unit : Unit) → with_unit_parts text (unit_parts unit)
-    ≡ with_unit_parts (with_unit_parts (with_unit_parts (with_unit_parts (with_unit_parts (with_unit_parts (with_unit_parts (with_unit_parts (with_unit_parts (with_unit_parts text
+    ≡ with_unit_parts
+    (with_unit_parts
+    (with_unit_parts (with_unit_parts (with_unit_parts (with_unit_parts (with_unit_parts (with_unit_parts (with_unit_parts (with_unit_parts text
     (optional parts.Resolution unit.resolution)) (map parts.HasParam unit.params)) (map parts.HasState unit.states)) (map parts.HasLocal unit.locals))
     (map parts.HasInput unit.inputs)) (map parts.HasEventIn unit.events_in)) (map parts.HasOutput unit.outputs)) (map parts.HasEventOut unit.events_out))
     (optional parts.Max unit.max)) (optional parts.Step unit.step)
@@ -201,13 +219,16 @@ spaced_assoc text [] others = ap (λ front. spaced front others) (nothing_behind
 spaced_assoc text (byte ∷ bytes) others =
     pick (ends_in_word text && is_word_byte byte) refl
   where
-    whole : (both : Bool) → both ≡ (ends_in_word text && is_word_byte byte) → spaced text (spaced (byte ∷ bytes) others) ≡ (if both then text ++ (32 ∷ spaced (byte ∷ bytes) others) else text ++ spaced (byte ∷ bytes) others)
+    whole : (both : Bool) → both ≡ (ends_in_word text && is_word_byte byte)
+        → spaced text (spaced (byte ∷ bytes) others) ≡ (if both then text ++ (32 ∷ spaced (byte ∷ bytes) others) else text ++ spaced (byte ∷ bytes) others)
     whole both is = rw (begins_on byte bytes others, sym is) refl
 
-    pick : (both : Bool) → both ≡ (ends_in_word text && is_word_byte byte) → spaced (spaced text (byte ∷ bytes)) others ≡ spaced text (spaced (byte ∷ bytes) others)
+    pick : (both : Bool) → both ≡ (ends_in_word text && is_word_byte byte)
+        → spaced (spaced text (byte ∷ bytes)) others ≡ spaced text (spaced (byte ∷ bytes) others)
     pick true is =
         let left : spaced text (byte ∷ bytes) ≡ (text ++ (32 ∷ [])) ++ (byte ∷ bytes) = rw (sym is) (sym (append_assoc text (32 ∷ []) (byte ∷ bytes))) in
-        ap (λ front. spaced front others) left ∙ spaced_front (text ++ (32 ∷ [])) byte bytes others ∙ append_assoc text (32 ∷ []) (spaced (byte ∷ bytes) others) ∙ sym (whole true is)
+        ap (λ front. spaced front others) left ∙ spaced_front (text ++ (32 ∷ [])) byte bytes others
+        ∙ append_assoc text (32 ∷ []) (spaced (byte ∷ bytes) others) ∙ sym (whole true is)
     pick false is =
         let left : spaced text (byte ∷ bytes) ≡ text ++ (byte ∷ bytes) = rw (sym is) refl in
         ap (λ front. spaced front others) left ∙ spaced_front text byte bytes others ∙ sym (whole false is)
@@ -220,18 +241,22 @@ tokens_are text (token ∷ tokens) = tokens_are (spaced text (token_text token))
 starts : (text others : List ℕ) → ends_in_word text ≡ false → spaced text others ≡ text ++ others
 starts text others is = rw is refl
 
-lines_are : (text : List ℕ) (lines : List LineForm) → ends_in_word text ≡ false → with_lines text lines ≡ text ++ flat_map (λ some. line_text some ++ (10 ∷ [])) lines
+lines_are : (text : List ℕ) (lines : List LineForm) → ends_in_word text ≡ false
+    → with_lines text lines ≡ text ++ flat_map (λ some. line_text some ++ (10 ∷ [])) lines
 lines_are text [] is = sym (append-nil text)
 lines_are text (line ∷ lines) is =
-    let first : with_tokens text (form_tokens line) ++ (10 ∷ []) ≡ (text ++ line_text line) ++ (10 ∷ []) = ap (λ front. front ++ (10 ∷ [])) (tokens_are text (form_tokens line) ∙ starts text (line_text line) is) in
+    let first : with_tokens text (form_tokens line) ++ (10 ∷ []) ≡ (text ++ line_text line) ++ (10 ∷ []) =
+    ap (λ front. front ++ (10 ∷ [])) (tokens_are text (form_tokens line) ∙ starts text (line_text line) is) in
     ap (λ front. with_lines front lines) first
     ∙ lines_are ((text ++ line_text line) ++ (10 ∷ [])) lines (ends_behind (text ++ line_text line) 10 [])
     ∙ ap (λ front. front ++ flat_map (λ some. line_text some ++ (10 ∷ [])) lines) (append_assoc text (line_text line) (10 ∷ []))
     ∙ append_assoc text (line_text line ++ (10 ∷ [])) (flat_map (λ some. line_text some ++ (10 ∷ [])) lines)
 
-pub system_is : (old : List ℕ) (system : System) → old ≡ [] → with_parts (with_parts (with_parts (with_parts (with_parts (with_parts (with_parts (with_parts (with_lines old (form.Header system.version ∷ []))
+pub system_is : (old : List ℕ) (system : System) → old ≡ []
+    → with_parts (with_parts (with_parts (with_parts (with_parts (with_parts (with_parts (with_parts (with_lines old (form.Header system.version ∷ []))
     (map (λ unit. parts.HasUnit unit.name (unit_parts unit)) system.units)) (map parts.HasInstance system.instances)) (map parts.Connects system.wires))
-    (optional parts.Stop system.stop)) (optional parts.Longest system.longest)) (optional parts.Zero system.zero)) (optional parts.Rows system.rows)) (map parts.Samples system.samples)
+    (optional parts.Stop system.stop)) (optional parts.Longest system.longest)) (optional parts.Zero system.zero))
+    (optional parts.Rows system.rows)) (map parts.Samples system.samples)
     ≡ canonical_text system
 system_is old system is =
     sym (system_parts (with_lines old (form.Header system.version ∷ [])))
@@ -242,5 +267,6 @@ system_is old system is =
     system_parts : (text : List ℕ) → with_parts text (canonical_parts system)
         ≡ with_parts (with_parts (with_parts (with_parts (with_parts (with_parts (with_parts (with_parts text
         (map (λ unit. parts.HasUnit unit.name (unit_parts unit)) system.units)) (map parts.HasInstance system.instances)) (map parts.Connects system.wires))
-        (optional parts.Stop system.stop)) (optional parts.Longest system.longest)) (optional parts.Zero system.zero)) (optional parts.Rows system.rows)) (map parts.Samples system.samples)
+        (optional parts.Stop system.stop)) (optional parts.Longest system.longest)) (optional parts.Zero system.zero))
+        (optional parts.Rows system.rows)) (map parts.Samples system.samples)
     system_parts text = simp parts_append refl

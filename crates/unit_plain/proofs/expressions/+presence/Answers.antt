@@ -8,7 +8,8 @@ use Rattle.unit_plain.proofs.expressions.+presence.Goals as goal
 
 pub plain_presence-returns-in_default : goal.plain_presence-returns-in_default
 plain_presence-returns-in_default t c =
-    sym (plain-Truth true) ∙ ap plain_expression (sym (changed c.args.value.now (expr.Truth false) (λ other. expr.Truth true) c.in_default.not-Choose c.in_default.not-Absent))
+    sym (plain-Truth true)
+    ∙ ap plain_expression (sym (changed c.args.value.now (expr.Truth false) (λ other. expr.Truth true) c.in_default.not-Choose c.in_default.not-Absent))
 
 pub plain_presence-returns-in_ok-boxed_presence-in-Choose-2 :
     goal.plain_presence-returns-in_ok-boxed_presence-in-Choose-2

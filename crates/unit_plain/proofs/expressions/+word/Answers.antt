@@ -7,7 +7,8 @@ use Rattle.unit_plain.proofs.expressions.+word.Goals as goal
 
 pub plain_word-returns-in_default : goal.plain_word-returns-in_default
 plain_word-returns-in_default t c =
-    subst (λ (word : Expr). IfOk c.plain_expression.result (λ plain. plain ≡ plain_expression word)) (sym (changed c.args.value.now (zero_of c.args.ty) (λ other. other) c.in_default.not-Choose c.in_default.not-Absent)) c.plain_expression.ensures
+    subst (λ (word : Expr). IfOk c.plain_expression.result (λ plain. plain ≡ plain_expression word))
+    (sym (changed c.args.value.now (zero_of c.args.ty) (λ other. other) c.in_default.not-Choose c.in_default.not-Absent)) c.plain_expression.ensures
 
 pub plain_word-returns-in_ok-boxed_word-in-Choose-2 :
     goal.plain_word-returns-in_ok-boxed_word-in-Choose-2

@@ -4,4 +4,5 @@ use Rattle.unit_print.specs.Growing.{with_unit_parts}
 use Rattle.unit_print.proofs.printing.params.Given as goal
 
 abbrev pub invariant-loop-declared : goal.invariant-loop-declared
-invariant-loop-declared l = with_unit_parts l.initial.text.items (map parts.HasParam l.all) ≡ with_unit_parts l.text.items (map parts.HasParam (drop l.declared-index l.all))
+invariant-loop-declared l =
+    with_unit_parts l.initial.text.items (map parts.HasParam l.all) ≡ with_unit_parts l.text.items (map parts.HasParam (drop l.declared-index l.all))
