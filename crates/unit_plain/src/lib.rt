@@ -10,8 +10,6 @@ mod copies;
 mod expressions;
 mod lines;
 mod systems;
-#[cfg(test)]
-mod tests;
 mod units;
 
 pub use systems::{copy_system, plain_form};

@@ -16,8 +16,6 @@ mod names;
 mod printable;
 mod printing;
 mod steps;
-#[cfg(test)]
-mod tests;
 mod tokens;
 
 pub use printable::is_printable;
