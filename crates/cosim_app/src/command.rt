@@ -1,5 +1,5 @@
 //! The commands of the program.
-ghost use Rattle.std.specs.Prelude.{◌≡◌};
+ghost use Rattle.std.specs.Prelude.{◌≡◌, []};
 ghost use Rattle.cosim_app.specs.Headline.{Promises, streams};
 ghost use Rattle.cosim_app.specs.Judgement.{TellsNote};
 ghost use Rattle.cosim_app.specs.Laws.{EveryCallIsAnswered, NoCallIsAnsweredTwice};
@@ -14,9 +14,11 @@ use std::alloc::Global;
 use std::sync::Wait;
 use std::thread::Threads;
 
-/// Tells a note, where there is one, with the status that it is for.
+/// Tells a note, where there is one, with the status that it is for. For an empty one the notes are not asked: they stay as they
+/// are, whatever they would answer.
 pub fn tell<N: Sink>(notes: &mut N, note: &[u8], status: Status) -> Status
-    ensures { TellsNote (N.held notes.old) (N.held notes.new) (N.faults notes.old) (N.faults notes.new) note.now status result }
+    ensures none { note.now ≡ [] → (notes.new ≡ notes.old) × (result ≡ status) }
+    ensures told { TellsNote (N.held notes.old) (N.held notes.new) (N.faults notes.old) (N.faults notes.new) note.now status result }
 {
     if note.is_empty() {
         return status;

@@ -26,7 +26,7 @@ one_more cells count none unwanted place before empty = by (cases_lt place count
 one_full : (cell : Cell) → (Some cell ≡ Some Empty → ⊥) → is_empty_cell cell ≡ false
 one_full Held not = refl
 one_full Empty not = absurd (not refl)
-one_full Filled not = refl
+one_full (Filled step) not = refl
 
 pub all_full : (cells : List Cell) (count : ℕ) → length cells ≤ count → NoneWanted cells count → AreCellsFull cells
 all_full [] count within none = tt

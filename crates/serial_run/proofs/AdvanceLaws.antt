@@ -11,7 +11,7 @@ use Rattle.unit_tree.specs.Compositions.{Composition}
 use Rattle.unit_tree.specs.Successor.{proposed, agreed, trial_end, is_redone, successor, ends}
 use Rattle.unit_tree.specs.Trace.{Stand, AreWordsOf, cells_of_trial, cells_at}
 use Rattle.unit_tree.specs.declared.ending.Ending.{Ending}
-use Rattle.serial_run.specs.Advances.{IsFresh, Moved, EndsThere, Advanced, filled, with_filled}
+use Rattle.serial_run.specs.Advances.{IsFresh, Moved, EndsThere, Advanced, AreMade, with_cells}
 use Rattle.serial_run.proofs.CellLaws.{wanted_are_steps, cells_ended, cells_redone, cells_tried}
 use Rattle.list_laws.proofs.Pairs.{one_each}
 
@@ -93,6 +93,7 @@ ends_already r ending fresh stands phase =
 moved_by : (r next : RunState) (phase : Phase) (cells : List Cell) (own : ℕ) → own ≡ r.own + cells_at r.plan.run r.stand → Moves (record r { phase = phase; cells = cells; own = own }) next → Moved r next
 moved_by r next phase cells own all moves = record {
   goes = moves.goes;
+  before = ap (λ (s : RunState). s.before) moves.is;
   is =
       moves.is
       ∙ ap (λ before. arrived r.plan r.opened next.stand before r.found own) (sym (ap (λ (s : RunState). s.before) moves.is))
@@ -147,28 +148,30 @@ trial_cells r tried stands =
     ap (λ cells. r.own + count_by is_empty_cell cells) tried.cells
     ∙ ap (λ n. r.own + n) (wanted_are_steps r.plan.run r.stand (proposed r.plan.run r.stand.at r.stand.ports) (as_many r stands))
 
-all_tried : (r : RunState) → IsTried r → Stands r → (IsRedoDue (with_filled r r.cells []) → ⊥) → r.own + count_by is_empty_cell r.cells ≡ r.own + cells_at r.plan.run r.stand
-all_tried r tried stands no_redo =
+all_tried : (r : RunState) (cells : List Cell) → IsTried r → Stands r → (IsRedoDue (with_cells r cells) → ⊥)
+    → r.own + count_by is_empty_cell r.cells ≡ r.own + cells_at r.plan.run r.stand
+all_tried r cells tried stands no_redo =
     trial_cells r tried stands
     ∙ ap (λ n. r.own + n) (sym (cells_tried r.plan.run r.stand tried.going (λ no_fault shorter. no_redo (record { h = proposed r.plan.run r.stand.at r.stand.ports; trial = tried.phase; no_fault = no_fault; shorter = shorter }))))
 
-from_trial : (r next : RunState) (told : Settle) → IsTried r → Stands r → Settled (with_filled r r.cells []) next told → ToRow r next told
-from_trial r next settle.Row tried stands (moves, known) =
-    (moved_by r next r.phase (map filled r.cells ++ []) (r.own + count_by is_empty_cell r.cells) (all_tried r tried stands moves.no_redo) moves, known)
-from_trial r next settle.Ended tried stands (inl (moves, unknown)) =
-    inl (moved_by r next r.phase (map filled r.cells ++ []) (r.own + count_by is_empty_cell r.cells) (all_tried r tried stands moves.no_redo) moves, unknown)
-from_trial r next settle.Ended tried stands (inr end) =
-    inr (ends_by r next r.phase (map filled r.cells ++ []) (r.own + count_by is_empty_cell r.cells) (all_tried r tried stands end.no_redo) end)
-from_trial r next settle.Redo tried stands (due, is) = record {
+from_trial : (r next : RunState) (cells : List Cell) (told : Settle) → IsTried r → Stands r → Settled (with_cells r cells) next told → ToRow r next told
+from_trial r next cells settle.Row tried stands (moves, known) =
+    (moved_by r next r.phase cells (r.own + count_by is_empty_cell r.cells) (all_tried r cells tried stands moves.no_redo) moves, known)
+from_trial r next cells settle.Ended tried stands (inl (moves, unknown)) =
+    inl (moved_by r next r.phase cells (r.own + count_by is_empty_cell r.cells) (all_tried r cells tried stands moves.no_redo) moves, unknown)
+from_trial r next cells settle.Ended tried stands (inr end) =
+    inr (ends_by r next r.phase cells (r.own + count_by is_empty_cell r.cells) (all_tried r cells tried stands end.no_redo) end)
+from_trial r next cells settle.Redo tried stands (due, is) = record {
   going = tried.going;
   no_fault = due.no_fault;
   shorter = due.shorter;
   is = is ∙ ap (λ own. record r { phase = Redo (agreed r.plan.run r.stand.at r.stand.ports); cells = cells_of r.plan.run r.stand.at.point.t (Redo (agreed r.plan.run r.stand.at r.stand.ports)); own = own }) (trial_cells r tried stands);
 }
 
-pub settled_trial : (r now next : RunState) (told : Settle) → IsFresh r → ((ending : Ending) → r.phase ≡ Ended ending → ⊥) → Stands r → now ≡ with_filled r r.cells [] → Settled now next told → ToRow r next told
-settled_trial r now next told fresh going stands is settled =
-    from_trial r next told (fresh_tried r fresh going) stands (subst (λ now. Settled now next told) is settled)
+pub settled_trial : (r now next : RunState) (told : Settle) → IsFresh r → ((ending : Ending) → r.phase ≡ Ended ending → ⊥) → Stands r → AreMade r now
+    → Settled now next told → ToRow r next told
+settled_trial r now next told fresh going stands made settled =
+    from_trial r next now.cells told (fresh_tried r fresh going) stands (subst (λ one. Settled one next told) made.is settled)
 
 -- ---- The step made anew
 
@@ -177,25 +180,27 @@ redo_cells r redone stands =
     ap (λ n. r.own + cells_of_trial r.plan.run r.stand + n) (wanted_are_steps r.plan.run r.stand (agreed r.plan.run r.stand.at r.stand.ports) (as_many r stands))
     ∙ omega (arith, cells_redone r.plan.run r.stand redone.going redone.no_fault redone.shorter)
 
-no_second : (r : RunState) → IsRedoDue (with_filled (redo r) (redo r).cells []) → ⊥
-no_second r due = differ due.trial
+no_second : (r : RunState) (cells : List Cell) → IsRedoDue (with_cells (redo r) cells) → ⊥
+no_second r cells due = differ due.trial
   where
     differ : Redo (agreed r.plan.run r.stand.at r.stand.ports) ≡ Trial due.h → ⊥
     differ e = cc
 
-from_redo : (r next : RunState) (told : Settle) → IsRedoneAt r → Stands r → Settled (with_filled (redo r) (redo r).cells []) next told → ToEnd r next told
-from_redo r next settle.Row redone stands (moves, known) =
-    (moved_by r next (redo r).phase (map filled (redo r).cells ++ []) ((redo r).own + count_by is_empty_cell (redo r).cells) (redo_cells r redone stands) moves, known)
-from_redo r next settle.Ended redone stands (inl (moves, unknown)) =
-    inl (moved_by r next (redo r).phase (map filled (redo r).cells ++ []) ((redo r).own + count_by is_empty_cell (redo r).cells) (redo_cells r redone stands) moves, unknown)
-from_redo r next settle.Ended redone stands (inr end) =
-    inr (ends_by r next (redo r).phase (map filled (redo r).cells ++ []) ((redo r).own + count_by is_empty_cell (redo r).cells) (redo_cells r redone stands) end)
-from_redo r next settle.Redo redone stands (due, is) = no_second r due
+from_redo : (r next : RunState) (cells : List Cell) (told : Settle) → IsRedoneAt r → Stands r → Settled (with_cells (redo r) cells) next told
+    → ToEnd r next told
+from_redo r next cells settle.Row redone stands (moves, known) =
+    (moved_by r next (redo r).phase cells ((redo r).own + count_by is_empty_cell (redo r).cells) (redo_cells r redone stands) moves, known)
+from_redo r next cells settle.Ended redone stands (inl (moves, unknown)) =
+    inl (moved_by r next (redo r).phase cells ((redo r).own + count_by is_empty_cell (redo r).cells) (redo_cells r redone stands) moves, unknown)
+from_redo r next cells settle.Ended redone stands (inr end) =
+    inr (ends_by r next (redo r).phase cells ((redo r).own + count_by is_empty_cell (redo r).cells) (redo_cells r redone stands) end)
+from_redo r next cells settle.Redo redone stands (due, is) = no_second r cells due
 
-pub settled_redo : (r second now next : RunState) (told : Settle) → IsRedone r second → Stands r → now ≡ with_filled second second.cells [] → Settled now next told → ToEnd r next told
-settled_redo r second now next told redone stands is settled =
-    from_redo r next told (record { going = redone.going; no_fault = redone.no_fault; shorter = redone.shorter }) stands
-    (subst (λ second. Settled (with_filled second second.cells []) next told) redone.is (subst (λ now. Settled now next told) is settled))
+pub settled_redo : (r second now next : RunState) (told : Settle) → IsRedone r second → Stands r → AreMade second now → Settled now next told
+    → ToEnd r next told
+settled_redo r second now next told redone stands made settled =
+    from_redo r next now.cells told (record { going = redone.going; no_fault = redone.no_fault; shorter = redone.shorter }) stands
+    (subst (λ one. Settled (with_cells one now.cells) next told) redone.is (subst (λ one. Settled one next told) made.is settled))
 
 -- and where no row is told, it has ended
 pub no_row : (r next : RunState) (told : Settle) → ToEnd r next told → (told ≡ settle.Row → ⊥) → Advanced r next false

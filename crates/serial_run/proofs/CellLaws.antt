@@ -1,118 +1,157 @@
 -- All steps of a phase, and the cells of a stand.
-use Rattle.std.proofs.Common.{◌≡◌, ℕ, suc, ◌+◌, ◌<◌, cond, Bool, true, false, List, [], ◌∷◌, ◌++◌, ℤ, length, length-append, map, Option, Some, None, refl, sym, ap, subst, ◌∙◌, arith, append-nil, append_assoc}
+use Rattle.std.proofs.Common.{◌≡◌, ℕ, suc, ◌+◌, ◌<◌, ◌≤◌, cond, Bool, true, false, List, [], ◌∷◌, ◌++◌, ℤ, length, length-append, map, Option, Some, None, Result, refl, sym, ap, subst, ◌∙◌, arith, append-nil, append_assoc}
 use Rattle.std.specs.Prelude.{◌&&◌, is_some, is_none, zip, slice_get, slice_set}
-use Rattle.std.specs.List.{count_by}
+use Rattle.std.specs.List.{AllZip, count_by}
 use Rattle.std.proofs.Math.Seq.{set-append_seam}
-use Rattle.std.proofs.lemmas.List.{length-map, map-append}
 use Rattle.std.proofs.lemmas.List.Sums.{sum_by-cons, sum_by_push}
-use Rattle.trace_core.specs.Runs.{Cell, Held, Empty, Filled, RunState, AreCellsFull, IsWanted, with_own, cell_of, first_end, is_empty_cell}
+use Rattle.std.proofs.lemmas.Slice.Zip.{AllZip-long}
+use Rattle.fixed_words.specs.declared.types.Fault.{Fault}
+use Rattle.trace_core.specs.Runs.{Cell, Held, Empty, Filled, RunState, AreCellsFull, IsWanted, IsComputed, with_own, cell_of, first_end, is_empty_cell, is_filled}
 use Rattle.unit_tree.specs.Compositions.{Composition, Member}
 use Rattle.super_time.specs.LocalTime.{local_time, local_step}
-use Rattle.unit_tree.specs.Components.{step_of}
+use Rattle.unit_tree.specs.Components.{Moved, step_of}
 use Rattle.unit_tree.specs.Negotiation.{inputs_at, is_held, step_at}
 use Rattle.unit_tree.specs.Ports.{Ports}
 use Rattle.unit_tree.specs.Successor.{steps_by, trial_end, is_redone}
 use Rattle.unit_tree.specs.Trace.{Stand, steps_there, cells_of_trial, cells_of_redo, cells_at}
 use Rattle.unit_tree.specs.declared.ending.Ending.{Ending}
-use Rattle.serial_run.specs.Advances.{filled, with_filled}
+use Rattle.serial_run.specs.Advances.{IsAfter, AreMade}
+use Rattle.list_laws.proofs.Pairs.{zip_append}
 
 -- ---- Cells in turn
+
+abbrev pub filled_to : RunState → List Cell → List Cell → List Cell → RunState
+filled_to r done made others = record r { cells = made ++ others; own = r.own + count_by is_empty_cell done }
 
 -- the steps of the first cells are there
 pub record Filling (r now : RunState) (count : ℕ) : Type 0 where
   pub done : List Cell
+  pub made : List Cell
   pub others : List Cell
   pub split : r.cells ≡ done ++ others
-  pub counted : length done ≡ count
-  pub is : now ≡ with_filled r done others
+  pub counted : length made ≡ count
+  pub each : AllZip IsAfter done made
+  pub is : now ≡ filled_to r done made others
 
 pub filling_none : (r : RunState) → Filling r r 0
-filling_none r = record { done = []; others = r.cells; split = refl; counted = refl; is = ap (λ own. record r { own = own }) (omega arith) }
+filling_none r =
+    record { done = []; made = []; others = r.cells; split = refl; counted = refl; each = tt; is = ap (λ own. record r { own = own }) (omega arith) }
 
-at_seam : (done : List Cell) (cell : Cell) (others : List Cell) → slice_get (map filled done ++ (cell ∷ others)) (length done) ≡ Some cell
+at_seam : (made : List Cell) (cell : Cell) (others : List Cell) → slice_get (made ++ (cell ∷ others)) (length made) ≡ Some cell
 at_seam [] cell others = refl
-at_seam (first ∷ done) cell others = at_seam done cell others
-
-set_at_seam : (done : List Cell) (cell new : Cell) (others : List Cell) → slice_set (map filled done ++ (cell ∷ others)) (length done) new ≡ map filled done ++ (new ∷ others)
-set_at_seam done cell new others = subst (λ n. slice_set (map filled done ++ (cell ∷ others)) n new ≡ map filled done ++ (new ∷ others)) (length-map done filled) (set-append_seam (map filled done) cell others new)
+at_seam (first ∷ made) cell others = at_seam made cell others
 
 -- the next cell joins those that are there
-joined : (r : RunState) (done : List Cell) (cell : Cell) (others : List Cell) (own : ℕ) → own ≡ r.own + count_by is_empty_cell (done ++ (cell ∷ [])) → record r { cells = map filled done ++ (filled cell ∷ others); own = own } ≡ with_filled r (done ++ (cell ∷ [])) others
-joined r done cell others own is =
-    ap (λ cells. record r { cells = cells; own = own }) (sym (ap (λ cells. cells ++ others) (map-append filled done (cell ∷ [])) ∙ append_assoc (map filled done) (filled cell ∷ []) others))
-    ∙ ap (λ own. record r { cells = map filled (done ++ (cell ∷ [])) ++ others; own = own }) is
-
-next_filling : (r now next : RunState) (count : ℕ) (done : List Cell) (cell : Cell) (others : List Cell) → r.cells ≡ done ++ (cell ∷ others) → length done ≡ count → next ≡ with_filled r (done ++ (cell ∷ [])) others → Filling r next (count + 1)
-next_filling r now next count done cell others split counted is = record {
+next_filling : (r next : RunState) (count : ℕ) (done made : List Cell) (cell new : Cell) (others : List Cell) (own : ℕ) → r.cells ≡ done ++ (cell ∷ others)
+    → length made ≡ count → AllZip IsAfter done made
+    → IsAfter cell new → own ≡ r.own + count_by is_empty_cell (done ++ (cell ∷ [])) → next ≡ record r { cells = made ++ (new ∷ others); own = own }
+    → Filling r next (count + 1)
+next_filling r next count done made cell new others own split counted each after own_is is = record {
   done = done ++ (cell ∷ []);
+  made = made ++ (new ∷ []);
   others = others;
   split = split ∙ sym (append_assoc done (cell ∷ []) others);
-  counted = length-append done (cell ∷ []) ∙ omega (arith, counted);
-  is = is;
+  counted = length-append made (new ∷ []) ∙ omega (arith, counted);
+  each = zip_append IsAfter done (cell ∷ []) made (new ∷ []) each (after, tt);
+  is =
+      is
+      ∙ ap (λ cells. record r { cells = cells; own = own }) (sym (append_assoc made (new ∷ []) others))
+      ∙ ap (λ count. record r { cells = (made ++ (new ∷ [])) ++ others; own = count }) own_is;
 }
 
 wanted_is_empty : (cell : Cell) → Some cell ≡ Some Empty → cell ≡ Empty
 wanted_is_empty cell is = cc
 
-filling_wanted : (r now next : RunState) (count : ℕ) (done others : List Cell) → r.cells ≡ done ++ others → length done ≡ count → now ≡ with_filled r done others → count < length r.cells → IsWanted now count → next ≡ with_own now count → Filling r next (count + 1)
-filling_wanted r now next count done [] split counted is within wanted took =
-    let all = ap length split ∙ length-append done [] in
-    absurd (omega (arith, all))
-filling_wanted r now next count done (cell ∷ others) split counted is within wanted took =
-    let empty : cell ≡ Empty =
-    wanted_is_empty cell (sym (at_seam done cell others) ∙ ap (λ n. slice_get (map filled done ++ (cell ∷ others)) n) counted ∙ ap (λ (s : RunState). slice_get s.cells count) (sym is) ∙ wanted) in
-    let cells : slice_set (map filled done ++ (cell ∷ others)) count Filled ≡ map filled done ++ (Filled ∷ others) =
-    ap (λ n. slice_set (map filled done ++ (cell ∷ others)) n Filled) (sym counted) ∙ set_at_seam done cell Filled others in
-    let one_more : suc (r.own + count_by is_empty_cell done) ≡ r.own + count_by is_empty_cell (done ++ (Empty ∷ [])) =
-    let pushed = sum_by_push (λ cell. cond (is_empty_cell cell) 1 0) done Empty in
-    omega (arith, pushed) in
-    next_filling r now next count done Empty others (split ∙ ap (λ c. done ++ (c ∷ others)) empty) counted
-    (took ∙ ap (λ s. with_own s count) is
-    ∙ ap (λ cells. record r { cells = cells; own = suc (r.own + count_by is_empty_cell done) }) cells
-    ∙ joined r done Empty others (suc (r.own + count_by is_empty_cell done)) one_more)
+module _ (r now : RunState) (count : ℕ) (within : count < length r.cells) where
+  none_left : (done made : List Cell) → r.cells ≡ done ++ [] → length made ≡ count → AllZip IsAfter done made → ⊥
+  none_left done made split counted each =
+      let all = ap length split ∙ length-append done [] in
+      let long = AllZip-long IsAfter done made each in
+      omega (arith, all, long, counted, within)
 
--- a cell that is not wanted stays
-filled_same : (cell : Cell) → (cell ≡ Empty → ⊥) → (filled cell ≡ cell) × (is_empty_cell cell ≡ false)
-filled_same Held not = (refl, refl)
-filled_same Empty not = absurd (not refl)
-filled_same Filled not = (refl, refl)
+  seen_next : (done made : List Cell) (cell : Cell) (others : List Cell) → length made ≡ count → now ≡ filled_to r done made (cell ∷ others)
+      → slice_get now.cells count ≡ Some cell
+  seen_next done made cell others counted is =
+      ap (λ (s : RunState). slice_get s.cells count) is ∙ ap (slice_get (made ++ (cell ∷ others))) (sym counted) ∙ at_seam made cell others
 
-filling_other : (r now : RunState) (count : ℕ) (done others : List Cell) → r.cells ≡ done ++ others → length done ≡ count → now ≡ with_filled r done others → count < length r.cells → (IsWanted now count → ⊥) → Filling r now (count + 1)
-filling_other r now count done [] split counted is within unwanted =
-    let all = ap length split ∙ length-append done [] in
-    absurd (omega (arith, all))
-filling_other r now count done (cell ∷ others) split counted is within unwanted =
-    let there : slice_get now.cells count ≡ Some cell =
-    ap (λ (s : RunState). slice_get s.cells count) is ∙ ap (λ n. slice_get (map filled done ++ (cell ∷ others)) n) (sym counted) ∙ at_seam done cell others in
-    let same = filled_same cell (λ e. unwanted (there ∙ ap Some e)) in
-    let as_many : r.own + count_by is_empty_cell done ≡ r.own + count_by is_empty_cell (done ++ (cell ∷ [])) =
-    ap (λ n. r.own + n) (sym (sum_by_push (λ cell. cond (is_empty_cell cell) 1 0) done cell ∙ ap (λ b. count_by is_empty_cell done + cond b 1 0) same.1 ∙ omega arith)) in
-    next_filling r now now count done cell others split counted
-    (is ∙ ap (λ c. record r { cells = map filled done ++ (c ∷ others); own = r.own + count_by is_empty_cell done }) (sym same.0) ∙ joined r done cell others (r.own + count_by is_empty_cell done) as_many)
+  filling_wanted : (next : RunState) (step : Result Moved Fault) (done made others : List Cell) → r.cells ≡ done ++ others → length made ≡ count
+      → AllZip IsAfter done made → now ≡ filled_to r done made others
+      → IsWanted now count → next ≡ with_own now count step → Filling r next (count + 1)
+  filling_wanted next step done made [] split counted each is wanted took = absurd (none_left done made split counted each)
+  filling_wanted next step done made (cell ∷ others) split counted each is wanted took =
+      let empty : cell ≡ Empty = wanted_is_empty cell (sym (seen_next done made cell others counted is) ∙ wanted) in
+      let cells : slice_set (made ++ (cell ∷ others)) count (Filled step) ≡ made ++ (Filled step ∷ others) =
+      ap (λ n. slice_set (made ++ (cell ∷ others)) n (Filled step)) (sym counted) ∙ set-append_seam made cell others (Filled step) in
+      let one_more : suc (r.own + count_by is_empty_cell done) ≡ r.own + count_by is_empty_cell (done ++ (Empty ∷ [])) =
+      let pushed = sum_by_push (λ cell. cond (is_empty_cell cell) 1 0) done Empty in
+      omega (arith, pushed) in
+      next_filling r next count done made Empty (Filled step) others (suc (r.own + count_by is_empty_cell done))
+      (split ∙ ap (λ c. done ++ (c ∷ others)) empty) counted each refl one_more
+      (took ∙ ap (λ s. with_own s count step) is ∙ ap (λ cells. record r { cells = cells; own = suc (r.own + count_by is_empty_cell done) }) cells)
 
-pub fills : (r now next : RunState) (count : ℕ) → Filling r now count → count < length r.cells → IsWanted now count → next ≡ with_own now count → Filling r next (count + 1)
-fills r now next count f within wanted took = filling_wanted r now next count f.done f.others f.split f.counted f.is within wanted took
+  -- a cell that is not wanted stays
+  stays : (cell : Cell) → (cell ≡ Empty → ⊥) → IsAfter cell cell × (is_empty_cell cell ≡ false)
+  stays Held not = (refl, refl)
+  stays Empty not = absurd (not refl)
+  stays (Filled step) not = (refl, refl)
+
+  filling_other : (done made others : List Cell) → r.cells ≡ done ++ others → length made ≡ count → AllZip IsAfter done made
+      → now ≡ filled_to r done made others → (IsWanted now count → ⊥)
+      → Filling r now (count + 1)
+  filling_other done made [] split counted each is unwanted = absurd (none_left done made split counted each)
+  filling_other done made (cell ∷ others) split counted each is unwanted =
+      let same = stays cell (λ e. unwanted (seen_next done made cell others counted is ∙ ap Some e)) in
+      let as_many : r.own + count_by is_empty_cell done ≡ r.own + count_by is_empty_cell (done ++ (cell ∷ [])) =
+      ap (λ n. r.own + n)
+      (sym (sum_by_push (λ cell. cond (is_empty_cell cell) 1 0) done cell ∙ ap (λ b. count_by is_empty_cell done + cond b 1 0) same.1 ∙ omega arith)) in
+      next_filling r now count done made cell cell others (r.own + count_by is_empty_cell done) split counted each same.0 as_many is
+
+pub fills : (r now next : RunState) (count : ℕ) → Filling r now count → count < length r.cells → IsWanted now count → IsComputed now count next
+    → Filling r next (count + 1)
+fills r now next count f within wanted computed =
+    filling_wanted r now count within next computed.step f.done f.made f.others f.split f.counted f.each f.is wanted computed.is
 
 pub leaves : (r now : RunState) (count : ℕ) → Filling r now count → count < length r.cells → (IsWanted now count → ⊥) → Filling r now (count + 1)
-leaves r now count f within unwanted = filling_other r now count f.done f.others f.split f.counted f.is within unwanted
+leaves r now count f within unwanted = filling_other r now count within f.done f.made f.others f.split f.counted f.each f.is unwanted
 
-all_by : (r now : RunState) (done others : List Cell) → r.cells ≡ done ++ others → length done ≡ length r.cells → now ≡ with_filled r done others → now ≡ with_filled r r.cells []
-all_by r now done [] split counted is = is ∙ ap (λ cells. with_filled r cells []) (sym (split ∙ append-nil done))
-all_by r now done (cell ∷ others) split counted is =
+all_by : (r now : RunState) (done made others : List Cell) → r.cells ≡ done ++ others → length r.cells ≤ length made → AllZip IsAfter done made
+    → now ≡ filled_to r done made others → AreMade r now
+all_by r now done made [] split counted each is =
+    let all : r.cells ≡ done = split ∙ append-nil done in
+    let cells : now.cells ≡ made = ap (λ (s : RunState). s.cells) is ∙ append-nil made in
+    record {
+      each = subst (λ some. AllZip IsAfter some now.cells) (sym all) (subst (AllZip IsAfter done) (sym cells) each);
+      is =
+          is
+          ∙ ap (λ some. record r { cells = some; own = r.own + count_by is_empty_cell done }) (sym (ap (λ (s : RunState). s.cells) is))
+          ∙ ap (λ some. record r { cells = now.cells; own = r.own + count_by is_empty_cell some }) (sym all);
+    }
+all_by r now done made (cell ∷ others) split counted each is =
     let all = ap length split ∙ length-append done (cell ∷ others) in
-    absurd (omega (arith, all))
+    let long = AllZip-long IsAfter done made each in
+    absurd (omega (arith, all, long, counted))
 
-pub all_filled : (r now : RunState) (count : ℕ) → Filling r now count → count ≡ length r.cells → now ≡ with_filled r r.cells []
-all_filled r now count f all = all_by r now f.done f.others f.split (f.counted ∙ all) f.is
+pub all_made : (r now : RunState) (count : ℕ) → Filling r now count → length r.cells ≤ count → AreMade r now
+all_made r now count f past = all_by r now f.done f.made f.others f.split (omega (arith, f.counted, past)) f.each f.is
 
-full : (cells : List Cell) → AreCellsFull (map filled cells ++ [])
-full [] = tt
-full (Held ∷ cells) = (refl, full cells)
-full (Empty ∷ cells) = (refl, full cells)
-full (Filled ∷ cells) = (refl, full cells)
+filled_full : (cell : Cell) → is_filled cell ≡ true → is_empty_cell cell ≡ false
+filled_full Held is = absurd (cc)
+filled_full Empty is = absurd (cc)
+filled_full (Filled step) is = refl
 
-pub cells_full : (r now : RunState) → now ≡ with_filled r r.cells [] → AreCellsFull now.cells
-cells_full r now is = subst (λ (s : RunState). AreCellsFull s.cells) (sym is) (full r.cells)
+after_full : (old new : Cell) → IsAfter old new → is_empty_cell new ≡ false
+after_full Held new after = ap is_empty_cell after
+after_full Empty new after = filled_full new after
+after_full (Filled step) new after = ap is_empty_cell after
+
+all_after_full : (old new : List Cell) → AllZip IsAfter old new → AreCellsFull new
+all_after_full [] [] each = tt
+all_after_full [] (cell ∷ new) each = absurd each
+all_after_full (was ∷ old) [] each = absurd each
+all_after_full (was ∷ old) (cell ∷ new) each = (after_full was cell each.0, all_after_full old new each.1)
+
+pub cells_full : (r now : RunState) → AreMade r now → AreCellsFull now.cells
+cells_full r now made = all_after_full r.cells now.cells made.each
 
 pub true_or_false : true ≡ false → ⊥
 true_or_false is = cc

@@ -1,6 +1,5 @@
-use Rattle.std.proofs.Common.{[], ap, ◌∙◌}
+use Rattle.std.proofs.Common.{ap, ◌∙◌}
 use Rattle.trace_core.specs.Runs.{RunState, is_ended}
-use Rattle.serial_run.specs.Advances.{with_filled}
 use Rattle.trace_core.specs.declared.phase.Settle.TheVariants as settle
 use Rattle.serial_run.proofs.AdvanceLaws.{IsRedone, settled_trial, settled_redo, no_row, trial_going}
 use Rattle.serial_run.proofs.CellLaws.{cells_full}
@@ -8,7 +7,9 @@ use Rattle.serial_run.proofs.advance.advance.Goals as goal
 
 pub settle-requires : goal.settle-requires
 settle-requires c = record {
-  going = ap (λ (r : RunState). is_ended r.phase) c.step_all.ensures ∙ trial_going c.args.run.now c.requires.fresh (λ ending is. c.in_default.not-Ended ending (c.phase.ensures.phase ∙ is));
+  going =
+      ap (λ (r : RunState). is_ended r.phase) c.step_all.ensures.is
+      ∙ trial_going c.args.run.now c.requires.fresh (λ ending is. c.in_default.not-Ended ending (c.phase.ensures.phase ∙ is));
   full = cells_full c.args.run.now c.step_all.new.run c.step_all.ensures;
 }
 
@@ -17,7 +18,7 @@ settle-requires-in-Redo c =
     let redone : IsRedone c.args.run.now c.settle.new.self =
     settled_trial c.args.run.now c.step_all.new.run c.settle.new.self settle.Redo c.requires.fresh (λ ending is. c.in_default.not-Ended ending (c.phase.ensures.phase ∙ is)) c.requires.stands c.step_all.ensures c.in-Redo.ensures.settled in
     record {
-      going = ap (λ (r : RunState). is_ended r.phase) (c.step_all-in-Redo.ensures ∙ ap (λ (r : RunState). with_filled r r.cells []) redone.is);
+      going = ap (λ (r : RunState). is_ended r.phase) c.step_all-in-Redo.ensures.is ∙ ap (λ (r : RunState). is_ended r.phase) redone.is;
       full = cells_full c.settle.new.self c.step_all-in-Redo.new.run c.step_all-in-Redo.ensures;
     }
 

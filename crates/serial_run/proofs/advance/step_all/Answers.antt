@@ -1,5 +1,6 @@
-use Rattle.std.proofs.Common.{◌+◌, arith, sym, ◌∙◌, subst}
-use Rattle.serial_run.proofs.CellLaws.{Filling, fills, leaves, true_or_false}
+use Rattle.std.proofs.Common.{◌+◌, ◌≤◌, arith, sym, ◌∙◌, subst}
+use Rattle.trace_core.specs.Runs.{IsComputed}
+use Rattle.serial_run.proofs.CellLaws.{Filling, filling_none, fills, leaves, all_made, true_or_false}
 use Rattle.serial_run.proofs.advance.step_all.Goals as goal
 use Rattle.serial_run.proofs.advance.step_all.Goals.{then-is_wanted, else-is_wanted}
 
@@ -7,8 +8,16 @@ pub loop-instance-preserved : goal.loop-instance-preserved
 loop-instance-preserved c =
     elim c.if-is_wanted.branch [
       | then-is_wanted w ↦ fills c.args.run.now c.loop-instance.run c.if-is_wanted.run c.loop-instance.instance c.loop-instance.invariant (omega arith)
-          (c.is_wanted.ensures.0 w.if-is_wanted.true) (w.run-is ∙ w.compute.ensures)
+          (c.is_wanted.ensures.0 w.if-is_wanted.true) (subst (IsComputed c.loop-instance.run c.loop-instance.instance) (sym w.run-is) w.compute.ensures)
       | else-is_wanted w ↦ subst (λ now. Filling c.args.run.now now (c.loop-instance.instance + 1)) (sym w.run-is)
           (leaves c.args.run.now c.loop-instance.run c.loop-instance.instance c.loop-instance.invariant (omega arith)
           (λ wanted. true_or_false (sym (c.is_wanted.ensures.1 wanted) ∙ w.if-is_wanted.false)))
     ]
+
+pub loop-instance-init : goal.loop-instance-init
+loop-instance-init c = filling_none c.args.run.now
+
+pub returns : goal.returns
+returns c =
+    all_made c.args.run.now c.loop-instance.run c.loop-instance.instance c.loop-instance.invariant
+    (subst (λ count. count ≤ c.loop-instance.instance) c.requires c.loop-instance-test.false)
