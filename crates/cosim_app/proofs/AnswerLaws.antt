@@ -17,8 +17,10 @@ answered_by words text None none = (usage_answer, inr (none, refl))
 pub every_call_is_answered : EveryCallIsAnswered
 every_call_is_answered words text = let found = some_command words in answered_by words text found.0 found.1
 
-same_by : (words : List (List ℕ)) (text : List ℕ) (one other : Answer) (command : Option Command) → IsCommandOf words command → IsAnswer words text one → IsAnswer words text other → one ≡ other
-same_by words text one other (Some command) is a b = answers_same command text one other (answer_of command words text one is a) (answer_of command words text other is b)
+same_by : (words : List (List ℕ)) (text : List ℕ) (one other : Answer) (command : Option Command) → IsCommandOf words command → IsAnswer words text one
+    → IsAnswer words text other → one ≡ other
+same_by words text one other (Some command) is a b =
+    answers_same command text one other (answer_of command words text one is a) (answer_of command words text other is b)
 same_by words text one other None none a b = usage_of words text one none a ∙ sym (usage_of words text other none b)
 
 pub no_call_is_answered_twice : NoCallIsAnsweredTwice

@@ -9,7 +9,8 @@ use Rattle.unit_tree.specs.declared.ending.Ending.{Ending}
 use Rattle.unit_tree.specs.declared.ending.Ending.TheVariants.{Completed, RowBudget, ZeroBudget, UnitFault, StepRefused}
 use Rattle.unit_tree.specs.declared.system.System.{System}
 use Rattle.run_laws.proofs.EventLaws.{one_or_two}
-use Rattle.cosim_app.specs.Answer.{Answer, AnswersRun, IsOfUnservedVersion, Serves, RefusedBy, CommandAnswers, run_answer, refused_answer, accepted_answer, printed_answer, status_of}
+use Rattle.cosim_app.specs.Answer.{Answer, AnswersRun, IsOfUnservedVersion, Serves, RefusedBy, CommandAnswers, run_answer, refused_answer, accepted_answer}
+use Rattle.cosim_app.specs.Answer.{printed_answer, status_of}
 use Rattle.cosim_app.specs.Commands.{words_of}
 use Rattle.cosim_app.specs.declared.command_words.Command.{Command}
 use Rattle.cosim_app.specs.declared.command_words.Command.TheVariants.{Run, Check, Print}
@@ -25,7 +26,8 @@ abbrev is_word : List ℕ → List (List ℕ) → Bool
 is_word word (one ∷ []) = bytes_eq one word
 is_word word words = false
 
-told_apart : (word : List ℕ) (one other : Command) → words_of one ≡ words_of other → is_word word (words_of one) ≡ true → is_word word (words_of other) ≡ false → ⊥
+told_apart : (word : List ℕ) (one other : Command) → words_of one ≡ words_of other → is_word word (words_of one) ≡ true
+    → is_word word (words_of other) ≡ false → ⊥
 told_apart word one other is first second = let same = sym first ∙ ap (is_word word) is ∙ second in true_is_not_false same
   where
     true_is_not_false : true ≡ false → ⊥
@@ -65,30 +67,49 @@ served_unrefused Print text answer serves is = done_is_no_refusal (sym (ap (λ (
 -- ---- Some answer
 
 -- the version of what is accepted is 1, or the text is of the version that is not run yet
-header_line : (text : List ℕ) (system : System) (lines : List ℕ) → IsAcceptedAs text system lines → system.version ≡ 2 → (line : ℕ) × IsOfUnservedVersion text line 25
+header_line : (text : List ℕ) (system : System) (lines : List ℕ) → IsAcceptedAs text system lines → system.version ≡ 2
+    → (line : ℕ) × IsOfUnservedVersion text line 25
 header_line text system lines accepted version =
     let source = has_source text system lines 1 accepted.reads (omega arith) (omega arith) in
     (source.0, record { system = system; lines = lines; accepted = accepted; version = version; at = source.1; by = refl })
 
-check_answered : (text : List ℕ) (system : System) (lines : List ℕ) → IsAcceptedAs text system lines → (system.version ≡ 1) ⊎ (system.version ≡ 2) → (answer : Answer) × CommandAnswers Check text answer
+check_answered : (text : List ℕ) (system : System) (lines : List ℕ) → IsAcceptedAs text system lines → (system.version ≡ 1) ⊎ (system.version ≡ 2)
+    → (answer : Answer) × CommandAnswers Check text answer
 check_answered text system lines accepted (inl version) =
     (accepted_answer, inr (record { system = system; lines = lines; accepted = accepted; version = version; is = refl }))
 check_answered text system lines accepted (inr version) =
     let at = header_line text system lines accepted version in
     (refused_answer at.0 25, inl (record { line = at.0; rule = 25; refused = inr at.1; is = refl }))
 
-run_answered : (text : List ℕ) (system : System) (lines : List ℕ) → IsAcceptedAs text system lines → (system.version ≡ 1) ⊎ (system.version ≡ 2) → (answer : Answer) × CommandAnswers Run text answer
+run_answered : (text : List ℕ) (system : System) (lines : List ℕ) → IsAcceptedAs text system lines → (system.version ≡ 1) ⊎ (system.version ≡ 2)
+    → (answer : Answer) × CommandAnswers Run text answer
 run_answered text system lines accepted (inl version) =
-    let trace = one_outcome system (record { whole = whole_of text system lines accepted; version = version }) in
-    (run_answer system trace.rows trace.last trace.ending, inr (record { system = system; lines = lines; accepted = accepted; version = version; rows = trace.rows; last = trace.last; ending = trace.ending; trace = trace.is_trace; is = refl }))
+    let trace = one_outcome system (record { whole = whole_of text system lines accepted; version = version }) in (
+      run_answer system trace.rows trace.last trace.ending,
+      inr (record {
+        system = system;
+        lines = lines;
+        accepted = accepted;
+        version = version;
+        rows = trace.rows;
+        last = trace.last;
+        ending =
+            trace.ending;
+        trace = trace.is_trace;
+        is = refl;
+      }),
+    )
 run_answered text system lines accepted (inr version) =
     let at = header_line text system lines accepted version in
     (refused_answer at.0 25, inl (record { line = at.0; rule = 25; refused = inr at.1; is = refl }))
 
-judged_answered : (command : Command) (text : List ℕ) → ((line rule : ℕ) → IsRefusedAt text line rule → RefusedBy command text line rule) → ((system : System) (lines : List ℕ) → IsAcceptedAs text system lines → (answer : Answer) × CommandAnswers command text answer) → (answer : Answer) × CommandAnswers command text answer
+judged_answered : (command : Command) (text : List ℕ) → ((line rule : ℕ) → IsRefusedAt text line rule → RefusedBy command text line rule)
+    → ((system : System) (lines : List ℕ) → IsAcceptedAs text system lines → (answer : Answer) × CommandAnswers command text answer)
+    → (answer : Answer) × CommandAnswers command text answer
 judged_answered command text refuses serves = by (judged_once text).judged
   where
-    by : ((system : System) × (lines : List ℕ) × IsAcceptedAs text system lines) ⊎ ((line : ℕ) × (rule : ℕ) × IsRefusedAt text line rule) → (answer : Answer) × CommandAnswers command text answer
+    by : ((system : System) × (lines : List ℕ) × IsAcceptedAs text system lines) ⊎ ((line : ℕ) × (rule : ℕ) × IsRefusedAt text line rule)
+        → (answer : Answer) × CommandAnswers command text answer
     by (inl (system, lines, accepted)) = serves system lines accepted
     by (inr (line, rule, refused)) = (refused_answer line rule, inl (record { line = line; rule = rule; refused = refuses line rule refused; is = refl }))
 
@@ -117,7 +138,8 @@ runs_same text one other a b =
     let first = one.is_only a.rows a.last a.ending trace in
     let second = one.is_only b.rows b.last b.ending b.trace in
     a.is ∙ ap (λ s. run_answer s a.rows a.last a.ending) same_system ∙ ap (λ rows. run_answer b.system rows a.last a.ending) (first.0 ∙ sym second.0)
-    ∙ ap (λ last. run_answer b.system b.rows last a.ending) (first.1 ∙ sym second.1) ∙ ap (run_answer b.system b.rows b.last) (first.2 ∙ sym second.2) ∙ sym b.is
+    ∙ ap (λ last. run_answer b.system b.rows last a.ending) (first.1 ∙ sym second.1) ∙ ap (run_answer b.system b.rows b.last) (first.2 ∙ sym second.2)
+    ∙ sym b.is
 
 -- texts are served with one answer
 served_same : (command : Command) (text : List ℕ) (one other : Answer) → Serves command text one → Serves command text other → one ≡ other
@@ -132,13 +154,15 @@ unserved_same text line by other rule a b =
     (some_same line other (sym a.at ∙ ap (λ lines. source_line lines 1) same.1 ∙ b.at), a.by ∙ sym b.by)
 
 -- and refused at one line by one rule
-served_or_refused : (text : List ℕ) (line by other rule : ℕ) → IsRefusedAt text line by ⊎ IsOfUnservedVersion text line by → IsRefusedAt text other rule ⊎ IsOfUnservedVersion text other rule → (line ≡ other) × (by ≡ rule)
+served_or_refused : (text : List ℕ) (line by other rule : ℕ) → IsRefusedAt text line by ⊎ IsOfUnservedVersion text line by
+    → IsRefusedAt text other rule ⊎ IsOfUnservedVersion text other rule → (line ≡ other) × (by ≡ rule)
 served_or_refused text line by other rule (inl a) (inl b) = (judged_once text).one_refusal line by other rule a b
 served_or_refused text line by other rule (inl a) (inr b) = absurd ((judged_once text).not_both b.system b.lines line by b.accepted a)
 served_or_refused text line by other rule (inr a) (inl b) = absurd ((judged_once text).not_both a.system a.lines other rule a.accepted b)
 served_or_refused text line by other rule (inr a) (inr b) = unserved_same text line by other rule a b
 
-refused_same : (command : Command) (text : List ℕ) (line by other rule : ℕ) → RefusedBy command text line by → RefusedBy command text other rule → (line ≡ other) × (by ≡ rule)
+refused_same : (command : Command) (text : List ℕ) (line by other rule : ℕ) → RefusedBy command text line by → RefusedBy command text other rule
+    → (line ≡ other) × (by ≡ rule)
 refused_same Run text line by other rule a b = served_or_refused text line by other rule a b
 refused_same Print text line by other rule a b = (judged_once text).one_refusal line by other rule a b
 refused_same Check text line by other rule a b = served_or_refused text line by other rule a b
@@ -146,7 +170,8 @@ refused_same Check text line by other rule a b = served_or_refused text line by 
 one_and_two : (one other : ℕ) → one ≡ other → one ≡ 1 → other ≡ 2 → ⊥
 one_and_two one other same first second = omega (arith, same, first, second)
 
-unserved_or_served : (text : List ℕ) (line rule : ℕ) (system : System) (lines : List ℕ) → IsAcceptedAs text system lines → system.version ≡ 1 → IsRefusedAt text line rule ⊎ IsOfUnservedVersion text line rule → ⊥
+unserved_or_served : (text : List ℕ) (line rule : ℕ) (system : System) (lines : List ℕ) → IsAcceptedAs text system lines → system.version ≡ 1
+    → IsRefusedAt text line rule ⊎ IsOfUnservedVersion text line rule → ⊥
 unserved_or_served text line rule system lines accepted version (inl refused) = (judged_once text).not_both system lines line rule accepted refused
 unserved_or_served text line rule system lines accepted version (inr unserved) =
     let same = ((judged_once text).one_system system unserved.system lines unserved.lines accepted unserved.accepted).0 in
@@ -155,7 +180,8 @@ unserved_or_served text line rule system lines accepted version (inr unserved) =
 refused_or_served : (command : Command) (text : List ℕ) (line rule : ℕ) (answer : Answer) → RefusedBy command text line rule → Serves command text answer → ⊥
 refused_or_served Run text line rule answer refused serves = unserved_or_served text line rule serves.system serves.lines serves.accepted serves.version refused
 refused_or_served Print text line rule answer refused serves = (judged_once text).not_both serves.system serves.lines line rule serves.accepted refused
-refused_or_served Check text line rule answer refused serves = unserved_or_served text line rule serves.system serves.lines serves.accepted serves.version refused
+refused_or_served Check text line rule answer refused serves =
+    unserved_or_served text line rule serves.system serves.lines serves.accepted serves.version refused
 
 -- a command has no two answers for a text
 pub answers_same : (command : Command) (text : List ℕ) (one other : Answer) → CommandAnswers command text one → CommandAnswers command text other → one ≡ other

@@ -31,7 +31,8 @@ puts_nothing command text held =
     record { answer = some.0; is = some.1; front = AppendsPrefix-nil held some.0.out }
 
 -- a refusal is the answer of a text that is refused
-pub refuses : (command : Command) (text : List ℕ) (held : Option (List ℕ)) (faults line rule : ℕ) (v : Verdict) → RefusedBy command text line rule → Refuses line rule v → JudgesText command text held held faults faults v
+pub refuses : (command : Command) (text : List ℕ) (held : Option (List ℕ)) (faults line rule : ℕ) (v : Verdict) → RefusedBy command text line rule
+    → Refuses line rule v → JudgesText command text held held faults faults v
 refuses command text held faults line rule (verdict.Answered given note) refused is = (
   record {
     answer = refused_answer line rule;
@@ -69,7 +70,9 @@ refused_as_long Run text long = inl (inl (long_refused text long))
 refused_as_long Check text long = inl (inl (long_refused text long))
 refused_as_long Print text long = inl (long_refused text long)
 
-long_answer : (command : Command) (left : Option (List ℕ)) (held : Option (List ℕ)) (given : Status) (note : List ℕ) → IfSome left (λ text. text_limit < size_of text) → given ≡ status.Refused → note ≡ refused_note 1 2 → IfSome left (λ text. PutsAnswer command text held held given note)
+long_answer : (command : Command) (left : Option (List ℕ)) (held : Option (List ℕ)) (given : Status) (note : List ℕ)
+    → IfSome left (λ text. text_limit < size_of text) → given ≡ status.Refused → note ≡ refused_note 1 2
+    → IfSome left (λ text. PutsAnswer command text held held given note)
 long_answer command None held given note long is note_is = tt
 long_answer command (Some text) held given note long is note_is = record {
   answer = refused_answer 1 2;
@@ -80,7 +83,8 @@ long_answer command (Some text) held given note long is note_is = record {
 }
 
 -- a text that is too long is refused at once
-pub refuses_long : (command : Command) (left left' : Option (List ℕ)) (reads reads' : ℕ) (held : Option (List ℕ)) (puts : ℕ) (v : Verdict) → ConsumesExactly left left' (text_limit + 1) → reads' ≡ reads → Refuses 1 2 v → JudgesInput command left left' reads reads' held held puts puts v
+pub refuses_long : (command : Command) (left left' : Option (List ℕ)) (reads reads' : ℕ) (held : Option (List ℕ)) (puts : ℕ) (v : Verdict)
+    → ConsumesExactly left left' (text_limit + 1) → reads' ≡ reads → Refuses 1 2 v → JudgesInput command left left' reads reads' held held puts puts v
 refuses_long command left left' reads reads' held puts (verdict.Answered given note) taken same is =
     let long = too_long left left' taken in
     record {
@@ -95,16 +99,21 @@ refuses_long command left left' reads reads' held puts verdict.NoMemory taken sa
 refuses_long command left left' reads reads' held puts verdict.ReadFault taken same is = absurd is
 refuses_long command left left' reads reads' held puts verdict.WriteFault taken same is = absurd is
 
-gives_of : (command : Command) (left : Option (List ℕ)) (text : List ℕ) (held held' : Option (List ℕ)) (given : Status) (note : List ℕ) → IfSome left (λ all. text ≡ all) → PutsAnswer command text held held' given note → IfSome left (λ all. PutsAnswer command all held held' given note)
+gives_of : (command : Command) (left : Option (List ℕ)) (text : List ℕ) (held held' : Option (List ℕ)) (given : Status) (note : List ℕ)
+    → IfSome left (λ all. text ≡ all) → PutsAnswer command text held held' given note → IfSome left (λ all. PutsAnswer command all held held' given note)
 gives_of command None text held held' given note whole puts = tt
 gives_of command (Some all) text held held' given note whole puts = subst (λ (t : List ℕ). PutsAnswer command t held held' given note) whole puts
 
-front_of : (command : Command) (left : Option (List ℕ)) (text : List ℕ) (held held' : Option (List ℕ)) → IfSome left (λ all. text ≡ all) → PutsAnswerFront command text held held' → IfSome left (λ all. PutsAnswerFront command all held held')
+front_of : (command : Command) (left : Option (List ℕ)) (text : List ℕ) (held held' : Option (List ℕ)) → IfSome left (λ all. text ≡ all)
+    → PutsAnswerFront command text held held' → IfSome left (λ all. PutsAnswerFront command all held held')
 front_of command None text held held' whole puts = tt
 front_of command (Some all) text held held' whole puts = subst (λ (t : List ℕ). PutsAnswerFront command t held held') whole puts
 
 -- the verdict on the whole input is that on its text
-pub judges_whole : (command : Command) (left left' : Option (List ℕ)) (reads reads' : ℕ) (held held' : Option (List ℕ)) (puts puts' : ℕ) (text : List ℕ) (v : Verdict) → IfSome left (λ all. text ≡ all) → IsAtEnd left' → reads' ≡ reads → JudgesText command text held held' puts puts' v → JudgesInput command left left' reads reads' held held' puts puts' v
+pub judges_whole : (command : Command) (left left' : Option (List ℕ)) (reads reads' : ℕ) (held held' : Option (List ℕ)) (puts puts' : ℕ) (text : List ℕ)
+    (v : Verdict)
+    → IfSome left (λ all. text ≡ all) → IsAtEnd left' → reads' ≡ reads → JudgesText command text held held' puts puts' v
+    → JudgesInput command left left' reads reads' held held' puts puts' v
 judges_whole command left left' reads reads' held held' puts puts' text (verdict.Answered given note) whole ended same is = record {
   gives = gives_of command left text held held' given note.items whole is.0;
   own = is.1;
@@ -113,14 +122,18 @@ judges_whole command left left' reads reads' held held' puts puts' text (verdict
   untouched = is.3;
   to_end = inl ended;
 }
-judges_whole command left left' reads reads' held held' puts puts' text verdict.NoMemory whole ended same is = (front_of command left text held held' whole is.0, same, is.1)
-judges_whole command left left' reads reads' held held' puts puts' text verdict.WriteFault whole ended same is = (front_of command left text held held' whole is.0, same, is.1)
+judges_whole command left left' reads reads' held held' puts puts' text verdict.NoMemory whole ended same is =
+    (front_of command left text held held' whole is.0, same, is.1)
+judges_whole command left left' reads reads' held held' puts puts' text verdict.WriteFault whole ended same is =
+    (front_of command left text held held' whole is.0, same, is.1)
 judges_whole command left left' reads reads' held held' puts puts' text verdict.ReadFault whole ended same is = absurd is
 
 -- ---- One piece
 
 -- a whole output in one piece, with no note
-pub puts_whole : (command : Command) (text : List ℕ) (held held' : Option (List ℕ)) (faults faults' : ℕ) (answer : Answer) (bytes : List ℕ) (v : Verdict) → Serves command text answer → answer.out ≡ bytes → answer.notes ≡ [] → answer.status ≡ status.Done → PutsPiece held held' faults faults' bytes v → JudgesText command text held held' faults faults' v
+pub puts_whole : (command : Command) (text : List ℕ) (held held' : Option (List ℕ)) (faults faults' : ℕ) (answer : Answer) (bytes : List ℕ) (v : Verdict)
+    → Serves command text answer → answer.out ≡ bytes → answer.notes ≡ [] → answer.status ≡ status.Done → PutsPiece held held' faults faults' bytes v
+    → JudgesText command text held held' faults faults' v
 puts_whole command text held held' faults faults' answer bytes (verdict.Answered given note) serves out notes done puts = (
   record { answer = answer; is = inr serves; out = subst (Appends held held') (sym out) puts.1; notes = puts.2 ∙ sym notes; same_status = puts.0 ∙ sym done },
   subst IsOwn (sym puts.0) tt,
@@ -137,7 +150,9 @@ puts_whole command text held held' faults faults' answer bytes verdict.NoMemory 
 puts_whole command text held held' faults faults' answer bytes verdict.ReadFault serves out notes done puts = absurd puts
 
 -- a text that is accepted, by the version of its system
-pub checks_accepted : (text : List ℕ) (system : System) (lines : List ℕ) (header : ℕ) (held held' : Option (List ℕ)) (faults faults' : ℕ) (v : Verdict) → IsAcceptedAs text system lines → source_line lines 1 ≡ Some header → TellsAccepted system.version header held held' faults faults' v → JudgesText Check text held held' faults faults' v
+pub checks_accepted : (text : List ℕ) (system : System) (lines : List ℕ) (header : ℕ) (held held' : Option (List ℕ)) (faults faults' : ℕ) (v : Verdict)
+    → IsAcceptedAs text system lines → source_line lines 1 ≡ Some header → TellsAccepted system.version header held held' faults faults' v
+    → JudgesText Check text held held' faults faults' v
 checks_accepted text system lines header held held' faults faults' v accepted at (inl (version, refusal, held_is, faults_is)) =
     let unserved : IsOfUnservedVersion text header 25 = record { system = system; lines = lines; accepted = accepted; version = version; at = at; by = refl } in
     subst (λ h. JudgesText Check text held h faults faults' v) (sym held_is)
@@ -145,12 +160,21 @@ checks_accepted text system lines header held held' faults faults' v accepted at
 checks_accepted text system lines header held held' faults faults' v accepted at (inr (other, puts)) =
     let version = (whole_of text system lines accepted).ranged.version in
     puts_whole Check text held held' faults faults' accepted_answer accepted_answer.out v
-    (record { system = system; lines = lines; accepted = accepted; version = version_is_one system.version version.0 version.1 other; is = refl }) refl refl refl puts
+    (record {
+      system = system;
+      lines = lines;
+      accepted = accepted;
+      version = version_is_one system.version version.0 version.1 other;
+      is =
+          refl;
+    }) refl refl refl puts
 
 -- and its canonical text
-pub prints_accepted : (text : List ℕ) (system : System) (lines : List ℕ) (held held' : Option (List ℕ)) (faults faults' : ℕ) (v : Verdict) → IsAcceptedAs text system lines → PutsPiece held held' faults faults' (printed_text system) v → JudgesText Print text held held' faults faults' v
+pub prints_accepted : (text : List ℕ) (system : System) (lines : List ℕ) (held held' : Option (List ℕ)) (faults faults' : ℕ) (v : Verdict)
+    → IsAcceptedAs text system lines → PutsPiece held held' faults faults' (printed_text system) v → JudgesText Print text held held' faults faults' v
 prints_accepted text system lines held held' faults faults' v accepted puts =
-    puts_whole Print text held held' faults faults' (printed_answer system) (printed_text system) v (record { system = system; lines = lines; accepted = accepted; is = refl }) refl refl refl puts
+    puts_whole Print text held held' faults faults' (printed_answer system) (printed_text system) v
+    (record { system = system; lines = lines; accepted = accepted; is = refl }) refl refl refl puts
 
 -- the lines that canonical lines came from begin with the header's
 pub some_header : (text : List ℕ) (system : System) (lines : List ℕ) → IsAcceptedAs text system lines → 0 < length lines

@@ -31,13 +31,16 @@ ends_own (UnitFault instance place fault) given is = subst IsOwn (sym is) tt
 -- ---- What a run tells
 
 -- its note, by what is run of its system
-pub note_is : (system lent plain : System) (resolution : ℕ) (ending : Ending) (last : Point) → lent ≡ system → plain ≡ plain_form lent → resolution ≡ resolution_of system → ending_note plain resolution ending last ≡ traced_note system ending last
+pub note_is : (system lent plain : System) (resolution : ℕ) (ending : Ending) (last : Point) → lent ≡ system → plain ≡ plain_form lent
+    → resolution ≡ resolution_of system → ending_note plain resolution ending last ≡ traced_note system ending last
 unfolding traced_note
 note_is system lent plain resolution ending last lent_is plain_is resolution_is =
-    ap (λ plain. ending_note plain resolution ending last) (plain_is ∙ ap plain_form lent_is) ∙ ap (λ resolution. ending_note (plain_form system) resolution ending last) resolution_is
+    ap (λ plain. ending_note plain resolution ending last) (plain_is ∙ ap plain_form lent_is)
+    ∙ ap (λ resolution. ending_note (plain_form system) resolution ending last) resolution_is
 
 -- a run that came to its end
-pub tells_trace : (system : System) (held held' : Option (List ℕ)) (report : Report) (given : Status) (note : List ℕ) → ReportsTrace system held held' report → given ≡ status_of report.outcome → note ≡ traced_note system report.outcome report.last → TellsTrace system held held' given note
+pub tells_trace : (system : System) (held held' : Option (List ℕ)) (report : Report) (given : Status) (note : List ℕ) → ReportsTrace system held held' report
+    → given ≡ status_of report.outcome → note ≡ traced_note system report.outcome report.last → TellsTrace system held held' given note
 unfolding traced_text
 tells_trace system held held' report given note reports status_is note_is = record {
   rows = reports.rows;
@@ -75,18 +78,44 @@ begins_none system held served =
 
 -- ---- As an answer
 
-begins_answer : (text : List ℕ) (system : System) (lines : List ℕ) (held held' : Option (List ℕ)) → IsAcceptedAs text system lines → system.version ≡ 1 → BeginsTrace system held held' → PutsAnswerFront Run text held held'
+begins_answer : (text : List ℕ) (system : System) (lines : List ℕ) (held held' : Option (List ℕ)) → IsAcceptedAs text system lines → system.version ≡ 1
+    → BeginsTrace system held held' → PutsAnswerFront Run text held held'
 begins_answer text system lines held held' accepted version begins = record {
   answer = run_answer system begins.rows begins.last begins.ending;
-  is = inr (record { system = system; lines = lines; accepted = accepted; version = version; rows = begins.rows; last = begins.last; ending = begins.ending; trace = begins.trace; is = refl });
+  is = inr
+      (record {
+        system = system;
+        lines = lines;
+        accepted = accepted;
+        version = version;
+        rows = begins.rows;
+        last = begins.last;
+        ending =
+            begins.ending;
+        trace = begins.trace;
+        is = refl;
+      });
   front = begins.front;
 }
 
-pub runs_accepted : (text : List ℕ) (system : System) (lines : List ℕ) (held held' : Option (List ℕ)) (faults faults' : ℕ) (v : Verdict) → IsAcceptedAs text system lines → system.version ≡ 1 → PutsTrace system held held' faults faults' v → JudgesText Run text held held' faults faults' v
+pub runs_accepted : (text : List ℕ) (system : System) (lines : List ℕ) (held held' : Option (List ℕ)) (faults faults' : ℕ) (v : Verdict)
+    → IsAcceptedAs text system lines → system.version ≡ 1 → PutsTrace system held held' faults faults' v → JudgesText Run text held held' faults faults' v
 runs_accepted text system lines held held' faults faults' (verdict.Answered given note) accepted version (tells, same) = (
   record {
     answer = run_answer system tells.rows tells.last tells.ending;
-    is = inr (record { system = system; lines = lines; accepted = accepted; version = version; rows = tells.rows; last = tells.last; ending = tells.ending; trace = tells.trace; is = refl });
+    is = inr
+        (record {
+          system = system;
+          lines = lines;
+          accepted = accepted;
+          version = version;
+          rows = tells.rows;
+          last = tells.last;
+          ending = tells.ending;
+          trace =
+              tells.trace;
+          is = refl;
+        });
     out = tells.out;
     notes = tells.notes;
     same_status = tells.status;
@@ -95,6 +124,8 @@ runs_accepted text system lines held held' faults faults' (verdict.Answered give
   same,
   λ refused. absurd (ends_unrefused tells.ending given tells.status refused),
 )
-runs_accepted text system lines held held' faults faults' verdict.WriteFault accepted version (begins, rose) = (begins_answer text system lines held held' accepted version begins, rose)
-runs_accepted text system lines held held' faults faults' verdict.NoMemory accepted version (begins, same) = (begins_answer text system lines held held' accepted version begins, same)
+runs_accepted text system lines held held' faults faults' verdict.WriteFault accepted version (begins, rose) =
+    (begins_answer text system lines held held' accepted version begins, rose)
+runs_accepted text system lines held held' faults faults' verdict.NoMemory accepted version (begins, same) =
+    (begins_answer text system lines held held' accepted version begins, same)
 runs_accepted text system lines held held' faults faults' verdict.ReadFault accepted version puts = absurd puts

@@ -40,7 +40,9 @@ pub one_outcome : (system : System) → IsServed system → HasOneTraceOf system
 one_outcome system served =
     let whole = served.whole in
     let order = system_is_ordered system (version_1_without_events system whole.ranged served.version) (names_differ system whole.well_formed) whole.ordered in
-    one_trace_of system (subst (λ s. HasOneTrace (composition_of s)) (sym (plain_form_1 system served.version)) (one_trace (composition_of system) order.0 (system_has_members system) order.1))
+    one_trace_of system
+    (subst (λ s. HasOneTrace (composition_of s)) (sym (plain_form_1 system served.version))
+    (one_trace (composition_of system) order.0 (system_has_members system) order.1))
 
 -- and its outputs have an order
 in_front : (order : List PortName) (before later : List PortName) (port : PortName) → AllByRecursion (IsIn order) (before ++ (port ∷ later)) → IsIn order port

@@ -25,12 +25,14 @@ only : (bytes other : List ℕ) → bytes ∷ [] ≡ other ∷ [] → bytes ≡ 
 only bytes other same = cc
 
 -- a word that is none of the three is of no command
-pub no_command : (bytes : List ℕ) → bytes_eq bytes (codes "run") ≡ false → bytes_eq bytes (codes "check") ≡ false → bytes_eq bytes (codes "print") ≡ false → HaveNoForm (bytes ∷ [])
+pub no_command : (bytes : List ℕ) → bytes_eq bytes (codes "run") ≡ false → bytes_eq bytes (codes "check") ≡ false → bytes_eq bytes (codes "print") ≡ false
+    → HaveNoForm (bytes ∷ [])
 no_command bytes run check print Run is = let told = ap (λ b. bytes_eq b (codes "run")) (only bytes (codes "run") is) in absurd (cc)
 no_command bytes run check print Check is = let told = ap (λ b. bytes_eq b (codes "check")) (only bytes (codes "check") is) in absurd (cc)
 no_command bytes run check print Print is = let told = ap (λ b. bytes_eq b (codes "print")) (only bytes (codes "print") is) in absurd (cc)
 
-command_by : (bytes : List ℕ) (run check print : Bool) → bytes_eq bytes (codes "run") ≡ run → bytes_eq bytes (codes "check") ≡ check → bytes_eq bytes (codes "print") ≡ print → (command : Option Command) × IsCommandOf (bytes ∷ []) command
+command_by : (bytes : List ℕ) (run check print : Bool) → bytes_eq bytes (codes "run") ≡ run → bytes_eq bytes (codes "check") ≡ check
+    → bytes_eq bytes (codes "print") ≡ print → (command : Option Command) × IsCommandOf (bytes ∷ []) command
 command_by bytes true check print is_run is_check is_print = (Some Run, word_is bytes (codes "run") is_run)
 command_by bytes false true print is_run is_check is_print = (Some Check, word_is bytes (codes "check") is_check)
 command_by bytes false false true is_run is_check is_print = (Some Print, word_is bytes (codes "print") is_print)

@@ -1,7 +1,8 @@
 -- The exit code of each status.
 use Rattle.std.specs.Prelude.{ℕ}
 use Rattle.cosim_app.specs.declared.status.Status.{Status}
-use Rattle.cosim_app.specs.declared.status.Status.TheVariants.{Done, NoMemory, Usage, Refused, ReadFault, WriteFault, ZeroBudget, RowBudget, UnitFault, StepRefused}
+use Rattle.cosim_app.specs.declared.status.Status.TheVariants.{Done, NoMemory, Usage, Refused, ReadFault, WriteFault, ZeroBudget, RowBudget, UnitFault}
+use Rattle.cosim_app.specs.declared.status.Status.TheVariants.{StepRefused}
 
 abbrev pub code_of : Status → ℕ
 code_of Done = 0

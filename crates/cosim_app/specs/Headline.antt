@@ -38,7 +38,8 @@ pub record Gives (before now : Streams) (given : Status) (answer : Answer) : Typ
 -- Answer clause: where no count rose, the call gave the answer for its words and input, or there was no memory.
 abbrev pub AnswerClause : List (List ℕ) → Streams → Streams → Status → Type 0
 AnswerClause words before now given =
-    IsQuiet before now → (given ≡ status.NoMemory → ⊥) → IfSome before.left (λ text. (answer : Answer) → IsAnswer words text answer → Gives before now given answer)
+    IsQuiet before now → (given ≡ status.NoMemory → ⊥)
+    → IfSome before.left (λ text. (answer : Answer) → IsAnswer words text answer → Gives before now given answer)
 
 -- Nothing was put: the output holds what it held, and no put failed.
 pub record PutsNothing (before now : Streams) : Type 0 where
@@ -100,7 +101,8 @@ pub record WholeInputClause (words : List (List ℕ)) (before now : Streams) (gi
 -- A whole text of notes: one of the faults', or the answer's.
 abbrev pub IsNotesText : List (List ℕ) → List ℕ → List ℕ → Type 0
 IsNotesText words text notes =
-    (notes ≡ read_fault_note) ⊎ ((notes ≡ write_fault_note) ⊎ ((notes ≡ no_memory_note) ⊎ ((answer : Answer) → IsAnswer words text answer → notes ≡ answer.notes)))
+    (notes ≡ read_fault_note)
+    ⊎ ((notes ≡ write_fault_note) ⊎ ((notes ≡ no_memory_note) ⊎ ((answer : Answer) → IsAnswer words text answer → notes ≡ answer.notes)))
 
 -- Notes clause: after a fault or want of memory the notes have that status's note alone, where they did not fail
 -- themselves; where they failed, a front of one of the texts that notes may have.

@@ -112,7 +112,8 @@ TellsAccepted version header held held' faults faults' told =
 
 -- A command has answered its input: put the answer's bytes, with the status and the note of its own, and read the input
 -- to its end, but for a text that is too long.
-pub record AnswersInput (command : Command) (left left' : Option (List ℕ)) (reads reads' : ℕ) (held held' : Option (List ℕ)) (puts puts' : ℕ) (given : Status) (note : List ℕ) : Type 0 where
+pub record AnswersInput (command : Command) (left left' : Option (List ℕ)) (reads reads' : ℕ) (held held' : Option (List ℕ)) (puts puts' : ℕ) (given : Status)
+    (note : List ℕ) : Type 0 where
   pub gives : IfSome left (λ text. PutsAnswer command text held held' given note)
   pub own : IsOwn given
   pub same_reads : reads' ≡ reads

@@ -54,7 +54,9 @@ instance_name system instance = name_or_none (option_and_then (λ i. Some i.name
 -- The name of an output by its number and its instance's.
 abbrev pub output_name : System → ℕ → ℕ → List ℕ
 output_name system instance number =
-    name_or_none (option_and_then (λ o. Some o.name) (option_and_then (λ unit. slice_get unit.outputs number) (option_and_then (unit_of_instance system) (slice_get system.instances instance))))
+    name_or_none
+    (option_and_then (λ o. Some o.name)
+    (option_and_then (λ unit. slice_get unit.outputs number) (option_and_then (unit_of_instance system) (slice_get system.instances instance))))
 
 abbrev pub place_text : System → ℕ → Place → List ℕ
 place_text system instance (place.Output number) = codes " output " ++ output_name system instance number

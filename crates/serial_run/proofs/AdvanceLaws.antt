@@ -36,10 +36,21 @@ By r None = IsTried r
 pub phase_by : (r : RunState) (end : Option Ending) → IsFresh r → first_end r.plan.run r.stand ≡ end → By r end
 phase_by r (Some ending) fresh is =
     let phase : r.phase ≡ Ended ending = ap (λ (s : RunState). s.phase) fresh ∙ ap (λ end. phase_or end (proposed r.plan.run r.stand.at r.stand.ports)) is in
-    record { over = is; phase = phase; none = ap (λ (s : RunState). s.cells) fresh ∙ ap (cells_of r.plan.run r.stand.at.point.t) (ap (λ end. phase_or end (proposed r.plan.run r.stand.at r.stand.ports)) is) }
+    record {
+      over = is;
+      phase = phase;
+      none = ap (λ (s : RunState). s.cells) fresh
+          ∙ ap (cells_of r.plan.run r.stand.at.point.t) (ap (λ end. phase_or end (proposed r.plan.run r.stand.at r.stand.ports)) is);
+    }
 phase_by r None fresh is =
-    let phase : r.phase ≡ Trial (proposed r.plan.run r.stand.at r.stand.ports) = ap (λ (s : RunState). s.phase) fresh ∙ ap (λ end. phase_or end (proposed r.plan.run r.stand.at r.stand.ports)) is in
-    record { going = is; phase = phase; cells = ap (λ (s : RunState). s.cells) fresh ∙ ap (cells_of r.plan.run r.stand.at.point.t) (ap (λ end. phase_or end (proposed r.plan.run r.stand.at r.stand.ports)) is) }
+    let phase : r.phase ≡ Trial (proposed r.plan.run r.stand.at r.stand.ports) = ap (λ (s : RunState). s.phase) fresh
+    ∙ ap (λ end. phase_or end (proposed r.plan.run r.stand.at r.stand.ports)) is in
+    record {
+      going = is;
+      phase = phase;
+      cells = ap (λ (s : RunState). s.cells) fresh
+          ∙ ap (cells_of r.plan.run r.stand.at.point.t) (ap (λ end. phase_or end (proposed r.plan.run r.stand.at r.stand.ports)) is);
+    }
 
 tried_from : (r : RunState) (end : Option Ending) → By r end → ((ending : Ending) → r.phase ≡ Ended ending → ⊥) → IsTried r
 tried_from r None by not = by
@@ -63,7 +74,8 @@ over_from r (Some end) ending by is = subst (IsOver r) (same (sym by.phase ∙ i
 
 -- ---- The run is at its end already
 
-pub ended_as : (run : Composition) (stand : Stand) (phase : Phase) (ending : Ending) → IsPhase run stand phase [] → phase ≡ Ended ending → successor run stand.at stand.ports ≡ ends ending
+pub ended_as : (run : Composition) (stand : Stand) (phase : Phase) (ending : Ending) → IsPhase run stand phase [] → phase ≡ Ended ending
+    → successor run stand.at stand.ports ≡ ends ending
 ended_as run stand (Ended end) ending is same = is.is ∙ ap ends (ending_same same)
   where
     ending_same : Ended end ≡ Ended ending → end ≡ ending
@@ -90,7 +102,8 @@ ends_already r ending fresh stands phase =
 -- ---- From a phase whose steps are there
 
 -- a run at the stand of another, whose cells there are all made, comes from it
-moved_by : (r next : RunState) (phase : Phase) (cells : List Cell) (own : ℕ) → own ≡ r.own + cells_at r.plan.run r.stand → Moves (record r { phase = phase; cells = cells; own = own }) next → Moved r next
+moved_by : (r next : RunState) (phase : Phase) (cells : List Cell) (own : ℕ) → own ≡ r.own + cells_at r.plan.run r.stand
+    → Moves (record r { phase = phase; cells = cells; own = own }) next → Moved r next
 moved_by r next phase cells own all moves = record {
   goes = moves.goes;
   before = ap (λ (s : RunState). s.before) moves.is;
@@ -100,7 +113,8 @@ moved_by r next phase cells own all moves = record {
       ∙ ap (arrived r.plan r.opened next.stand next.before r.found) all;
 }
 
-ends_by : (r next : RunState) (phase : Phase) (cells : List Cell) (own : ℕ) → own ≡ r.own + cells_at r.plan.run r.stand → Ends (record r { phase = phase; cells = cells; own = own }) next → EndsThere r next
+ends_by : (r next : RunState) (phase : Phase) (cells : List Cell) (own : ℕ) → own ≡ r.own + cells_at r.plan.run r.stand
+    → Ends (record r { phase = phase; cells = cells; own = own }) next → EndsThere r next
 ends_by r next phase cells own all end = record {
   ending = end.ending;
   ended = end.ended;
@@ -152,7 +166,9 @@ all_tried : (r : RunState) (cells : List Cell) → IsTried r → Stands r → (I
     → r.own + count_by is_empty_cell r.cells ≡ r.own + cells_at r.plan.run r.stand
 all_tried r cells tried stands no_redo =
     trial_cells r tried stands
-    ∙ ap (λ n. r.own + n) (sym (cells_tried r.plan.run r.stand tried.going (λ no_fault shorter. no_redo (record { h = proposed r.plan.run r.stand.at r.stand.ports; trial = tried.phase; no_fault = no_fault; shorter = shorter }))))
+    ∙ ap (λ n. r.own + n)
+    (sym (cells_tried r.plan.run r.stand tried.going
+    (λ no_fault shorter. no_redo (record { h = proposed r.plan.run r.stand.at r.stand.ports; trial = tried.phase; no_fault = no_fault; shorter = shorter }))))
 
 from_trial : (r next : RunState) (cells : List Cell) (told : Settle) → IsTried r → Stands r → Settled (with_cells r cells) next told → ToRow r next told
 from_trial r next cells settle.Row tried stands (moves, known) =
@@ -165,7 +181,14 @@ from_trial r next cells settle.Redo tried stands (due, is) = record {
   going = tried.going;
   no_fault = due.no_fault;
   shorter = due.shorter;
-  is = is ∙ ap (λ own. record r { phase = Redo (agreed r.plan.run r.stand.at r.stand.ports); cells = cells_of r.plan.run r.stand.at.point.t (Redo (agreed r.plan.run r.stand.at r.stand.ports)); own = own }) (trial_cells r tried stands);
+  is = is ∙ ap
+      (λ own. record r {
+        phase = Redo (agreed r.plan.run r.stand.at r.stand.ports);
+        cells =
+            cells_of r.plan.run r.stand.at.point.t (Redo (agreed r.plan.run r.stand.at r.stand.ports));
+        own = own;
+      })
+      (trial_cells r tried stands);
 }
 
 pub settled_trial : (r now next : RunState) (told : Settle) → IsFresh r → ((ending : Ending) → r.phase ≡ Ended ending → ⊥) → Stands r → AreMade r now
@@ -175,9 +198,11 @@ settled_trial r now next told fresh going stands made settled =
 
 -- ---- The step made anew
 
-redo_cells : (r : RunState) → IsRedoneAt r → Stands r → r.own + cells_of_trial r.plan.run r.stand + count_by is_empty_cell (redo r).cells ≡ r.own + cells_at r.plan.run r.stand
+redo_cells : (r : RunState) → IsRedoneAt r → Stands r
+    → r.own + cells_of_trial r.plan.run r.stand + count_by is_empty_cell (redo r).cells ≡ r.own + cells_at r.plan.run r.stand
 redo_cells r redone stands =
-    ap (λ n. r.own + cells_of_trial r.plan.run r.stand + n) (wanted_are_steps r.plan.run r.stand (agreed r.plan.run r.stand.at r.stand.ports) (as_many r stands))
+    ap (λ n. r.own + cells_of_trial r.plan.run r.stand + n)
+    (wanted_are_steps r.plan.run r.stand (agreed r.plan.run r.stand.at r.stand.ports) (as_many r stands))
     ∙ omega (arith, cells_redone r.plan.run r.stand redone.going redone.no_fault redone.shorter)
 
 no_second : (r : RunState) (cells : List Cell) → IsRedoDue (with_cells (redo r) cells) → ⊥

@@ -1,12 +1,14 @@
 -- All steps of a phase, and the cells of a stand.
-use Rattle.std.proofs.Common.{◌≡◌, ℕ, suc, ◌+◌, ◌<◌, ◌≤◌, cond, Bool, true, false, List, [], ◌∷◌, ◌++◌, ℤ, length, length-append, map, Option, Some, None, Result, refl, sym, ap, subst, ◌∙◌, arith, append-nil, append_assoc}
+use Rattle.std.proofs.Common.{◌≡◌, ℕ, suc, ◌+◌, ◌<◌, ◌≤◌, cond, Bool, true, false, List, [], ◌∷◌, ◌++◌, ℤ, length, length-append, map, Option, Some, None}
+use Rattle.std.proofs.Common.{Result, refl, sym, ap, subst, ◌∙◌, arith, append-nil, append_assoc}
 use Rattle.std.specs.Prelude.{◌&&◌, is_some, is_none, zip, slice_get, slice_set}
 use Rattle.std.specs.List.{AllZip, count_by}
 use Rattle.std.proofs.Math.Seq.{set-append_seam}
 use Rattle.std.proofs.lemmas.List.Sums.{sum_by-cons, sum_by_push}
 use Rattle.std.proofs.lemmas.Slice.Zip.{AllZip-long}
 use Rattle.fixed_words.specs.declared.types.Fault.{Fault}
-use Rattle.trace_core.specs.Runs.{Cell, Held, Empty, Filled, RunState, AreCellsFull, IsWanted, IsComputed, with_own, cell_of, first_end, is_empty_cell, is_filled}
+use Rattle.trace_core.specs.Runs.{Cell, Held, Empty, Filled, RunState, AreCellsFull, IsWanted, IsComputed, with_own, cell_of, first_end, is_empty_cell}
+use Rattle.trace_core.specs.Runs.{is_filled}
 use Rattle.unit_tree.specs.Compositions.{Composition, Member}
 use Rattle.super_time.specs.LocalTime.{local_time, local_step}
 use Rattle.unit_tree.specs.Components.{Moved, step_of}
@@ -166,17 +168,21 @@ one_wanted : (held : Bool) {A : Type 0} (step : A) → one (is_empty_cell (cond 
 one_wanted true step = refl
 one_wanted false step = refl
 
-wanted_along : (t h : ℕ) (ports : Ports) (members : List Member) (states : List (List ℤ)) → length states ≡ length members → count_by is_empty_cell (map (cell_of t h) members) ≡ steps_there (map (step_at t h ports) (zip members states))
+wanted_along : (t h : ℕ) (ports : Ports) (members : List Member) (states : List (List ℤ)) → length states ≡ length members
+    → count_by is_empty_cell (map (cell_of t h) members) ≡ steps_there (map (step_at t h ports) (zip members states))
 wanted_along t h ports [] [] as_many = refl
 wanted_along t h ports [] (state ∷ states) as_many = absurd (omega arith)
 wanted_along t h ports (member ∷ members) [] as_many = absurd (omega arith)
 wanted_along t h ports (member ∷ members) (state ∷ states) as_many =
     sum_by-cons (λ cell. cond (is_empty_cell cell) 1 0) (cell_of t h member) (map (cell_of t h) members)
-    ∙ ap (λ n. n + count_by is_empty_cell (map (cell_of t h) members)) (one_wanted (is_held member.factor t h) (step_of member.component state (inputs_at ports member) (local_time member.factor t) (local_step member.factor t h)))
+    ∙ ap (λ n. n + count_by is_empty_cell (map (cell_of t h) members))
+    (one_wanted (is_held member.factor t h)
+    (step_of member.component state (inputs_at ports member) (local_time member.factor t) (local_step member.factor t h)))
     ∙ ap (λ n. cond (is_some (step_at t h ports (member, state))) 1 0 + n) (wanted_along t h ports members states (omega arith))
     ∙ sym (sum_by-cons (λ step. cond (is_some step) 1 0) (step_at t h ports (member, state)) (map (step_at t h ports) (zip members states)))
 
-pub wanted_are_steps : (run : Composition) (stand : Stand) (h : ℕ) → length stand.at.states ≡ length run.members → count_by is_empty_cell (map (cell_of stand.at.point.t h) run.members) ≡ steps_there (steps_by run stand.at stand.ports h)
+pub wanted_are_steps : (run : Composition) (stand : Stand) (h : ℕ) → length stand.at.states ≡ length run.members
+    → count_by is_empty_cell (map (cell_of stand.at.point.t h) run.members) ≡ steps_there (steps_by run stand.at stand.ports h)
 wanted_are_steps run stand h as_many = wanted_along stand.at.point.t h stand.ports run.members stand.at.states as_many
 
 -- ---- The cells of a stand
@@ -184,15 +190,20 @@ wanted_are_steps run stand h as_many = wanted_along stand.at.point.t h stand.por
 -- where the run ends before a trial there are none
 pub cells_ended : (run : Composition) (stand : Stand) (ending : Ending) → first_end run stand ≡ Some ending → cells_at run stand ≡ 0
 cells_ended run stand ending ends =
-    ap (λ (end : Option Ending). cond (is_some end) 0 (cells_of_trial run stand + cond (is_none (trial_end run stand.at stand.ports) && is_redone run stand.at stand.ports) (cells_of_redo run stand) 0)) ends
+    ap (λ (end : Option Ending). cond (is_some end) 0
+    (cells_of_trial run stand + cond (is_none (trial_end run stand.at stand.ports) && is_redone run stand.at stand.ports) (cells_of_redo run stand) 0)) ends
 
 -- else those of the trial
-cells_of_both : (run : Composition) (stand : Stand) → first_end run stand ≡ None → cells_at run stand ≡ cells_of_trial run stand + cond (is_none (trial_end run stand.at stand.ports) && is_redone run stand.at stand.ports) (cells_of_redo run stand) 0
+cells_of_both : (run : Composition) (stand : Stand) → first_end run stand ≡ None
+    → cells_at run stand
+    ≡ cells_of_trial run stand + cond (is_none (trial_end run stand.at stand.ports) && is_redone run stand.at stand.ports) (cells_of_redo run stand) 0
 cells_of_both run stand none =
-    ap (λ (end : Option Ending). cond (is_some end) 0 (cells_of_trial run stand + cond (is_none (trial_end run stand.at stand.ports) && is_redone run stand.at stand.ports) (cells_of_redo run stand) 0)) none
+    ap (λ (end : Option Ending). cond (is_some end) 0
+    (cells_of_trial run stand + cond (is_none (trial_end run stand.at stand.ports) && is_redone run stand.at stand.ports) (cells_of_redo run stand) 0)) none
 
 -- with those of the step that is made anew
-pub cells_redone : (run : Composition) (stand : Stand) → first_end run stand ≡ None → trial_end run stand.at stand.ports ≡ None → is_redone run stand.at stand.ports ≡ true → cells_at run stand ≡ cells_of_trial run stand + cells_of_redo run stand
+pub cells_redone : (run : Composition) (stand : Stand) → first_end run stand ≡ None → trial_end run stand.at stand.ports ≡ None
+    → is_redone run stand.at stand.ports ≡ true → cells_at run stand ≡ cells_of_trial run stand + cells_of_redo run stand
 cells_redone run stand none no_fault shorter =
     cells_of_both run stand none
     ∙ ap (λ (end : Option Ending). cells_of_trial run stand + cond (is_none end && is_redone run stand.at stand.ports) (cells_of_redo run stand) 0) no_fault
@@ -203,6 +214,8 @@ tried_by (Some ending) redone tried anew not = omega arith
 tried_by None true tried anew not = absurd (not refl refl)
 tried_by None false tried anew not = omega arith
 
-pub cells_tried : (run : Composition) (stand : Stand) → first_end run stand ≡ None → (trial_end run stand.at stand.ports ≡ None → is_redone run stand.at stand.ports ≡ true → ⊥) → cells_at run stand ≡ cells_of_trial run stand
+pub cells_tried : (run : Composition) (stand : Stand) → first_end run stand ≡ None
+    → (trial_end run stand.at stand.ports ≡ None → is_redone run stand.at stand.ports ≡ true → ⊥) → cells_at run stand ≡ cells_of_trial run stand
 cells_tried run stand none not =
-    cells_of_both run stand none ∙ tried_by (trial_end run stand.at stand.ports) (is_redone run stand.at stand.ports) (cells_of_trial run stand) (cells_of_redo run stand) not
+    cells_of_both run stand none
+    ∙ tried_by (trial_end run stand.at stand.ports) (is_redone run stand.at stand.ports) (cells_of_trial run stand) (cells_of_redo run stand) not

@@ -1,5 +1,6 @@
 -- What the rows of a run put and count.
-use Rattle.std.proofs.Common.{◌≡◌, ℕ, ◌+◌, ◌*◌, ◌<◌, ◌^◌, ℤ, pos, neg_ℤ, ◌+ℤ◌, ◌≤ℤ◌, List, [], ◌∷◌, ◌++◌, length, drop, get_or, Option, Some, None, Result, Ok, Err, refl, sym, ap, subst, ◌∙◌, append-nil, arith}
+use Rattle.std.proofs.Common.{◌≡◌, ℕ, ◌+◌, ◌*◌, ◌<◌, ◌^◌, ℤ, pos, neg_ℤ, ◌+ℤ◌, ◌≤ℤ◌, List, [], ◌∷◌, ◌++◌, length, drop, get_or, Option, Some, None, Result, Ok}
+use Rattle.std.proofs.Common.{Err, refl, sym, ap, subst, ◌∙◌, append-nil, arith}
 use Rattle.std.specs.Io.KnownBytes.{Appends}
 use Rattle.std.specs.List.{cons_option}
 use Rattle.std.specs.Option.{option_map}
@@ -23,18 +24,22 @@ use Rattle.serial_run.specs.declared.tally.Tally.{Tally}
 
 -- ---- Sums
 
-pub row_sum_more : (columns : List Column) (words : List ℤ) (i : ℕ) (d : Column) → i < length columns → row_sum (drop i columns) words ≡ word_shown words (get_or columns i d) +ℤ row_sum (drop (i + 1) columns) words
+pub row_sum_more : (columns : List Column) (words : List ℤ) (i : ℕ) (d : Column) → i < length columns
+    → row_sum (drop i columns) words ≡ word_shown words (get_or columns i d) +ℤ row_sum (drop (i + 1) columns) words
 row_sum_more columns words i d within = at_drop_more (λ rest. row_sum rest words) columns i d within
 
 -- one word more
-pub summed_more : (columns : List Column) (words : List ℤ) (i : ℕ) (d : Column) (sum word all : ℤ) → i < length columns → word ≡ word_shown words (get_or columns i d) → sum +ℤ row_sum (drop i columns) words ≡ all → (sum +ℤ word) +ℤ row_sum (drop (i + 1) columns) words ≡ all
+pub summed_more : (columns : List Column) (words : List ℤ) (i : ℕ) (d : Column) (sum word all : ℤ) → i < length columns
+    → word ≡ word_shown words (get_or columns i d) → sum +ℤ row_sum (drop i columns) words ≡ all → (sum +ℤ word) +ℤ row_sum (drop (i + 1) columns) words ≡ all
 summed_more columns words i d sum word all within is summed =
     let more = row_sum_more columns words i d within in
     let rest = row_sum (drop (i + 1) columns) words in
     omega (arith, ints, summed, more, is)
 
-pub within_more : (i : ℕ) (sum word : ℤ) → IsWithin (i * 2 ^ 63) sum → neg_ℤ (pos (2 ^ 63)) ≤ℤ word → word ≤ℤ pos (2 ^ 63) → IsWithin ((i + 1) * 2 ^ 63) (sum +ℤ word)
-within_more i sum word so_far least greatest = record { least = omega (arith, ints, so_far.least, least); greatest = omega (arith, ints, so_far.greatest, greatest) }
+pub within_more : (i : ℕ) (sum word : ℤ) → IsWithin (i * 2 ^ 63) sum → neg_ℤ (pos (2 ^ 63)) ≤ℤ word → word ≤ℤ pos (2 ^ 63)
+    → IsWithin ((i + 1) * 2 ^ 63) (sum +ℤ word)
+within_more i sum word so_far least greatest =
+    record { least = omega (arith, ints, so_far.least, least); greatest = omega (arith, ints, so_far.greatest, greatest) }
 
 add-nothing : (sum : ℤ) → sum ≡ sum +ℤ pos 0
 add-nothing sum = omega (arith, ints)
@@ -47,10 +52,12 @@ unfolding header_of lines_of
 text_is system rows = refl
 
 -- the line of one row, from the system's own resolution and columns
-one_line : (system : System) (resolution : ℕ) (columns : List Column) (row : Row) → resolution ≡ resolution_of system → columns ≡ columns_of system → row_line resolution columns row.point row.words ≡ lines_of system (row ∷ [])
+one_line : (system : System) (resolution : ℕ) (columns : List Column) (row : Row) → resolution ≡ resolution_of system → columns ≡ columns_of system
+    → row_line resolution columns row.point row.words ≡ lines_of system (row ∷ [])
 unfolding lines_of
 one_line system resolution columns row same_resolution same_columns =
-    ap (λ r. row_line r columns row.point row.words) same_resolution ∙ ap (λ c. row_line (resolution_of system) c row.point row.words) same_columns ∙ sym (append-nil (row_line (resolution_of system) (columns_of system) row.point row.words))
+    ap (λ r. row_line r columns row.point row.words) same_resolution ∙ ap (λ c. row_line (resolution_of system) c row.point row.words) same_columns
+    ∙ sym (append-nil (row_line (resolution_of system) (columns_of system) row.point row.words))
 
 pub no_lines : (system : System) → lines_of system [] ≡ []
 unfolding lines_of
@@ -72,7 +79,8 @@ told_none f (Some a) row is not = absurd (not a refl)
 pub told_some : {A B : Type 0} (f : A → B) (told : Option A) (row : Option B) (a : A) → option_map f told ≡ row → told ≡ Some a → row ≡ Some (f a)
 told_some f told row a is found = sym is ∙ ap (option_map f) found
 
-pub no_row_put : (plan : Planned) (stand : Stand) (held : Option (List ℕ)) (faults : ℕ) (tally : Tally) → row_at plan.run stand ≡ None → PutsRow plan stand held held faults faults tally tally (Ok tt)
+pub no_row_put : (plan : Planned) (stand : Stand) (held : Option (List ℕ)) (faults : ℕ) (tally : Tally) → row_at plan.run stand ≡ None
+    → PutsRow plan stand held held faults faults tally tally (Ok tt)
 no_row_put plan stand held faults tally is =
     let none = none_here plan stand is in
     record {
@@ -85,11 +93,16 @@ no_row_put plan stand held faults tally is =
       cause = record { later = omega arith; failed = λ e. absurd (cc); same = λ _. refl };
     }
 
-pub row_put : (plan : Planned) (stand : Stand) (row : Row) (resolution : ℕ) (columns : List Column) (held held' : Option (List ℕ)) (faults faults' : ℕ) (before after : Tally) (sum : ℤ) → row_at plan.run stand ≡ Some row → resolution ≡ resolution_of plan.system → columns ≡ columns_of plan.system → Appends held held' (row_line resolution columns row.point row.words) → faults' ≡ faults → after.rows ≡ before.rows + 1 → after.sum ≡ before.sum +ℤ sum → sum ≡ row_sum columns row.words → PutsRow plan stand held held' faults faults' before after (Ok tt)
+pub row_put : (plan : Planned) (stand : Stand) (row : Row) (resolution : ℕ) (columns : List Column) (held held' : Option (List ℕ)) (faults faults' : ℕ)
+    (before after : Tally) (sum : ℤ)
+    → row_at plan.run stand ≡ Some row → resolution ≡ resolution_of plan.system → columns ≡ columns_of plan.system
+    → Appends held held' (row_line resolution columns row.point row.words) → faults' ≡ faults → after.rows ≡ before.rows + 1 → after.sum ≡ before.sum +ℤ sum
+    → sum ≡ row_sum columns row.words → PutsRow plan stand held held' faults faults' before after (Ok tt)
 row_put plan stand row resolution columns held held' faults faults' before after sum is same_resolution same_columns put same rows_are sum_is row_sum_is =
     let here = row_here plan stand row is in
     let shown : before.sum +ℤ sum ≡ before.sum +ℤ sum_shown (columns_of plan.system) (row ∷ []) =
-    ap (λ s. before.sum +ℤ s) (row_sum_is ∙ ap (λ columns. row_sum columns row.words) same_columns ∙ add-nothing (row_sum (columns_of plan.system) row.words)) in
+    ap (λ s. before.sum +ℤ s)
+    (row_sum_is ∙ ap (λ columns. row_sum columns row.words) same_columns ∙ add-nothing (row_sum (columns_of plan.system) row.words)) in
     record {
       whole = record {
         out = subst (Appends held held') (one_line plan.system resolution columns row same_resolution same_columns ∙ ap (lines_of plan.system) (sym here)) put;
@@ -100,11 +113,16 @@ row_put plan stand row resolution columns held held' faults faults' before after
       cause = record { later = omega arith; failed = λ e. absurd (cc); same = λ _. same };
     }
 
-pub row_broken : (plan : Planned) (stand : Stand) (row : Row) (resolution : ℕ) (columns : List Column) (held held' : Option (List ℕ)) (faults faults' : ℕ) (tally : Tally) (fault : CrewFault) (result : Result (Unit {0}) CrewFault) → row_at plan.run stand ≡ Some row → resolution ≡ resolution_of plan.system → columns ≡ columns_of plan.system → AppendsPrefix held held' (row_line resolution columns row.point row.words) → TellsFault {T = Unit {0}} faults faults' (Err fault) → result ≡ Err fault → PutsRow plan stand held held' faults faults' tally tally result
+pub row_broken : (plan : Planned) (stand : Stand) (row : Row) (resolution : ℕ) (columns : List Column) (held held' : Option (List ℕ)) (faults faults' : ℕ)
+    (tally : Tally) (fault : CrewFault) (result : Result (Unit {0}) CrewFault)
+    → row_at plan.run stand ≡ Some row → resolution ≡ resolution_of plan.system → columns ≡ columns_of plan.system
+    → AppendsPrefix held held' (row_line resolution columns row.point row.words) → TellsFault {T = Unit {0}} faults faults' (Err fault) → result ≡ Err fault
+    → PutsRow plan stand held held' faults faults' tally tally result
 row_broken plan stand row resolution columns held held' faults faults' tally fault result is same_resolution same_columns put tells same =
     subst (PutsRow plan stand held held' faults faults' tally tally) (sym same) (record {
       whole = tt;
-      front = subst (AppendsPrefix held held') (one_line plan.system resolution columns row same_resolution same_columns ∙ ap (lines_of plan.system) (sym (row_here plan stand row is))) put;
+      front = subst (AppendsPrefix held held')
+          (one_line plan.system resolution columns row same_resolution same_columns ∙ ap (lines_of plan.system) (sym (row_here plan stand row is))) put;
       cause = tells;
     })
 

@@ -1,5 +1,6 @@
 -- What a run keeps from row to row.
-use Rattle.std.proofs.Common.{◌≡◌, ℕ, suc, ◌+◌, ◌<◌, ◌≤◌, pos, ◌+ℤ◌, List, [], ◌∷◌, ◌++◌, length, length-append, Option, Some, None, Ok, sym, ap, subst, ◌∙◌, append-nil, append_assoc, arith}
+use Rattle.std.proofs.Common.{◌≡◌, ℕ, suc, ◌+◌, ◌<◌, ◌≤◌, pos, ◌+ℤ◌, List, [], ◌∷◌, ◌++◌, length, length-append, Option, Some, None, Ok, sym, ap, subst, ◌∙◌}
+use Rattle.std.proofs.Common.{append-nil, append_assoc, arith}
 use Rattle.std.specs.List.{cons_option}
 use Rattle.std.specs.Io.KnownBytes.{Appends}
 use Rattle.std.proofs.KnownBytes.{Appends-trans}
@@ -80,25 +81,35 @@ one_row_most (Some row) = omega arith
 rows_here_most : (plan : Planned) (stand : Stand) → length (rows_here plan stand) ≤ 1
 rows_here_most plan stand = one_row_most (row_at plan.run stand)
 
-are_put_more : (plan : Planned) (passed : List Stand) (here : Stand) (held0 held held' : Option (List ℕ)) (before after : Tally) → ArePut plan passed held0 held before → IsPut plan here held held' before after → ArePut plan (passed ++ (here ∷ [])) held0 held' after
+are_put_more : (plan : Planned) (passed : List Stand) (here : Stand) (held0 held held' : Option (List ℕ)) (before after : Tally)
+    → ArePut plan passed held0 held before → IsPut plan here held held' before after → ArePut plan (passed ++ (here ∷ [])) held0 held' after
 are_put_more plan passed here held0 held held' before after put more =
     let rows = filter_map-append (row_at plan.run) passed (here ∷ []) in
-    let text : (header_of plan.system ++ lines_of plan.system (rows_of plan.run passed)) ++ lines_of plan.system (rows_here plan here) ≡ header_of plan.system ++ lines_of plan.system (rows_of plan.run (passed ++ (here ∷ []))) =
+    let text : (header_of plan.system ++ lines_of plan.system (rows_of plan.run passed)) ++ lines_of plan.system (rows_here plan here)
+    ≡ header_of plan.system ++ lines_of plan.system (rows_of plan.run (passed ++ (here ∷ []))) =
     append_assoc (header_of plan.system) (lines_of plan.system (rows_of plan.run passed)) (lines_of plan.system (rows_here plan here))
-    ∙ ap (λ t. header_of plan.system ++ t) (sym (lines-append plan.system (rows_of plan.run passed) (rows_here plan here)) ∙ ap (lines_of plan.system) (sym rows)) in
+    ∙ ap (λ t. header_of plan.system ++ t)
+    (sym (lines-append plan.system (rows_of plan.run passed) (rows_here plan here)) ∙ ap (lines_of plan.system) (sym rows)) in
     record {
-      out = subst (Appends held0 held') text (Appends-trans held0 held held' (header_of plan.system ++ lines_of plan.system (rows_of plan.run passed)) (lines_of plan.system (rows_here plan here)) put.out more.out);
-      rows = more.rows ∙ ap (λ n. n + length (rows_here plan here)) put.rows ∙ sym (length-append (rows_of plan.run passed) (rows_here plan here)) ∙ ap length (sym rows);
-      sum = more.sum ∙ ap (λ s. s +ℤ sum_shown (columns_of plan.system) (rows_here plan here)) put.sum ∙ sym (sum-append (columns_of plan.system) (rows_of plan.run passed) (rows_here plan here)) ∙ ap (sum_shown (columns_of plan.system)) (sym rows);
+      out = subst (Appends held0 held') text
+          (Appends-trans held0 held held' (header_of plan.system ++ lines_of plan.system (rows_of plan.run passed))
+          (lines_of plan.system (rows_here plan here)) put.out more.out);
+      rows = more.rows ∙ ap (λ n. n + length (rows_here plan here)) put.rows ∙ sym (length-append (rows_of plan.run passed) (rows_here plan here))
+          ∙ ap length (sym rows);
+      sum = more.sum ∙ ap (λ s. s +ℤ sum_shown (columns_of plan.system) (rows_here plan here)) put.sum
+          ∙ sym (sum-append (columns_of plan.system) (rows_of plan.run passed) (rows_here plan here)) ∙ ap (sum_shown (columns_of plan.system)) (sym rows);
     }
 
-put_few : (plan : Planned) (here : Stand) (held held' : Option (List ℕ)) (before after : Tally) (number : ℕ) → before.rows ≤ number → IsPut plan here held held' before after → after.rows ≤ suc number
+put_few : (plan : Planned) (here : Stand) (held held' : Option (List ℕ)) (before after : Tally) (number : ℕ) → before.rows ≤ number
+    → IsPut plan here held held' before after → after.rows ≤ suc number
 put_few plan here held held' before after number few put =
     let most = rows_here_most plan here in
     let rows = put.rows in
     omega arith
 
-pub kept_by : (plan : Planned) (r : RunState) (held0 held held' : Option (List ℕ)) (faults0 faults faults' : ℕ) (before after : Tally) → Come plan r held0 held faults0 faults before → PutsRow plan r.stand held held' faults faults' before after (Ok tt) → Kept plan r held0 held' faults0 faults' after
+pub kept_by : (plan : Planned) (r : RunState) (held0 held held' : Option (List ℕ)) (faults0 faults faults' : ℕ) (before after : Tally)
+    → Come plan r held0 held faults0 faults before → PutsRow plan r.stand held held' faults faults' before after (Ok tt)
+    → Kept plan r held0 held' faults0 faults' after
 kept_by plan r held0 held held' faults0 faults faults' before after come puts = record {
   passed = come.passed;
   at = come.at;
@@ -119,7 +130,8 @@ moved_plan : (plan : Planned) (old new : RunState) → old.plan ≡ plan → Mov
 moved_plan plan old new planned moved = ap (λ (s : RunState). s.plan) moved.is ∙ planned
 
 -- a run that came to the next stand is behind one stand more
-pub moved_at : (plan : Planned) (passed : List Stand) (old new : RunState) → Given plan → IsAt plan passed old → Moved old new → Stands new → IsAt plan (passed ++ (old.stand ∷ [])) new
+pub moved_at : (plan : Planned) (passed : List Stand) (old new : RunState) → Given plan → IsAt plan passed old → Moved old new → Stands new
+    → IsAt plan (passed ++ (old.stand ∷ [])) new
 moved_at plan passed old new given at moved stands =
     let planned = moved_plan plan old new at.planned moved in
     let to_next : Goes plan.run old.stand new.stand = subst (λ (p : Planned). Goes p.run old.stand new.stand) at.planned moved.goes in
@@ -131,15 +143,19 @@ moved_at plan passed old new given at moved stands =
       stands = stands;
       fresh =
           moved.is
-          ∙ ap (λ plan. arrived plan old.opened new.stand new.before old.found (old.own + cells_at old.plan.run old.stand)) (sym (ap (λ (s : RunState). s.plan) moved.is))
+          ∙ ap (λ plan. arrived plan old.opened new.stand new.before old.found (old.own + cells_at old.plan.run old.stand))
+          (sym (ap (λ (s : RunState). s.plan) moved.is))
           ∙ ap (λ opened. arrived new.plan opened new.stand new.before old.found (old.own + cells_at old.plan.run old.stand)) (sym opened)
           ∙ ap (λ found. arrived new.plan new.opened new.stand new.before found (old.own + cells_at old.plan.run old.stand)) (sym found)
           ∙ ap (λ own. arrived new.plan new.opened new.stand new.before new.found own) (sym own);
-      walked = walked_on plan.run given.order passed old.stand new.stand given.ordered (subst (λ (p : Planned). HasWords p.run new.stand.at) planned stands.words) to_next at.walked;
-      own = own ∙ ap (λ n. n + cells_at old.plan.run old.stand) at.own ∙ ap (λ (p : Planned). cells_of plan.run passed + cells_at p.run old.stand) at.planned ∙ sym (cells-push plan.run passed old.stand);
+      walked = walked_on plan.run given.order passed old.stand new.stand given.ordered
+          (subst (λ (p : Planned). HasWords p.run new.stand.at) planned stands.words) to_next at.walked;
+      own = own ∙ ap (λ n. n + cells_at old.plan.run old.stand) at.own ∙ ap (λ (p : Planned). cells_of plan.run passed + cells_at p.run old.stand) at.planned
+          ∙ sym (cells-push plan.run passed old.stand);
     }
 
-pub come_next : (plan : Planned) (old new : RunState) (held0 held : Option (List ℕ)) (faults0 faults : ℕ) (tally : Tally) → Given plan → Kept plan old held0 held faults0 faults tally → Moved old new → Stands new → Come plan new held0 held faults0 faults tally
+pub come_next : (plan : Planned) (old new : RunState) (held0 held : Option (List ℕ)) (faults0 faults : ℕ) (tally : Tally) → Given plan
+    → Kept plan old held0 held faults0 faults tally → Moved old new → Stands new → Come plan new held0 held faults0 faults tally
 come_next plan old new held0 held faults0 faults tally given kept moved stands = record {
   passed = kept.passed ++ (old.stand ∷ []);
   at = moved_at plan kept.passed old new given kept.at moved stands;
@@ -163,14 +179,17 @@ fresh_first plan at r is =
     ∙ ap (λ found. arrived r.plan r.opened r.stand r.before found 0) (sym (ap (λ (s : RunState). s.found) is))
     ∙ ap (λ own. arrived r.plan r.opened r.stand r.before r.found own) (sym (ap (λ (s : RunState). s.own) is))
 
-nothing_put : (plan : Planned) (held0 held : Option (List ℕ)) (tally : Tally) → Appends held0 held (header_of plan.system) → tally.rows ≡ 0 → tally.sum ≡ pos 0 → ArePut plan [] held0 held tally
+nothing_put : (plan : Planned) (held0 held : Option (List ℕ)) (tally : Tally) → Appends held0 held (header_of plan.system) → tally.rows ≡ 0
+    → tally.sum ≡ pos 0 → ArePut plan [] held0 held tally
 nothing_put plan held0 held tally put rows sum = record {
   out = subst (Appends held0 held) (sym (ap (λ l. header_of plan.system ++ l) (no_lines plan.system) ∙ append-nil (header_of plan.system))) put;
   rows = rows;
   sum = sum;
 }
 
-pub come_first : (plan : Planned) (r : RunState) (held0 held : Option (List ℕ)) (faults0 faults : ℕ) (tally : Tally) → Given plan → IsOpened plan (first_position plan.run) r → Stands r → Appends held0 held (header_of plan.system) → faults ≡ faults0 → tally.rows ≡ 0 → tally.sum ≡ pos 0 → Come plan r held0 held faults0 faults tally
+pub come_first : (plan : Planned) (r : RunState) (held0 held : Option (List ℕ)) (faults0 faults : ℕ) (tally : Tally) → Given plan
+    → IsOpened plan (first_position plan.run) r → Stands r → Appends held0 held (header_of plan.system) → faults ≡ faults0 → tally.rows ≡ 0
+    → tally.sum ≡ pos 0 → Come plan r held0 held faults0 faults tally
 come_first plan r held0 held faults0 faults tally given opened stands put same rows sum =
     let planned = ap (λ (s : RunState). s.plan) opened.is in
     record {
@@ -179,7 +198,8 @@ come_first plan r held0 held faults0 faults tally given opened stands put same r
         planned = planned;
         stands = stands;
         fresh = fresh_first plan (first_position plan.run) r opened.is;
-        walked = walked_first plan.run given.order r.stand given.ordered (subst (λ (p : Planned). HasWords p.run r.stand.at) planned stands.words) (subst (λ (p : Planned). IsStand p.run r.stand) planned stands.is_stand) (ap (λ (s : RunState). s.stand.at) opened.is);
+        walked = walked_first plan.run given.order r.stand given.ordered (subst (λ (p : Planned). HasWords p.run r.stand.at) planned stands.words)
+            (subst (λ (p : Planned). IsStand p.run r.stand) planned stands.is_stand) (ap (λ (s : RunState). s.stand.at) opened.is);
         own = ap (λ (s : RunState). s.own) opened.is;
       };
       put = nothing_put plan held0 held tally put rows sum;

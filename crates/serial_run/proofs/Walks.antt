@@ -28,7 +28,8 @@ abbrev pub Walked : Composition → List Stand → Stand → Type 0
 Walked run passed here = (stands : List Stand) (ending : Ending) → IsTrace run stands ending → Onward run passed here stands ending
 
 -- two stands at one position are the same
-one_stand : (run : Composition) (order : List ℕ) (one other : Stand) → IsPlaceOrder run order → HasWords run one.at → IsStand run one → IsStand run other → other.at ≡ one.at → other ≡ one
+one_stand : (run : Composition) (order : List ℕ) (one other : Stand) → IsPlaceOrder run order → HasWords run one.at → IsStand run one → IsStand run other
+    → other.at ≡ one.at → other ≡ one
 one_stand run order one other ordered words is_one is_other same =
     let as_many = one_each (λ member state. AreWordsOf member.component.unit.states state) run.members one.at.states words in
     let only = one_assignment run order one.at.states ordered as_many in
@@ -36,13 +37,16 @@ one_stand run order one other ordered words is_one is_other same =
     ap (λ at. record { at = at; ports = other.ports }) same
     ∙ ap (λ ports. record { at = one.at; ports = ports }) (only.is_only other.ports assigned ∙ sym (only.is_only one.ports is_one))
 
-pub walked_first : (run : Composition) (order : List ℕ) (first : Stand) → IsPlaceOrder run order → HasWords run first.at → IsStand run first → first.at ≡ first_position run → Walked run [] first
+pub walked_first : (run : Composition) (order : List ℕ) (first : Stand) → IsPlaceOrder run order → HasWords run first.at → IsStand run first
+    → first.at ≡ first_position run → Walked run [] first
 walked_first run order first ordered words is_stand is [] ending trace = absurd trace
 walked_first run order first ordered words is_stand is (stand ∷ others) ending trace =
     let same = one_stand run order first stand ordered words is_stand trace.1 (trace.0 ∙ sym is) in
     record { later = others; split = ap (λ (s : Stand). s ∷ others) same; follows = subst (λ s. Follows run s others ending) same trace.2 }
 
-on_from : (run : Composition) (order : List ℕ) (passed : List Stand) (here next : Stand) (stands : List Stand) (ending : Ending) (later : List Stand) → IsPlaceOrder run order → HasWords run next.at → Goes run here next → stands ≡ passed ++ (here ∷ later) → Follows run here later ending → Onward run (passed ++ (here ∷ [])) next stands ending
+on_from : (run : Composition) (order : List ℕ) (passed : List Stand) (here next : Stand) (stands : List Stand) (ending : Ending) (later : List Stand)
+    → IsPlaceOrder run order → HasWords run next.at → Goes run here next → stands ≡ passed ++ (here ∷ later) → Follows run here later ending
+    → Onward run (passed ++ (here ∷ [])) next stands ending
 on_from run order passed here next stands ending [] ordered words to_next split follows = absurd (differ (sym to_next.0 ∙ follows))
   where
     differ : goes next.at ≡ ends ending → ⊥
@@ -58,13 +62,16 @@ on_from run order passed here next stands ending (stand ∷ later) ordered words
     position : goes stand.at ≡ goes next.at → stand.at ≡ next.at
     position e = cc
 
-pub walked_on : (run : Composition) (order : List ℕ) (passed : List Stand) (here next : Stand) → IsPlaceOrder run order → HasWords run next.at → Goes run here next → Walked run passed here → Walked run (passed ++ (here ∷ [])) next
+pub walked_on : (run : Composition) (order : List ℕ) (passed : List Stand) (here next : Stand) → IsPlaceOrder run order → HasWords run next.at
+    → Goes run here next → Walked run passed here → Walked run (passed ++ (here ∷ [])) next
 walked_on run order passed here next ordered words to_next walked stands ending trace =
     let on = walked stands ending trace in
     on_from run order passed here next stands ending on.later ordered words to_next on.split on.follows
 
 -- where the run ends, the trace does
-end_from : (run : Composition) (passed : List Stand) (here : Stand) (stands : List Stand) (end ending : Ending) (later : List Stand) → successor run here.at here.ports ≡ ends ending → stands ≡ passed ++ (here ∷ later) → Follows run here later end → (stands ≡ passed ++ (here ∷ [])) × (end ≡ ending)
+end_from : (run : Composition) (passed : List Stand) (here : Stand) (stands : List Stand) (end ending : Ending) (later : List Stand)
+    → successor run here.at here.ports ≡ ends ending → stands ≡ passed ++ (here ∷ later) → Follows run here later end
+    → (stands ≡ passed ++ (here ∷ [])) × (end ≡ ending)
 end_from run passed here stands end ending [] is split follows = (split, same (sym follows ∙ is))
   where
     same : ends end ≡ ends ending → end ≡ ending
@@ -74,7 +81,8 @@ end_from run passed here stands end ending (stand ∷ later) is split follows = 
     differ : goes stand.at ≡ ends ending → ⊥
     differ e = cc
 
-pub walked_end : (run : Composition) (passed : List Stand) (here : Stand) (stands : List Stand) (end ending : Ending) → Walked run passed here → successor run here.at here.ports ≡ ends ending → IsTrace run stands end → (stands ≡ passed ++ (here ∷ [])) × (end ≡ ending)
+pub walked_end : (run : Composition) (passed : List Stand) (here : Stand) (stands : List Stand) (end ending : Ending) → Walked run passed here
+    → successor run here.at here.ports ≡ ends ending → IsTrace run stands end → (stands ≡ passed ++ (here ∷ [])) × (end ≡ ending)
 walked_end run passed here stands end ending walked is trace =
     let on = walked stands end trace in
     end_from run passed here stands end ending on.later is on.split on.follows
@@ -90,17 +98,23 @@ last_is (stand ∷ (later ∷ others)) here = last_is (later ∷ others) here
 abbrev pub text_along : Composition → (Row → List ℕ) → List Stand → List ℕ
 text_along run line stands = flat_map line (rows_of run stands)
 
-pub text_along-append : (run : Composition) (line : Row → List ℕ) (passed later : List Stand) → text_along run line (passed ++ later) ≡ text_along run line passed ++ text_along run line later
-text_along-append run line passed later = ap (flat_map line) (filter_map-append (row_at run) passed later) ∙ flat_map-append line (rows_of run passed) (rows_of run later)
+pub text_along-append : (run : Composition) (line : Row → List ℕ) (passed later : List Stand)
+    → text_along run line (passed ++ later) ≡ text_along run line passed ++ text_along run line later
+text_along-append run line passed later = ap (flat_map line) (filter_map-append (row_at run) passed later)
+    ∙ flat_map-append line (rows_of run passed) (rows_of run later)
 
 -- what was put up to here, and a front of the row here, begins the text of every trace
-pub front_along : (run : Composition) (header : List ℕ) (line : Row → List ℕ) (passed : List Stand) (here : Stand) (held0 held held' : Option (List ℕ)) → Walked run passed here → Appends held0 held (header ++ text_along run line passed) → AppendsPrefix held held' (text_along run line (here ∷ [])) → (stands : List Stand) (ending : Ending) → IsTrace run stands ending → AppendsPrefix held0 held' (header ++ text_along run line stands)
+pub front_along : (run : Composition) (header : List ℕ) (line : Row → List ℕ) (passed : List Stand) (here : Stand) (held0 held held' : Option (List ℕ))
+    → Walked run passed here → Appends held0 held (header ++ text_along run line passed) → AppendsPrefix held held' (text_along run line (here ∷ []))
+    → (stands : List Stand) (ending : Ending) → IsTrace run stands ending → AppendsPrefix held0 held' (header ++ text_along run line stands)
 front_along run header line passed here held0 held held' walked put front stands ending trace =
     let on = walked stands ending trace in
-    let text : (header ++ text_along run line passed) ++ (text_along run line (here ∷ []) ++ text_along run line on.later) ≡ header ++ text_along run line stands =
+    let text : (header ++ text_along run line passed) ++ (text_along run line (here ∷ []) ++ text_along run line on.later)
+    ≡ header ++ text_along run line stands =
     append_assoc header (text_along run line passed) (text_along run line (here ∷ []) ++ text_along run line on.later)
     ∙ ap (λ t. header ++ t)
-    (ap (λ t. text_along run line passed ++ t) (sym (text_along-append run line (here ∷ []) on.later)) ∙ sym (text_along-append run line passed (here ∷ on.later)) ∙ ap (text_along run line) (sym on.split)) in
+    (ap (λ t. text_along run line passed ++ t) (sym (text_along-append run line (here ∷ []) on.later))
+    ∙ sym (text_along-append run line passed (here ∷ on.later)) ∙ ap (text_along run line) (sym on.split)) in
     subst (AppendsPrefix held0 held') text
     (AppendsPrefix-after held0 held held' (header ++ text_along run line passed) (text_along run line (here ∷ []) ++ text_along run line on.later) put
     (AppendsPrefix-longer held held' (text_along run line (here ∷ [])) (text_along run line on.later) front))

@@ -19,4 +19,5 @@ rows_at t rows = count_by (λ row. row.point.t == t) rows
 -- At most one row more than there may be steps of length zero in a row has one time.
 abbrev pub TimesAreBounded : Type 0
 TimesAreBounded =
-    (system : System) (rows : List Row) (last : Point) (ending : Ending) → IsTraceOf system rows last ending → (t : ℕ) → rows_at t rows ≤ (run_of system).zero_budget + 1
+    (system : System) (rows : List Row) (last : Point) (ending : Ending) → IsTraceOf system rows last ending → (t : ℕ)
+    → rows_at t rows ≤ (run_of system).zero_budget + 1

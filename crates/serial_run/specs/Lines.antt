@@ -25,7 +25,8 @@ lines_of system rows = flat_map (λ row. row_line (resolution_of system) (column
 -- Each column of the trace has its word in every row.
 abbrev pub ShowsWords : Planned → Type 0
 ShowsWords plan =
-    (stand : Stand) (row : Row) → HasWords plan.run stand.at → IsStand plan.run stand → row_at plan.run stand ≡ Some row → AllByRecursion (HasWord row.words) (columns_of plan.system)
+    (stand : Stand) (row : Row) → HasWords plan.run stand.at → IsStand plan.run stand → row_at plan.run stand ≡ Some row
+    → AllByRecursion (HasWord row.words) (columns_of plan.system)
 
 -- The row of a stand, where it has one.
 abbrev pub rows_here : Planned → Stand → List Row
@@ -38,7 +39,8 @@ pub record IsPut (plan : Planned) (stand : Stand) (old new : Option (List ℕ)) 
   pub sum : after.sum ≡ before.sum +ℤ sum_shown (columns_of plan.system) (rows_here plan stand)
 
 -- The same, or a front of the row was put.
-pub record PutsRow (plan : Planned) (stand : Stand) (old new : Option (List ℕ)) (faults faults' : ℕ) (before after : Tally) (result : Result (Unit {0}) CrewFault) : Type 0 where
+pub record PutsRow (plan : Planned) (stand : Stand) (old new : Option (List ℕ)) (faults faults' : ℕ) (before after : Tally)
+    (result : Result (Unit {0}) CrewFault) : Type 0 where
   pub whole : OnOk result (IsPut plan stand old new before after)
   pub front : OnErr result (AppendsPrefix old new (lines_of plan.system (rows_here plan stand)))
   pub cause : TellsFault faults faults' result

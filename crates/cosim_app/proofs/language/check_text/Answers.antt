@@ -13,9 +13,12 @@ header_line-header-requires g c =
 
 pub returns-in-Ok : goal.returns-in-Ok
 returns-in-Ok g c =
-    checks_accepted c.args.text.now c.in-Ok.read.checked c.in-Ok.read.lines c.header_line-header.result (g.O.Sink.held c.args.out.now) (g.O.Sink.held c.tell_accepted.new.out) (g.O.Sink.faults c.args.out.now) (g.O.Sink.faults c.tell_accepted.new.out) c.tell_accepted.result c.in-Ok.ensures
+    checks_accepted c.args.text.now c.in-Ok.read.checked c.in-Ok.read.lines c.header_line-header.result (g.O.Sink.held c.args.out.now)
+    (g.O.Sink.held c.tell_accepted.new.out) (g.O.Sink.faults c.args.out.now)
+    (g.O.Sink.faults c.tell_accepted.new.out) c.tell_accepted.result c.in-Ok.ensures
     (subst (λ (lines : List ℕ). source_line lines 1 ≡ Some c.header_line-header.result) c.as_slice.ensures c.header_line-header.ensures)
-    (subst (λ (s : System). TellsAccepted s.version c.header_line-header.result (g.O.Sink.held c.args.out.now) (g.O.Sink.held c.tell_accepted.new.out) (g.O.Sink.faults c.args.out.now) (g.O.Sink.faults c.tell_accepted.new.out) c.tell_accepted.result) c.source.ensures c.tell_accepted.ensures)
+    (subst (λ (s : System). TellsAccepted s.version c.header_line-header.result (g.O.Sink.held c.args.out.now) (g.O.Sink.held c.tell_accepted.new.out)
+    (g.O.Sink.faults c.args.out.now) (g.O.Sink.faults c.tell_accepted.new.out) c.tell_accepted.result) c.source.ensures c.tell_accepted.ensures)
 
 pub returns-in-Err-Line : goal.returns-in-Err-Line
 returns-in-Err-Line g c =

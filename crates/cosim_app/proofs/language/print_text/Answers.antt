@@ -10,8 +10,10 @@ use Rattle.cosim_app.proofs.language.print_text.Goals as goal
 
 pub returns-in-Ok : goal.returns-in-Ok
 returns-in-Ok g c =
-    prints_accepted c.args.text.now c.in-Ok.read.checked c.in-Ok.read.lines (g.O.Sink.held c.args.out.now) (g.O.Sink.held c.put_canonical.new.out) (g.O.Sink.faults c.args.out.now) (g.O.Sink.faults c.put_canonical.new.out) c.put_canonical.result c.in-Ok.ensures
-    (subst (λ (s : System). PutsPiece (g.O.Sink.held c.args.out.now) (g.O.Sink.held c.put_canonical.new.out) (g.O.Sink.faults c.args.out.now) (g.O.Sink.faults c.put_canonical.new.out) (printed_text s) c.put_canonical.result) c.source.ensures c.put_canonical.ensures)
+    prints_accepted c.args.text.now c.in-Ok.read.checked c.in-Ok.read.lines (g.O.Sink.held c.args.out.now) (g.O.Sink.held c.put_canonical.new.out)
+    (g.O.Sink.faults c.args.out.now) (g.O.Sink.faults c.put_canonical.new.out) c.put_canonical.result c.in-Ok.ensures
+    (subst (λ (s : System). PutsPiece (g.O.Sink.held c.args.out.now) (g.O.Sink.held c.put_canonical.new.out) (g.O.Sink.faults c.args.out.now)
+    (g.O.Sink.faults c.put_canonical.new.out) (printed_text s) c.put_canonical.result) c.source.ensures c.put_canonical.ensures)
 
 pub returns-in-Err-Line : goal.returns-in-Err-Line
 returns-in-Err-Line g c =

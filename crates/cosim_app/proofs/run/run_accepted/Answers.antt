@@ -8,7 +8,8 @@ use Rattle.cosim_app.proofs.TraceLaws.{served_of}
 use Rattle.cosim_app.proofs.run.run_accepted.Goals as goal
 
 pub run_system-requires : goal.run_system-requires
-run_system-requires g c = record { served = served_of c.args.read.checked c.requires.whole (λ is. c.if-source-eq2.false (ap (λ (s : System). s.version) c.source.ensures ∙ is)) }
+run_system-requires g c =
+    record { served = served_of c.args.read.checked c.requires.whole (λ is. c.if-source-eq2.false (ap (λ (s : System). s.version) c.source.ensures ∙ is)) }
 
 pub returns-then-source-eq2 : goal.returns-then-source-eq2
 returns-then-source-eq2 g c = λ text accepted.
@@ -25,6 +26,7 @@ returns-then-source-eq2 g c = λ text accepted.
 
 pub returns : goal.returns
 returns g c = λ text accepted.
-    runs_accepted text c.args.read.checked c.args.read.lines (g.O.Sink.held c.args.out.now) (g.O.Sink.held c.run_system.new.out) (g.O.Sink.faults c.args.out.now) (g.O.Sink.faults c.run_system.new.out) c.run_system.result accepted
+    runs_accepted text c.args.read.checked c.args.read.lines (g.O.Sink.held c.args.out.now) (g.O.Sink.held c.run_system.new.out)
+    (g.O.Sink.faults c.args.out.now) (g.O.Sink.faults c.run_system.new.out) c.run_system.result accepted
     (served_of c.args.read.checked c.requires.whole (λ is. c.if-source-eq2.false (ap (λ (s : System). s.version) c.source.ensures ∙ is))).version
     c.run_system.ensures

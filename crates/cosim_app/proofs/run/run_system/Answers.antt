@@ -9,7 +9,8 @@ returns-in-Ok g c = (begins_none c.args.checked (g.O.Sink.held c.args.out.now) c
 
 pub unreachable-requires : goal.unreachable-requires
 unreachable-requires g c =
-    no_loop c.args.checked c.in-Err-Loop.field-0-0 c.in-Err-Loop.field-0-1 c.requires.served (subst (IsRightPlanFault c.args.checked) c.in-Err-Loop.field-0-is c.in-Err-Loop.ensures.fault)
+    no_loop c.args.checked c.in-Err-Loop.field-0-0 c.in-Err-Loop.field-0-1 c.requires.served
+    (subst (IsRightPlanFault c.args.checked) c.in-Err-Loop.field-0-is c.in-Err-Loop.ensures.fault)
 
 pub returns : goal.returns
 returns g c = (begins_none c.args.checked (g.O.Sink.held c.args.out.now) c.requires.served, refl)

@@ -15,7 +15,9 @@ returns-in_default g c =
 
 pub returns-in_err-put_line : goal.returns-in_err-put_line
 returns-in_err-put_line g c =
-    row_broken c.args.plan.now c.args.run.now.stand (row_told c.in-Some.row) c.resolution.result c.columns-columns.result.now (g.O.Sink.held c.args.out.now) (g.O.Sink.held c.put_line.new.out) (g.O.Sink.faults c.args.out.now) (g.O.Sink.faults c.put_line.new.out) c.args.tally.now c.in_err-put_line.field-0.0 c.from_residual.result
+    row_broken c.args.plan.now c.args.run.now.stand (row_told c.in-Some.row) c.resolution.result c.columns-columns.result.now (g.O.Sink.held c.args.out.now)
+    (g.O.Sink.held c.put_line.new.out) (g.O.Sink.faults c.args.out.now)
+    (g.O.Sink.faults c.put_line.new.out) c.args.tally.now c.in_err-put_line.field-0.0 c.from_residual.result
     (ap (λ (p : Planned). row_at p.run c.args.run.now.stand) (sym c.requires.own)
     ∙ told_some row_told c.row.result (row_at c.args.run.now.plan.run c.args.run.now.stand) c.in-Some.row c.row.ensures c.in-Some.is)
     c.resolution.ensures.value c.columns-columns.ensures.columns c.in_err-put_line.ensures.front
@@ -25,7 +27,9 @@ returns-in_err-put_line g c =
 pub returns : goal.returns
 returns g c =
     let fits : SFits w128 c.row_sum.result = search rules in
-    row_put c.args.plan.now c.args.run.now.stand (row_told c.in-Some.row) c.resolution.result c.columns-columns.result.now (g.O.Sink.held c.args.out.now) (g.O.Sink.held c.put_line.new.out) (g.O.Sink.faults c.args.out.now) (g.O.Sink.faults c.put_line.new.out) c.args.tally.now c.count.new.self (to_z w128 (of_z w128 c.row_sum.result))
+    row_put c.args.plan.now c.args.run.now.stand (row_told c.in-Some.row) c.resolution.result c.columns-columns.result.now (g.O.Sink.held c.args.out.now)
+    (g.O.Sink.held c.put_line.new.out) (g.O.Sink.faults c.args.out.now) (g.O.Sink.faults c.put_line.new.out) c.args.tally.now c.count.new.self
+    (to_z w128 (of_z w128 c.row_sum.result))
     (ap (λ (p : Planned). row_at p.run c.args.run.now.stand) (sym c.requires.own)
     ∙ told_some row_told c.row.result (row_at c.args.run.now.plan.run c.args.run.now.stand) c.in-Some.row c.row.ensures c.in-Some.is)
     c.resolution.ensures.value c.columns-columns.ensures.columns c.in_ok-put_line.ensures.whole
