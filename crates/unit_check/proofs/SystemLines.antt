@@ -62,7 +62,8 @@ module _ (unit : Unit) where
       ++ (flat_map (headed_unit_part unit) l
       ++ (flat_map (headed_unit_part unit) i
       ++ (flat_map (headed_unit_part unit) ei
-      ++ (flat_map (headed_unit_part unit) o ++ (flat_map (headed_unit_part unit) eo ++ (flat_map (headed_unit_part unit) m ++ flat_map (headed_unit_part unit) st))))))))
+      ++ (flat_map (headed_unit_part unit) o
+      ++ (flat_map (headed_unit_part unit) eo ++ (flat_map (headed_unit_part unit) m ++ flat_map (headed_unit_part unit) st))))))))
   spread r p s l i ei o eo m st = simp (flat_map-append, append_assoc)
 
   regroup : (r p s l i ei o eo m st en : List Headed)

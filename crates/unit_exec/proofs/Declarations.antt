@@ -202,7 +202,8 @@ module _ (system : System) where
       λ name has before. rest.1 name has (subst (λ names. Has names name) (sym longer) before) in
       let here : Has (filter_map name_declared earlier) (name_of one) → ⊥ =
       not_among bytes_eq bytes_of (name_of one) (filter_map name_declared earlier)
-      (sym (ap (is_said bytes_eq (filter_map name_declared earlier)) (asks one)) ∙ name_unsaid system (record { scope = scope; earlier = earlier; line = line_of one }) hold.0.fresh) in (
+      (sym (ap (is_said bytes_eq (filter_map name_declared earlier)) (asks one))
+      ∙ name_unsaid system (record { scope = scope; earlier = earlier; line = line_of one }) hold.0.fresh) in (
         (λ has. others (name_of one) has (has_behind (filter_map name_declared earlier) (name_of one ∷ []) (name_of one) (inl refl)), rest.0),
         λ name has before. elim has [
           | inl is ↦ here (subst (Has (filter_map name_declared earlier)) (sym is) before)

@@ -12,7 +12,8 @@ returns-in_default g c = (begins_none c.args.plan.now.value.system (g.O.Sink.hel
 pub returns-in-Ok-ending : goal.returns-in-Ok-ending
 returns-in-Ok-ending g c =
     let reports =
-    subst (λ (p : Planned). ReportsTrace p.system (g.O.Sink.held c.args.out.now) (g.O.Sink.held c.run_alone.new.out) c.in-Ok-run_alone.report) c.in-Ok.ensures.cases c.in-Ok-run_alone.ensures.whole in (
+    subst (λ (p : Planned). ReportsTrace p.system (g.O.Sink.held c.args.out.now) (g.O.Sink.held c.run_alone.new.out) c.in-Ok-run_alone.report)
+    c.in-Ok.ensures.cases c.in-Ok-run_alone.ensures.whole in (
       tells_trace c.args.plan.now.value.system (g.O.Sink.held c.args.out.now)
           (g.O.Sink.held c.run_alone.new.out) c.in-Ok-run_alone.report c.status.result c.in-Ok-ending.note.items reports c.status.ensures
           (c.in-Ok-ending.ensures ∙ ap (λ (p : Planned). traced_note p.system c.in-Ok-run_alone.report.outcome c.in-Ok-run_alone.report.last) c.deref.ensures),
@@ -22,7 +23,8 @@ returns-in-Ok-ending g c =
 pub returns-in-Err : goal.returns-in-Err
 returns-in-Err g c =
     let reports =
-    subst (λ (p : Planned). ReportsTrace p.system (g.O.Sink.held c.args.out.now) (g.O.Sink.held c.run_alone.new.out) c.in-Ok-run_alone.report) c.in-Ok.ensures.cases c.in-Ok-run_alone.ensures.whole in (
+    subst (λ (p : Planned). ReportsTrace p.system (g.O.Sink.held c.args.out.now) (g.O.Sink.held c.run_alone.new.out) c.in-Ok-run_alone.report)
+    c.in-Ok.ensures.cases c.in-Ok-run_alone.ensures.whole in (
       begins_whole c.args.plan.now.value.system (g.O.Sink.held c.args.out.now) (g.O.Sink.held c.run_alone.new.out) c.in-Ok-run_alone.report reports,
       c.in-Ok-run_alone.ensures.cause.same (λ e. absurd (cc)),
     )
@@ -30,7 +32,8 @@ returns-in-Err g c =
 pub returns-in-Err-WriteFault : goal.returns-in-Err-WriteFault
 returns-in-Err-WriteFault g c =
     let front =
-    subst (λ (p : Planned). PutsFront p.system (g.O.Sink.held c.args.out.now) (g.O.Sink.held c.run_alone.new.out)) c.in-Ok.ensures.cases c.in-Err-WriteFault.ensures.front in (
+    subst (λ (p : Planned). PutsFront p.system (g.O.Sink.held c.args.out.now) (g.O.Sink.held c.run_alone.new.out))
+    c.in-Ok.ensures.cases c.in-Err-WriteFault.ensures.front in (
       begins_front c.args.plan.now.value.system (g.O.Sink.held c.args.out.now) (g.O.Sink.held c.run_alone.new.out) c.requires.served front,
       c.in-Err-WriteFault.ensures.cause.failed (ap (λ (e : CrewFault). Err e) c.in-Err-WriteFault.field-0-is),
     )
@@ -38,7 +41,8 @@ returns-in-Err-WriteFault g c =
 pub returns-in-Err-NoMemory : goal.returns-in-Err-NoMemory
 returns-in-Err-NoMemory g c =
     let front =
-    subst (λ (p : Planned). PutsFront p.system (g.O.Sink.held c.args.out.now) (g.O.Sink.held c.run_alone.new.out)) c.in-Ok.ensures.cases c.in-Err-NoMemory.ensures.front in (
+    subst (λ (p : Planned). PutsFront p.system (g.O.Sink.held c.args.out.now) (g.O.Sink.held c.run_alone.new.out))
+    c.in-Ok.ensures.cases c.in-Err-NoMemory.ensures.front in (
       begins_front c.args.plan.now.value.system (g.O.Sink.held c.args.out.now) (g.O.Sink.held c.run_alone.new.out) c.requires.served front,
       c.in-Err-NoMemory.ensures.cause.same (λ e. absurd (cc)),
     )
