@@ -31,3 +31,7 @@ all_of_two test [] ys on_xs on_ys = on_ys
 all_of_two test (x ∷ xs) ys on_xs on_ys =
     let both = and_parts (test x) (list_all test xs) on_xs in
     rw (both.0) (all_of_two test xs ys both.1 on_ys)
+
+pub all_parts : {A : Type 0} (P : A → Type 0) (front others : List A) → AllByRecursion P (front ++ others) → AllByRecursion P front × AllByRecursion P others
+all_parts P [] others all = (tt, all)
+all_parts P (one ∷ front) others all = let rest = all_parts P front others all.1 in ((all.0, rest.0), rest.1)

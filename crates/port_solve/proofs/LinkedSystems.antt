@@ -22,24 +22,11 @@ use Rattle.unit_tree.specs.declared.unit.Unit.{Unit}
 use Rattle.language_laws.proofs.NameLaws.{PortsDiffer, found}
 use Rattle.run_laws.proofs.PlaceOrders.{has_in, found_at, plain_port}
 use Rattle.language_laws.proofs.PlainNames.{each_has}
-use Rattle.run_laws.proofs.PlainOrders.{named_has, output_is, wired}
+use Rattle.run_laws.proofs.PlainOrders.{input_is, named_has, output_is, wired}
 use Rattle.run_laws.proofs.PortLaws.{ports_in, output_has}
 use Rattle.run_laws.proofs.PositionLaws.{start_fits}
 use Rattle.list_laws.proofs.Members.{Has, Distinct, has_front, has_map}
 use Rattle.list_laws.proofs.Pairs.{zip_append, zip_at}
-
--- ---- Ports by name
-
--- An input is found by its name.
-pub input_is : (system : System) → Distinct (map (λ (i : Instance). i.name) system.instances)
-    → AllByRecursion (λ unit. Distinct (input_names unit)) system.units → (instance : Instance) (unit : Unit) (port : Port) → Has system.instances instance
-    → unit_of_instance system instance ≡ Some unit → Has (input_ports unit) port → input_at system (port_of instance port.name) ≡ Some port
-input_is system instances inputs instance unit port instance_has unit_is has =
-    ap (λ named. option_and_then (λ u. port_named (input_ports u) port.name) (option_and_then (unit_of_instance system) named))
-    (found (λ (i : Instance). i.name) system.instances instance instances instance_has)
-    ∙ ap (option_and_then (λ u. port_named (input_ports u) port.name)) unit_is
-    ∙ found (λ (p : Port). p.name) (input_ports unit) port
-    (each_has (λ u. Distinct (input_names u)) system.units unit inputs (named_has system.units instance.unit unit unit_is)) has
 
 -- ---- Linked systems
 

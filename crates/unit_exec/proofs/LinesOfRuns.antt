@@ -17,10 +17,7 @@ use Rattle.unit_tree.specs.declared.line.Line.TheVariants.{rolls-Assign, rolls-I
 use Rattle.unit_tree.specs.declared.line_form.LineForm.{LineForm}
 use Rattle.unit_tree.specs.declared.line_form.LineForm.TheVariants as form
 use Rattle.unit_tree.proofs.FoldLemmas.{fold-Assign, fold-If, fold-Repeat, fold-Accept}
-
-pub all_parts : {A : Type 0} (P : A → Type 0) (front others : List A) → AllByRecursion P (front ++ others) → AllByRecursion P front × AllByRecursion P others
-all_parts P [] others all = (tt, all)
-all_parts P (one ∷ front) others all = let rest = all_parts P front others all.1 in ((all.0, rest.0), rest.1)
+use Rattle.list_laws.proofs.Lists.{all_parts}
 
 module _ (scope : Scope) where
   -- What the code of a line asks of its form.
