@@ -2,14 +2,13 @@
 use Rattle.std.proofs.Common.{◌≡◌, ℕ, ◌⊎◌, Bool, true, false, List, [], ◌∷◌, Some, refl, sym, ap, subst, ◌∙◌, inl, inr, arith}
 use Rattle.std.specs.Prelude.{codes}
 use Rattle.std.specs.Str.{bytes_eq}
-use Rattle.text_accept.specs.Accepting.{IsAcceptedAs, IsRefusedAt, source_line}
-use Rattle.text_accept.proofs.Acceptance.{judged_once, has_source}
-use Rattle.unit_tree.specs.Trace.{IsTraceOf}
+use Rattle.text_accept.specs.Accepting.{IsAcceptedAs, IsRefusedAt}
+use Rattle.text_accept.proofs.Acceptance.{judged_once}
+use Rattle.event_runs.specs.EventRuns.{IsEventTraceOf}
 use Rattle.unit_tree.specs.declared.ending.Ending.{Ending}
 use Rattle.unit_tree.specs.declared.ending.Ending.TheVariants.{Completed, RowBudget, ZeroBudget, UnitFault, StepRefused}
 use Rattle.unit_tree.specs.declared.system.System.{System}
-use Rattle.run_laws.proofs.EventLaws.{one_or_two}
-use Rattle.cosim_app.specs.Answer.{Answer, AnswersRun, IsOfUnservedVersion, Serves, RefusedBy, CommandAnswers, run_answer, refused_answer, accepted_answer}
+use Rattle.cosim_app.specs.Answer.{Answer, AnswersRun, Serves, CommandAnswers, run_answer, refused_answer, accepted_answer}
 use Rattle.cosim_app.specs.Answer.{printed_answer, status_of}
 use Rattle.cosim_app.specs.Commands.{words_of}
 use Rattle.cosim_app.specs.declared.command_words.Command.{Command}
@@ -17,7 +16,6 @@ use Rattle.cosim_app.specs.declared.command_words.Command.TheVariants.{Run, Chec
 use Rattle.cosim_app.specs.declared.status.Status.{Status}
 use Rattle.cosim_app.specs.declared.status.Status.TheVariants as status
 use Rattle.cosim_app.proofs.TraceLaws.{one_outcome, whole_of}
-use Rattle.list_laws.proofs.Options.{some_same}
 
 -- ---- Words
 
@@ -66,65 +64,41 @@ served_unrefused Print text answer serves is = done_is_no_refusal (sym (ap (λ (
 
 -- ---- Some answer
 
--- the version of what is accepted is 1, or the text is of the version that is not run yet
-header_line : (text : List ℕ) (system : System) (lines : List ℕ) → IsAcceptedAs text system lines → system.version ≡ 2
-    → (line : ℕ) × IsOfUnservedVersion text line 25
-header_line text system lines accepted version =
-    let source = has_source text system lines 1 accepted.reads (omega arith) (omega arith) in
-    (source.0, record { system = system; lines = lines; accepted = accepted; version = version; at = source.1; by = refl })
+check_answered : (text : List ℕ) (system : System) (lines : List ℕ) → IsAcceptedAs text system lines → (answer : Answer) × CommandAnswers Check text answer
+check_answered text system lines accepted = (accepted_answer, inr (record { system = system; lines = lines; accepted = accepted; is = refl }))
 
-check_answered : (text : List ℕ) (system : System) (lines : List ℕ) → IsAcceptedAs text system lines → (system.version ≡ 1) ⊎ (system.version ≡ 2)
-    → (answer : Answer) × CommandAnswers Check text answer
-check_answered text system lines accepted (inl version) =
-    (accepted_answer, inr (record { system = system; lines = lines; accepted = accepted; version = version; is = refl }))
-check_answered text system lines accepted (inr version) =
-    let at = header_line text system lines accepted version in
-    (refused_answer at.0 25, inl (record { line = at.0; rule = 25; refused = inr at.1; is = refl }))
-
-run_answered : (text : List ℕ) (system : System) (lines : List ℕ) → IsAcceptedAs text system lines → (system.version ≡ 1) ⊎ (system.version ≡ 2)
-    → (answer : Answer) × CommandAnswers Run text answer
-run_answered text system lines accepted (inl version) =
-    let trace = one_outcome system (record { whole = whole_of text system lines accepted; version = version }) in (
+run_answered : (text : List ℕ) (system : System) (lines : List ℕ) → IsAcceptedAs text system lines → (answer : Answer) × CommandAnswers Run text answer
+run_answered text system lines accepted =
+    let trace = one_outcome system (whole_of text system lines accepted) in (
       run_answer system trace.rows trace.last trace.ending,
       inr (record {
         system = system;
         lines = lines;
         accepted = accepted;
-        version = version;
         rows = trace.rows;
         last = trace.last;
-        ending =
-            trace.ending;
+        ending = trace.ending;
         trace = trace.is_trace;
         is = refl;
       }),
     )
-run_answered text system lines accepted (inr version) =
-    let at = header_line text system lines accepted version in
-    (refused_answer at.0 25, inl (record { line = at.0; rule = 25; refused = inr at.1; is = refl }))
 
-judged_answered : (command : Command) (text : List ℕ) → ((line rule : ℕ) → IsRefusedAt text line rule → RefusedBy command text line rule)
+judged_answered : (command : Command) (text : List ℕ)
     → ((system : System) (lines : List ℕ) → IsAcceptedAs text system lines → (answer : Answer) × CommandAnswers command text answer)
     → (answer : Answer) × CommandAnswers command text answer
-judged_answered command text refuses serves = by (judged_once text).judged
+judged_answered command text serves = by (judged_once text).judged
   where
     by : ((system : System) × (lines : List ℕ) × IsAcceptedAs text system lines) ⊎ ((line : ℕ) × (rule : ℕ) × IsRefusedAt text line rule)
         → (answer : Answer) × CommandAnswers command text answer
     by (inl (system, lines, accepted)) = serves system lines accepted
-    by (inr (line, rule, refused)) = (refused_answer line rule, inl (record { line = line; rule = rule; refused = refuses line rule refused; is = refl }))
+    by (inr (line, rule, refused)) = (refused_answer line rule, inl (record { line = line; rule = rule; refused = refused; is = refl }))
 
 -- a command has an answer for each text
 pub command_answered : (command : Command) (text : List ℕ) → (answer : Answer) × CommandAnswers command text answer
-command_answered Run text =
-    judged_answered Run text (λ line rule refused. inl refused) (λ system lines accepted.
-    let version = (whole_of text system lines accepted).ranged.version in
-    run_answered text system lines accepted (one_or_two system.version version.0 version.1))
-command_answered Check text =
-    judged_answered Check text (λ line rule refused. inl refused) (λ system lines accepted.
-    let version = (whole_of text system lines accepted).ranged.version in
-    check_answered text system lines accepted (one_or_two system.version version.0 version.1))
+command_answered Run text = judged_answered Run text (run_answered text)
+command_answered Check text = judged_answered Check text (check_answered text)
 command_answered Print text =
-    judged_answered Print text (λ line rule refused. refused)
+    judged_answered Print text
     (λ system lines accepted. (printed_answer system, inr (record { system = system; lines = lines; accepted = accepted; is = refl })))
 
 -- ---- No two answers
@@ -133,8 +107,8 @@ command_answered Print text =
 runs_same : (text : List ℕ) (one other : Answer) (a : AnswersRun text one) (b : AnswersRun text other) → one ≡ other
 runs_same text one other a b =
     let same_system : a.system ≡ b.system = ((judged_once text).one_system a.system b.system a.lines b.lines a.accepted b.accepted).0 in
-    let trace : IsTraceOf b.system a.rows a.last a.ending = subst (λ (s : System). IsTraceOf s a.rows a.last a.ending) same_system a.trace in
-    let one = one_outcome b.system (record { whole = whole_of text b.system b.lines b.accepted; version = b.version }) in
+    let trace : IsEventTraceOf b.system a.rows a.last a.ending = subst (λ (s : System). IsEventTraceOf s a.rows a.last a.ending) same_system a.trace in
+    let one = one_outcome b.system (whole_of text b.system b.lines b.accepted) in
     let first = one.is_only a.rows a.last a.ending trace in
     let second = one.is_only b.rows b.last b.ending b.trace in
     a.is ∙ ap (λ s. run_answer s a.rows a.last a.ending) same_system ∙ ap (λ rows. run_answer b.system rows a.last a.ending) (first.0 ∙ sym second.0)
@@ -148,45 +122,15 @@ served_same Check text one other a b = a.is ∙ sym b.is
 served_same Print text one other a b =
     a.is ∙ ap printed_answer ((judged_once text).one_system a.system b.system a.lines b.lines a.accepted b.accepted).0 ∙ sym b.is
 
-unserved_same : (text : List ℕ) (line by other rule : ℕ) → IsOfUnservedVersion text line by → IsOfUnservedVersion text other rule → (line ≡ other) × (by ≡ rule)
-unserved_same text line by other rule a b =
-    let same = (judged_once text).one_system a.system b.system a.lines b.lines a.accepted b.accepted in
-    (some_same line other (sym a.at ∙ ap (λ lines. source_line lines 1) same.1 ∙ b.at), a.by ∙ sym b.by)
-
--- and refused at one line by one rule
-served_or_refused : (text : List ℕ) (line by other rule : ℕ) → IsRefusedAt text line by ⊎ IsOfUnservedVersion text line by
-    → IsRefusedAt text other rule ⊎ IsOfUnservedVersion text other rule → (line ≡ other) × (by ≡ rule)
-served_or_refused text line by other rule (inl a) (inl b) = (judged_once text).one_refusal line by other rule a b
-served_or_refused text line by other rule (inl a) (inr b) = absurd ((judged_once text).not_both b.system b.lines line by b.accepted a)
-served_or_refused text line by other rule (inr a) (inl b) = absurd ((judged_once text).not_both a.system a.lines other rule a.accepted b)
-served_or_refused text line by other rule (inr a) (inr b) = unserved_same text line by other rule a b
-
-refused_same : (command : Command) (text : List ℕ) (line by other rule : ℕ) → RefusedBy command text line by → RefusedBy command text other rule
-    → (line ≡ other) × (by ≡ rule)
-refused_same Run text line by other rule a b = served_or_refused text line by other rule a b
-refused_same Print text line by other rule a b = (judged_once text).one_refusal line by other rule a b
-refused_same Check text line by other rule a b = served_or_refused text line by other rule a b
-
-one_and_two : (one other : ℕ) → one ≡ other → one ≡ 1 → other ≡ 2 → ⊥
-one_and_two one other same first second = omega (arith, same, first, second)
-
-unserved_or_served : (text : List ℕ) (line rule : ℕ) (system : System) (lines : List ℕ) → IsAcceptedAs text system lines → system.version ≡ 1
-    → IsRefusedAt text line rule ⊎ IsOfUnservedVersion text line rule → ⊥
-unserved_or_served text line rule system lines accepted version (inl refused) = (judged_once text).not_both system lines line rule accepted refused
-unserved_or_served text line rule system lines accepted version (inr unserved) =
-    let same = ((judged_once text).one_system system unserved.system lines unserved.lines accepted unserved.accepted).0 in
-    one_and_two system.version unserved.system.version (ap (λ (s : System). s.version) same) version unserved.version
-
-refused_or_served : (command : Command) (text : List ℕ) (line rule : ℕ) (answer : Answer) → RefusedBy command text line rule → Serves command text answer → ⊥
-refused_or_served Run text line rule answer refused serves = unserved_or_served text line rule serves.system serves.lines serves.accepted serves.version refused
+refused_or_served : (command : Command) (text : List ℕ) (line rule : ℕ) (answer : Answer) → IsRefusedAt text line rule → Serves command text answer → ⊥
+refused_or_served Run text line rule answer refused serves = (judged_once text).not_both serves.system serves.lines line rule serves.accepted refused
 refused_or_served Print text line rule answer refused serves = (judged_once text).not_both serves.system serves.lines line rule serves.accepted refused
-refused_or_served Check text line rule answer refused serves =
-    unserved_or_served text line rule serves.system serves.lines serves.accepted serves.version refused
+refused_or_served Check text line rule answer refused serves = (judged_once text).not_both serves.system serves.lines line rule serves.accepted refused
 
 -- a command has no two answers for a text
 pub answers_same : (command : Command) (text : List ℕ) (one other : Answer) → CommandAnswers command text one → CommandAnswers command text other → one ≡ other
 answers_same command text one other (inl a) (inl b) =
-    let same = refused_same command text a.line a.rule b.line b.rule a.refused b.refused in
+    let same = (judged_once text).one_refusal a.line a.rule b.line b.rule a.refused b.refused in
     a.is ∙ ap (λ l. refused_answer l a.rule) same.0 ∙ ap (refused_answer b.line) same.1 ∙ sym b.is
 answers_same command text one other (inl a) (inr b) = absurd (refused_or_served command text a.line a.rule other a.refused b)
 answers_same command text one other (inr a) (inl b) = absurd (refused_or_served command text b.line b.rule one b.refused a)

@@ -3,8 +3,7 @@ use Rattle.std.proofs.Common.{◌≡◌, ℕ, ◌+◌, ◌<◌, List, [], length
 use Rattle.std.specs.Prelude.{IfSome}
 use Rattle.std.specs.Io.KnownBytes.{Appends, IsAtEnd}
 use Rattle.std.proofs.KnownBytes.{Appends-nil}
-use Rattle.text_accept.specs.Accepting.{IsAcceptedAs, source_line}
-use Rattle.text_accept.proofs.Acceptance.{as_many}
+use Rattle.text_accept.specs.Accepting.{IsAcceptedAs, IsRefusedAt}
 use Rattle.unit_text.proofs.ReadingLaws.{long_refused}
 use Rattle.unit_tree.specs.Texts.{text_limit}
 use Rattle.text_tokens.proofs.LineLemmas.{length_le_size_of}
@@ -12,17 +11,16 @@ use Rattle.unit_tree.specs.Lines.{size_of}
 use Rattle.unit_tree.specs.declared.system.System.{System}
 use Rattle.cosim_io.specs.Pieces.{AppendsPrefix, ConsumesExactly}
 use Rattle.cosim_io.proofs.PieceLemmas.{AppendsPrefix-nil}
-use Rattle.cosim_app.specs.Answer.{Answer, IsOfUnservedVersion, RefusedBy, Serves, refused_answer, accepted_answer, printed_text, printed_answer}
+use Rattle.cosim_app.specs.Answer.{Answer, Serves, refused_answer, accepted_answer, printed_text, printed_answer}
 use Rattle.cosim_app.specs.declared.command_words.Command.{Command}
 use Rattle.cosim_app.specs.declared.command_words.Command.TheVariants.{Run, Check, Print}
-use Rattle.cosim_app.specs.Judgement.{PutsAnswer, PutsAnswerFront, PutsPiece, TellsAccepted, IsOwn, JudgesText, JudgesInput, Refuses}
+use Rattle.cosim_app.specs.Judgement.{PutsAnswer, PutsAnswerFront, PutsPiece, IsOwn, JudgesText, JudgesInput, Refuses}
 use Rattle.cosim_app.specs.Notes.{refused_note}
 use Rattle.cosim_app.proofs.CommandLaws.{command_answered}
 use Rattle.cosim_app.specs.declared.status.Status.{Status}
 use Rattle.cosim_app.specs.declared.status.Status.TheVariants as status
 use Rattle.cosim_app.specs.declared.verdict.Verdict.{Verdict}
 use Rattle.cosim_app.specs.declared.verdict.Verdict.TheVariants as verdict
-use Rattle.cosim_app.proofs.TraceLaws.{version_is_one, whole_of}
 
 -- nothing was put yet
 pub puts_nothing : (command : Command) (text : List ℕ) (held : Option (List ℕ)) → PutsAnswerFront command text held held
@@ -31,7 +29,7 @@ puts_nothing command text held =
     record { answer = some.0; is = some.1; front = AppendsPrefix-nil held some.0.out }
 
 -- a refusal is the answer of a text that is refused
-pub refuses : (command : Command) (text : List ℕ) (held : Option (List ℕ)) (faults line rule : ℕ) (v : Verdict) → RefusedBy command text line rule
+pub refuses : (command : Command) (text : List ℕ) (held : Option (List ℕ)) (faults line rule : ℕ) (v : Verdict) → IsRefusedAt text line rule
     → Refuses line rule v → JudgesText command text held held faults faults v
 refuses command text held faults line rule (verdict.Answered given note) refused is = (
   record {
@@ -64,19 +62,13 @@ too_long (Some text) (Some rest) taken =
     let front = taken.size in
     omega arith
 
--- by each command
-refused_as_long : (command : Command) (text : List ℕ) → text_limit < size_of text → RefusedBy command text 1 2
-refused_as_long Run text long = inl (inl (long_refused text long))
-refused_as_long Check text long = inl (inl (long_refused text long))
-refused_as_long Print text long = inl (long_refused text long)
-
 long_answer : (command : Command) (left : Option (List ℕ)) (held : Option (List ℕ)) (given : Status) (note : List ℕ)
     → IfSome left (λ text. text_limit < size_of text) → given ≡ status.Refused → note ≡ refused_note 1 2
     → IfSome left (λ text. PutsAnswer command text held held given note)
 long_answer command None held given note long is note_is = tt
 long_answer command (Some text) held given note long is note_is = record {
   answer = refused_answer 1 2;
-  is = inl (record { line = 1; rule = 2; refused = refused_as_long command text long; is = refl });
+  is = inl (record { line = 1; rule = 2; refused = inl (long_refused text long); is = refl });
   out = Appends-nil held;
   notes = note_is;
   same_status = is;
@@ -149,25 +141,12 @@ puts_whole command text held held' faults faults' answer bytes verdict.NoMemory 
     (subst (PutsAnswerFront command text held) (sym puts.0) (puts_nothing command text held), puts.1)
 puts_whole command text held held' faults faults' answer bytes verdict.ReadFault serves out notes done puts = absurd puts
 
--- a text that is accepted, by the version of its system
-pub checks_accepted : (text : List ℕ) (system : System) (lines : List ℕ) (header : ℕ) (held held' : Option (List ℕ)) (faults faults' : ℕ) (v : Verdict)
-    → IsAcceptedAs text system lines → source_line lines 1 ≡ Some header → TellsAccepted system.version header held held' faults faults' v
-    → JudgesText Check text held held' faults faults' v
-checks_accepted text system lines header held held' faults faults' v accepted at (inl (version, refusal, held_is, faults_is)) =
-    let unserved : IsOfUnservedVersion text header 25 = record { system = system; lines = lines; accepted = accepted; version = version; at = at; by = refl } in
-    subst (λ h. JudgesText Check text held h faults faults' v) (sym held_is)
-    (subst (λ f. JudgesText Check text held held faults f v) (sym faults_is) (refuses Check text held faults header 25 v (inr unserved) refusal))
-checks_accepted text system lines header held held' faults faults' v accepted at (inr (other, puts)) =
-    let version = (whole_of text system lines accepted).ranged.version in
+-- a text that is accepted
+pub checks_accepted : (text : List ℕ) (system : System) (lines : List ℕ) (held held' : Option (List ℕ)) (faults faults' : ℕ) (v : Verdict)
+    → IsAcceptedAs text system lines → PutsPiece held held' faults faults' accepted_answer.out v → JudgesText Check text held held' faults faults' v
+checks_accepted text system lines held held' faults faults' v accepted puts =
     puts_whole Check text held held' faults faults' accepted_answer accepted_answer.out v
-    (record {
-      system = system;
-      lines = lines;
-      accepted = accepted;
-      version = version_is_one system.version version.0 version.1 other;
-      is =
-          refl;
-    }) refl refl refl puts
+    (record { system = system; lines = lines; accepted = accepted; is = refl }) refl refl refl puts
 
 -- and its canonical text
 pub prints_accepted : (text : List ℕ) (system : System) (lines : List ℕ) (held held' : Option (List ℕ)) (faults faults' : ℕ) (v : Verdict)
@@ -175,9 +154,3 @@ pub prints_accepted : (text : List ℕ) (system : System) (lines : List ℕ) (he
 prints_accepted text system lines held held' faults faults' v accepted puts =
     puts_whole Print text held held' faults faults' (printed_answer system) (printed_text system) v
     (record { system = system; lines = lines; accepted = accepted; is = refl }) refl refl refl puts
-
--- the lines that canonical lines came from begin with the header's
-pub some_header : (text : List ℕ) (system : System) (lines : List ℕ) → IsAcceptedAs text system lines → 0 < length lines
-some_header text system lines accepted =
-    let same = as_many text system lines accepted.reads in
-    omega (arith, same)

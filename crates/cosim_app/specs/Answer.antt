@@ -1,12 +1,12 @@
 -- Answer: what the program puts out and notes, and how it ends, for the words of a command line and the bytes
 -- of its input.
-use Rattle.std.specs.Prelude.{◌≡◌, ℕ, List, [], ◌++◌, Some, codes, ◌⊎◌}
+use Rattle.std.specs.Prelude.{◌≡◌, ℕ, List, [], ◌++◌, codes, ◌⊎◌}
+use Rattle.event_csv.specs.EventText.{event_text}
+use Rattle.event_runs.specs.EventRuns.{IsEventTraceOf}
+use Rattle.event_runs.specs.EventTrace.{EventRow}
 use Rattle.super_time.specs.declared.point.Point.{Point}
-use Rattle.trace_csv.specs.TraceText.{trace_text}
-use Rattle.text_accept.specs.Accepting.{IsAcceptedAs, IsRefusedAt, source_line}
+use Rattle.text_accept.specs.Accepting.{IsAcceptedAs, IsRefusedAt}
 use Rattle.unit_tree.specs.Canonical.{canonical_text}
-use Rattle.unit_tree.specs.Plain.{plain_form}
-use Rattle.unit_tree.specs.Trace.{Row, IsTraceOf}
 use Rattle.unit_tree.specs.WellFormed.{resolution_of}
 use Rattle.unit_tree.specs.declared.ending.Ending.{Ending}
 use Rattle.unit_tree.specs.declared.ending.Ending.TheVariants.{Completed, RowBudget, ZeroBudget, UnitFault, StepRefused}
@@ -37,50 +37,39 @@ status_of (UnitFault instance place fault) = status.UnitFault
 status_of (StepRefused instance asked accepted) = status.StepRefused
 
 -- What is put for the rows of a trace: the text of the trace.
-unfoldable pub traced_text : System → List Row → List ℕ
-traced_text system rows = trace_text system rows
+unfoldable pub traced_text : System → List EventRow → List ℕ
+traced_text system rows = event_text system rows
 
--- What is noted of its end, by the names in what is run of the system, and with times in seconds as in the trace.
+-- What is noted of its end, by the names in the system, and with times in seconds as in the trace.
 unfoldable pub traced_note : System → Ending → Point → List ℕ
-traced_note system ending last = ending_note (plain_form system) (resolution_of system) ending last
+traced_note system ending last = ending_note system (resolution_of system) ending last
 
 -- The text of a trace, and how and where it ended.
-abbrev pub run_answer : System → List Row → Point → Ending → Answer
+abbrev pub run_answer : System → List EventRow → Point → Ending → Answer
 run_answer system rows last ending =
     record { out = traced_text system rows; notes = traced_note system ending last; status = status_of ending }
 
 -- ---- What each command answers
 
--- The text keeps all rules, and is of the version that is not served yet, which is said of its header.
-pub record IsOfUnservedVersion (text : List ℕ) (line rule : ℕ) : Type 0 where
-  pub system : System
-  pub lines : List ℕ
-  pub accepted : IsAcceptedAs text system lines
-  pub version : system.version ≡ 2
-  pub at : source_line lines 1 ≡ Some line
-  pub by : rule ≡ 25
-
--- A text of version 1 that keeps all rules is answered by the trace of its system.
+-- A text that keeps all rules is answered by the trace of its system.
 pub record AnswersRun (text : List ℕ) (answer : Answer) : Type 0 where
   pub system : System
   pub lines : List ℕ
   pub accepted : IsAcceptedAs text system lines
-  pub version : system.version ≡ 1
-  pub rows : List Row
+  pub rows : List EventRow
   pub last : Point
   pub ending : Ending
-  pub trace : IsTraceOf system rows last ending
+  pub trace : IsEventTraceOf system rows last ending
   pub is : answer ≡ run_answer system rows last ending
 
 abbrev pub accepted_answer : Answer
 accepted_answer = record { out = codes "accepted" ++ line_end; notes = []; status = status.Done }
 
--- A text of version 1 that keeps all rules is told to be accepted.
+-- A text that keeps all rules is told to be accepted.
 pub record AnswersCheck (text : List ℕ) (answer : Answer) : Type 0 where
   pub system : System
   pub lines : List ℕ
   pub accepted : IsAcceptedAs text system lines
-  pub version : system.version ≡ 1
   pub is : answer ≡ accepted_answer
 
 -- What is printed of a system: its canonical text.
@@ -103,22 +92,16 @@ Serves Run text answer = AnswersRun text answer
 Serves Check text answer = AnswersCheck text answer
 Serves Print text answer = AnswersPrint text answer
 
--- The line and the rule by which a command refuses a text.
-abbrev pub RefusedBy : Command → List ℕ → ℕ → ℕ → Type 0
-RefusedBy Run text line rule = IsRefusedAt text line rule ⊎ IsOfUnservedVersion text line rule
-RefusedBy Check text line rule = IsRefusedAt text line rule ⊎ IsOfUnservedVersion text line rule
-RefusedBy Print text line rule = IsRefusedAt text line rule
-
 -- A text that is refused is answered by its line and rule.
-pub record AnswersRefusal (command : Command) (text : List ℕ) (answer : Answer) : Type 0 where
+pub record AnswersRefusal (text : List ℕ) (answer : Answer) : Type 0 where
   pub line : ℕ
   pub rule : ℕ
-  pub refused : RefusedBy command text line rule
+  pub refused : IsRefusedAt text line rule
   pub is : answer ≡ refused_answer line rule
 
 -- The answer of a command for a text.
 abbrev pub CommandAnswers : Command → List ℕ → Answer → Type 0
-CommandAnswers command text answer = AnswersRefusal command text answer ⊎ Serves command text answer
+CommandAnswers command text answer = AnswersRefusal text answer ⊎ Serves command text answer
 
 -- ---- The answer
 

@@ -6,7 +6,8 @@ use Rattle.unit_tree.specs.Lines.{size_of}
 use Rattle.unit_tree.specs.Texts.{text_limit}
 use Rattle.cosim_io.specs.Faults.{Rose}
 use Rattle.cosim_io.specs.Pieces.{AppendsPrefix}
-use Rattle.cosim_app.specs.Answer.{Answer, IsAnswer, RefusedBy, Serves}
+use Rattle.text_accept.specs.Accepting.{IsRefusedAt}
+use Rattle.cosim_app.specs.Answer.{Answer, IsAnswer, Serves}
 use Rattle.cosim_app.specs.Commands.{words_of, HaveNoForm}
 use Rattle.cosim_app.specs.Notes.{read_fault_note, write_fault_note, no_memory_note}
 use Rattle.cosim_app.specs.declared.command_words.Command.{Command}
@@ -62,13 +63,13 @@ pub record EndsWith (words : List (List ℕ)) (given : Status) (text : List ℕ)
   pub serves : Serves command text answer
   pub status : answer.status ≡ given
 
--- The words are those of a command that refuses the text.
+-- The words are those of a command, and the text breaks a rule.
 pub record BreaksARule (words : List (List ℕ)) (text : List ℕ) : Type 0 where
   pub command : Command
   pub words_are : words ≡ words_of command
   pub line : ℕ
   pub rule : ℕ
-  pub refused : RefusedBy command text line rule
+  pub refused : IsRefusedAt text line rule
 
 -- Cause clause: each status comes only with its cause, and a count of faults that is greater after the call than
 -- before is answered as that fault: a sink's before the source's.

@@ -5,14 +5,15 @@ use Rattle.unit_tree.specs.Lines.{size_of}
 use Rattle.unit_tree.specs.Texts.{text_limit}
 use Rattle.cosim_io.specs.Faults.{Rose}
 use Rattle.cosim_io.specs.Pieces.{AppendsPrefix}
+use Rattle.event_runs.specs.EventRuns.{IsEventTraceOf}
+use Rattle.event_runs.specs.EventTrace.{EventRow}
 use Rattle.super_time.specs.declared.point.Point.{Point}
 use Rattle.unit_tree.specs.Orders.{HasNoCycle}
 use Rattle.unit_tree.specs.Printable.{IsRanged}
-use Rattle.unit_tree.specs.Trace.{Row, IsTraceOf}
 use Rattle.unit_tree.specs.WellFormed.{IsWellFormed}
 use Rattle.unit_tree.specs.declared.ending.Ending.{Ending}
 use Rattle.unit_tree.specs.declared.system.System.{System}
-use Rattle.cosim_app.specs.Answer.{Answer, CommandAnswers, accepted_answer, status_of, traced_note, traced_text}
+use Rattle.cosim_app.specs.Answer.{Answer, CommandAnswers, status_of, traced_note, traced_text}
 use Rattle.cosim_app.specs.Notes.{refused_note}
 use Rattle.cosim_app.specs.declared.command_words.Command.{Command}
 use Rattle.cosim_app.specs.declared.status.Status.{Status}
@@ -73,27 +74,22 @@ pub record IsWhole (system : System) : Type 0 where
   pub well_formed : IsWellFormed system
   pub ordered : HasNoCycle system
 
--- It can be run: its version is the one that is.
-pub record IsServed (system : System) : Type 0 where
-  pub whole : IsWhole system
-  pub version : system.version ≡ 1
-
 -- The text of the system's trace was put, with the status and the note of its end.
 pub record TellsTrace (system : System) (held held' : Option (List ℕ)) (given : Status) (note : List ℕ) : Type 0 where
-  pub rows : List Row
+  pub rows : List EventRow
   pub last : Point
   pub ending : Ending
-  pub trace : IsTraceOf system rows last ending
+  pub trace : IsEventTraceOf system rows last ending
   pub out : Appends held held' (traced_text system rows)
   pub notes : note ≡ traced_note system ending last
   pub status : given ≡ status_of ending
 
 -- What was put begins the text of the system's trace.
 pub record BeginsTrace (system : System) (held held' : Option (List ℕ)) : Type 0 where
-  pub rows : List Row
+  pub rows : List EventRow
   pub last : Point
   pub ending : Ending
-  pub trace : IsTraceOf system rows last ending
+  pub trace : IsEventTraceOf system rows last ending
   pub front : AppendsPrefix held held' (traced_text system rows)
 
 -- A system was run, or its run was given up.
@@ -102,13 +98,6 @@ PutsTrace system held held' faults faults' (verdict.Answered given note) = Tells
 PutsTrace system held held' faults faults' verdict.WriteFault = BeginsTrace system held held' × Rose faults faults'
 PutsTrace system held held' faults faults' verdict.NoMemory = BeginsTrace system held held' × (faults' ≡ faults)
 PutsTrace system held held' faults faults' verdict.ReadFault = ⊥
-
--- A system of the version is told to be accepted; one of the version that is not run yet is refused at its header, and nothing
--- is put.
-abbrev pub TellsAccepted : ℕ → ℕ → Option (List ℕ) → Option (List ℕ) → ℕ → ℕ → Verdict → Type 0
-TellsAccepted version header held held' faults faults' told =
-    ((version ≡ 2) × Refuses header 25 told × (held' ≡ held) × (faults' ≡ faults))
-    ⊎ ((version ≡ 2 → ⊥) × PutsPiece held held' faults faults' accepted_answer.out told)
 
 -- A command has answered its input: put the answer's bytes, with the status and the note of its own, and read the input
 -- to its end, but for a text that is too long.

@@ -1,9 +1,10 @@
-pub mod Pieces
-pub mod Words
+pub mod Answer
 pub mod Commands
 pub mod ExitCodes
 pub mod Headline
 pub mod Judgement
 pub mod Laws
 pub mod Notes
-pub mod Answer
+pub mod Pieces
+pub mod SourcePlaces
+pub mod Words

@@ -1,17 +1,18 @@
 -- Notes: the line that the program writes beside its output, for each way to end.
 use Rattle.std.specs.Prelude.{ℕ, List, [], ◌∷◌, ◌++◌, codes, Option, Some, None, slice_get}
-use Rattle.std.specs.Option.{option_and_then}
+use Rattle.std.specs.Option.{option_and_then, option_map, unwrap_or}
 use Rattle.std.specs.Fmt.{decimal}
 use Rattle.fixed_words.specs.declared.types.Fault.{Fault}
 use Rattle.fixed_words.specs.declared.types.Fault.TheVariants.{Overflow, Range, ZeroDivisor, Accept, Max}
 use Rattle.super_time.specs.Seconds.{seconds_text_of}
-use Rattle.unit_tree.specs.Names.{unit_of_instance}
+use Rattle.unit_tree.specs.Names.{output_ports, unit_of_instance}
 use Rattle.unit_tree.specs.declared.ending.Ending.{Ending}
 use Rattle.unit_tree.specs.declared.ending.Ending.TheVariants.{Completed, RowBudget, ZeroBudget, UnitFault, StepRefused}
 use Rattle.unit_tree.specs.declared.ending.Place.{Place}
 use Rattle.unit_tree.specs.declared.ending.Place.TheVariants as place
 use Rattle.super_time.specs.declared.point.Point.{Point}
 use Rattle.unit_tree.specs.declared.system.System.{System}
+use Rattle.unit_tree.specs.declared.unit.Unit.{Unit}
 
 abbrev pub line_end : List ℕ
 line_end = 10 ∷ []
@@ -51,12 +52,14 @@ name_or_none (Some name) = name
 abbrev pub instance_name : System → ℕ → List ℕ
 instance_name system instance = name_or_none (option_and_then (λ i. Some i.name) (slice_get system.instances instance))
 
--- The name of an output by its number and its instance's.
+-- The name of an output of a unit by its number, among plain outputs and then event outputs.
+abbrev pub name_in : Unit → ℕ → List ℕ
+name_in unit number = name_or_none (option_and_then (λ o. Some o.name) (slice_get (output_ports unit) number))
+
+-- The same by the number of an instance. Where there is none, or of no unit, the name is empty.
 abbrev pub output_name : System → ℕ → ℕ → List ℕ
 output_name system instance number =
-    name_or_none
-    (option_and_then (λ o. Some o.name)
-    (option_and_then (λ unit. slice_get unit.outputs number) (option_and_then (unit_of_instance system) (slice_get system.instances instance))))
+    unwrap_or (option_map (λ unit. name_in unit number) (option_and_then (unit_of_instance system) (slice_get system.instances instance))) []
 
 abbrev pub place_text : System → ℕ → Place → List ℕ
 place_text system instance (place.Output number) = codes " output " ++ output_name system instance number
@@ -85,7 +88,7 @@ abbrev pub step_refused_text : ℕ → List ℕ → ℕ → ℕ → Point → Li
 step_refused_text resolution instance asked accepted point =
     note (instance ++ lengths_text asked accepted ++ codes ", at " ++ point_text resolution point)
 
--- The note of how a run of a system without event ports ended at its last point: none where it came to its stop.
+-- The note of how a run of a system ended at its last point: none where it came to its stop.
 abbrev pub ending_note : System → ℕ → Ending → Point → List ℕ
 ending_note system resolution Completed point = []
 ending_note system resolution RowBudget point = budget_text resolution (codes "row") point

@@ -1,6 +1,4 @@
 //! A command on its input, from the text to its verdict.
-ghost use Rattle.std.specs.Prelude.{◌≡◌, ◌<◌, length, Some};
-ghost use Rattle.text_accept.specs.Accepting.{source_line};
 ghost use Rattle.cosim_app.specs.Judgement.{JudgesText, JudgesInput, Refuses};
 
 use crate::command_words::Command;
@@ -13,9 +11,6 @@ use cosim_io::{ReadEnd, Sink, Source, read_all};
 use std::alloc::Global;
 use unit_text::{LONGEST_TEXT, SIZE_RULE};
 
-/// The rule of what is accepted and can't be run yet.
-pub const UNSERVED_RULE: u8 = 25;
-
 /// The refusal of a text by a line and a rule.
 pub fn refuse(alloc: Global, line: u32, rule: u8) -> Verdict
     ensures { Refuses line rule result }
@@ -27,14 +22,6 @@ pub fn refuse(alloc: Global, line: u32, rule: u8) -> Verdict
         },
         Err(_) => Verdict::NoMemory,
     }
-}
-
-/// The line that the first canonical line came from, which is the header's.
-pub fn header_line(lines: &[u32]) -> u32
-    requires { 0 < length lines.now }
-    ensures { source_line lines.now 1 ≡ Some result }
-{
-    lines[0]
 }
 
 /// A command on a whole text.

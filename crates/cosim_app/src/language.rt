@@ -1,10 +1,10 @@
 //! The commands that serve the whole language without running it.
 ghost use Rattle.std.specs.Prelude.{◌≡◌};
 ghost use Rattle.cosim_app.specs.Answer.{printed_text};
-ghost use Rattle.cosim_app.specs.Judgement.{JudgesText, PutsPiece, TellsAccepted};
+ghost use Rattle.cosim_app.specs.Judgement.{JudgesText, PutsPiece};
 ghost use Rattle.cosim_app.specs.declared.command_words.Command.TheVariants.{Check, Print};
 
-use crate::judge::{UNSERVED_RULE, header_line, refuse};
+use crate::judge::refuse;
 use crate::status::Status;
 use crate::verdict::Verdict;
 use cosim_io::Sink;
@@ -27,27 +27,12 @@ fn put_whole<O: Sink>(alloc: Global, bytes: &[u8], out: &mut O) -> Verdict
     }
 }
 
-/// Tells that a system of this version is accepted, or refuses one of the version that is not run yet at its header.
-fn tell_accepted<O: Sink>(alloc: Global, version: u8, header: u32, out: &mut O) -> Verdict
-    ensures { TellsAccepted version header (O.held out.old) (O.held out.new) (O.faults out.old) (O.faults out.new) result }
-{
-    if version == 2 {
-        refuse(alloc, header, UNSERVED_RULE)
-    } else {
-        put_whole(alloc, b"accepted\n", out)
-    }
-}
-
 /// Judges a text by all rules.
 pub(crate) fn check_text<O: Sink>(alloc: Global, text: &[u8], out: &mut O) -> Verdict
     ensures { JudgesText Check text.now (O.held out.old) (O.held out.new) (O.faults out.old) (O.faults out.new) result }
 {
     match accept_text(alloc, text) {
-        Ok(read) => {
-            let version = read.checked.source().version;
-            let header = header_line(read.lines.as_slice());
-            tell_accepted(alloc, version, header, out)
-        }
+        Ok(_) => put_whole(alloc, b"accepted\n", out),
         Err(TextFault::Line { line, rule }) => refuse(alloc, line, rule),
         Err(TextFault::NoMemory) => Verdict::NoMemory,
     }

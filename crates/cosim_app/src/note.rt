@@ -1,7 +1,9 @@
 //! The notes of the program.
 ghost use Rattle.std.specs.Prelude.{◌≡◌, ◌≤◌, ◌++◌, IfOk, OnOk};
 ghost use Rattle.cosim_app.specs.Answer.{traced_note};
-ghost use Rattle.cosim_app.specs.Notes.{fault_number, instance_name, output_name, place_text, refused_note, point_text, fault_text, budget_text, lengths_text, step_refused_text, ending_note, line_end};
+ghost use Rattle.cosim_app.specs.SourcePlaces.{instance_shape, unit_shape, source_end, source_place};
+ghost use Rattle.event_runs.specs.EventTrace.{output_read};
+ghost use Rattle.cosim_app.specs.Notes.{fault_number, instance_name, name_in, output_name, place_text, refused_note, point_text, fault_text, budget_text, lengths_text, step_refused_text, ending_note, line_end};
 
 use crate::pieces::append_all;
 use fixed_words::{Fault, NoMemory};
@@ -9,7 +11,7 @@ use itoa::Buffer;
 use std::alloc::Global;
 use super_time::seconds_text;
 use trace_core::Plan;
-use unit_tree::{Ending, Place, Point, System};
+use unit_tree::{Ending, Place, Point, System, Unit};
 
 /// The number by which notes tell a fault.
 fn number(fault: Fault) -> u8
@@ -63,9 +65,24 @@ fn instance_name(system: &System, instance: u32) -> &[u8]
     }
 }
 
-/// The name of an output by its number and its instance's.
+/// The name of the output that an output of the unit's plain form is made of: behind the plain outputs stand two for each
+/// event output.
+fn name_in(unit: &Unit, output: usize) -> &[u8]
+    ensures { result.now ≡ name_in unit.now (output_read (unit_shape unit.now) output) }
+{
+    let plain = unit.outputs.len();
+    if output < plain {
+        return unit.outputs[output].name.as_slice();
+    }
+    match unit.events_out.get((output - plain) / 2) {
+        Some(event) => event.name.as_slice(),
+        None => &[],
+    }
+}
+
+/// The name of the output that an output of the plain form is made of, by its number and its instance's.
 fn output_name(system: &System, instance: u32, output: u32) -> &[u8]
-    ensures { result.now ≡ output_name system.now instance output }
+    ensures { result.now ≡ output_name system.now instance (output_read (instance_shape system.now instance) output) }
 {
     let Some(instance) = system.instances.get(instance as usize) else {
         return &[];
@@ -73,20 +90,17 @@ fn output_name(system: &System, instance: u32, output: u32) -> &[u8]
     let Some(unit) = system.unit_of(instance) else {
         return &[];
     };
-    match unit.outputs.get(output as usize) {
-        Some(output) => output.name.as_slice(),
-        None => &[],
-    }
+    name_in(unit, output as usize)
 }
 
-/// Adds the place of a fault of an instance.
+/// Adds the place of a fault of an instance, by its place in the plain form.
 fn put_place(
     note: &mut Vec<u8>,
     system: &System,
     instance: u32,
     place: Place,
 ) -> Result<(), NoMemory>
-    ensures { OnOk result (note.new.items ≡ note.old.items ++ place_text system.now instance place) }
+    ensures { OnOk result (note.new.items ≡ note.old.items ++ place_text system.now instance (source_place system.now instance place)) }
 {
     match place {
         Place::Output(output) => {
@@ -97,7 +111,7 @@ fn put_place(
     }
 }
 
-/// A fault of an instance at a point.
+/// A fault of an instance in a place of the plain form at a point.
 fn fault_note(
     alloc: Global,
     system: &System,
@@ -108,7 +122,7 @@ fn fault_note(
     point: Point,
 ) -> Result<Vec<u8>, NoMemory>
     requires { resolution ≤ 9 }
-    ensures { IfOk result (λ note. note.items ≡ fault_text resolution (instance_name system.now instance) (place_text system.now instance place) fault point) }
+    ensures { IfOk result (λ note. note.items ≡ fault_text resolution (instance_name system.now instance) (place_text system.now instance (source_place system.now instance place)) fault point) }
 {
     let mut number_text = Buffer::new();
     let mut note = Vec::new(alloc);
@@ -173,7 +187,7 @@ fn refused_step_note(
     Ok(note)
 }
 
-/// How a run of a system without event ports ended at its last point: nothing where it came to its stop.
+/// How the plain form of a system ended at its last point, by the names in the system: nothing where it came to its stop.
 fn ending_note(
     alloc: Global,
     system: &System,
@@ -182,7 +196,7 @@ fn ending_note(
     last: Point,
 ) -> Result<Vec<u8>, NoMemory>
     requires { resolution ≤ 9 }
-    ensures { IfOk result (λ note. note.items ≡ ending_note system.now resolution ending last) }
+    ensures { IfOk result (λ note. note.items ≡ ending_note system.now resolution (source_end system.now ending) last) }
 {
     match ending {
         Ending::Completed => Ok(Vec::new(alloc)),
@@ -206,8 +220,8 @@ fn ending_note(
 
 /// How the run of a plan ended at its last point: nothing where it came to its stop.
 pub fn ending(alloc: Global, plan: &Plan, ending: Ending, last: Point) -> Result<Vec<u8>, NoMemory>
-    ensures { IfOk result (λ note. note.items ≡ traced_note plan.now.system ending last) }
+    ensures { IfOk result (λ note. note.items ≡ traced_note plan.now.system (source_end plan.now.system ending) last) }
 {
-    let system = plan.checked().system();
+    let system = plan.checked().source();
     ending_note(alloc, system, plan.resolution(), ending, last)
 }

@@ -1,11 +1,10 @@
 //! The command `run`.
-ghost use Rattle.std.specs.Prelude.{◌≡◌, ◌<◌, length, List, ℕ};
-ghost use Rattle.text_accept.specs.Accepting.{IsAcceptedAs};
+ghost use Rattle.std.specs.Prelude.{◌≡◌};
 ghost use Rattle.cosim_app.specs.Answer.{status_of};
-ghost use Rattle.cosim_app.specs.Judgement.{IsServed, IsWhole, JudgesText, PutsTrace};
+ghost use Rattle.cosim_app.specs.Judgement.{IsWhole, JudgesText, PutsTrace};
 ghost use Rattle.cosim_app.specs.declared.command_words.Command.TheVariants.{Run};
 
-use crate::judge::{UNSERVED_RULE, header_line, refuse};
+use crate::judge::refuse;
 use crate::note;
 use crate::status::Status;
 use crate::verdict::Verdict;
@@ -13,7 +12,7 @@ use cosim_io::Sink;
 use serial_run::{CrewFault, run_alone};
 use std::alloc::Global;
 use std::sync::Arc;
-use text_accept::{AcceptedText, accept_text};
+use text_accept::accept_text;
 use trace_core::{Plan, PlanFault};
 use unit_text::TextFault;
 use unit_tree::{Checked, Ending};
@@ -33,7 +32,7 @@ fn status(ending: Ending) -> Status
 
 /// Puts the trace of a plan, and tells how it ended.
 fn run_plan<O: Sink>(alloc: Global, plan: &Arc<Plan>, out: &mut O) -> Verdict
-    requires served { IsServed plan.now.value.system }
+    requires whole { IsWhole plan.now.value.system }
     ensures { PutsTrace plan.now.value.system (O.held out.old) (O.held out.new) (O.faults out.old) (O.faults out.new) result }
 {
     let Ok(shared) = Arc::clone(plan) else {
@@ -54,7 +53,7 @@ fn run_plan<O: Sink>(alloc: Global, plan: &Arc<Plan>, out: &mut O) -> Verdict
 
 /// Plans a system and runs it.
 fn run_system<O: Sink>(alloc: Global, checked: Checked, out: &mut O) -> Verdict
-    requires served { IsServed checked }
+    requires whole { IsWhole checked }
     ensures { PutsTrace checked (O.held out.old) (O.held out.new) (O.faults out.old) (O.faults out.new) result }
 {
     match Plan::new(alloc, checked) {
@@ -67,25 +66,12 @@ fn run_system<O: Sink>(alloc: Global, checked: Checked, out: &mut O) -> Verdict
     }
 }
 
-/// Runs what a text was accepted as, or refuses it at its header where its version is not run yet.
-fn run_accepted<O: Sink>(alloc: Global, read: AcceptedText, out: &mut O) -> Verdict
-    requires lines { 0 < length read.lines }
-    requires whole { IsWhole read.checked }
-    ensures { (text : List ℕ) → IsAcceptedAs text read.checked read.lines → JudgesText Run text (O.held out.old) (O.held out.new) (O.faults out.old) (O.faults out.new) result }
-{
-    let header = header_line(read.lines.as_slice());
-    if read.checked.source().version == 2 {
-        return refuse(alloc, header, UNSERVED_RULE);
-    }
-    run_system(alloc, read.checked, out)
-}
-
 /// Runs a text, or refuses it.
 pub(crate) fn run_text<O: Sink>(alloc: Global, text: &[u8], out: &mut O) -> Verdict
     ensures { JudgesText Run text.now (O.held out.old) (O.held out.new) (O.faults out.old) (O.faults out.new) result }
 {
     match accept_text(alloc, text) {
-        Ok(read) => run_accepted(alloc, read, out),
+        Ok(read) => run_system(alloc, read.checked, out),
         Err(TextFault::Line { line, rule }) => refuse(alloc, line, rule),
         Err(TextFault::NoMemory) => Verdict::NoMemory,
     }

@@ -1,5 +1,6 @@
 -- The port fault of a source is that of its plain form.
-use Rattle.std.proofs.Common.{◌≡◌, ℕ, suc, ◌+◌, Bool, true, false, ℤ, List, [], ◌∷◌, ◌++◌, map, length, Option, Some, None, Result, Ok, Err, inl, inr, refl, sym, ap, ◌∙◌, arith}
+use Rattle.std.proofs.Common.{◌≡◌, ℕ, suc, ◌+◌, Bool, true, false, ℤ, List, [], ◌∷◌, ◌++◌, map, length, Option, Some, None, Result, Ok, Err, inl, inr, refl}
+use Rattle.std.proofs.Common.{sym, ap, ◌∙◌, arith}
 use Rattle.std.specs.Prelude.{zip, slice_get}
 use Rattle.std.specs.List.{AllByRecursion, flat_map, enumerate_from}
 use Rattle.std.specs.Option.{option_map, option_and_then, unwrap_or}
@@ -20,7 +21,8 @@ use Rattle.unit_tree.specs.declared.ending.Place.TheVariants as place
 use Rattle.unit_tree.specs.declared.unit.EventOut.{EventOut}
 use Rattle.unit_tree.specs.declared.unit.Output.{Output}
 use Rattle.unit_tree.specs.declared.unit.Unit.{Unit}
-use Rattle.event_runs.specs.EventPorts.{Signals, EventMember, Out, Plain, Event, needs_in, get_out, seen_for, is_event, shape_of, read_ports, plain_member, AreTidy, IsWired, IsPlainRun, StatesFit}
+use Rattle.event_runs.specs.EventPorts.{Signals, EventMember, Out, Plain, Event, needs_in, get_out, seen_for, is_event, shape_of, read_ports, plain_member}
+use Rattle.event_runs.specs.EventPorts.{AreTidy, IsWired, IsPlainRun, StatesFit}
 use Rattle.event_runs.specs.EventTrace.{event_fault_at, event_faults_at, event_port_fault, output_read, shape_at, read_ending}
 use Rattle.event_runs.specs.Events.{Signal, Occurs, Absent, Seen, get_in, get_event}
 use Rattle.event_runs.specs.Laws.{Speaks, plain_component, plain_words, AreTwoGets}
@@ -48,7 +50,9 @@ or_map f (Some x) y = refl
 
 -- ---- One member
 
-module _ (shape : List Bool) (ports : Ports) (are_tidy : AreTidy shape ports) (one : EventMember) (state : List ℤ) (wired : IsWired shape one) (state_fits : length state ≡ length one.member.component.unit.states) (instance : ℕ) (tell : Ending → Ending) (read : ℕ → ℕ) (tells : (number : ℕ) (fault : Fault) → tell (UnitFault instance (place.Output number) fault) ≡ UnitFault instance (place.Output (read number)) fault) where
+module _ (shape : List Bool) (ports : Ports) (are_tidy : AreTidy shape ports) (one : EventMember) (state : List ℤ) (wired : IsWired shape one)
+    (state_fits : length state ≡ length one.member.component.unit.states) (instance : ℕ) (tell : Ending → Ending) (read : ℕ → ℕ)
+    (tells : (number : ℕ) (fault : Fault) → tell (UnitFault instance (place.Output number) fault) ≡ UnitFault instance (place.Output (read number)) fault) where
   abbrev pub unit : Unit
   unit = one.member.component.unit
 
@@ -71,29 +75,44 @@ module _ (shape : List Bool) (ports : Ports) (are_tidy : AreTidy shape ports) (o
   told_at number source None is = refl
   told_at number source (Some fault) is = ap Some (tells number fault ∙ ap (λ n. UnitFault instance (place.Output n) fault) is)
 
-  pub plain_by : (output : Output) (seen : Option Seen) → Speaks (event_input_names unit) output.value → seen_for signals output.needs one ≡ seen → option_and_then result_err (option_map (λ inputs. get_of (plain_component one.member.component) state inputs (plain_output unit output)) (option_map plain_words seen)) ≡ option_and_then result_err (option_map (λ s. get_out one.member.component state s (Plain output)) seen)
+  pub plain_by : (output : Output) (seen : Option Seen) → Speaks (event_input_names unit) output.value → seen_for signals output.needs one ≡ seen
+      → option_and_then result_err
+      (option_map (λ inputs. get_of (plain_component one.member.component) state inputs (plain_output unit output)) (option_map plain_words seen))
+      ≡ option_and_then result_err (option_map (λ s. get_out one.member.component state s (Plain output)) seen)
   plain_by output None said is = refl
   plain_by output (Some seen) said is =
-      ap result_err (get_same one.member.component state seen (fits_seen shape ports one state wired are_tidy state_fits output.needs seen is) wired.said.variables output said) ∙ by_given (get_in one.member.component state seen output)
+      ap result_err (get_same one.member.component state seen
+          (fits_seen shape ports one state wired are_tidy state_fits output.needs seen is) wired.said.variables output said)
+          ∙ by_given (get_in one.member.component state seen output)
     where
       by_given : (given : Outcome) → result_err given ≡ result_err (given >>= λ word. Ok (Occurs word))
       by_given (Ok word) = refl
       by_given (Err fault) = refl
 
-  pub plain_told : (number source : ℕ) (output : Output) → read number ≡ source → AllByRecursion IsWord output.needs → Speaks (event_input_names unit) output.value → option_map tell (plain_fault number (plain_output unit output)) ≡ source_fault source (Plain output)
+  pub plain_told : (number source : ℕ) (output : Output) → read number ≡ source → AllByRecursion IsWord output.needs
+      → Speaks (event_input_names unit) output.value → option_map tell (plain_fault number (plain_output unit output)) ≡ source_fault source (Plain output)
   plain_told number source output is words said =
-      ap (λ inputs. option_map tell (at_number number (option_and_then result_err (option_map (λ i. get_of (plain_component one.member.component) state i (plain_output unit output)) inputs)))) (seen_is shape ports one state wired are_tidy output.needs (plain_output unit output) words refl)
+      ap (λ inputs. option_map tell
+          (at_number number (option_and_then result_err
+          (option_map (λ i. get_of (plain_component one.member.component) state i (plain_output unit output)) inputs))))
+          (seen_is shape ports one state wired are_tidy output.needs (plain_output unit output) words refl)
       ∙ ap (λ fault. option_map tell (at_number number fault)) (plain_by output (seen_for signals output.needs one) said refl)
-      ∙ told_at number source (option_and_then result_err (option_map (λ s. get_out one.member.component state s (Plain output)) (seen_for signals output.needs one))) is
+      ∙ told_at number source
+          (option_and_then result_err (option_map (λ s. get_out one.member.component state s (Plain output)) (seen_for signals output.needs one))) is
 
   -- Of two gets of an event output the first that faults has its fault.
-  pub two_told : (number source : ℕ) (event : Result Signal Fault) (first second : Outcome) → read number ≡ source → read (number + 1) ≡ source → AreTwoGets event first second → option_map tell (or_first (at_number number (result_err first)) (at_number (number + 1) (result_err second))) ≡ at_number source (result_err event)
+  pub two_told : (number source : ℕ) (event : Result Signal Fault) (first second : Outcome) → read number ≡ source → read (number + 1) ≡ source
+      → AreTwoGets event first second
+      → option_map tell (or_first (at_number number (result_err first)) (at_number (number + 1) (result_err second))) ≡ at_number source (result_err event)
   two_told number source (Ok Absent) first second is is_next are =
-      ap (λ g. option_map tell (or_first (at_number number (result_err g)) (at_number (number + 1) (result_err second)))) are.0 ∙ ap (λ g. option_map tell (at_number (number + 1) (result_err g))) are.1
+      ap (λ g. option_map tell (or_first (at_number number (result_err g)) (at_number (number + 1) (result_err second)))) are.0
+          ∙ ap (λ g. option_map tell (at_number (number + 1) (result_err g))) are.1
   two_told number source (Ok (Occurs word)) first second is is_next are =
-      ap (λ g. option_map tell (or_first (at_number number (result_err g)) (at_number (number + 1) (result_err second)))) are.0 ∙ ap (λ g. option_map tell (at_number (number + 1) (result_err g))) are.1
+      ap (λ g. option_map tell (or_first (at_number number (result_err g)) (at_number (number + 1) (result_err second)))) are.0
+          ∙ ap (λ g. option_map tell (at_number (number + 1) (result_err g))) are.1
   two_told number source (Err fault) first second is is_next (inl told, word) =
-      ap (λ g. option_map tell (or_first (at_number number (result_err g)) (at_number (number + 1) (result_err second)))) told ∙ told_at number source (Some fault) is
+      ap (λ g. option_map tell (or_first (at_number number (result_err g)) (at_number (number + 1) (result_err second)))) told
+          ∙ told_at number source (Some fault) is
   two_told number source (Err fault) first second is is_next (inr told, word) =
       ap (λ g. option_map tell (or_first (at_number number (result_err g)) (at_number (number + 1) (result_err second)))) told
       ∙ ap (λ g. option_map tell (at_number (number + 1) (result_err g))) word
@@ -108,16 +127,29 @@ module _ (shape : List Bool) (ports : Ports) (are_tidy : AreTidy shape ports) (o
   abbrev pub err_of : Output → Option (List ℤ) → Option Fault
   err_of output inputs = option_and_then result_err (option_map (λ i. get_of (plain_component one.member.component) state i output) inputs)
 
-  pub event_by : (number source : ℕ) (event : EventOut) (seen : Option Seen) → read number ≡ source → read (number + 1) ≡ source → Speaks (event_input_names unit) event.value → seen_for signals event.needs one ≡ seen → option_map tell (or_first (at_number number (err_of (tells_of event) (option_map plain_words seen))) (at_number (number + 1) (err_of (word_of event) (option_map plain_words seen)))) ≡ at_number source (option_and_then result_err (option_map (λ s. get_out one.member.component state s (Event event)) seen))
+  pub event_by : (number source : ℕ) (event : EventOut) (seen : Option Seen) → read number ≡ source → read (number + 1) ≡ source
+      → Speaks (event_input_names unit) event.value → seen_for signals event.needs one ≡ seen
+      → option_map tell (or_first (at_number number (err_of (tells_of event) (option_map plain_words seen)))
+      (at_number (number + 1) (err_of (word_of event) (option_map plain_words seen))))
+      ≡ at_number source (option_and_then result_err (option_map (λ s. get_out one.member.component state s (Event event)) seen))
   event_by number source event None is is_next said seen_is_it = refl
   event_by number source event (Some seen) is is_next said seen_is_it =
-      two_told number source (get_event one.member.component state seen event) (get_of (plain_component one.member.component) state (plain_words seen) (tells_of event)) (get_of (plain_component one.member.component) state (plain_words seen) (word_of event)) is is_next
-      (event_same one.member.component state seen (fits_seen shape ports one state wired are_tidy state_fits event.needs seen seen_is_it) wired.said.variables event (tells_of event) (word_of event) refl refl refl refl said)
+      two_told number source (get_event one.member.component state seen event)
+          (get_of (plain_component one.member.component) state (plain_words seen) (tells_of event))
+          (get_of (plain_component one.member.component) state (plain_words seen) (word_of event)) is is_next
+      (event_same one.member.component state seen
+          (fits_seen shape ports one state wired are_tidy state_fits event.needs seen seen_is_it) wired.said.variables event (tells_of event)
+          (word_of event) refl refl refl refl said)
 
-  pub event_told : (number source : ℕ) (event : EventOut) → read number ≡ source → read (number + 1) ≡ source → AllByRecursion IsWord event.needs → Speaks (event_input_names unit) event.value → option_map tell (or_first (plain_fault number (tells_of event)) (plain_fault (number + 1) (word_of event))) ≡ source_fault source (Event event)
+  pub event_told : (number source : ℕ) (event : EventOut) → read number ≡ source → read (number + 1) ≡ source → AllByRecursion IsWord event.needs
+      → Speaks (event_input_names unit) event.value
+      → option_map tell (or_first (plain_fault number (tells_of event)) (plain_fault (number + 1) (word_of event))) ≡ source_fault source (Event event)
   event_told number source event is is_next words said =
-      ap (λ inputs. option_map tell (or_first (at_number number (err_of (tells_of event) inputs)) (plain_fault (number + 1) (word_of event)))) (seen_is shape ports one state wired are_tidy event.needs (tells_of event) words refl)
-      ∙ ap (λ inputs. option_map tell (or_first (at_number number (err_of (tells_of event) (option_map plain_words (seen_for signals event.needs one)))) (at_number (number + 1) (err_of (word_of event) inputs)))) (seen_is shape ports one state wired are_tidy event.needs (word_of event) words refl)
+      ap (λ inputs. option_map tell (or_first (at_number number (err_of (tells_of event) inputs)) (plain_fault (number + 1) (word_of event))))
+          (seen_is shape ports one state wired are_tidy event.needs (tells_of event) words refl)
+      ∙ ap (λ inputs. option_map tell
+          (or_first (at_number number (err_of (tells_of event) (option_map plain_words (seen_for signals event.needs one))))
+          (at_number (number + 1) (err_of (word_of event) inputs)))) (seen_is shape ports one state wired are_tidy event.needs (word_of event) words refl)
       ∙ event_by number source event (seen_for signals event.needs one) is is_next said refl
 
   -- ---- All outputs of it
@@ -145,31 +177,46 @@ module _ (shape : List Bool) (ports : Ports) (are_tidy : AreTidy shape ports) (o
   pub reads_event : (number source : ℕ) (shape' : List Bool) → Reads number source (true ∷ shape') → Reads (number + 1 + 1) (source + 1) shape'
   reads_event number source shape' reads j = ap read (omega arith) ∙ reads (suc (suc j)) ∙ omega arith
 
-  pub events_told : (number source : ℕ) (events : List EventOut) → Reads number source (map is_event (map Event events)) → AllByRecursion (λ event. Speaks (event_input_names unit) event.value) events → AllByRecursion (λ out. AllByRecursion IsWord (needs_in out)) (map Event events) → option_map tell (first_some (plain_faults number (flat_map (plain_outputs unit) events))) ≡ first_some (source_faults source (map Event events))
+  pub events_told : (number source : ℕ) (events : List EventOut) → Reads number source (map is_event (map Event events))
+      → AllByRecursion (λ event. Speaks (event_input_names unit) event.value) events
+      → AllByRecursion (λ out. AllByRecursion IsWord (needs_in out)) (map Event events)
+      → option_map tell (first_some (plain_faults number (flat_map (plain_outputs unit) events))) ≡ first_some (source_faults source (map Event events))
   events_told number source [] reads said words = refl
   events_told number source (event ∷ events) reads said words =
       let rest = plain_faults (number + 1 + 1) (flat_map (plain_outputs unit) events) in
       let first = plain_fault number (tells_of event) in
       let second = plain_fault (number + 1) (word_of event) in
-      ap (option_map tell) (first_append (first ∷ second ∷ []) rest ∙ ap (λ both. or_first both (first_some rest)) (first_front first (second ∷ []) ∙ ap (or_first first) (first_front second [] ∙ alone second)))
+      ap (option_map tell) (first_append (first ∷ second ∷ []) rest
+          ∙ ap (λ both. or_first both (first_some rest)) (first_front first (second ∷ []) ∙ ap (or_first first) (first_front second [] ∙ alone second)))
       ∙ or_map tell (or_first first second) (first_some rest)
-      ∙ ap (λ told. or_first told (option_map tell (first_some rest))) (event_told number source event (reads_here number source true (map is_event (map Event events)) reads) (reads_next number source (map is_event (map Event events)) reads) words.0 said.0)
-      ∙ ap (or_first (source_fault source (Event event))) (events_told (number + 1 + 1) (source + 1) events (reads_event number source (map is_event (map Event events)) reads) said.1 words.1)
+      ∙ ap (λ told. or_first told (option_map tell (first_some rest)))
+          (event_told number source event (reads_here number source true (map is_event (map Event events)) reads)
+          (reads_next number source (map is_event (map Event events)) reads) words.0 said.0)
+      ∙ ap (or_first (source_fault source (Event event)))
+          (events_told (number + 1 + 1) (source + 1) events (reads_event number source (map is_event (map Event events)) reads) said.1 words.1)
       ∙ sym (first_front (source_fault source (Event event)) (source_faults (source + 1) (map Event events)))
     where
       alone : (given : Option Ending) → or_first given None ≡ given
       alone None = refl
       alone (Some ending) = refl
 
-  pub all_told : (number source : ℕ) (outputs : List Output) (events : List EventOut) → Reads number source (map is_event (map Plain outputs ++ map Event events)) → AllByRecursion (λ output. Speaks (event_input_names unit) output.value) outputs → AllByRecursion (λ event. Speaks (event_input_names unit) event.value) events → AllByRecursion (λ out. AllByRecursion IsWord (needs_in out)) (map Plain outputs ++ map Event events) → option_map tell (first_some (plain_faults number (map (plain_output unit) outputs ++ flat_map (plain_outputs unit) events))) ≡ first_some (source_faults source (map Plain outputs ++ map Event events))
+  pub all_told : (number source : ℕ) (outputs : List Output) (events : List EventOut)
+      → Reads number source (map is_event (map Plain outputs ++ map Event events))
+      → AllByRecursion (λ output. Speaks (event_input_names unit) output.value) outputs
+      → AllByRecursion (λ event. Speaks (event_input_names unit) event.value) events
+      → AllByRecursion (λ out. AllByRecursion IsWord (needs_in out)) (map Plain outputs ++ map Event events)
+      → option_map tell (first_some (plain_faults number (map (plain_output unit) outputs ++ flat_map (plain_outputs unit) events)))
+      ≡ first_some (source_faults source (map Plain outputs ++ map Event events))
   all_told number source [] events reads said events_said words = events_told number source events reads events_said words
   all_told number source (output ∷ outputs) events reads said events_said words =
       let rest = plain_faults (number + 1) (map (plain_output unit) outputs ++ flat_map (plain_outputs unit) events) in
       let shape' = map is_event (map Plain outputs ++ map Event events) in
       ap (option_map tell) (first_front (plain_fault number (plain_output unit output)) rest)
       ∙ or_map tell (plain_fault number (plain_output unit output)) (first_some rest)
-      ∙ ap (λ told. or_first told (option_map tell (first_some rest))) (plain_told number source output (reads_here number source false shape' reads) words.0 said.0)
-      ∙ ap (or_first (source_fault source (Plain output))) (all_told (number + 1) (source + 1) outputs events (reads_plain number source shape' reads) said.1 events_said words.1)
+      ∙ ap (λ told. or_first told (option_map tell (first_some rest)))
+          (plain_told number source output (reads_here number source false shape' reads) words.0 said.0)
+      ∙ ap (or_first (source_fault source (Plain output)))
+          (all_told (number + 1) (source + 1) outputs events (reads_plain number source shape' reads) said.1 events_said words.1)
       ∙ sym (first_front (source_fault source (Plain output)) (source_faults (source + 1) (map Plain outputs ++ map Event events)))
 
 -- ---- All members
@@ -189,7 +236,10 @@ module _ (all : List EventMember) (shape : List Bool) (ports : Ports) (are_tidy 
       let same : from + 1 + j ≡ from + suc j = omega arith in
       ap (slice_get all) same
 
-  pub members_told : (from : ℕ) (members : List EventMember) (states : List (List ℤ)) → ((j : ℕ) → slice_get all (from + j) ≡ slice_get members j) → AllByRecursion (IsWired shape) members → StatesFit members states → option_map tell_all (first_some (map (fault_at ports) (flat_map outlets_of (enumerate_from from (zip (map (plain_member shape) members) states))))) ≡ first_some (flat_map (event_faults_at (read_ports shape ports)) (enumerate_from from (zip members states)))
+  pub members_told : (from : ℕ) (members : List EventMember) (states : List (List ℤ)) → ((j : ℕ) → slice_get all (from + j) ≡ slice_get members j)
+      → AllByRecursion (IsWired shape) members → StatesFit members states
+      → option_map tell_all (first_some (map (fault_at ports) (flat_map outlets_of (enumerate_from from (zip (map (plain_member shape) members) states)))))
+      ≡ first_some (flat_map (event_faults_at (read_ports shape ports)) (enumerate_from from (zip members states)))
   members_told from [] states here wired fit = refl
   members_told from (one ∷ members) [] here wired fit = refl
   members_told from (one ∷ members) (state ∷ states) here wired fit =
@@ -203,17 +253,23 @@ module _ (all : List EventMember) (shape : List Bool) (ports : Ports) (are_tidy 
       ∙ ap (option_map tell_all) (first_append (map (fault_at ports) mine) (map (fault_at ports) others))
       ∙ or_map tell_all (first_some (map (fault_at ports) mine)) (first_some (map (fault_at ports) others))
       ∙ ap (λ told. or_first told (option_map tell_all (first_some (map (fault_at ports) others))))
-      (all_told shape ports are_tidy one state wired.0 fit.0 from tell_all (output_read (shape_at all from)) (λ number fault. refl) 0 0 unit.outputs unit.events_out
+      (all_told shape ports are_tidy one state wired.0 fit.0 from tell_all (output_read (shape_at all from))
+          (λ number fault. refl) 0 0 unit.outputs unit.events_out
       (λ j. zeros (shape_at all from) (shape_of one) j shape_is) wired.0.said.outputs wired.0.said.events wired.0.needs)
-      ∙ ap (or_first (first_some (event_faults_at (read_ports shape ports) (from, (one, state))))) (members_told (from + 1) members states (λ j. later_on from j ∙ here (suc j)) wired.1 fit.1)
-      ∙ sym (first_append (event_faults_at (read_ports shape ports) (from, (one, state))) (flat_map (event_faults_at (read_ports shape ports)) (enumerate_from (from + 1) (zip members states))))
+      ∙ ap (or_first (first_some (event_faults_at (read_ports shape ports) (from, (one, state)))))
+          (members_told (from + 1) members states (λ j. later_on from j ∙ here (suc j)) wired.1 fit.1)
+      ∙ sym (first_append (event_faults_at (read_ports shape ports) (from, (one, state)))
+          (flat_map (event_faults_at (read_ports shape ports)) (enumerate_from (from + 1) (zip members states))))
 
 pub from_zero : (members : List EventMember) (j : ℕ) → slice_get members (0 + j) ≡ slice_get members j
 from_zero members j =
     let same : 0 + j ≡ j = omega arith in
     ap (slice_get members) same
 
-pub fault_is_read : (members : List EventMember) (run : Composition) (states : List (List ℤ)) (ports : Ports) → IsPlainRun members run → StatesFit members states → AreTidy (flat_map shape_of members) ports → event_port_fault members states (read_ports (flat_map shape_of members) ports) ≡ option_map (read_ending members) (port_fault run states ports)
+pub fault_is_read : (members : List EventMember) (run : Composition) (states : List (List ℤ)) (ports : Ports) → IsPlainRun members run
+    → StatesFit members states → AreTidy (flat_map shape_of members) ports
+    → event_port_fault members states (read_ports (flat_map shape_of members) ports) ≡ option_map (read_ending members) (port_fault run states ports)
 fault_is_read members run states ports plain fit tidy =
-    sym (ap (λ all. option_map (read_ending members) (first_some (map (fault_at ports) (flat_map outlets_of (enumerate_from 0 (zip all states)))))) plain.members_are
+    sym (ap (λ all. option_map (read_ending members)
+        (first_some (map (fault_at ports) (flat_map outlets_of (enumerate_from 0 (zip all states)))))) plain.members_are
     ∙ members_told members (flat_map shape_of members) ports tidy 0 members states (from_zero members) plain.wired fit)

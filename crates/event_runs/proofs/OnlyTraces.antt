@@ -14,7 +14,8 @@ use Rattle.event_runs.specs.Turns.{pace_of}
 use Rattle.event_runs.proofs.RunLaws.{one_event_assignment}
 use Rattle.event_runs.proofs.TraceLaws.{read_next, fits, stand_read, successor_read, first_is, trace_read}
 
-module _ (members : List EventMember) (run : Composition) (order : List ℕ) (plain : IsPlainRun members run) (are : AreMembers run) (ordered : IsPlaceOrder run order) where
+module _ (members : List EventMember) (run : Composition) (order : List ℕ) (plain : IsPlainRun members run) (are : AreMembers run)
+    (ordered : IsPlaceOrder run order) where
   abbrev source : EventRun
   source = record { members = members; pace = pace_of run }
 
@@ -25,7 +26,8 @@ module _ (members : List EventMember) (run : Composition) (order : List ℕ) (pl
   ends_is is = cc
 
   -- Two stands of one position are one.
-  same_stand : (here : Stand) (other : EventStand) → HasWords run here.at → IsStand run here → IsEventAssignment members other.at.states other.signals → other.at ≡ here.at → other ≡ read_stand members here
+  same_stand : (here : Stand) (other : EventStand) → HasWords run here.at → IsStand run here → IsEventAssignment members other.at.states other.signals
+      → other.at ≡ here.at → other ≡ read_stand members here
   same_stand here other words is assigned same =
       let only = one_event_assignment members run here.at.states plain (fits members run order plain are ordered here.at words) order ordered in
       let signals : other.signals ≡ (read_stand members here).signals =
@@ -33,11 +35,13 @@ module _ (members : List EventMember) (run : Composition) (order : List ℕ) (pl
       ∙ sym (only.is_only (read_stand members here).signals (stand_read members run order plain are ordered here words is)) in
       ap (λ (at : Position). record { at = at; signals = other.signals }) same ∙ ap (λ s. record { at = here.at; signals = s }) signals
 
-  same_rest : (here : Stand) (xs : List Stand) (ys : List EventStand) (e f : Ending) → HasWords run here.at → IsStand run here → Follows run here xs e → EventFollows source (read_stand members here) ys f → (ys ≡ map (read_stand members) xs) × (f ≡ read_ending members e)
+  same_rest : (here : Stand) (xs : List Stand) (ys : List EventStand) (e f : Ending) → HasWords run here.at → IsStand run here → Follows run here xs e
+      → EventFollows source (read_stand members here) ys f → (ys ≡ map (read_stand members) xs) × (f ≡ read_ending members e)
   same_rest here [] [] e f words is p q =
       (refl, ends_is (sym q ∙ successor_read members run order plain are ordered here words is ∙ ap (read_next members) p))
   same_rest here [] (y ∷ ys) e f words is p q =
-      let both : goes y.at ≡ ends (read_ending members e) = sym q.0 ∙ successor_read members run order plain are ordered here words is ∙ ap (read_next members) p in absurd (cc)
+      let both : goes y.at ≡ ends (read_ending members e) = sym q.0 ∙ successor_read members run order plain are ordered here words is
+          ∙ ap (read_next members) p in absurd (cc)
   same_rest here (x ∷ xs) [] e f words is p q =
       let both : ends f ≡ goes x.at = sym q ∙ successor_read members run order plain are ordered here words is ∙ ap (read_next members) p.0.0 in absurd (cc)
   same_rest here (x ∷ xs) (y ∷ ys) e f words is p q =
@@ -47,7 +51,8 @@ module _ (members : List EventMember) (run : Composition) (order : List ℕ) (pl
       let rest = same_rest x xs ys e f kept p.0.1 p.1 (subst (λ (z : EventStand). EventFollows source z ys f) same q.2) in
       (ap (λ z. z ∷ ys) same ∙ ap (λ zs. read_stand members x ∷ zs) rest.0, rest.1)
 
-  same_trace : (xs : List Stand) (ys : List EventStand) (e f : Ending) → IsTrace run xs e → IsEventTrace source ys f → (ys ≡ map (read_stand members) xs) × (f ≡ read_ending members e)
+  same_trace : (xs : List Stand) (ys : List EventStand) (e f : Ending) → IsTrace run xs e → IsEventTrace source ys f
+      → (ys ≡ map (read_stand members) xs) × (f ≡ read_ending members e)
   same_trace [] ys e f p q = absurd p
   same_trace (x ∷ xs) [] e f p q = absurd q
   same_trace (x ∷ xs) (y ∷ ys) e f p q =

@@ -235,7 +235,8 @@ module _ (system : System) (unit : Unit) (declared : Declares (Passes system) un
   is_said =
       let tail =
       max_speaks declared.before_tail unit.max (flat_map (headed_unit_part unit) (optional parts.Step unit.step))
-      (subst (Tail declared.before_tail) (flat_map-append (headed_unit_part unit) (optional parts.Max unit.max) (optional parts.Step unit.step)) declared.tail) in
+      (subst (Tail declared.before_tail)
+          (flat_map-append (headed_unit_part unit) (optional parts.Max unit.max) (optional parts.Step unit.step)) declared.tail) in
       record {
         variables =
             each_append (λ v. IsWord v.name) _ _

@@ -1,6 +1,7 @@
 -- Variables with their words, of a source and of its plain form at once: each stands in both, but for those that tell of
 -- events, which stand in the plain form alone.
-use Rattle.std.proofs.Common.{◌≡◌, ℕ, zero, suc, ◌+◌, Bool, true, false, ℤ, List, [], ◌∷◌, take, drop, if◌then◌else◌, Result, Ok, Err, refl, sym, ap, ◌∙◌, subst}
+use Rattle.std.proofs.Common.{◌≡◌, ℕ, zero, suc, ◌+◌, Bool, true, false, ℤ, List, [], ◌∷◌, take, drop, if◌then◌else◌, Result, Ok, Err, refl, sym, ap, ◌∙◌}
+use Rattle.std.proofs.Common.{subst}
 use Rattle.std.proofs.lemmas.List.{drop-take}
 use Rattle.std.specs.Prelude.{cond, ⊤}
 use Rattle.std.specs.Str.{bytes_eq}
@@ -102,27 +103,38 @@ pub plain_told : (event : List ℕ) (old : ℤ) (slots : Slots) → longer old (
 plain_told event old (Ok after) = refl
 plain_told event old (Err fault) = refl
 
-pub source_by : (named fits : Bool) (one : Variable) (old word : ℤ) (slots : List Slot) (name : List ℕ) → stored (source_variables slots) (source_words slots) name word ≡ in_source (put slots name word) → cond named (cond fits (Ok (word ∷ source_words slots)) (Err Range)) (longer old (stored (source_variables slots) (source_words slots) name word)) ≡ in_source (cond named (cond fits (Ok (Same one word ∷ slots)) (Err Range)) (behind (Same one old) (put slots name word)))
+pub source_by : (named fits : Bool) (one : Variable) (old word : ℤ) (slots : List Slot) (name : List ℕ)
+    → stored (source_variables slots) (source_words slots) name word ≡ in_source (put slots name word)
+    → cond named (cond fits (Ok (word ∷ source_words slots)) (Err Range)) (longer old (stored (source_variables slots) (source_words slots) name word))
+    ≡ in_source (cond named (cond fits (Ok (Same one word ∷ slots)) (Err Range)) (behind (Same one old) (put slots name word)))
 source_by true true one old word slots name later = refl
 source_by true false one old word slots name later = refl
 source_by false fits one old word slots name later = ap (longer old) later ∙ source_behind one old (put slots name word)
 
-pub stored_source : (slots : List Slot) (name : List ℕ) (word : ℤ) → stored (source_variables slots) (source_words slots) name word ≡ in_source (put slots name word)
+pub stored_source : (slots : List Slot) (name : List ℕ) (word : ℤ)
+    → stored (source_variables slots) (source_words slots) name word ≡ in_source (put slots name word)
 stored_source [] name word = refl
-stored_source (Same one old ∷ slots) name word = source_by (bytes_eq one.name name) (is_word_of one.ty word) one old word slots name (stored_source slots name word)
+stored_source (Same one old ∷ slots) name word =
+    source_by (bytes_eq one.name name) (is_word_of one.ty word) one old word slots name (stored_source slots name word)
 stored_source (Tells event old ∷ slots) name word = stored_source slots name word ∙ source_told event old (put slots name word)
 
-pub plain_by : (named fits : Bool) (one : Variable) (old word : ℤ) (slots : List Slot) (name : List ℕ) → stored (plain_variables slots) (words_beside slots) name word ≡ in_plain (put slots name word) → cond named (cond fits (Ok (word ∷ words_beside slots)) (Err Range)) (longer old (stored (plain_variables slots) (words_beside slots) name word)) ≡ in_plain (cond named (cond fits (Ok (Same one word ∷ slots)) (Err Range)) (behind (Same one old) (put slots name word)))
+pub plain_by : (named fits : Bool) (one : Variable) (old word : ℤ) (slots : List Slot) (name : List ℕ)
+    → stored (plain_variables slots) (words_beside slots) name word ≡ in_plain (put slots name word)
+    → cond named (cond fits (Ok (word ∷ words_beside slots)) (Err Range)) (longer old (stored (plain_variables slots) (words_beside slots) name word))
+    ≡ in_plain (cond named (cond fits (Ok (Same one word ∷ slots)) (Err Range)) (behind (Same one old) (put slots name word)))
 plain_by true true one old word slots name later = refl
 plain_by true false one old word slots name later = refl
 plain_by false fits one old word slots name later = ap (longer old) later ∙ plain_behind one old (put slots name word)
 
-pub stored_plain : (slots : List Slot) (name : List ℕ) (word : ℤ) → IsPlain name → stored (plain_variables slots) (words_beside slots) name word ≡ in_plain (put slots name word)
+pub stored_plain : (slots : List Slot) (name : List ℕ) (word : ℤ) → IsPlain name
+    → stored (plain_variables slots) (words_beside slots) name word ≡ in_plain (put slots name word)
 stored_plain [] name word plain = refl
-stored_plain (Same one old ∷ slots) name word plain = plain_by (bytes_eq one.name name) (is_word_of one.ty word) one old word slots name (stored_plain slots name word plain)
+stored_plain (Same one old ∷ slots) name word plain =
+    plain_by (bytes_eq one.name name) (is_word_of one.ty word) one old word slots name (stored_plain slots name word plain)
 stored_plain (Tells event old ∷ slots) name word plain =
     let other : bytes_eq (presence_name event) name ≡ false = other_bytes (presence_name event) name (λ is. plain event (sym is)) in
-    ap (λ told. cond told (cond (is_word_of types.Bool word) (Ok (word ∷ words_beside slots)) (Err Range)) (longer old (stored (plain_variables slots) (words_beside slots) name word))) other
+    ap (λ told. cond told (cond (is_word_of types.Bool word) (Ok (word ∷ words_beside slots)) (Err Range))
+        (longer old (stored (plain_variables slots) (words_beside slots) name word))) other
     ∙ ap (longer old) (stored_plain slots name word plain)
     ∙ plain_told event old (put slots name word)
 
@@ -161,7 +173,8 @@ pub stays_told : (name : List ℕ) (old : ℤ) (slots after : List Slot) → Sta
 stays_told name old slots after stays = record {
   source = stays.source;
   plain = ap (λ variables. variable (presence_name name) types.Bool ∷ variables) stays.plain;
-  tells = λ event. ap (λ later. if bytes_eq (presence_name name) (presence_name event) then record { kind = kind_of types.Bool; word = old } else later) (stays.tells event);
+  tells = λ event. ap (λ later. if bytes_eq (presence_name name) (presence_name event) then record { kind = kind_of types.Bool; word = old } else later)
+      (stays.tells event);
   fronts = fronts_by;
 }
   where
@@ -169,11 +182,13 @@ stays_told name old slots after stays = record {
     fronts_by zero fronts = tt
     fronts_by (suc count) fronts = absurd fronts
 
-pub stays_behind : (one : Variable) (old : ℤ) (slots : List Slot) (changed : Slots) → OkStays slots changed → OkStays (Same one old ∷ slots) (behind (Same one old) changed)
+pub stays_behind : (one : Variable) (old : ℤ) (slots : List Slot) (changed : Slots) → OkStays slots changed
+    → OkStays (Same one old ∷ slots) (behind (Same one old) changed)
 stays_behind one old slots (Ok after) stays = stays_same one old slots after stays
 stays_behind one old slots (Err fault) stays = tt
 
-pub stays_behind_told : (name : List ℕ) (old : ℤ) (slots : List Slot) (changed : Slots) → OkStays slots changed → OkStays (Tells name old ∷ slots) (behind (Tells name old) changed)
+pub stays_behind_told : (name : List ℕ) (old : ℤ) (slots : List Slot) (changed : Slots) → OkStays slots changed
+    → OkStays (Tells name old ∷ slots) (behind (Tells name old) changed)
 stays_behind_told name old slots (Ok after) stays = stays_told name old slots after stays
 stays_behind_told name old slots (Err fault) stays = tt
 
@@ -181,7 +196,10 @@ pub stays_put : (one : Variable) (old word : ℤ) (slots : List Slot) → IsPlai
 stays_put one old word slots plain = record {
   source = refl;
   plain = refl;
-  tells = λ event. ap (λ told. if told then record { kind = kind_of one.ty; word = word } else plain_value slots (presence_name event)) (other_bytes one.name (presence_name event) (λ is. plain event is)) ∙ sym (ap (λ told. if told then record { kind = kind_of one.ty; word = old } else plain_value slots (presence_name event)) (other_bytes one.name (presence_name event) (λ is. plain event is)));
+  tells = λ event. ap (λ told. if told then record { kind = kind_of one.ty; word = word } else plain_value slots (presence_name event))
+      (other_bytes one.name (presence_name event) (λ is. plain event is))
+      ∙ sym (ap (λ told. if told then record { kind = kind_of one.ty; word = old } else plain_value slots (presence_name event))
+      (other_bytes one.name (presence_name event) (λ is. plain event is)));
   fronts = fronts_by;
 }
   where
@@ -189,14 +207,17 @@ stays_put one old word slots plain = record {
     fronts_by zero fronts = tt
     fronts_by (suc count) fronts = fronts
 
-pub put_by : (named fits : Bool) (one : Variable) (old word : ℤ) (slots : List Slot) (name : List ℕ) → IsPlain name → bytes_eq one.name name ≡ named → OkStays slots (put slots name word) → OkStays (Same one old ∷ slots) (cond named (cond fits (Ok (Same one word ∷ slots)) (Err Range)) (behind (Same one old) (put slots name word)))
+pub put_by : (named fits : Bool) (one : Variable) (old word : ℤ) (slots : List Slot) (name : List ℕ) → IsPlain name → bytes_eq one.name name ≡ named
+    → OkStays slots (put slots name word)
+    → OkStays (Same one old ∷ slots) (cond named (cond fits (Ok (Same one word ∷ slots)) (Err Range)) (behind (Same one old) (put slots name word)))
 put_by true true one old word slots name plain is later = stays_put one old word slots (subst IsPlain (sym (same_bytes one.name name is)) plain)
 put_by true false one old word slots name plain is later = tt
 put_by false fits one old word slots name plain is later = stays_behind one old slots (put slots name word) later
 
 pub put_stays : (slots : List Slot) (name : List ℕ) (word : ℤ) → IsPlain name → OkStays slots (put slots name word)
 put_stays [] name word plain = record { source = refl; plain = refl; tells = λ event. refl; fronts = λ count fronts. fronts }
-put_stays (Same one old ∷ slots) name word plain = put_by (bytes_eq one.name name) (is_word_of one.ty word) one old word slots name plain refl (put_stays slots name word plain)
+put_stays (Same one old ∷ slots) name word plain =
+    put_by (bytes_eq one.name name) (is_word_of one.ty word) one old word slots name plain refl (put_stays slots name word plain)
 put_stays (Tells event old ∷ slots) name word plain = stays_behind_told event old slots (put slots name word) (put_stays slots name word plain)
 
 -- Words in front are the same in both.
@@ -206,7 +227,8 @@ same_take (suc count) [] fronts = refl
 same_take (suc count) (Same one word ∷ slots) fronts = ap (λ words. word ∷ words) (same_take count slots fronts)
 same_take (suc count) (Tells name word ∷ slots) fronts = absurd fronts
 
-pub same_front : (first count : ℕ) (slots : List Slot) → Fronts (first + count) slots → take count (drop first (words_beside slots)) ≡ take count (drop first (source_words slots))
+pub same_front : (first count : ℕ) (slots : List Slot) → Fronts (first + count) slots
+    → take count (drop first (words_beside slots)) ≡ take count (drop first (source_words slots))
 same_front first count slots fronts =
     sym (drop-take first count (words_beside slots))
     ∙ ap (drop first) (same_take (first + count) slots fronts)

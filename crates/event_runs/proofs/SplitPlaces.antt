@@ -1,5 +1,6 @@
 -- Places and connections of a plain form, by those of its system.
-use Rattle.std.proofs.Common.{◌≡◌, ℕ, suc, ◌+◌, Bool, true, false, cond, List, [], ◌∷◌, ◌++◌, map, Option, Some, None, inl, inr, refl, ap, sym, subst, ◌∙◌, ◌⊎◌, arith}
+use Rattle.std.proofs.Common.{◌≡◌, ℕ, suc, ◌+◌, Bool, true, false, cond, List, [], ◌∷◌, ◌++◌, map, Option, Some, None, inl, inr, refl, ap, sym, subst, ◌∙◌}
+use Rattle.std.proofs.Common.{◌⊎◌, arith}
 use Rattle.std.specs.Prelude.{not, ◌&&◌, slice_get}
 use Rattle.std.specs.List.{AllByRecursion, flat_map, filter_map, cons_option, position_or_len}
 use Rattle.std.specs.Option.{option_map}
@@ -154,7 +155,8 @@ module _ (system : System) (ranged : IsRanged system) (kept : IsWellFormed syste
   split_outputs = outputs_split system ranged kept
 
   output_names : AllByRecursion (λ (p : PortName). IsPlain p.port) (outputs_of system)
-  output_names = all_has (λ (p : PortName). IsPlain p.port) (outputs_of system) (λ port has. plain_name system ranged kept port (has_in (outputs_of system) port has))
+  output_names = all_has (λ (p : PortName). IsPlain p.port) (outputs_of system)
+      (λ port has. plain_name system ranged kept port (has_in (outputs_of system) port has))
 
   pub place_of_plain : (port : PortName) → IsIn (outputs_of system) port → event port ≡ false
       → place_of plain port ≡ plain_place shape (place_of system port)
@@ -225,7 +227,8 @@ module _ (system : System) (ranged : IsRanged system) (kept : IsWellFormed syste
       → filter_map (source_if (presence_port port)) (flat_map (plain_wires system) wires) ≡ map presence_port (filter_map (source_if port) wires)
   tells_among port [] names each = refl
   tells_among port (wire ∷ wires) names each =
-      tells_by (event wire.from) (same_port wire.to port) port wire (flat_map (plain_wires system) wires) (names wire (inl refl)) refl refl (each wire (inl refl))
+      tells_by (event wire.from) (same_port wire.to port) port wire (flat_map (plain_wires system) wires) (names wire (inl refl)) refl refl
+          (each wire (inl refl))
       ∙ ap (cons_option (option_map presence_port (source_if port wire)))
       (tells_among port wires (λ other has. names other (inr has)) (λ other has. each other (inr has)))
       ∙ mapped_on (source_if port wire) (filter_map (source_if port) wires)

@@ -1,5 +1,6 @@
 -- The members of a system's plain form are those of the system, read.
-use Rattle.std.proofs.Common.{◌≡◌, ℕ, zero, suc, ◌-◌, ◌^◌, Bool, true, false, cond, pos, List, [], ◌∷◌, ◌++◌, map, length, Option, Some, None, inl, inr, refl, ap, sym, subst, ◌∙◌}
+use Rattle.std.proofs.Common.{◌≡◌, ℕ, zero, suc, ◌-◌, ◌^◌, Bool, true, false, cond, pos, List, [], ◌∷◌, ◌++◌, map, length, Option, Some, None, inl, inr, refl}
+use Rattle.std.proofs.Common.{ap, sym, subst, ◌∙◌}
 use Rattle.std.specs.Prelude.{◌||◌, ◌==◌, is_none, not, slice_get, unwrap_or}
 use Rattle.std.specs.Bool.{beq}
 use Rattle.std.specs.List.{AllByRecursion, flat_map, filter_map, cons_option}
@@ -37,12 +38,14 @@ use Rattle.run_laws.proofs.PlainKept.{alike_by}
 use Rattle.run_laws.proofs.PlainOrders.{declared, input_is, is_event_is, named_has, plain_named, plain_of, wired}
 use Rattle.list_laws.proofs.Members.{Has, has_behind, has_front, has_map}
 use Rattle.list_laws.proofs.Truths.{not_false, or_false}
-use Rattle.event_runs.specs.EventPorts.{EventMember, Plain, Event, outs_of, is_event, shape_of, plain_place, plain_source, plain_feed, plain_member, SourceFits, FeedFits, IsWired}
+use Rattle.event_runs.specs.EventPorts.{EventMember, Plain, Event, outs_of, is_event, shape_of, plain_place, plain_source, plain_feed, plain_member}
+use Rattle.event_runs.specs.EventPorts.{SourceFits, FeedFits, IsWired}
 use Rattle.event_runs.specs.EventPorts.{IsPlainRun}
 use Rattle.event_runs.specs.EventRuns.{feed_from, feed_of, with_feeds, event_members_of}
 use Rattle.event_runs.proofs.PortLaws.{zero_start}
 use Rattle.event_runs.proofs.SaidUnits.{is_said, needs_are_words, input_word, event_word, output_line}
-use Rattle.event_runs.proofs.SplitPlaces.{event, shape, place_of_plain, place_of_event, place_of_presence, shape_at_place, sources_of_plain, sources_of_presence}
+use Rattle.event_runs.proofs.SplitPlaces.{event, shape, place_of_plain, place_of_event, place_of_presence, shape_at_place, sources_of_plain}
+use Rattle.event_runs.proofs.SplitPlaces.{sources_of_presence}
 
 -- ---- Lists
 
@@ -395,3 +398,13 @@ module _ (system : System) (ranged : IsRanged system) (kept : IsWellFormed syste
 
   pub members_plain : IsPlainRun (event_members_of system) (run_of system)
   members_plain = subst (IsPlainRun (event_members_of system)) run_is plain_run
+
+  -- Places are the same in the plain form of either version.
+  pub place_kept : (port : PortName) → place_of plain port ≡ place_of (plain_form system) port
+  place_kept port = elim (one_or_two system.version ranged.version.0 ranged.version.1) [
+    | inl first ↦
+        ap (λ units. place_of (record system { units = units; wires = flat_map (plain_wires system) system.wires; samples = samples_or_all system }) port)
+        (units_stay first)
+        ∙ sym (ap (λ s. place_of s port) (plain_form_1 system first))
+    | inr second ↦ sym (ap (λ version. place_of (cond (version == 2) (plain_of system) system) port) second)
+  ]

@@ -3,7 +3,8 @@ use Rattle.std.proofs.Common.{◌≡◌, ℕ, List, [], ◌∷◌, map, length, 
 use Rattle.std.specs.List.{filter_map, flat_map, cons_option}
 use Rattle.std.specs.Option.{option_map, unwrap_or}
 use Rattle.fixed_words.specs.declared.types.Literal.{Literal}
-use Rattle.unit_tree.specs.Compositions.{Composition, Member, factor_of, member_with, members_of, composition_of, run_of, ticks_or, default_zeros, default_rows, AreMembers}
+use Rattle.unit_tree.specs.Compositions.{Composition, Member, factor_of, member_with, members_of, composition_of, run_of, ticks_or, default_zeros}
+use Rattle.unit_tree.specs.Compositions.{default_rows, AreMembers}
 use Rattle.unit_tree.specs.Names.{unit_of_instance}
 use Rattle.unit_tree.specs.Orders.{HasNoCycle}
 use Rattle.unit_tree.specs.Plain.{plain_form}
@@ -40,11 +41,13 @@ paced factors resolution stop longest zeros rows version instances = record {
   factors = factors;
 }
 
-pace_alike : (system plain : System) → Alike system plain → map (λ (one : Member). one.factor) (members_of plain) ≡ map (λ (one : Member). one.factor) (members_of system)
+pace_alike : (system plain : System) → Alike system plain
+    → map (λ (one : Member). one.factor) (members_of plain) ≡ map (λ (one : Member). one.factor) (members_of system)
     → pace_of (composition_of plain) ≡ pace_of (composition_of system)
 pace_alike system plain both factors =
     ap (λ f. paced f (resolution_of plain) plain.stop plain.longest plain.zero plain.rows plain.version (length plain.instances)) factors
-    ∙ ap (λ r. paced (map (λ (one : Member). one.factor) (members_of system)) r plain.stop plain.longest plain.zero plain.rows plain.version (length plain.instances))
+    ∙ ap (λ r. paced (map (λ (one : Member). one.factor) (members_of system)) r plain.stop plain.longest plain.zero plain.rows plain.version
+        (length plain.instances))
     both.resolution
     ∙ ap (λ s. paced (map (λ (one : Member). one.factor) (members_of system)) (resolution_of system) s plain.longest plain.zero plain.rows plain.version
     (length plain.instances)) both.stop

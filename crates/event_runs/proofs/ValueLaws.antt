@@ -14,12 +14,16 @@ use Rattle.unit_tree.specs.declared.expr.Expr as expr
 use Rattle.unit_tree.specs.declared.expr.Expr.{Expr, fold-Expr}
 use Rattle.unit_tree.specs.declared.expr.Expr.TheFolds.{ind-Expr, map-Expr}
 use Rattle.unit_tree.specs.declared.expr.Expr.TheOpen.{Expr-F}
-use Rattle.unit_tree.specs.declared.expr.Expr.TheVariants.{rolls-Number, rolls-Truth, rolls-Var, rolls-Time, rolls-Step, rolls-Unary, rolls-Binary, rolls-Clamp, rolls-Choose, rolls-Absent, rolls-Present}
+use Rattle.unit_tree.specs.declared.expr.Expr.TheVariants.{rolls-Number, rolls-Truth, rolls-Var, rolls-Time, rolls-Step, rolls-Unary, rolls-Binary}
+use Rattle.unit_tree.specs.declared.expr.Expr.TheVariants.{rolls-Clamp, rolls-Choose, rolls-Absent, rolls-Present}
 use Rattle.unit_tree.specs.declared.expr.Expr.TheViews.{roll-Expr}
 use Rattle.unit_tree.specs.declared.expr.UnOp.{UnOp}
-use Rattle.unit_tree.proofs.FoldLemmas.{fold-Number, fold-Truth, fold-Var, fold-Time, fold-Step, fold-Unary, fold-Binary, fold-Clamp, fold-Choose, fold-Absent, fold-Present}
-use Rattle.language_laws.proofs.MeaningLemmas.{value-Number, value-Truth, value-Var, value-Time, value-Step, value-Unary, value-Binary, value-Clamp, value-Choose}
-use Rattle.language_laws.proofs.PlainLemmas.{plain-Number, plain-Truth, plain-Var, plain-Time, plain-Step, plain-Unary, plain-Binary, plain-Clamp, plain-Choose, plain-Absent, plain-Present}
+use Rattle.unit_tree.proofs.FoldLemmas.{fold-Number, fold-Truth, fold-Var, fold-Time, fold-Step, fold-Unary, fold-Binary, fold-Clamp, fold-Choose, fold-Absent}
+use Rattle.unit_tree.proofs.FoldLemmas.{fold-Present}
+use Rattle.language_laws.proofs.MeaningLemmas.{value-Number, value-Truth, value-Var, value-Time, value-Step, value-Unary, value-Binary, value-Clamp}
+use Rattle.language_laws.proofs.MeaningLemmas.{value-Choose}
+use Rattle.language_laws.proofs.PlainLemmas.{plain-Number, plain-Truth, plain-Var, plain-Time, plain-Step, plain-Unary, plain-Binary, plain-Clamp}
+use Rattle.language_laws.proofs.PlainLemmas.{plain-Choose, plain-Absent, plain-Present}
 use Rattle.event_runs.specs.Events.{Occurring, node_in, value_in}
 use Rattle.event_runs.specs.Laws.{Speaks, Shows}
 
@@ -29,7 +33,8 @@ pub halves : {A : Type 0} (P : A → Type 0) (one other : List A) → AllByRecur
 halves P [] other all = (tt, all)
 halves P (first ∷ one) other all = let rest = halves P one other all.1 in ((all.0, rest.0), rest.1)
 
-pub all_halves : {A : Type 0} (test : A → Bool) (one other : List A) → list_all test (one ++ other) ≡ true → (list_all test one ≡ true) × (list_all test other ≡ true)
+pub all_halves : {A : Type 0} (test : A → Bool) (one other : List A) → list_all test (one ++ other) ≡ true
+    → (list_all test one ≡ true) × (list_all test other ≡ true)
 all_halves test [] other all = (refl, all)
 all_halves test (first ∷ one) other all =
     let both = and_parts (test first) (list_all test (one ++ other)) all in
@@ -43,7 +48,8 @@ pub record Parts (events names asked names' asked' : List (List ℕ)) : Type 0 w
   pub names_other : AllByRecursion IsWord names'
   pub asked_other : are_among events asked' ≡ true
 
-pub parted : (events names asked names' asked' : List (List ℕ)) → AllByRecursion IsWord (names ++ names') → are_among events (asked ++ asked') ≡ true → Parts events names asked names' asked'
+pub parted : (events names asked names' asked' : List (List ℕ)) → AllByRecursion IsWord (names ++ names') → are_among events (asked ++ asked') ≡ true
+    → Parts events names asked names' asked'
 parted events names asked names' asked' words among =
     let on_names = halves IsWord names names' words in
     let on_asked = all_halves (is_among events) asked asked' among in
@@ -66,11 +72,14 @@ module _ (events : List (List ℕ)) where
       (subst (λ names. are_among events names ≡ true) (fold-Binary (List (List ℕ)) node_events op left right) said.asked) in
       (record { names = parts.names_one; asked = parts.asked_one }, record { names = parts.names_other; asked = parts.asked_other })
 
-  pub said-three : (one two three : Expr) → AllByRecursion IsWord (names_in one ++ names_in two ++ names_in three) → are_among events (events_asked_in one ++ events_asked_in two ++ events_asked_in three) ≡ true → Said one × Said two × Said three
+  pub said-three : (one two three : Expr) → AllByRecursion IsWord (names_in one ++ names_in two ++ names_in three)
+      → are_among events (events_asked_in one ++ events_asked_in two ++ events_asked_in three) ≡ true → Said one × Said two × Said three
   said-three one two three words among =
-      let last = parted events (names_in one ++ names_in two) (events_asked_in one ++ events_asked_in two) (names_in three) (events_asked_in three) words among in
+      let last = parted events (names_in one ++ names_in two) (events_asked_in one ++ events_asked_in two) (names_in three)
+          (events_asked_in three) words among in
       let first = parted events (names_in one) (events_asked_in one) (names_in two) (events_asked_in two) last.names_one last.asked_one in
-      (record { names = first.names_one; asked = first.asked_one }, record { names = first.names_other; asked = first.asked_other }, record { names = last.names_other; asked = last.asked_other })
+      (record { names = first.names_one; asked = first.asked_one }, record { names = first.names_other; asked = first.asked_other }, record { names =
+          last.names_other; asked = last.asked_other })
 
   pub said-Clamp : (value low high : Expr) → Said (expr.Clamp value low high) → Said value × Said low × Said high
   said-Clamp value low high said =
@@ -89,7 +98,8 @@ module _ (events : List (List ℕ)) where
 
   pub said-Present : (name : List ℕ) → Said (expr.Present name) → is_among events name ≡ true
   said-Present name said =
-      let only : are_among events (name ∷ []) ≡ true = subst (λ names. are_among events names ≡ true) (fold-Present (List (List ℕ)) node_events name) said.asked in
+      let only : are_among events (name ∷ []) ≡ true =
+          subst (λ names. are_among events names ≡ true) (fold-Present (List (List ℕ)) node_events name) said.asked in
       (and_parts (is_among events name) true only).0
 
 -- ---- Values of single nodes
@@ -116,13 +126,18 @@ module _ (occurring : Occurring) (env : Environment) where
   pub in-Unary : (op : UnOp) (arg : Expr) → value_in occurring (expr.Unary op arg) env ≡ node_meaning (Expr-F.Unary op (value_in occurring arg)) env
   in-Unary op arg = ap of_meaning (fold-Unary Meaning (node_in occurring) op arg)
 
-  pub in-Binary : (op : BinOp) (left right : Expr) → value_in occurring (expr.Binary op left right) env ≡ node_meaning (Expr-F.Binary op (value_in occurring left) (value_in occurring right)) env
+  pub in-Binary : (op : BinOp) (left right : Expr)
+      → value_in occurring (expr.Binary op left right) env ≡ node_meaning (Expr-F.Binary op (value_in occurring left) (value_in occurring right)) env
   in-Binary op left right = ap of_meaning (fold-Binary Meaning (node_in occurring) op left right)
 
-  pub in-Clamp : (value low high : Expr) → value_in occurring (expr.Clamp value low high) env ≡ node_meaning (Expr-F.Clamp (value_in occurring value) (value_in occurring low) (value_in occurring high)) env
+  pub in-Clamp : (value low high : Expr)
+      → value_in occurring (expr.Clamp value low high) env
+      ≡ node_meaning (Expr-F.Clamp (value_in occurring value) (value_in occurring low) (value_in occurring high)) env
   in-Clamp value low high = ap of_meaning (fold-Clamp Meaning (node_in occurring) value low high)
 
-  pub in-Choose : (condition then_part else_part : Expr) → value_in occurring (expr.Choose condition then_part else_part) env ≡ node_meaning (Expr-F.Choose (value_in occurring condition) (value_in occurring then_part) (value_in occurring else_part)) env
+  pub in-Choose : (condition then_part else_part : Expr)
+      → value_in occurring (expr.Choose condition then_part else_part) env
+      ≡ node_meaning (Expr-F.Choose (value_in occurring condition) (value_in occurring then_part) (value_in occurring else_part)) env
   in-Choose condition then_part else_part = ap of_meaning (fold-Choose Meaning (node_in occurring) condition then_part else_part)
 
   pub in-Absent : value_in occurring expr.Absent env ≡ node_meaning Expr-F.Absent env
@@ -136,22 +151,26 @@ module _ (occurring : Occurring) (env : Environment) where
 abbrev pub Given : Type 0
 Given = Result Value Fault
 
-pub same-two : (op : BinOp) (left left' right right' : Given) → left ≡ left' → right ≡ right' → (left >>= λ x. (right >>= λ y. binary_value op x y)) ≡ (left' >>= λ x. (right' >>= λ y. binary_value op x y))
+pub same-two : (op : BinOp) (left left' right right' : Given) → left ≡ left' → right ≡ right'
+    → (left >>= λ x. (right >>= λ y. binary_value op x y)) ≡ (left' >>= λ x. (right' >>= λ y. binary_value op x y))
 same-two op left left' right right' on_left on_right =
     ap (λ (one : Given). one >>= λ x. (right >>= λ y. binary_value op x y)) on_left
     ∙ ap (λ (other : Given). left' >>= λ x. (other >>= λ y. binary_value op x y)) on_right
 
-pub same-three : (value value' low low' high high' : Given) → value ≡ value' → low ≡ low' → high ≡ high' → clamped_value value low high ≡ clamped_value value' low' high'
+pub same-three : (value value' low low' high high' : Given) → value ≡ value' → low ≡ low' → high ≡ high'
+    → clamped_value value low high ≡ clamped_value value' low' high'
 same-three value value' low low' high high' on_value on_low on_high =
     ap (λ v. clamped_value v low high) on_value ∙ ap (λ l. clamped_value value' l high) on_low ∙ ap (λ h. clamped_value value' low' h) on_high
 
-pub same-choice : {A : Type 0} (condition condition' : Given) (one one' other other' : A) → condition ≡ condition' → one ≡ one' → other ≡ other' → (next : A → Result A Fault) → (condition >>= λ c. next (if holds c then one else other)) ≡ (condition' >>= λ c. next (if holds c then one' else other'))
+pub same-choice : {A : Type 0} (condition condition' : Given) (one one' other other' : A) → condition ≡ condition' → one ≡ one' → other ≡ other'
+    → (next : A → Result A Fault) → (condition >>= λ c. next (if holds c then one else other)) ≡ (condition' >>= λ c. next (if holds c then one' else other'))
 same-choice condition condition' one one' other other' on_condition on_one on_other next =
     ap (λ (given : Given). given >>= λ c. next (if holds c then one else other)) on_condition
     ∙ ap (λ x. condition' >>= λ c. next (if holds c then x else other)) on_one
     ∙ ap (λ x. condition' >>= λ c. next (if holds c then one' else x)) on_other
 
-pub same-choose : {A : Type 0} (condition condition' : Given) (one one' other other' : Result A Fault) → condition ≡ condition' → one ≡ one' → other ≡ other' → (condition >>= λ c. (if holds c then one else other)) ≡ (condition' >>= λ c. (if holds c then one' else other'))
+pub same-choose : {A : Type 0} (condition condition' : Given) (one one' other other' : Result A Fault) → condition ≡ condition' → one ≡ one' → other ≡ other'
+    → (condition >>= λ c. (if holds c then one else other)) ≡ (condition' >>= λ c. (if holds c then one' else other'))
 same-choose condition condition' one one' other other' on_condition on_one on_other =
     ap (λ (given : Given). given >>= λ c. (if holds c then one else other)) on_condition
     ∙ ap (λ x. condition' >>= λ c. (if holds c then x else other)) on_one
@@ -176,21 +195,26 @@ module _ (occurring : Occurring) (events : List (List ℕ)) (env plain : Environ
   same-Binary op left right on_left on_right said =
       let parts = said-Binary events op left right said in
       ap seen_plain (plain-Binary op left right) ∙ value-Binary op (plain_expression left) (plain_expression right) plain
-      ∙ same-two op (value_of (plain_expression left) plain) (value_in occurring left env) (value_of (plain_expression right) plain) (value_in occurring right env) (on_left parts.0) (on_right parts.1)
+      ∙ same-two op (value_of (plain_expression left) plain) (value_in occurring left env) (value_of (plain_expression right) plain)
+          (value_in occurring right env) (on_left parts.0) (on_right parts.1)
       ∙ sym (in-Binary occurring env op left right)
 
   pub same-Clamp : (value low high : Expr) → Same value → Same low → Same high → Same (expr.Clamp value low high)
   same-Clamp value low high on_value on_low on_high said =
       let parts = said-Clamp events value low high said in
       ap seen_plain (plain-Clamp value low high) ∙ value-Clamp (plain_expression value) (plain_expression low) (plain_expression high) plain
-      ∙ same-three (value_of (plain_expression value) plain) (value_in occurring value env) (value_of (plain_expression low) plain) (value_in occurring low env) (value_of (plain_expression high) plain) (value_in occurring high env) (on_value parts.0) (on_low parts.1) (on_high parts.2)
+      ∙ same-three (value_of (plain_expression value) plain) (value_in occurring value env) (value_of (plain_expression low) plain) (value_in occurring low env)
+          (value_of (plain_expression high) plain) (value_in occurring high env) (on_value parts.0) (on_low parts.1) (on_high parts.2)
       ∙ sym (in-Clamp occurring env value low high)
 
   pub same-Choose : (condition then_part else_part : Expr) → Same condition → Same then_part → Same else_part → Same (expr.Choose condition then_part else_part)
   same-Choose condition then_part else_part on_condition on_then on_else said =
       let parts = said-Choose events condition then_part else_part said in
-      ap seen_plain (plain-Choose condition then_part else_part) ∙ value-Choose (plain_expression condition) (plain_expression then_part) (plain_expression else_part) plain
-      ∙ same-choose (value_of (plain_expression condition) plain) (value_in occurring condition env) (value_of (plain_expression then_part) plain) (value_in occurring then_part env) (value_of (plain_expression else_part) plain) (value_in occurring else_part env) (on_condition parts.0) (on_then parts.1) (on_else parts.2)
+      ap seen_plain (plain-Choose condition then_part else_part)
+          ∙ value-Choose (plain_expression condition) (plain_expression then_part) (plain_expression else_part) plain
+      ∙ same-choose (value_of (plain_expression condition) plain) (value_in occurring condition env) (value_of (plain_expression then_part) plain)
+          (value_in occurring then_part env) (value_of (plain_expression else_part) plain) (value_in occurring else_part env) (on_condition parts.0)
+          (on_then parts.1) (on_else parts.2)
       ∙ sym (in-Choose occurring env condition then_part else_part)
 
   pub same-Var : (name : List ℕ) → Same (expr.Var name)

@@ -1,5 +1,6 @@
 -- Port assignment of a system as it is written: which signal each output has for given states, and which outputs have none.
-use Rattle.std.specs.Prelude.{◌≡◌, ℕ, zero, suc, Bool, true, false, ℤ, pos, List, [], ◌∷◌, ◌++◌, map, length, zip, if◌then◌else◌, slice_get, Option, Some, None, Result, Ok, ⊤, ◌⊎◌}
+use Rattle.std.specs.Prelude.{◌≡◌, ℕ, zero, suc, Bool, true, false, ℤ, pos, List, [], ◌∷◌, ◌++◌, map, length, zip, if◌then◌else◌, slice_get, Option, Some}
+use Rattle.std.specs.Prelude.{None, Result, Ok, ⊤, ◌⊎◌}
 use Rattle.std.specs.List.{AllByRecursion, AllZip, flat_map}
 use Rattle.std.specs.Option.{option_map, option_and_then}
 use Rattle.std.specs.Ordering.{int_eq}
@@ -74,7 +75,8 @@ seen_both _ _ = None
 
 abbrev pub seen_for : Signals → List (List ℕ) → EventMember → Option Seen
 seen_for signals needs one =
-    seen_both (all_there (map (word_needed signals needs) (zip one.member.component.unit.inputs one.member.sources))) (all_there (map (signal_needed signals needs) (zip one.member.component.unit.events_in one.feeds)))
+    seen_both (all_there (map (word_needed signals needs) (zip one.member.component.unit.inputs one.member.sources)))
+        (all_there (map (signal_needed signals needs) (zip one.member.component.unit.events_in one.feeds)))
 
 -- ---- The equations
 
@@ -192,7 +194,9 @@ StatesFit members states = AllZip (λ one state. length state ≡ length one.mem
 -- A port assignment of the plain form, read as signals, is one of the source.
 abbrev pub AssignmentsAreRead : Type 0
 AssignmentsAreRead =
-    (members : List EventMember) (run : Composition) (states : List (List ℤ)) (ports : Ports) → IsPlainRun members run → StatesFit members states → IsAssignment run states ports → AreTidy (flat_map shape_of members) ports × IsEventAssignment members states (read_ports (flat_map shape_of members) ports)
+    (members : List EventMember) (run : Composition) (states : List (List ℤ)) (ports : Ports) → IsPlainRun members run → StatesFit members states
+        → IsAssignment run states ports
+        → AreTidy (flat_map shape_of members) ports × IsEventAssignment members states (read_ports (flat_map shape_of members) ports)
 
 -- And each of the source's is one of those that are read.
 pub record IsReadOf (members : List EventMember) (run : Composition) (states : List (List ℤ)) (signals : Signals) : Type 0 where
@@ -202,7 +206,8 @@ pub record IsReadOf (members : List EventMember) (run : Composition) (states : L
 
 abbrev pub EventAssignmentsAreRead : Type 0
 EventAssignmentsAreRead =
-    (members : List EventMember) (run : Composition) (states : List (List ℤ)) (signals : Signals) → IsPlainRun members run → StatesFit members states → IsEventAssignment members states signals → IsReadOf members run states signals
+    (members : List EventMember) (run : Composition) (states : List (List ℤ)) (signals : Signals) → IsPlainRun members run → StatesFit members states
+        → IsEventAssignment members states signals → IsReadOf members run states signals
 
 -- So where the places of the plain form have an order, the source has exactly one port assignment.
 pub record HasOneEventAssignment (members : List EventMember) (states : List (List ℤ)) : Type 0 where
@@ -212,4 +217,5 @@ pub record HasOneEventAssignment (members : List EventMember) (states : List (Li
 
 abbrev pub EventAssignmentsAreUnique : Type 0
 EventAssignmentsAreUnique =
-    (members : List EventMember) (run : Composition) (order : List ℕ) (states : List (List ℤ)) → IsPlainRun members run → IsPlaceOrder run order → StatesFit members states → HasOneEventAssignment members states
+    (members : List EventMember) (run : Composition) (order : List ℕ) (states : List (List ℤ)) → IsPlainRun members run → IsPlaceOrder run order
+        → StatesFit members states → HasOneEventAssignment members states

@@ -1,5 +1,6 @@
 -- The trace of a system as it is written.
-use Rattle.std.specs.Prelude.{◌≡◌, ℕ, zero, suc, true, false, Bool, ℤ, pos, List, [], ◌∷◌, map, zip, slice_get, is_some, if◌then◌else◌, Option, Some, None, Result}
+use Rattle.std.specs.Prelude.{◌≡◌, ℕ, zero, suc, true, false, Bool, ℤ, pos, List, [], ◌∷◌, map, zip, slice_get, is_some, if◌then◌else◌, Option, Some, None}
+use Rattle.std.specs.Prelude.{Result}
 use Rattle.std.specs.List.{enumerate_from, filter_map, flat_map, list_all}
 use Rattle.std.specs.Option.{option_map, option_and_then, unwrap_or}
 use Rattle.std.specs.Ordering.{int_eq}
@@ -16,7 +17,8 @@ use Rattle.unit_tree.specs.Trace.{Stand, IsTrace, Row, rows_of}
 use Rattle.unit_tree.specs.declared.ending.Ending.{Ending}
 use Rattle.unit_tree.specs.declared.ending.Ending.TheVariants.{UnitFault}
 use Rattle.unit_tree.specs.declared.ending.Place.TheVariants as place
-use Rattle.event_runs.specs.EventPorts.{Signals, EventMember, Out, outs_of, needs_in, get_out, word_from, signal_from, seen_for, EventStanding, IsEventAssignment, shape_of, read_ports, AreTidy, IsPlainRun, StatesFit}
+use Rattle.event_runs.specs.EventPorts.{Signals, EventMember, Out, outs_of, needs_in, get_out, word_from, signal_from, seen_for, EventStanding}
+use Rattle.event_runs.specs.EventPorts.{IsEventAssignment, shape_of, read_ports, AreTidy, IsPlainRun, StatesFit}
 use Rattle.event_runs.specs.Events.{Signal, Occurs, Absent, Seen, max_in, step_in}
 use Rattle.event_runs.specs.Turns.{Pace, pace_of, Offers, offers_of, next_by}
 
@@ -29,7 +31,8 @@ pub record EventRun : Type 0 where
 
 abbrev pub event_fault_at : Signals → ℕ → EventStanding → ℕ × Out → Option Ending
 event_fault_at signals instance (one, state) (number, out) =
-    option_map (UnitFault instance (place.Output number)) (option_and_then result_err (option_map (λ seen. get_out one.member.component state seen out) (seen_for signals (needs_in out) one)))
+    option_map (UnitFault instance (place.Output number))
+        (option_and_then result_err (option_map (λ seen. get_out one.member.component state seen out) (seen_for signals (needs_in out) one)))
 
 abbrev pub event_faults_at : Signals → ℕ × EventStanding → List (Option Ending)
 event_faults_at signals (instance, standing) = map (event_fault_at signals instance standing) (enumerate_from 0 (outs_of standing.0.member.component.unit))
@@ -68,7 +71,8 @@ event_max_at t signals (one, state) = max_in one.member.component state (seen_at
 
 abbrev pub event_step_at : ℕ → ℕ → Signals → EventStanding → Option (Result Moved Fault)
 event_step_at t h signals (one, state) =
-    if is_held one.member.factor t h then None else Some (step_in one.member.component state (seen_at signals one) (local_time one.member.factor t) (local_step one.member.factor t h))
+    if is_held one.member.factor t h then None else Some
+        (step_in one.member.component state (seen_at signals one) (local_time one.member.factor t) (local_step one.member.factor t h))
 
 abbrev pub event_offers : List EventMember → Position → Signals → Offers
 event_offers members at signals = record {
@@ -95,7 +99,8 @@ IsEventStand run stand = IsEventAssignment run.members stand.at.states stand.sig
 
 abbrev pub EventFollows : EventRun → EventStand → List EventStand → Ending → Type 0
 EventFollows run one [] ending = event_successor run one.at one.signals ≡ ends ending
-EventFollows run one (next ∷ others) ending = (event_successor run one.at one.signals ≡ goes next.at) × IsEventStand run next × EventFollows run next others ending
+EventFollows run one (next ∷ others) ending = (event_successor run one.at one.signals ≡ goes next.at) × IsEventStand run next
+    × EventFollows run next others ending
 
 abbrev pub IsEventTrace : EventRun → List EventStand → Ending → Type 0
 IsEventTrace run [] ending = ⊥
@@ -111,7 +116,8 @@ event_row_unless (Some fault) point signals = None
 event_row_unless None point signals = Some (record { point = point; signals = filter_map (λ signal. signal) signals })
 
 abbrev pub event_rows_of : EventRun → List EventStand → List EventRow
-event_rows_of run stands = filter_map (λ stand. event_row_unless (event_port_fault run.members stand.at.states stand.signals) stand.at.point stand.signals) stands
+event_rows_of run stands =
+    filter_map (λ stand. event_row_unless (event_port_fault run.members stand.at.states stand.signals) stand.at.point stand.signals) stands
 
 -- ---- Laws
 
@@ -122,12 +128,15 @@ pub record GiveTheSame (members : List EventMember) (run : Composition) (at : Po
 
 abbrev pub MembersGiveTheSame : Type 0
 MembersGiveTheSame =
-    (members : List EventMember) (run : Composition) (at : Position) (ports : Ports) → IsPlainRun members run → StatesFit members at.states → AreTidy (flat_map shape_of members) ports → list_all is_some ports ≡ true → GiveTheSame members run at ports
+    (members : List EventMember) (run : Composition) (at : Position) (ports : Ports) → IsPlainRun members run → StatesFit members at.states
+        → AreTidy (flat_map shape_of members) ports → list_all is_some ports ≡ true → GiveTheSame members run at ports
 
 -- The port fault of the source is that of the plain form, where the two ports of an event output are one.
 abbrev pub FaultsAreRead : Type 0
 FaultsAreRead =
-    (members : List EventMember) (run : Composition) (states : List (List ℤ)) (ports : Ports) → IsPlainRun members run → StatesFit members states → AreTidy (flat_map shape_of members) ports → event_port_fault members states (read_ports (flat_map shape_of members) ports) ≡ option_map (read_ending members) (port_fault run states ports)
+    (members : List EventMember) (run : Composition) (states : List (List ℤ)) (ports : Ports) → IsPlainRun members run → StatesFit members states
+        → AreTidy (flat_map shape_of members) ports
+        → event_port_fault members states (read_ports (flat_map shape_of members) ports) ≡ option_map (read_ending members) (port_fault run states ports)
 
 abbrev pub read_stand : List EventMember → Stand → EventStand
 read_stand members stand = record { at = stand.at; signals = read_ports (flat_map shape_of members) stand.ports }
@@ -135,7 +144,9 @@ read_stand members stand = record { at = stand.at; signals = read_ports (flat_ma
 -- The trace of a plain form, read, is that of the source: the same positions, and the same end.
 abbrev pub TracesAreRead : Type 0
 TracesAreRead =
-    (members : List EventMember) (run : Composition) (order : List ℕ) (stands : List Stand) (ending : Ending) → IsPlainRun members run → AreMembers run → IsPlaceOrder run order → IsTrace run stands ending → IsEventTrace (record { members = members; pace = pace_of run }) (map (read_stand members) stands) (read_ending members ending)
+    (members : List EventMember) (run : Composition) (order : List ℕ) (stands : List Stand) (ending : Ending) → IsPlainRun members run → AreMembers run
+        → IsPlaceOrder run order → IsTrace run stands ending
+        → IsEventTrace (record { members = members; pace = pace_of run }) (map (read_stand members) stands) (read_ending members ending)
 
 -- So the source has exactly one trace where the places of its plain form have an order.
 pub record HasOneEventTrace (run : EventRun) : Type 0 where
@@ -146,7 +157,8 @@ pub record HasOneEventTrace (run : EventRun) : Type 0 where
 
 abbrev pub SourcesHaveOneTrace : Type 0
 SourcesHaveOneTrace =
-    (members : List EventMember) (run : Composition) (order : List ℕ) → IsPlainRun members run → AreMembers run → IsPlaceOrder run order → HasOneEventTrace (record { members = members; pace = pace_of run })
+    (members : List EventMember) (run : Composition) (order : List ℕ) → IsPlainRun members run → AreMembers run → IsPlaceOrder run order
+        → HasOneEventTrace (record { members = members; pace = pace_of run })
 
 -- The words of a row of the plain form, read as signals.
 abbrev pub read_words : List Bool → List ℤ → List Signal
@@ -160,4 +172,6 @@ read_row members row = record { point = row.point; signals = read_words (flat_ma
 -- The rows of a trace of the plain form, read, are those of the source.
 abbrev pub RowsAreRead : Type 0
 RowsAreRead =
-    (members : List EventMember) (run : Composition) (order : List ℕ) (stands : List Stand) (ending : Ending) → IsPlainRun members run → AreMembers run → IsPlaceOrder run order → IsTrace run stands ending → event_rows_of (record { members = members; pace = pace_of run }) (map (read_stand members) stands) ≡ map (read_row members) (rows_of run stands)
+    (members : List EventMember) (run : Composition) (order : List ℕ) (stands : List Stand) (ending : Ending) → IsPlainRun members run → AreMembers run
+        → IsPlaceOrder run order → IsTrace run stands ending
+        → event_rows_of (record { members = members; pace = pace_of run }) (map (read_stand members) stands) ≡ map (read_row members) (rows_of run stands)

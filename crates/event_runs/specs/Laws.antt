@@ -19,7 +19,8 @@ use Rattle.unit_tree.specs.declared.expr.Expr.{Expr}
 use Rattle.unit_tree.specs.declared.line.Line.{Line}
 use Rattle.unit_tree.specs.declared.line_form.LineForm.{LineForm}
 use Rattle.unit_tree.specs.declared.unit.Unit.{Unit}
-use Rattle.event_runs.specs.Events.{Signal, Occurs, Absent, Occurring, none_occurs, Seen, value_in, event_in, words_of_signal, all_variables_of, get_in, get_event, max_in, step_in}
+use Rattle.event_runs.specs.Events.{Signal, Occurs, Absent, Occurring, none_occurs, Seen, value_in, event_in, words_of_signal, all_variables_of, get_in}
+use Rattle.event_runs.specs.Events.{get_event, max_in, step_in}
 
 -- ---- Expressions
 
@@ -37,7 +38,8 @@ pub record Shows (occurring : Occurring) (events : List (List ℕ)) (env plain :
 
 abbrev pub PlainExpressionsMeanTheSame : Type 0
 PlainExpressionsMeanTheSame =
-    (occurring : Occurring) (events : List (List ℕ)) (env plain : Environment) (value : Expr) → Shows occurring events env plain → Speaks events value → value_of (plain_expression value) plain ≡ value_in occurring value env
+    (occurring : Occurring) (events : List (List ℕ)) (env plain : Environment) (value : Expr) → Shows occurring events env plain → Speaks events value
+        → value_of (plain_expression value) plain ≡ value_in occurring value env
 
 -- The zero of a type's kind.
 abbrev pub zero_value : Ty → Value
@@ -52,7 +54,9 @@ AreTwo ty (Err fault) tells word = ((tells ≡ Err fault) ⊎ (tells ≡ Ok (tru
 
 abbrev pub EventsAreTwo : Type 0
 EventsAreTwo =
-    (occurring : Occurring) (events : List (List ℕ)) (env plain : Environment) (ty : Ty) (value : Expr) → Shows occurring events env plain → Speaks events value → AreTwo ty (event_in occurring value env) (value_of (plain_expression (presence_of value)) plain) (value_of (plain_expression (word_expression_of ty value)) plain)
+    (occurring : Occurring) (events : List (List ℕ)) (env plain : Environment) (ty : Ty) (value : Expr) → Shows occurring events env plain → Speaks events value
+        → AreTwo ty (event_in occurring value env) (value_of (plain_expression (presence_of value)) plain)
+        (value_of (plain_expression (word_expression_of ty value)) plain)
 
 -- Where no event occurs, a value is that of an environment without events.
 abbrev pub NoEventsMeanTheSame : Type 0
@@ -107,8 +111,12 @@ AllPairs R _ = ⊥
 
 -- The calls of a component are those of its plain form, on the words that this has for what the component sees.
 pub record HasPlainCalls (component : Component) (state : List ℤ) (seen : Seen) : Type 0 where
-  pub get : AllByRecursion (λ output. get_of (plain_component component) state (plain_words seen) (plain_output component.unit output) ≡ get_in component state seen output) component.unit.outputs
-  pub events : AllByRecursion (λ event. AllPairs (AreTwoGets (get_event component state seen event)) (map (get_of (plain_component component) state (plain_words seen)) (plain_outputs component.unit event))) component.unit.events_out
+  pub get : AllByRecursion
+      (λ output. get_of (plain_component component) state (plain_words seen) (plain_output component.unit output)
+      ≡ get_in component state seen output) component.unit.outputs
+  pub events : AllByRecursion
+      (λ event. AllPairs (AreTwoGets (get_event component state seen event))
+      (map (get_of (plain_component component) state (plain_words seen)) (plain_outputs component.unit event))) component.unit.events_out
   pub limit : (time : ℕ) → max_of (plain_component component) state (plain_words seen) time ≡ max_in component state seen time
   pub step : (time step : ℕ) → step_of (plain_component component) state (plain_words seen) time step ≡ step_in component state seen time step
 

@@ -7,7 +7,8 @@ use Rattle.std.specs.List.{AllByRecursion, flat_map, filter_map, cons_option}
 use Rattle.std.specs.Option.{option_map, option_and_then}
 use Rattle.std.specs.Str.{bytes_eq}
 use Rattle.fixed_words.specs.declared.types.Ty.TheVariants as types
-use Rattle.unit_tree.specs.Names.{Port, input_at, input_names, input_ports, output_ports, output_names, event_input_names, is_among, unit_named, unit_of_instance, port_named, output_at, same_port}
+use Rattle.unit_tree.specs.Names.{Port, input_at, input_names, input_ports, output_ports, output_names, event_input_names, is_among, unit_named}
+use Rattle.unit_tree.specs.Names.{unit_of_instance, port_named, output_at, same_port}
 use Rattle.unit_tree.specs.Orders.{IsIn, IsOrderlyAfter, HasNoCycle, port_of, outputs_in, outputs_of, source_if, sources_of, needs_of, needed_by}
 use Rattle.unit_tree.specs.Plain.{presence_name, plain_need, plain_needs, plain_output, plain_outputs, plain_unit, presence_port, is_event_output, plain_wires}
 use Rattle.unit_tree.specs.Plain.{samples_or_all}

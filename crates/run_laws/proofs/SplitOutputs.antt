@@ -15,7 +15,8 @@ use Rattle.unit_tree.specs.declared.unit.EventOut.{EventOut}
 use Rattle.unit_tree.specs.declared.unit.Output.{Output}
 use Rattle.unit_tree.specs.declared.unit.Unit.{Unit}
 use Rattle.language_laws.proofs.PlainNames.{of_output, of_event}
-use Rattle.run_laws.proofs.PlainOrders.{plain_of, plain_named, plain_ports, ones, twos, names_are, both_names, output_name, split_by, split, splits, is_event_is}
+use Rattle.run_laws.proofs.PlainOrders.{plain_of, plain_named, plain_ports, ones, twos, names_are, both_names, output_name, split_by, split, splits}
+use Rattle.run_laws.proofs.PlainOrders.{is_event_is}
 use Rattle.list_laws.proofs.Members.{Has}
 
 made_ports : (instance : Instance) (outputs : List Output)

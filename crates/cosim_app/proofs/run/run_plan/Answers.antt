@@ -3,20 +3,23 @@ use Rattle.serial_run.specs.Reports.{PutsFront, ReportsTrace}
 use Rattle.serial_run.specs.declared.fault.CrewFault.{CrewFault}
 use Rattle.trace_plan.specs.Plans.{Planned}
 use Rattle.cosim_app.specs.Answer.{traced_note}
+use Rattle.cosim_app.specs.SourcePlaces.{source_end}
 use Rattle.cosim_app.proofs.RunLaws.{begins_front, begins_none, begins_whole, tells_trace}
 use Rattle.cosim_app.proofs.run.run_plan.Goals as goal
 
 pub returns-in_default : goal.returns-in_default
-returns-in_default g c = (begins_none c.args.plan.now.value.system (g.O.Sink.held c.args.out.now) c.requires.served, refl)
+returns-in_default g c = (begins_none c.args.plan.now.value.system (g.O.Sink.held c.args.out.now) c.requires.whole, refl)
 
 pub returns-in-Ok-ending : goal.returns-in-Ok-ending
 returns-in-Ok-ending g c =
     let reports =
     subst (λ (p : Planned). ReportsTrace p.system (g.O.Sink.held c.args.out.now) (g.O.Sink.held c.run_alone.new.out) c.in-Ok-run_alone.report)
     c.in-Ok.ensures.cases c.in-Ok-run_alone.ensures.whole in (
-      tells_trace c.args.plan.now.value.system (g.O.Sink.held c.args.out.now)
+      tells_trace c.args.plan.now.value.system c.requires.whole (g.O.Sink.held c.args.out.now)
           (g.O.Sink.held c.run_alone.new.out) c.in-Ok-run_alone.report c.status.result c.in-Ok-ending.note.items reports c.status.ensures
-          (c.in-Ok-ending.ensures ∙ ap (λ (p : Planned). traced_note p.system c.in-Ok-run_alone.report.outcome c.in-Ok-run_alone.report.last) c.deref.ensures),
+          (c.in-Ok-ending.ensures
+              ∙ ap (λ (p : Planned).
+              traced_note p.system (source_end p.system c.in-Ok-run_alone.report.outcome) c.in-Ok-run_alone.report.last) c.deref.ensures),
       c.in-Ok-run_alone.ensures.cause.same (λ e. absurd (cc)),
     )
 
@@ -25,7 +28,8 @@ returns-in-Err g c =
     let reports =
     subst (λ (p : Planned). ReportsTrace p.system (g.O.Sink.held c.args.out.now) (g.O.Sink.held c.run_alone.new.out) c.in-Ok-run_alone.report)
     c.in-Ok.ensures.cases c.in-Ok-run_alone.ensures.whole in (
-      begins_whole c.args.plan.now.value.system (g.O.Sink.held c.args.out.now) (g.O.Sink.held c.run_alone.new.out) c.in-Ok-run_alone.report reports,
+      begins_whole c.args.plan.now.value.system c.requires.whole (g.O.Sink.held c.args.out.now)
+          (g.O.Sink.held c.run_alone.new.out) c.in-Ok-run_alone.report reports,
       c.in-Ok-run_alone.ensures.cause.same (λ e. absurd (cc)),
     )
 
@@ -34,7 +38,7 @@ returns-in-Err-WriteFault g c =
     let front =
     subst (λ (p : Planned). PutsFront p.system (g.O.Sink.held c.args.out.now) (g.O.Sink.held c.run_alone.new.out))
     c.in-Ok.ensures.cases c.in-Err-WriteFault.ensures.front in (
-      begins_front c.args.plan.now.value.system (g.O.Sink.held c.args.out.now) (g.O.Sink.held c.run_alone.new.out) c.requires.served front,
+      begins_front c.args.plan.now.value.system (g.O.Sink.held c.args.out.now) (g.O.Sink.held c.run_alone.new.out) c.requires.whole front,
       c.in-Err-WriteFault.ensures.cause.failed (ap (λ (e : CrewFault). Err e) c.in-Err-WriteFault.field-0-is),
     )
 
@@ -43,6 +47,6 @@ returns-in-Err-NoMemory g c =
     let front =
     subst (λ (p : Planned). PutsFront p.system (g.O.Sink.held c.args.out.now) (g.O.Sink.held c.run_alone.new.out))
     c.in-Ok.ensures.cases c.in-Err-NoMemory.ensures.front in (
-      begins_front c.args.plan.now.value.system (g.O.Sink.held c.args.out.now) (g.O.Sink.held c.run_alone.new.out) c.requires.served front,
+      begins_front c.args.plan.now.value.system (g.O.Sink.held c.args.out.now) (g.O.Sink.held c.run_alone.new.out) c.requires.whole front,
       c.in-Err-NoMemory.ensures.cause.same (λ e. absurd (cc)),
     )

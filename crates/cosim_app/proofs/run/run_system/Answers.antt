@@ -5,12 +5,12 @@ use Rattle.cosim_app.proofs.TraceLaws.{no_loop}
 use Rattle.cosim_app.proofs.run.run_system.Goals as goal
 
 pub returns-in-Ok : goal.returns-in-Ok
-returns-in-Ok g c = (begins_none c.args.checked (g.O.Sink.held c.args.out.now) c.requires.served, refl)
+returns-in-Ok g c = (begins_none c.args.checked (g.O.Sink.held c.args.out.now) c.requires.whole, refl)
 
 pub unreachable-requires : goal.unreachable-requires
 unreachable-requires g c =
-    no_loop c.args.checked c.in-Err-Loop.field-0-0 c.in-Err-Loop.field-0-1 c.requires.served
+    no_loop c.args.checked c.in-Err-Loop.field-0-0 c.in-Err-Loop.field-0-1 c.requires.whole
     (subst (IsRightPlanFault c.args.checked) c.in-Err-Loop.field-0-is c.in-Err-Loop.ensures.fault)
 
 pub returns : goal.returns
-returns g c = (begins_none c.args.checked (g.O.Sink.held c.args.out.now) c.requires.served, refl)
+returns g c = (begins_none c.args.checked (g.O.Sink.held c.args.out.now) c.requires.whole, refl)
