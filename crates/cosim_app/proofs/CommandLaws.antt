@@ -2,13 +2,13 @@
 use Rattle.std.proofs.Common.{◌≡◌, ℕ, ◌⊎◌, Bool, true, false, List, [], ◌∷◌, Some, refl, sym, ap, subst, ◌∙◌, inl, inr, arith}
 use Rattle.std.specs.Prelude.{codes}
 use Rattle.std.specs.Str.{bytes_eq}
+use Rattle.std.proofs.lemmas.Option.{same_Some}
 use Rattle.text_accept.specs.Accepting.{IsAcceptedAs, IsRefusedAt, source_line}
 use Rattle.text_accept.proofs.Acceptance.{judged_once, has_source}
 use Rattle.unit_tree.specs.Trace.{IsTraceOf}
 use Rattle.unit_tree.specs.declared.ending.Ending.{Ending}
 use Rattle.unit_tree.specs.declared.ending.Ending.TheVariants.{Completed, RowBudget, ZeroBudget, UnitFault, StepRefused}
 use Rattle.unit_tree.specs.declared.system.System.{System}
-use Rattle.run_laws.proofs.EventLaws.{one_or_two}
 use Rattle.cosim_app.specs.Answer.{Answer, AnswersRun, IsOfUnservedVersion, Serves, RefusedBy, CommandAnswers, run_answer, refused_answer, accepted_answer}
 use Rattle.cosim_app.specs.Answer.{printed_answer, status_of}
 use Rattle.cosim_app.specs.Commands.{words_of}
@@ -17,7 +17,7 @@ use Rattle.cosim_app.specs.declared.command_words.Command.TheVariants.{Run, Chec
 use Rattle.cosim_app.specs.declared.status.Status.{Status}
 use Rattle.cosim_app.specs.declared.status.Status.TheVariants as status
 use Rattle.cosim_app.proofs.TraceLaws.{one_outcome, whole_of}
-use Rattle.list_laws.proofs.Options.{some_same}
+use Rattle.list_laws.proofs.Truths.{one_or_two}
 
 -- ---- Words
 
@@ -151,7 +151,7 @@ served_same Print text one other a b =
 unserved_same : (text : List ℕ) (line by other rule : ℕ) → IsOfUnservedVersion text line by → IsOfUnservedVersion text other rule → (line ≡ other) × (by ≡ rule)
 unserved_same text line by other rule a b =
     let same = (judged_once text).one_system a.system b.system a.lines b.lines a.accepted b.accepted in
-    (some_same line other (sym a.at ∙ ap (λ lines. source_line lines 1) same.1 ∙ b.at), a.by ∙ sym b.by)
+    (same_Some line other (sym a.at ∙ ap (λ lines. source_line lines 1) same.1 ∙ b.at), a.by ∙ sym b.by)
 
 -- and refused at one line by one rule
 served_or_refused : (text : List ℕ) (line by other rule : ℕ) → IsRefusedAt text line by ⊎ IsOfUnservedVersion text line by

@@ -10,12 +10,13 @@ use Rattle.unit_tree.specs.Orders.{IsIn, HasNoCycle, IsFirstWithoutOrder}
 use Rattle.run_laws.specs.RunLaws.{HasOneTrace, HasOneTraceOf}
 use Rattle.unit_tree.specs.declared.system.PortName.{PortName}
 use Rattle.unit_tree.specs.declared.system.System.{System}
-use Rattle.run_laws.proofs.EventLaws.{one_or_two, plain_form_1, version_1_without_events}
+use Rattle.run_laws.proofs.EventLaws.{plain_form_1, version_1_without_events}
 use Rattle.language_laws.proofs.NameLaws.{names_differ}
 use Rattle.run_laws.proofs.PlaceOrders.{system_is_ordered}
 use Rattle.run_laws.proofs.PositionLaws.{system_has_members}
 use Rattle.run_laws.proofs.RunTraces.{one_trace, one_trace_of}
 use Rattle.cosim_app.specs.Judgement.{IsWhole, IsServed}
+use Rattle.list_laws.proofs.Truths.{one_or_two}
 
 -- what a text is accepted as keeps all rules
 pub whole_of : (text : List ℕ) (system : System) (lines : List ℕ) → IsAcceptedAs text system lines → IsWhole system

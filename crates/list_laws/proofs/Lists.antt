@@ -31,3 +31,21 @@ all_of_two test [] ys on_xs on_ys = on_ys
 all_of_two test (x ∷ xs) ys on_xs on_ys =
     let both = and_parts (test x) (list_all test xs) on_xs in
     rw (both.0) (all_of_two test xs ys both.1 on_ys)
+
+pub each_append : {A : Type 0} (P : A → Type 0) (xs ys : List A) → AllByRecursion P xs → AllByRecursion P ys → AllByRecursion P (xs ++ ys)
+each_append P [] ys on_xs on_ys = on_ys
+each_append P (x ∷ xs) ys on_xs on_ys = (on_xs.0, each_append P xs ys on_xs.1 on_ys)
+
+pub each_part : {A : Type 0} (P : A → Type 0) (xs ys : List A) → AllByRecursion P (xs ++ ys) → AllByRecursion P xs × AllByRecursion P ys
+each_part P xs ys all = (front_of P xs ys all, back_of P xs ys all)
+
+pub flat_all : {A B : Type 0} (test : B → Bool) (f : A → List B) (xs : List A) → list_all test (flat_map f xs) ≡ list_all (λ x. list_all test (f x)) xs
+flat_all test f [] = refl
+flat_all test f (x ∷ xs) = list_all-append test (f x) (flat_map f xs) ∙ ap (λ rest. list_all test (f x) && rest) (flat_all test f xs)
+
+pub mapped_all : {A B C : Type 0} (test : C → Bool) (forms : B → List C) (part : A → B) (xs : List A)
+    → list_all test (flat_map forms (map part xs)) ≡ list_all (λ x. list_all test (forms (part x))) xs
+mapped_all test forms part [] = refl
+mapped_all test forms part (x ∷ xs) =
+    list_all-append test (forms (part x)) (flat_map forms (map part xs)) ∙ ap (λ rest. list_all test (forms (part x)) && rest)
+    (mapped_all test forms part xs)

@@ -18,6 +18,7 @@ use Rattle.unit_tree.specs.declared.ending.Place.TheVariants as place
 use Rattle.run_laws.proofs.AssignmentLaws.{outlets_count}
 use Rattle.run_laws.proofs.EquationLaws.{each_among, all_behind}
 use Rattle.port_solve.proofs.Fronts.{mapped}
+use Rattle.list_laws.proofs.Truths.{lt_not_told, lt_told}
 
 -- ---- One output more
 
@@ -29,12 +30,6 @@ in_longer (first ∷ front) place q (inr later) = inr (in_longer front place q l
 at_end : (front : List ℕ) (place : ℕ) → IsAmong (front ++ (place ∷ [])) place
 at_end [] place = inl refl
 at_end (first ∷ front) place = inr (at_end front place)
-
-below : (m n : ℕ) → nat_lt m n ≡ true → m < n
-below m n told = grind (arith, nat_tests)
-
-not_below : (m n : ℕ) → nat_lt m n ≡ false → n ≤ m
-not_below m n told = grind (arith, nat_tests)
 
 module _ (run : Composition) (states : List (List ℤ)) (right : Ports) where
   abbrev NoFault : ℕ → Type 0
@@ -55,12 +50,12 @@ module _ (run : Composition) (states : List (List ℤ)) (right : Ports) where
   noted_by true front place first fault lower is was = (
     in_longer front place first.place was.0,
     was.1,
-    all_behind (λ q. q < first.place → NoFault q) front place was.2 (λ above. absurd (omega (arith, above, below first.place place lower))),
+    all_behind (λ q. q < first.place → NoFault q) front place was.2 (λ above. absurd (omega (arith, above, lt_told first.place place lower))),
   )
   noted_by false front place first fault lower is was = (
     at_end front place,
     is,
-    all_behind (λ q. q < place → NoFault q) front place (nearer front first.place place (not_below first.place place lower) was.2)
+    all_behind (λ q. q < place → NoFault q) front place (nearer front first.place place (lt_not_told first.place place lower) was.2)
         (λ above. absurd (omega (arith, above))),
   )
 

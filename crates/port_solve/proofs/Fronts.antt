@@ -8,6 +8,7 @@ use Rattle.std.specs.Prelude.{slice_get, zip, IfSome, IsSome}
 use Rattle.std.specs.List.{AllByRecursion, list_all, filter_map, cons_option}
 use Rattle.std.specs.Option.{option_map, option_and_then}
 use Rattle.std.specs.Result.{result_ok, result_err}
+use Rattle.std.proofs.lemmas.Slice.Zip.{AllZip-long}
 use Rattle.fixed_words.specs.Operations.{Outcome}
 use Rattle.fixed_words.specs.Types.{lowest, highest, is_between, is_word_of}
 use Rattle.fixed_words.specs.declared.types.Ty.{Ty}
@@ -30,13 +31,13 @@ use Rattle.unit_tree.specs.declared.unit.Input.{Input}
 use Rattle.unit_tree.specs.declared.unit.Output.{Output}
 use Rattle.run_laws.proofs.AssignmentLaws.{Defined, needs_of, needs_here, all_seen, side_at}
 use Rattle.run_laws.proofs.EquationLaws.{all_among, all_behind}
-use Rattle.language_laws.proofs.PlainNames.{each_has, map_has}
+use Rattle.language_laws.proofs.PlainNames.{map_has}
 use Rattle.run_laws.proofs.SeenLaws.{get_same, get_fits}
 use Rattle.port_solve.proofs.InputPlaces.{source_at, feed_is, has_feed}
 use Rattle.port_solve.proofs.SetWords.{word_after, shape_after}
 use Rattle.port_solve.proofs.OutputPlaces.{OutletAt, outlet_of, given_is, type_is}
-use Rattle.list_laws.proofs.Members.{Has, has_map, has_at, at_place, all_has}
-use Rattle.list_laws.proofs.Pairs.{Beside, zip_at, one_each}
+use Rattle.list_laws.proofs.Members.{Has, has_map, has_at, at_place, all_has, each_has}
+use Rattle.list_laws.proofs.Pairs.{Beside, zip_at}
 
 -- ---- What is known at a front
 
@@ -263,7 +264,7 @@ module _ (run : Composition) (sound : IsSound run) where
 
 module _ (run : Composition) (states : List (List ℤ)) (sound : IsSound run) (have : HaveStates run states) where
   abbrev pub one_state : length states ≡ length run.members
-  one_state = one_each HasState run.members states have
+  one_state = AllZip-long HasState run.members states have
 
   -- An output can be asked where there are words for all inputs.
   pub can_be_asked : (inputs : List (List ℤ)) (place : ℕ) (route : Route) → HaveInputs run inputs → slice_get (routes_of run).outputs place ≡ Some route

@@ -21,11 +21,10 @@ use Rattle.unit_tree.specs.declared.unit.Output.{Output}
 use Rattle.unit_tree.specs.declared.unit.Unit.{Unit}
 use Rattle.language_laws.proofs.NameLaws.{PortsDiffer, found}
 use Rattle.run_laws.proofs.PlaceOrders.{has_in, found_at, plain_port}
-use Rattle.language_laws.proofs.PlainNames.{each_has}
 use Rattle.run_laws.proofs.PlainOrders.{named_has, output_is, wired}
 use Rattle.run_laws.proofs.PortLaws.{ports_in, output_has}
 use Rattle.run_laws.proofs.PositionLaws.{start_fits}
-use Rattle.list_laws.proofs.Members.{Has, Distinct, has_front, has_map}
+use Rattle.list_laws.proofs.Members.{Has, Distinct, has_front, has_map, each_has}
 use Rattle.list_laws.proofs.Pairs.{zip_append, zip_at}
 
 -- ---- Ports by name

@@ -1,6 +1,7 @@
 -- How a run gets from one row to the next.
 use Rattle.std.proofs.Common.{◌≡◌, ℕ, ◌+◌, true, false, List, [], ◌++◌, length, map, Option, Some, None, inl, inr, refl, sym, ap, subst, ◌∙◌, arith}
 use Rattle.std.specs.List.{count_by}
+use Rattle.std.proofs.lemmas.Slice.Zip.{AllZip-long}
 use Rattle.trace_core.specs.Runs.{Cell, RunState, Stands, IsPhase, arrived, cells_of, cell_of, first_end, phase_or, is_empty_cell, is_ended}
 use Rattle.trace_core.specs.Settling.{IsRedoDue, Moves, Ends, Settled}
 use Rattle.trace_core.specs.declared.phase.Phase.{Phase}
@@ -13,7 +14,6 @@ use Rattle.unit_tree.specs.Trace.{Stand, AreWordsOf, cells_of_trial, cells_at}
 use Rattle.unit_tree.specs.declared.ending.Ending.{Ending}
 use Rattle.serial_run.specs.Advances.{IsFresh, Moved, EndsThere, Advanced, AreMade, with_cells}
 use Rattle.serial_run.proofs.CellLaws.{wanted_are_steps, cells_ended, cells_redone, cells_tried}
-use Rattle.list_laws.proofs.Pairs.{one_each}
 
 -- ---- The phase of a run that has made no step where it stands
 
@@ -153,7 +153,7 @@ ToEnd r next settle.Ended = Advanced r next false
 ToEnd r next settle.Redo = ⊥
 
 as_many : (r : RunState) → Stands r → length r.stand.at.states ≡ length r.plan.run.members
-as_many r stands = one_each (λ member state. AreWordsOf member.component.unit.states state) r.plan.run.members r.stand.at.states stands.words
+as_many r stands = AllZip-long (λ member state. AreWordsOf member.component.unit.states state) r.plan.run.members r.stand.at.states stands.words
 
 -- ---- The trial
 

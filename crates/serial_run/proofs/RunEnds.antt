@@ -5,6 +5,7 @@ use Rattle.std.specs.List.{AllByRecursion, cons_option, filter_map}
 use Rattle.std.specs.Prelude.{OnErr}
 use Rattle.std.specs.Io.KnownBytes.{Appends}
 use Rattle.std.proofs.lemmas.List.Elements.{filter_map-append}
+use Rattle.std.proofs.lemmas.Slice.Zip.{AllZip-long}
 use Rattle.cosim_io.specs.Faults.{Rose}
 use Rattle.cosim_io.specs.Pieces.{AppendsPrefix}
 use Rattle.cosim_io.proofs.PieceLemmas.{AppendsPrefix-nil, AppendsPrefix-longer}
@@ -40,7 +41,6 @@ use Rattle.serial_run.proofs.CellLaws.{cells_ended}
 use Rattle.serial_run.proofs.RowLaws.{text_is}
 use Rattle.serial_run.proofs.RunKept.{Given, ArePut, IsAt, Come, Kept, moved_at, cells-push}
 use Rattle.serial_run.proofs.Walks.{Walked, walked_end, last_is, front_along}
-use Rattle.list_laws.proofs.Pairs.{one_each}
 
 -- ---- The run is over
 
@@ -275,7 +275,7 @@ words_by : (plan : Planned) (stand : Stand) (row : Row) (fault : Option Ending) 
     → AllByRecursion (HasWord row.words) (columns_of plan.system)
 words_by plan stand row (Some ending) given rows words is_stand fault is = absurd (cc)
 words_by plan stand row None given rows words is_stand fault is =
-    let as_many = one_each (λ member state. AreWordsOf member.component.unit.states state) plan.run.members stand.at.states words in
+    let as_many = AllZip-long (λ member state. AreWordsOf member.component.unit.states state) plan.run.members stand.at.states words in
     let there = (undefined_faults plan.run given.order stand.at.states stand.ports given.ordered as_many is_stand).0 fault in
     subst (λ words. AllByRecursion (HasWord words) (columns_of plan.system)) (row_of_none stand.at.point stand.ports row is)
     (rows stand.at.states stand.ports (as_many ∙ ap (λ (run : Composition). length run.members) given.run)

@@ -5,6 +5,7 @@ use Rattle.std.specs.Prelude.{slice_get, ⊤}
 use Rattle.std.specs.List.{filter_map, find, enumerate_from}
 use Rattle.std.specs.Option.{option_map}
 use Rattle.std.proofs.lemmas.List.{length-map}
+use Rattle.std.proofs.lemmas.Option.{same_Some}
 use Rattle.language_laws.specs.Language.{CyclesAreJudgedOnce}
 use Rattle.unit_tree.specs.Names.{unit_at}
 use Rattle.unit_tree.specs.Orders.{IsIn, HasNoCycle, IsFirstWithoutOrder, outputs_of, declares_output, line_of_output}
@@ -27,7 +28,6 @@ use Rattle.unit_text.proofs.KnownForms.{known}
 use Rattle.wire_graph.proofs.CycleLaws.{cycles_are_judged_once as judged_cycles}
 use Rattle.text_accept.specs.Laws.{IsAcceptedOrRefused, EveryTextIsJudgedOnce}
 use Rattle.text_accept.specs.Accepting.{IsAcceptedAs, source_line, BreaksRule, HasCycle, IsRefusedAt}
-use Rattle.list_laws.proofs.Options.{some_same}
 
 -- ---- One system, and one list of lines
 
@@ -93,7 +93,7 @@ refusal_by_found : (rule : Rule) (system : System) (refusal : Refusal) (later : 
 unfolding Within AreLines
 refusal_by_found rule system refusal later [] within behind is = behind is
 refusal_by_found rule system refusal later (at ∷ others) within behind is =
-    let same : at ≡ refusal.at = ap (λ (one : Refusal). one.at) (some_same (record { by = rule.number; at = at }) refusal is) in
+    let same : at ≡ refusal.at = ap (λ (one : Refusal). one.at) (same_Some (record { by = rule.number; at = at }) refusal is) in
     let low = within.0 in
     let high = within.1 in
     (omega (arith, same, low), omega (arith, same, high))
@@ -117,7 +117,7 @@ found_by : (test : ℕ × Site → Bool) (from : ℕ) (site : Site) (all : List 
     → option_map number_at (find test (enumerate_from from (site ∷ all))) ≡ Some item → (from ≤ item) × (item < from + suc (length all))
 found_by test from site all item true holds later is =
     let here : find test (enumerate_from from (site ∷ all)) ≡ Some (from, site) = rw holds refl in
-    let same : from ≡ item = some_same from item (sym (ap (option_map number_at) here) ∙ is) in
+    let same : from ≡ item = same_Some from item (sym (ap (option_map number_at) here) ∙ is) in
     (omega (arith, same), omega (arith, same))
 found_by test from site all item false fails later is =
     let there : find test (enumerate_from from (site ∷ all)) ≡ find test (enumerate_from (from + 1) all) = rw fails refl in
@@ -226,8 +226,8 @@ none_refused system refusal well found = let none = (well_formed system).0 well 
 two_rules : (text : List ℕ) (line by other rule : ℕ) → BreaksRule text line by → BreaksRule text other rule → (line ≡ other) × (by ≡ rule)
 two_rules text line by other rule a b =
     let same = one_source text a.system b.system a.lines b.lines a.reads b.reads in
-    let one : a.refusal ≡ b.refusal = some_same a.refusal b.refusal (sym a.found ∙ ap refusal_of same.0 ∙ b.found) in (
-      some_same line other (sym a.at ∙ ap (λ lines. source_line lines a.refusal.at) same.1 ∙ ap (λ (r : Refusal). source_line b.lines r.at) one ∙ b.at),
+    let one : a.refusal ≡ b.refusal = same_Some a.refusal b.refusal (sym a.found ∙ ap refusal_of same.0 ∙ b.found) in (
+      same_Some line other (sym a.at ∙ ap (λ lines. source_line lines a.refusal.at) same.1 ∙ ap (λ (r : Refusal). source_line b.lines r.at) one ∙ b.at),
       a.by ∙ ap (λ (r : Refusal). r.by) one ∙ sym b.by,
     )
 
@@ -236,8 +236,8 @@ two_cycles cycles text line by other rule a b =
     let same = one_source text a.system b.system a.lines b.lines a.reads b.reads in
     let port : a.port ≡ b.port = cycles.one_port b.system a.port b.port (subst (λ (s : System). IsFirstWithoutOrder s a.port) same.0 a.first) b.first in
     let item : a.item ≡ b.item =
-    some_same a.item b.item (sym a.declared ∙ ap (λ (s : System). line_of_output s a.port) same.0 ∙ ap (line_of_output b.system) port ∙ b.declared) in (
-      some_same line other (sym a.at ∙ ap (λ lines. source_line lines a.item) same.1 ∙ ap (source_line b.lines) item ∙ b.at),
+    same_Some a.item b.item (sym a.declared ∙ ap (λ (s : System). line_of_output s a.port) same.0 ∙ ap (line_of_output b.system) port ∙ b.declared) in (
+      same_Some line other (sym a.at ∙ ap (λ lines. source_line lines a.item) same.1 ∙ ap (source_line b.lines) item ∙ b.at),
       a.by ∙ sym b.by,
     )
 

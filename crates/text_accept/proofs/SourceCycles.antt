@@ -18,7 +18,7 @@ use Rattle.unit_tree.specs.declared.system.System.{System}
 use Rattle.unit_tree.specs.declared.unit.EventOut.{EventOut}
 use Rattle.unit_tree.specs.declared.unit.Output.{Output}
 use Rattle.unit_tree.specs.declared.unit.Unit.{Unit}
-use Rattle.run_laws.proofs.EventLaws.{one_or_two, plain_form_1, version_1_without_events, plain_of_without_events}
+use Rattle.run_laws.proofs.EventLaws.{plain_form_1, version_1_without_events, plain_of_without_events}
 use Rattle.language_laws.proofs.NameLaws.{names_differ, is_wired}
 use Rattle.run_laws.proofs.PlaceOrders.{has_in, has_no_cycle}
 use Rattle.run_laws.proofs.PlainCycles.{plain_is_wired, has_none_of_plain, is_output, outputs_among, orderly, kept_in, told_in}
@@ -26,6 +26,7 @@ use Rattle.language_laws.proofs.PlainNames.{IsPlain, of_output, of_event}
 use Rattle.run_laws.proofs.PlainOrders.{plain_of, plain_named, plain_names_differ, plain_ports, ones, twos, names_are, both_names, output_name, split_by, split}
 use Rattle.run_laws.proofs.PlainOrders.{splits, in_splits, is_event_is, ordered, plain_name}
 use Rattle.list_laws.proofs.Members.{Has}
+use Rattle.list_laws.proofs.Truths.{one_or_two}
 
 -- ---- The outputs of the plain form are those that the outputs become
 

@@ -19,6 +19,7 @@ use Rattle.unit_tree.specs.declared.line_form.LineForm.{LineForm}
 use Rattle.unit_tree.specs.declared.line_form.LineForm.TheVariants as form
 use Rattle.unit_tree.proofs.FoldLemmas.{fold-Assign, fold-If, fold-Repeat, fold-Accept}
 use Rattle.language_laws.proofs.OpenBlocks.{blocks_behind}
+use Rattle.list_laws.proofs.Truths.{and_true}
 
 -- ---- Lines in a row
 
@@ -134,11 +135,6 @@ block_placed lines rest before blocks told is behind_them =
 -- An `end` may stand where a block is open.
 end_placed : (block : Block) (blocks : List Block) (after : Before) → after.open_blocks ≡ block ∷ blocks → are_placed after (form.End ∷ []) ≡ true
 end_placed block blocks after is = ap (λ all. (not (at_top all) && true) && true) is
-
--- A test that holds adds nothing.
-pub and_true : (told : Bool) → (told && true) ≡ told
-and_true true = refl
-and_true false = refl
 
 -- The lines of a block with its `end`.
 ended_placed : (lines : List Deep) (before : Before) (block : Block) (blocks : List Block) → IsStep before (block ∷ blocks)

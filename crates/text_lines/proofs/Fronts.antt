@@ -29,6 +29,7 @@ use Rattle.text_lines.specs.Expressions.{prefix_at, pair_at, clamp_at, choice_at
 use Rattle.text_lines.specs.Expressions.{climb, within, read}
 use Rattle.text_lines.proofs.InfixOperations.{is_infix, infix_tokens, infix_at_is, Takes, allows_from, strongest}
 use Rattle.text_lines.proofs.PhraseTokens.{group_tokens, pair_tokens, clamp_tokens, choice_tokens}
+use Rattle.language_laws.proofs.PhraseLaws.{primary_stands}
 
 -- ---- Single tokens
 
@@ -81,10 +82,6 @@ decimals_at_is (token.Number digits decimals ∷ rest) =
 decimals_at_is (_ ∷ rest) = tt
 
 -- ---- Where expressions stand
-
--- The strongest level is allowed everywhere.
-pub primary_stands : (asked : Level) → allows asked Primary ≡ true
-primary_stands asked = allows_from asked Primary (strongest asked)
 
 -- An expression stands where the grammar asks for no stronger level than its own.
 pub stands_allowed : (asked : Level) (inner : Phrase) → stands asked inner ≡ true → allows asked (level_of inner) ≡ true

@@ -5,6 +5,7 @@ use Rattle.std.proofs.lemmas.Grind.{flat_map-append}
 use Rattle.std.proofs.lemmas.List.Sums.{sum_by-append}
 use Rattle.std.specs.Prelude.{is_none, nat_lt, cond, count_by, Bool, true}
 use Rattle.std.specs.List.{AllByRecursion, filter_map, flat_map, enumerate_from}
+use Rattle.std.proofs.lemmas.Bool.{or_parts}
 use Rattle.fixed_words.specs.declared.types.Literal.{Literal}
 use Rattle.unit_tree.specs.Canonical.{optional, unit_parts, canonical_parts, canonical_forms}
 use Rattle.unit_tree.specs.LineForms.{are_alike}
@@ -23,10 +24,9 @@ use Rattle.unit_tree.specs.declared.system.Instance.{Instance}
 use Rattle.unit_tree.specs.declared.system.System.{System}
 use Rattle.unit_tree.specs.declared.unit.Unit.{Unit}
 use Rattle.language_laws.proofs.NameLaws.{all_keep, Hold, instance_head, kept_parts, not_false}
-use Rattle.language_laws.proofs.PlainNames.{each_has, has_flat, unit_line}
+use Rattle.language_laws.proofs.PlainNames.{has_flat, unit_line}
 use Rattle.language_laws.proofs.SiteLaws.{line_at, sites_are}
-use Rattle.list_laws.proofs.Members.{Has, has_front, has_behind}
-use Rattle.list_laws.proofs.Truths.{or_false}
+use Rattle.list_laws.proofs.Members.{Has, has_front, has_behind, each_has}
 
 -- ---- A rule that looks at the line alone
 
@@ -208,7 +208,7 @@ module _ (system : System) where
     counted earlier (instance ∷ instances) low hold =
         let line : LineForm = form.Instance instance.name instance.unit in
         let here : tally (flat_map becomes (earlier ++ (line ∷ []))) ≤ 64 =
-        below 64 (tally (flat_map becomes (earlier ++ (line ∷ [])))) (or_false _ _ hold.0).0 in
+        below 64 (tally (flat_map becomes (earlier ++ (line ∷ [])))) (or_parts _ _ hold.0).0 in
         let rest = counted (earlier ++ (line ∷ [])) instances here hold.2 in
         omega (arith, rest, next_tally earlier instance)
 
@@ -217,7 +217,7 @@ module _ (system : System) where
     few_from earlier (instance ∷ instances) hold =
         let line : LineForm = form.Instance instance.name instance.unit in
         let here : tally (flat_map becomes (earlier ++ (line ∷ []))) ≤ 64 =
-        below 64 (tally (flat_map becomes (earlier ++ (line ∷ [])))) (or_false _ _ hold.0).0 in
+        below 64 (tally (flat_map becomes (earlier ++ (line ∷ [])))) (or_parts _ _ hold.0).0 in
         let rest = counted (earlier ++ (line ∷ [])) instances here hold.2 in
         omega (arith, rest, next_tally earlier instance)
 

@@ -8,6 +8,7 @@ use Rattle.unit_tree.specs.Names.{same_port}
 use Rattle.unit_tree.specs.declared.system.PortName.{PortName}
 use Rattle.std.proofs.lemmas.Bool.{and_parts}
 use Rattle.list_laws.specs.Options.{the_first}
+use Rattle.list_laws.proofs.Options.{or_none}
 
 abbrev pub Key : Type 0
 Key = Bor (List ℕ) × Bor (List ℕ)
@@ -60,10 +61,6 @@ put port other value old new here keeps = step (same_port port other) refl
     step : (same : Bool) → same_port port other ≡ same → lookup (names_port other) new ≡ cond same (Some value) (lookup (names_port other) old)
     step true is = ap (λ test. lookup test new) (sym (same_test port other is)) ∙ here
     step false is = others_stay port other old new keeps is
-
-or_none : {A : Type 0} (one : Option A) → the_first one None ≡ one
-or_none None = refl
-or_none (Some x) = refl
 
 pub newly : (asked stored : Bool) (old new : Option ℕ) (value : ℕ) → asked ≡ stored → (asked ≡ true → old ≡ None) → new ≡ cond stored (Some value) old
     → new ≡ the_first old (cond asked (Some value) None)

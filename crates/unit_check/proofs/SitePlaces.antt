@@ -13,11 +13,7 @@ use Rattle.unit_tree.specs.declared.line_form.LineForm.TheVariants as form
 use Rattle.unit_tree.specs.declared.system.Instance.{Instance}
 use Rattle.unit_tree.specs.declared.system.System.{System}
 use Rattle.unit_tree.specs.declared.unit.Unit.{Unit}
-use Rattle.list_laws.proofs.Lists.{each_so}
-
-pub all_both : {A : Type 0} (P : A → Type 0) (front behind : List A) → AllByRecursion P front → AllByRecursion P behind → AllByRecursion P (front ++ behind)
-all_both P [] behind one other = other
-all_both P (x ∷ front) behind one other = (one.0, all_both P front behind one.1 other)
+use Rattle.list_laws.proofs.Lists.{each_so, each_append}
 
 pub all_each : {A : Type 0} (P : A → Type 0) → ((x : A) → P x) → (xs : List A) → AllByRecursion P xs
 all_each P holds [] = _
@@ -51,10 +47,10 @@ module _ (P : Site → Type 0) where
       let resolution : List Headed = map alone (optional form.Resolution unit.resolution) in
       let names : List Headed = map alone (plain_names unit ++ port_lines unit) in
       let greatest : List Headed = map alone (optional form.Max unit.max) in
-      all_both Block (resolution ++ names) ((greatest ++ step_heads unit unit.step) ++ (alone form.End ∷ []))
-      (all_both Block resolution names (inside_alone (optional form.Resolution unit.resolution)) (inside_alone (plain_names unit ++ port_lines unit)))
-      (all_both Block (greatest ++ step_heads unit unit.step) (alone form.End ∷ [])
-      (all_both Block greatest (step_heads unit unit.step) (inside_alone (optional form.Max unit.max)) (in_step unit.step refl)) (inside_alone (form.End ∷ [])))
+      each_append Block (resolution ++ names) ((greatest ++ step_heads unit unit.step) ++ (alone form.End ∷ []))
+      (each_append Block resolution names (inside_alone (optional form.Resolution unit.resolution)) (inside_alone (plain_names unit ++ port_lines unit)))
+      (each_append Block (greatest ++ step_heads unit unit.step) (alone form.End ∷ [])
+      (each_append Block greatest (step_heads unit unit.step) (inside_alone (optional form.Max unit.max)) (in_step unit.step refl)) (inside_alone (form.End ∷ [])))
     where
       in_step : (step : Option (List Line)) → unit.step ≡ step → Inside (step_heads unit step)
       in_step None is = _
@@ -62,17 +58,17 @@ module _ (P : Site → Type 0) where
 
   pub inside_instance : (instance : Instance) → Inside (instance_block instance)
   inside_instance instance =
-      all_both Block (map alone (map form.Setting instance.settings)) (alone form.End ∷ []) (inside_alone (map form.Setting instance.settings))
+      each_append Block (map alone (map form.Setting instance.settings)) (alone form.End ∷ []) (inside_alone (map form.Setting instance.settings))
       (inside_alone (form.End ∷ []))
 
   pub inside_system : (system : System) → ((unit : Unit) → AllByRecursion P (sites (UnitScope unit) [] (block unit)))
       → ((instance : Instance) → AllByRecursion P (sites (InstanceScope instance) [] (instance_block instance))) → Inside (whole system)
   inside_system system in_unit in_instance =
-      all_both Block ((header system ++ ((units system ++ instances system) ++ wires system)) ++ limits system) (samples system)
-      (all_both Block (header system ++ ((units system ++ instances system) ++ wires system)) (limits system)
-      (all_both Block (header system) ((units system ++ instances system) ++ wires system) (inside_alone (form.Header system.version ∷ []))
-      (all_both Block (units system ++ instances system) (wires system)
-      (all_both Block (units system) (instances system) (all_map Block unit_head in_unit system.units)
+      each_append Block ((header system ++ ((units system ++ instances system) ++ wires system)) ++ limits system) (samples system)
+      (each_append Block (header system ++ ((units system ++ instances system) ++ wires system)) (limits system)
+      (each_append Block (header system) ((units system ++ instances system) ++ wires system) (inside_alone (form.Header system.version ∷ []))
+      (each_append Block (units system ++ instances system) (wires system)
+      (each_append Block (units system) (instances system) (all_map Block unit_head in_unit system.units)
       (all_map Block instance_head in_instance system.instances))
       (inside_alone (map form.Connect system.wires))))
       in_limits)
@@ -84,9 +80,9 @@ module _ (P : Site → Type 0) where
           let l : List Headed = map alone (optional form.Longest system.longest) in
           let z : List Headed = map alone (optional form.Zero system.zero) in
           let r : List Headed = map alone (optional form.Rows system.rows) in
-          all_both Block (s ++ l ++ z) r
-          (all_both Block (s ++ l) z
-          (all_both Block s l (inside_alone (optional form.Stop system.stop)) (inside_alone (optional form.Longest system.longest)))
+          each_append Block (s ++ l ++ z) r
+          (each_append Block (s ++ l) z
+          (each_append Block s l (inside_alone (optional form.Stop system.stop)) (inside_alone (optional form.Longest system.longest)))
           (inside_alone (optional form.Zero system.zero)))
           (inside_alone (optional form.Rows system.rows))
 
@@ -113,7 +109,7 @@ module _ (system : System) where
   each_stands scope earlier [] cut inside = _
   each_stands scope earlier (first ∷ others) cut inside = (
     record { rest = heads others; cut = cut },
-    all_both (Stands system) first.block (sites scope (earlier ++ (first.head ∷ [])) others) inside.0
+    each_append (Stands system) first.block (sites scope (earlier ++ (first.head ∷ [])) others) inside.0
         (each_stands scope (earlier ++ (first.head ∷ [])) others (cut ∙ sym (append_assoc earlier (first.head ∷ []) (heads others))) inside.1),
   )
 

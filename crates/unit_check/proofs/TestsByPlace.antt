@@ -7,7 +7,7 @@ use Rattle.unit_check.proofs.WalksOfParts.{system_goes}
 use Rattle.unit_check.proofs.CountsByPlace.{InUnit, unit_agrees, exceeds_is}
 use Rattle.unit_check.proofs.PlainMeasures.{depth_is, cost_is}
 use Rattle.unit_check.proofs.RangedNumbers.{UnitInRange, units_in_range, literal_is, times_are, lines_in_range}
-use Rattle.unit_check.proofs.SitePlaces.{all_both, all_two, Inside, inside_system, inside_instance, Stands, all_stand}
+use Rattle.unit_check.proofs.SitePlaces.{all_two, Inside, inside_system, inside_instance, Stands, all_stand}
 use Rattle.unit_check.proofs.SystemLines.{instance_block, whole, sites_are}
 use Rattle.unit_check.specs.Rules.{Says, breaks_of, defined, test_of}
 use Rattle.unit_check.specs.Walks.{test_at, system_walk}
@@ -22,7 +22,7 @@ use Rattle.unit_tree.specs.declared.line_form.LineForm.{LineForm}
 use Rattle.unit_tree.specs.declared.system.Instance.{Instance}
 use Rattle.unit_tree.specs.declared.system.System.{System}
 use Rattle.language_laws.proofs.BlockLaws.{stands_behind}
-use Rattle.list_laws.proofs.Lists.{each_so as all_leads}
+use Rattle.list_laws.proofs.Lists.{each_so as all_leads, each_append}
 
 -- ---- What is known of every line
 
@@ -43,7 +43,7 @@ module _ (system : System) where
   outside earlier [] inside = _
   outside earlier (first ∷ others) inside = (
     _,
-    all_both (InUnit system) first.block (sites TopScope (earlier ++ (first.head ∷ [])) others) inside.0
+    each_append (InUnit system) first.block (sites TopScope (earlier ++ (first.head ∷ [])) others) inside.0
         (outside (earlier ++ (first.head ∷ [])) others inside.1),
   )
 
@@ -52,7 +52,7 @@ module _ (system : System) where
   in_instance instance earlier [] inside = _
   in_instance instance earlier (first ∷ others) inside = (
     _,
-    all_both (InUnit system) first.block (sites (InstanceScope instance) (earlier ++ (first.head ∷ [])) others) inside.0
+    each_append (InUnit system) first.block (sites (InstanceScope instance) (earlier ++ (first.head ∷ [])) others) inside.0
         (in_instance instance (earlier ++ (first.head ∷ [])) others inside.1),
   )
 

@@ -2,10 +2,7 @@
 use Rattle.std.proofs.Common.{◌≡◌, Bool, true, false, Option, Some, None, refl, sym, ◌∙◌}
 use mathlib.Core.Bool.{cond}
 use Rattle.list_laws.specs.Options.{the_first}
-
-or_none : {A : Type 0} (one : Option A) → the_first one None ≡ one
-or_none None = refl
-or_none (Some x) = refl
+use Rattle.list_laws.proofs.Options.{or_none}
 
 -- What is found after a name was noted that was not there.
 pub newly : {A : Type 0} (asked stored : Bool) (old new : Option A) (value : A) → asked ≡ stored → (asked ≡ true → old ≡ None)

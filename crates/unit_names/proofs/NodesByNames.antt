@@ -11,7 +11,7 @@ use Rattle.unit_tree.specs.declared.expr.Expr.TheOpen.{Expr-F}
 use Rattle.unit_tree.specs.declared.expr.Expr.TheViews.{roll-Expr}
 use Rattle.unit_tree.specs.declared.unit.Unit.{Unit}
 use Rattle.unit_names.specs.Uses.{node_keeps, nodes_keep, node_has, nodes_have, is_other_input}
-use Rattle.list_laws.proofs.Truths.{crossed}
+use Rattle.list_laws.proofs.Truths.{crossed, and_true, and_assoc}
 
 -- ---- Some name passes a test
 
@@ -62,10 +62,6 @@ nodes_have_names unit needs value = has_names (is_other_input unit needs) value
 
 -- ---- All keep to what may be used
 
-and_true : (b : Bool) → (b && true) ≡ b
-and_true true = refl
-and_true false = refl
-
 -- Three tests of two parts, by part or by test.
 regroup : (a b c d e f : Bool) → ((a && (b && c)) && (d && (e && f))) ≡ ((a && d) && ((b && e) && (c && f)))
 regroup false b c d e f = refl
@@ -86,10 +82,6 @@ allowed_two allowed one other =
     ap (λ b. b && (allowed.step || not (one.step || other.step))) (or_not allowed.time one.time other.time)
     ∙ ap (λ b. ((allowed.time || not one.time) && (allowed.time || not other.time)) && b) (or_not allowed.step one.step other.step)
     ∙ crossed (allowed.time || not one.time) (allowed.time || not other.time) (allowed.step || not one.step) (allowed.step || not other.step)
-
-and_assoc : (a b c : Bool) → (a && b && c) ≡ (a && (b && c))
-and_assoc true b c = refl
-and_assoc false b c = refl
 
 module _ (uses : Uses) where
   -- What an expression's names, its `present` and its clocks have to keep.

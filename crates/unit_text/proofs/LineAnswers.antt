@@ -12,9 +12,3 @@ pub formless_answer : (draft : Draft) (line : List ℕ) (number : ℕ) (why : Un
     → ReadsAs {X = LineForm} (Err why) (FormIn draft.system.version line) → AnswersAt number (LineGives draft line) (Err (fault_at why number 4))
 formless_answer draft line number unread.NoForm is none = (refl, inr (inl (refl, is, none)))
 formless_answer draft line number unread.NoMemory is none = tt
-
--- what is kept of a value for which something was done, and that this was done
-pub and_kept : {T X E : Type 0} (done : Result T E) (value kept : X) {Done : Type 0} → OnOk done Done → Ok kept ≡ result_and done (Ok value)
-    → (kept ≡ value) × Done
-and_kept (Ok _) value kept is_done is = (cc (is), is_done)
-and_kept (Err why) value kept is_done is = absurd (cc (is))

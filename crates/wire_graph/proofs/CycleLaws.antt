@@ -3,18 +3,17 @@ use Rattle.std.proofs.Common.{◌≡◌, ℕ, zero, suc, ◌+◌, ◌<◌, ◌�
 use Rattle.std.proofs.Common.{append-nil, append_assoc}
 use Rattle.std.specs.Prelude.{◌||◌}
 use Rattle.std.specs.List.{AllByRecursion, list_any}
+use Rattle.std.proofs.lemmas.Bool.{or_right, or_cases}
 use Rattle.language_laws.specs.Language.{CyclesAreJudgedOnce}
 use Rattle.unit_tree.specs.Names.{same_port}
 use Rattle.unit_tree.specs.Orders.{IsIn, IsOrderlyAfter, IsOrderly, HasNoCycle, HasNoOrder, IsFirstWithoutOrder, outputs_of, needed_by}
 use Rattle.unit_tree.specs.declared.system.PortName.{PortName}
 use Rattle.unit_tree.specs.declared.system.System.{System}
 use Rattle.language_laws.proofs.NameLaws.{same_port_of}
-use Rattle.language_laws.proofs.OrderLaws.{each_in}
+use Rattle.language_laws.proofs.OrderLaws.{each_in, in_front}
 use Rattle.run_laws.proofs.PlaceOrders.{has_in, same_port_is}
-use Rattle.run_laws.proofs.PlainOrders.{in_longer}
-use Rattle.run_laws.proofs.PortLaws.{or_true}
 use Rattle.list_laws.proofs.Members.{has_behind}
-use Rattle.list_laws.proofs.Truths.{or_right}
+use Rattle.list_laws.proofs.Truths.{true_is_false}
 
 -- ---- Whether a port is among some
 
@@ -24,7 +23,7 @@ stands ports port = list_any (same_port port) ports
 is_in : (ports : List PortName) (port : PortName) → stands ports port ≡ true → IsIn ports port
 is_in [] port told = absurd (cc)
 is_in (first ∷ ports) port told =
-    elim (or_true (same_port port first) (stands ports port) told) [
+    elim (or_cases (same_port port first) (stands ports port) told) [
       | inl same ↦ inl (sym (same_port_is port first same))
       | inr later ↦ inr (is_in ports port later)
     ]
@@ -33,10 +32,6 @@ told_in : (ports : List PortName) (port : PortName) → IsIn ports port → stan
 told_in [] port here = absurd here
 told_in (first ∷ ports) port (inl is) = ap (λ told. told || stands ports port) (same_port_of port first (sym is))
 told_in (first ∷ ports) port (inr later) = or_right (same_port port first) (stands ports port) (told_in ports port later)
-
-true_is_false : {A : Type 0} (told : Bool) → told ≡ true → told ≡ false → A
-true_is_false true is isnt = absurd (cc)
-true_is_false false is isnt = absurd (cc)
 
 not_in : (ports : List PortName) (port : PortName) → stands ports port ≡ false → IsIn ports port → ⊥
 not_in ports port isnt here = true_is_false (stands ports port) (told_in ports port here) isnt
@@ -58,7 +53,7 @@ left order [] = 0
 left order (port ∷ ports) = cond (stands order port) (left order ports) (1 + left order ports)
 
 with_last : (order : List PortName) (last port : PortName) → stands order port ≡ true → stands (order ++ (last ∷ [])) port ≡ true
-with_last order last port told = told_in (order ++ (last ∷ [])) port (in_longer order (last ∷ []) port (is_in order port told))
+with_last order last port told = told_in (order ++ (last ∷ [])) port (in_front order (last ∷ []) port (is_in order port told))
 
 last_stands : (order : List PortName) (last : PortName) → stands (order ++ (last ∷ [])) last ≡ true
 last_stands order last = told_in (order ++ (last ∷ [])) last (has_in (order ++ (last ∷ [])) last (has_behind order (last ∷ []) last (inl refl)))

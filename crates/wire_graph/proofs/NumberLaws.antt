@@ -8,10 +8,7 @@ use Rattle.std.specs.Map.{lookup}
 use Rattle.std.specs.Option.{option_copied}
 use Rattle.std.proofs.lemmas.List.{take_all}
 use Rattle.list_laws.specs.Options.{the_first}
-
-first_none : {A : Type 0} (other : Option A) → the_first other None ≡ other
-first_none None = refl
-first_none (Some x) = refl
+use Rattle.list_laws.proofs.Options.{or_none}
 
 module _ {K : Type 0} (eq : K → K → Bool) (laws : IsEquivalence eq) where
   lookup_alike : (one other : K) (entries : List (K × ℕ)) → eq one other ≡ true → lookup (eq one) entries ≡ lookup (eq other) entries
@@ -23,7 +20,7 @@ module _ {K : Type 0} (eq : K → K → Bool) (laws : IsEquivalence eq) where
   new_by : (told : Bool) (place : ℕ) (old new : Option ℕ) → new ≡ cond told (Some place) old → (told ≡ true → old ≡ None)
       → new ≡ the_first old (cond told (Some place) None)
   new_by true place old new put none = rw (none refl) put
-  new_by false place old new put none = put ∙ sym (first_none old)
+  new_by false place old new put none = put ∙ sym (or_none old)
 
   pub noted_new : (key asked : K) (place : ℕ) (entries : List (K × ℕ)) (new : Option ℕ) → new ≡ cond (eq key asked) (Some place) (lookup (eq asked) entries)
       → lookup (eq key) entries ≡ None → new ≡ the_first (lookup (eq asked) entries) (cond (eq asked key) (Some place) None)

@@ -7,7 +7,7 @@ use Rattle.unit_tree.specs.Printable.{IsRanged}
 use Rattle.run_laws.specs.RunLaws.{RunsHaveOneTrace}
 use Rattle.unit_tree.specs.WellFormed.{IsWellFormed}
 use Rattle.unit_tree.specs.declared.system.System.{System}
-use Rattle.run_laws.proofs.EventLaws.{one_or_two, version_1_without_events, plain_form_1, plain_of_without_events, plain_form_without_events}
+use Rattle.run_laws.proofs.EventLaws.{version_1_without_events, plain_form_1, plain_of_without_events, plain_form_without_events}
 use Rattle.language_laws.proofs.NameLaws.{names_differ, is_wired}
 use Rattle.run_laws.proofs.PlaceOrders.{system_is_ordered, has_no_cycle}
 use Rattle.run_laws.proofs.PlainCycles.{plain_is_wired, has_none_of_plain}
@@ -15,6 +15,7 @@ use Rattle.run_laws.proofs.PlainOrders.{plain_of, plain_names_differ, plain_has_
 use Rattle.run_laws.proofs.PositionLaws.{system_has_members}
 use Rattle.run_laws.proofs.RunTraces.{one_trace, one_trace_of}
 use Rattle.run_laws.proofs.laws.systems_have_one_trace.Goals as goal
+use Rattle.list_laws.proofs.Truths.{one_or_two}
 
 pub returns-clause-order : goal.returns-clause-order
 returns-clause-order c = λ system plain kept. (
