@@ -49,6 +49,7 @@ use Rattle.unit_vm.specs.declared.program.Entry.{Entry}
 use Rattle.unit_vm.specs.declared.program.Entry.TheVariants as entry
 use Rattle.unit_vm.specs.declared.program.Program.{Program}
 use Rattle.unit_vm.specs.declared.program.Sizes.{Sizes}
+use Rattle.list_laws.proofs.Truths.{not_negative}
 
 -- ---- Openings
 
@@ -79,9 +80,6 @@ zeroed sizes front old behind one other =
 
 not_below : (n : ℕ) → int_le (pos 0) (pos n) ≡ true
 not_below n = grind (arith, nat_tests)
-
-not_negative : (n : ℕ) → is_negative (pos n) ≡ false
-not_negative n = grind (arith, nat_tests)
 
 module _ (component : Component) (fits : IsCompilable component.unit component.params) where
   abbrev program : Program

@@ -8,6 +8,7 @@ use Rattle.std.proofs.lemmas.Grind.{flat_map-append}
 use Rattle.std.proofs.lemmas.List.Elements.{filter_map-append}
 use Rattle.std.proofs.lemmas.Slice.Eq.{bytes_eq-Decides}
 use Rattle.std.proofs.lemmas.Bool.{or_parts}
+use Rattle.std.specs.Cmp.Lexicographic.{nat_list_eq_equiv}
 use Rattle.unit_tree.specs.Canonical.{optional, unit_parts, canonical_parts}
 use Rattle.unit_tree.specs.Names.{Port, output_ports, output_names, input_names, output_uses, keeps_to, are_among, output_at, input_at, same_port}
 use Rattle.unit_tree.specs.Parts as parts
@@ -337,6 +338,11 @@ pub same_port_of : (one other : PortName) → one ≡ other → same_port one ot
 same_port_of one other is =
     ap (λ b. b && bytes_eq one.port other.port) (bytes_of one.instance other.instance (ap (λ (p : PortName). p.instance) is))
     ∙ bytes_of one.port other.port (ap (λ (p : PortName). p.port) is)
+
+pub same_port_symm : (one other : PortName) → same_port one other ≡ same_port other one
+same_port_symm one other =
+    ap (λ told. told && bytes_eq one.port other.port) (nat_list_eq_equiv.symm one.instance other.instance)
+    ∙ ap (λ told. bytes_eq other.instance one.instance && told) (nat_list_eq_equiv.symm one.port other.port)
 
 module _ (system : System) where
   abbrev pub Names : Site → Type 0

@@ -1,8 +1,9 @@
 -- Two lists side by side.
-use Rattle.std.proofs.Common.{◌≡◌, ℕ, zero, suc, ◌+◌, ◌<◌, ◌≤◌, Bool, true, false, List, [], ◌∷◌, ◌++◌, map, length, Option, Some, None, Result, Ok, Err, inl}
-use Rattle.std.proofs.Common.{inr, refl, ap, sym, subst, ◌∙◌, ◌⊎◌, arith}
+use Rattle.std.proofs.Common.{◌≡◌, ℕ, zero, suc, ◌+◌, ◌<◌, ◌≤◌, Bool, true, false, List, [], ◌∷◌, ◌++◌, map, Option, Some, None, Result, Ok, Err, inl}
+use Rattle.std.proofs.Common.{inr, refl, ap, sym, subst, ◌∙◌, ◌⊎◌}
 use Rattle.std.specs.Prelude.{⊤, slice_get, get_or, set}
-use Rattle.std.specs.List.{AllZip}
+use Rattle.std.specs.List.{AllZip, zip}
+use Rattle.std.proofs.lemmas.Option.{same_Some}
 
 pub zip_append : {A B : Type 0} (R : A → B → Type 0) (xs xs' : List A) (ys ys' : List B) → AllZip R xs ys → AllZip R xs' ys' → AllZip R (xs ++ xs') (ys ++ ys')
 zip_append R [] xs' [] ys' one other = other

@@ -1,8 +1,9 @@
 -- Truth values, and tests on numbers.
 use Rattle.std.proofs.Common.{◌≡◌, ℕ, zero, suc, ◌+◌, ◌<◌, ◌≤◌, Bool, true, false, List, [], ◌∷◌, ◌++◌, map, length, Option, Some, None, Result, Ok, Err, inl}
-use Rattle.std.proofs.Common.{inr, refl, ap, sym, subst, ◌∙◌, ◌⊎◌, arith}
+use Rattle.std.proofs.Common.{inr, refl, ap, sym, subst, ◌∙◌, ◌⊎◌, arith, pos}
 use Rattle.std.specs.Prelude.{IsTrue, not, nat_lt, nat_le, ◌&&◌, ◌||◌}
 use Rattle.std.proofs.lemmas.Bool.Decides.{nat_tests}
+use Rattle.std.specs.Int.{is_negative}
 
 pub true_is_false : {A : Type 0} (b : Bool) → b ≡ true → b ≡ false → A
 true_is_false true is isnt = absurd (cc)
@@ -58,3 +59,6 @@ one_or_two zero least most = absurd (omega arith)
 one_or_two (suc zero) least most = inl refl
 one_or_two (suc (suc zero)) least most = inr refl
 one_or_two (suc (suc (suc more))) least most = absurd (omega arith)
+
+pub not_negative : (n : ℕ) → is_negative (pos n) ≡ false
+not_negative n = grind (arith, nat_tests)

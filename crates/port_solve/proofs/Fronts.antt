@@ -30,7 +30,7 @@ use Rattle.unit_tree.specs.declared.order.StartWord.{StartWord}
 use Rattle.unit_tree.specs.declared.unit.Input.{Input}
 use Rattle.unit_tree.specs.declared.unit.Output.{Output}
 use Rattle.run_laws.proofs.AssignmentLaws.{Defined, needs_of, needs_here, all_seen, side_at}
-use Rattle.run_laws.proofs.EquationLaws.{all_among, all_behind}
+use Rattle.run_laws.proofs.EquationLaws.{all_among, all_behind, among_either}
 use Rattle.language_laws.proofs.PlainNames.{map_has}
 use Rattle.run_laws.proofs.SeenLaws.{get_same, get_fits}
 use Rattle.port_solve.proofs.InputPlaces.{source_at, feed_is, has_feed}
@@ -196,12 +196,6 @@ get_other (x ∷ xs) zero zero y differ = absurd (differ refl)
 get_other (x ∷ xs) zero (suc j) y differ = refl
 get_other (x ∷ xs) (suc k) zero y differ = refl
 get_other (x ∷ xs) (suc k) (suc j) y differ = get_other xs k j y (λ is. differ (ap suc is))
-
-among_either : (front : List ℕ) (place q : ℕ) → IsAmong (front ++ (place ∷ [])) q → IsAmong front q ⊎ (place ≡ q)
-among_either [] place q (inl is) = inr is
-among_either [] place q (inr none) = absurd none
-among_either (first ∷ front) place q (inl is) = inl (inl is)
-among_either (first ∷ front) place q (inr later) = elim (among_either front place q later) [ inl there ↦ inl (inr there) | inr here ↦ inr here ]
 
 is_between_same : (ty other : Ty) (word : ℤ) → lowest ty ≡ lowest other → highest ty ≡ highest other → is_word_of ty word ≡ true → is_word_of other word ≡ true
 is_between_same ty other word low high is = sym (ap (λ l. is_between l (highest ty) word) low ∙ ap (λ h. is_between (lowest other) h word) high) ∙ is

@@ -157,7 +157,8 @@ module _ (run : Composition) (states : List (List ℤ)) (sound : IsSound run) (h
 
   pub all_right : inputs ≡ all_inputs run told
   all_right =
-      same_lists inputs (all_inputs run told) (length inputs) refl (length-map run.members (inputs_at told) ∙ sym (AllZip-long HasWords run.members inputs shape))
+      same_lists inputs (all_inputs run told) (length inputs) refl
+      (length-map run.members (inputs_at told) ∙ sym (AllZip-long HasWords run.members inputs shape))
       (λ instance within.
       let member = at_place run.members instance (omega (arith, within, AllZip-long HasWords run.members inputs shape)) in
       let beside = zip_at HasWords run.members inputs instance member.0 shape member.1 in

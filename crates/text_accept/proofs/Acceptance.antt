@@ -8,7 +8,7 @@ use Rattle.std.proofs.lemmas.List.{length-map}
 use Rattle.std.proofs.lemmas.Option.{same_Some}
 use Rattle.language_laws.specs.Language.{CyclesAreJudgedOnce}
 use Rattle.unit_tree.specs.Names.{unit_at}
-use Rattle.unit_tree.specs.Orders.{IsIn, HasNoCycle, IsFirstWithoutOrder, outputs_of, declares_output, line_of_output}
+use Rattle.unit_tree.specs.Orders.{HasNoCycle, IsFirstWithoutOrder, declares_output, line_of_output}
 use Rattle.unit_tree.specs.Parts.{Part}
 use Rattle.unit_tree.specs.Sites.{Site, sites_of}
 use Rattle.unit_tree.specs.SourceLines.{ReadsFrom, numbers_of, in_canonical_order}
@@ -28,6 +28,7 @@ use Rattle.unit_text.proofs.KnownForms.{known}
 use Rattle.wire_graph.proofs.CycleLaws.{cycles_are_judged_once as judged_cycles}
 use Rattle.text_accept.specs.Laws.{IsAcceptedOrRefused, EveryTextIsJudgedOnce}
 use Rattle.text_accept.specs.Accepting.{IsAcceptedAs, source_line, BreaksRule, HasCycle, IsRefusedAt}
+use Rattle.text_accept.proofs.SourceCycles.{first_stands}
 
 -- ---- One system, and one list of lines
 
@@ -133,13 +134,6 @@ found_within test from (site ∷ all) item is = found_by test from site all item
 
 -- ---- Each text is judged
 
-first_is_output : (system : System) (port : PortName) → IsFirstWithoutOrder system port → IsIn (outputs_of system) port
-first_is_output system port first = subst (λ outputs. IsIn outputs port) (sym first.cut) (behind first.before)
-  where
-    behind : (before : List PortName) → IsIn (before ++ (port ∷ first.later)) port
-    behind [] = inl refl
-    behind (other ∷ before) = inr (behind before)
-
 pub broken_is_refused : (text : List ℕ) (system : System) (lines : List ℕ) (refusal : Refusal) → ReadsFrom text system lines
     → refusal_of system ≡ Some refusal → (line : ℕ) × IsRefusedAt text line refusal.by
 broken_is_refused text system lines refusal from found =
@@ -150,7 +144,7 @@ broken_is_refused text system lines refusal from found =
 pub cycle_is_refused : (text : List ℕ) (system : System) (lines : List ℕ) (port : PortName) → ReadsFrom text system lines → IsWellFormed system
     → IsFirstWithoutOrder system port → (line : ℕ) × IsRefusedAt text line 15
 cycle_is_refused text system lines port from well first =
-    let declared = has_line system port well (first_is_output system port first) in
+    let declared = has_line system port well (first_stands system port first) in
     let within = found_within (λ at. declares_output port.port (unit_at system port) at.1.scope at.1.line) 1 (sites_of system) declared.0 declared.1 in
     let low = within.0 in
     let high = within.1 in

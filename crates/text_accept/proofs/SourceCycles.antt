@@ -23,6 +23,7 @@ use Rattle.language_laws.proofs.NameLaws.{names_differ, is_wired}
 use Rattle.run_laws.proofs.PlaceOrders.{has_in, has_no_cycle}
 use Rattle.run_laws.proofs.PlainCycles.{plain_is_wired, has_none_of_plain, is_output, outputs_among, orderly, kept_in, told_in}
 use Rattle.language_laws.proofs.PlainNames.{IsPlain, of_output, of_event}
+use Rattle.language_laws.proofs.OrderLaws.{in_front}
 use Rattle.run_laws.proofs.PlainOrders.{plain_of, plain_named, plain_names_differ, plain_ports, ones, twos, names_are, both_names, output_name, split_by, split}
 use Rattle.run_laws.proofs.PlainOrders.{splits, in_splits, is_event_is, ordered, plain_name}
 use Rattle.list_laws.proofs.Members.{Has}
@@ -188,11 +189,6 @@ module _ (system : System) (ranged : IsRanged system) (kept : IsWellFormed syste
         },
       )
     where
-      in_front : (front behind : List PortName) (port : PortName) → IsIn front port → IsIn (front ++ behind) port
-      in_front [] behind port stands = absurd stands
-      in_front (q ∷ front) behind port (inl is) = inl is
-      in_front (q ∷ front) behind port (inr stands) = inr (in_front front behind port stands)
-
       each_of : (ports : List PortName) (port : PortName) → AllByRecursion (λ q. HasNoOrder (plain_of system) q → ⊥) ports → IsIn ports port
           → HasNoOrder (plain_of system) port → ⊥
       each_of [] port all stands = absurd stands
@@ -225,7 +221,7 @@ pub record SourceOutput (system : System) (made : PortName) : Type 0 where
   pub stands : IsIn (outputs_of system) port
   pub makes : IsMadeOf system made port
 
-first_stands : (system : System) (port : PortName) → IsFirstWithoutOrder system port → IsIn (outputs_of system) port
+pub first_stands : (system : System) (port : PortName) → IsFirstWithoutOrder system port → IsIn (outputs_of system) port
 first_stands system port first = subst (λ outputs. IsIn outputs port) (sym first.cut) (behind first.before)
   where
     behind : (before : List PortName) → IsIn (before ++ (port ∷ first.later)) port

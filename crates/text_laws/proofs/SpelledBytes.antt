@@ -3,7 +3,6 @@ use Rattle.std.proofs.Common.{◌≡◌, ℕ, Bool, true, false, not, ◌&&◌, 
 use Rattle.std.specs.List.{list_all, before_first, position_or_len}
 use Rattle.std.proofs.lemmas.Bool.{and_parts, and_from}
 use Rattle.std.proofs.lemmas.Bool.Decides.{nat_tests}
-use Rattle.std.proofs.lemmas.List.Folds.{list_all-append}
 use Rattle.fixed_words.specs.Digits.{is_digit, pointed, IsNumber}
 use Rattle.unit_tree.specs.Lines.{is_code_byte, code_of, without_return, has_forbidden_byte}
 use Rattle.unit_tree.specs.Tokens.{is_blank, is_letter, is_word_byte, begins_with, keyword_text, symbol_text, IsWord, IsSpelling, Spells}

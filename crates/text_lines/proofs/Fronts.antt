@@ -27,7 +27,7 @@ use Rattle.text_tokens.proofs.TableLemmas.{symbol_of-symbol_text}
 use Rattle.text_lines.specs.Expressions.{Reader, Front, same_symbol, after_symbol, after_then, after_else, name_at, decimals_at, grouped_at, call_at, fix_at}
 use Rattle.text_lines.specs.Expressions.{prefix_at, pair_at, clamp_at, choice_at, present_at, keyword_operand, symbol_operand, operand_at, infix_at, with_right}
 use Rattle.text_lines.specs.Expressions.{climb, within, read}
-use Rattle.text_lines.proofs.InfixOperations.{is_infix, infix_tokens, infix_at_is, Takes, allows_from, strongest}
+use Rattle.text_lines.proofs.InfixOperations.{is_infix, infix_tokens, infix_at_is, Takes}
 use Rattle.text_lines.proofs.PhraseTokens.{group_tokens, pair_tokens, clamp_tokens, choice_tokens}
 use Rattle.language_laws.proofs.PhraseLaws.{primary_stands}
 

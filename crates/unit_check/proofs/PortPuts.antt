@@ -3,12 +3,13 @@ use Rattle.std.proofs.Common.{◌≡◌, ℕ, Bool, true, false, ◌&&◌, List,
 use mathlib.Core.Bool.{cond}
 use Rattle.std.specs.Borrow.{Bor}
 use Rattle.std.specs.Map.{lookup, KeepsOthers}
-use Rattle.std.specs.Cmp.Lexicographic.{bytes_decides, nat_list_eq_equiv}
+use Rattle.std.specs.Cmp.Lexicographic.{bytes_decides}
 use Rattle.unit_tree.specs.Names.{same_port}
 use Rattle.unit_tree.specs.declared.system.PortName.{PortName}
 use Rattle.std.proofs.lemmas.Bool.{and_parts}
 use Rattle.list_laws.specs.Options.{the_first}
 use Rattle.list_laws.proofs.Options.{or_none}
+use Rattle.language_laws.proofs.NameLaws.{same_port_symm}
 
 abbrev pub Key : Type 0
 Key = Bor (List ℕ) × Bor (List ℕ)
@@ -25,9 +26,6 @@ both_is one other first second is =
     let parts = and_parts (bytes_eq one first) (bytes_eq other second) is in
     ((bytes_decides one first).0 parts.0, (bytes_decides other second).0 parts.1)
 
-pub turned : (one other : PortName) → same_port one other ≡ same_port other one
-turned one other = rw (nat_list_eq_equiv.symm one.instance other.instance, nat_list_eq_equiv.symm one.port other.port) refl
-
 -- Keys of a port are the same key.
 is_key_test : (port : PortName) (x y : Key) → names_port port x ≡ true → names_port port y ≡ same_key x y
 is_key_test port x y is =
@@ -40,7 +38,7 @@ are_apart port other apart key is =
     let names = both_is port.instance port.port key.0.now key.1.now is in
     ap (λ i. bytes_eq other.instance i && bytes_eq other.port key.1.now) (sym names.0)
     ∙ ap (λ p. bytes_eq other.instance port.instance && bytes_eq other.port p) (sym names.1)
-    ∙ turned other port ∙ apart
+    ∙ same_port_symm other port ∙ apart
 
 same_test : (port other : PortName) → same_port port other ≡ true → names_port port ≡ names_port other
 same_test port other is =

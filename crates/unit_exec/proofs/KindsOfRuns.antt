@@ -145,7 +145,10 @@ module _ (scope : Scope) (names : KindsOfNames) (Usable Event : List ℕ → Typ
       by_code (expr.Binary op a b) (expr.Binary op (plain_expression a) (plain_expression b))
       (λ s. binary_joined op (code_of (plain_expression a) s) (code_of (plain_expression b) s)) kind (plain-Binary op a b)
       (fold-Binary Coding node_code op (plain_expression a) (plain_expression b))
-      (record { agrees = and_from _ _ one.agrees two.agrees; kind_is = ap (binary_kind_of op) one.kind_is ∙ binary_told op told.one other.one kind other.gives })
+      (record {
+        agrees = and_from _ _ one.agrees two.agrees;
+        kind_is = ap (binary_kind_of op) one.kind_is ∙ binary_told op told.one other.one kind other.gives;
+      })
 
   -- Three parts: what each uses, of all that they use.
   three : (a b c : Expr) (all_names all_events : List (List ℕ)) → all_names ≡ (names_in a ++ names_in b) ++ names_in c

@@ -1,5 +1,5 @@
 -- How deep one node of an expression is nested, by a limit.
-use Rattle.std.proofs.Common.{◌≡◌, ◌≤◌, ℕ, ◌+◌, suc, max, Bool, true, false, ◌&&◌, refl, sym, ap, ◌∙◌, arith}
+use Rattle.std.proofs.Common.{◌≡◌, ◌≤◌, ℕ, ◌+◌, suc, max, true, false, ◌&&◌, refl, sym, ap, ◌∙◌, arith}
 use Rattle.std.specs.Prelude.{nat_le, nat_lt, IsTrue, IsFalse}
 use Rattle.std.proofs.lemmas.Bool.Decides.{nat_tests}
 use Rattle.unit_tree.specs.Canonical.{canonical_phrase, node_phrase, placed}

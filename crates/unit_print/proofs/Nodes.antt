@@ -1,9 +1,9 @@
 -- What one node of an expression puts behind a text.
-use Rattle.std.proofs.Common.{◌≡◌, ℕ, true, List, ◌∷◌, ◌++◌, refl, sym, ap, ◌∙◌}
+use Rattle.std.proofs.Common.{◌≡◌, ℕ, List, ◌∷◌, ◌++◌, refl, sym, ap, ◌∙◌}
 use Rattle.std.specs.Prelude.{IsTrue, IsFalse}
 use Rattle.unit_tree.specs.Canonical.{canonical_phrase, node_phrase, placed, expression_tokens}
 use Rattle.unit_tree.specs.Phrases as phrase
-use Rattle.unit_tree.specs.Phrases.{Phrase, Level, Whole, Or, And, Not, Comparison, Sum, Product, Negation, Primary, allows, level_of, phrase_tokens}
+use Rattle.unit_tree.specs.Phrases.{Phrase, Level, Whole, Or, And, phrase_tokens}
 use Rattle.unit_tree.specs.Phrases.{call_of_two, operation, keyword, symbol, left_level, right_level, binary_level, in_parens}
 use Rattle.unit_tree.specs.declared.expr.BinOp.{BinOp}
 use Rattle.unit_tree.specs.declared.expr.BinOp.TheVariants as by
@@ -18,23 +18,14 @@ use Rattle.unit_print.specs.Calls.{is_call}
 use Rattle.unit_print.proofs.Growth.{tokens_append, infix_tokens}
 use Rattle.text_laws.proofs.ShortestPhrases.{placed_whole}
 
-whole_allows : (level : Level) → allows Whole level ≡ true
-whole_allows Whole = refl
-whole_allows Or = refl
-whole_allows And = refl
-whole_allows Not = refl
-whole_allows Comparison = refl
-whole_allows Sum = refl
-whole_allows Product = refl
-whole_allows Negation = refl
-whole_allows Primary = refl
-
 call_phrase : (op : BinOp) (left right : Phrase) → IsTrue (is_call op)
     → phrase_tokens (phrase.Binary op (placed (left_level (binary_level op)) left) (placed (right_level (binary_level op)) right))
     ≡ call_of_two (operation op) (phrase_tokens left) (phrase_tokens right)
-call_phrase by.Min left right is = ap (λ (p : Phrase). call_of_two (operation by.Min) (phrase_tokens p) (phrase_tokens (placed Whole right))) (placed_whole left)
+call_phrase by.Min left right is =
+    ap (λ (p : Phrase). call_of_two (operation by.Min) (phrase_tokens p) (phrase_tokens (placed Whole right))) (placed_whole left)
     ∙ ap (λ (p : Phrase). call_of_two (operation by.Min) (phrase_tokens left) (phrase_tokens p)) (placed_whole right)
-call_phrase by.Max left right is = ap (λ (p : Phrase). call_of_two (operation by.Max) (phrase_tokens p) (phrase_tokens (placed Whole right))) (placed_whole left)
+call_phrase by.Max left right is =
+    ap (λ (p : Phrase). call_of_two (operation by.Max) (phrase_tokens p) (phrase_tokens (placed Whole right))) (placed_whole left)
     ∙ ap (λ (p : Phrase). call_of_two (operation by.Max) (phrase_tokens left) (phrase_tokens p)) (placed_whole right)
 call_phrase by.Add left right is = absurd cc
 call_phrase by.Sub left right is = absurd cc

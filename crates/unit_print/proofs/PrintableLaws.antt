@@ -7,7 +7,7 @@ use Rattle.std.proofs.lemmas.Bool.{and_parts, and_from, or_parts}
 use Rattle.std.proofs.lemmas.Bool.Decides.{nat_tests}
 use Rattle.std.proofs.lemmas.List.Folds.{list_all-append}
 use Rattle.list_laws.proofs.Lists.{each_so}
-use Rattle.list_laws.proofs.Truths.{le_told, le_asked}
+use Rattle.list_laws.proofs.Truths.{le_told, le_asked, or_nothing}
 use Rattle.unit_tree.specs.Canonical.{canonical_forms, canonical_text, line_text, form_tokens}
 use Rattle.unit_tree.specs.LineForms.{tail_of, is_of_version_2, tail_speaks_of_events}
 use Rattle.unit_tree.specs.Names.{expression_on}
@@ -34,10 +34,6 @@ pub record Fits (version : ℕ) (some : LineForm) : Type 0 where
 -- A line is of version 2 by how it begins or by its expression.
 by_parts : (some : LineForm) → is_of_version_2 some ≡ (begins_in_version_2 some || tail_speaks_of_events (tail_of some))
 by_parts (form.Header version) = or_nothing (version == 2)
-  where
-    or_nothing : (told : Bool) → told ≡ (told || false)
-    or_nothing true = refl
-    or_nothing false = refl
 by_parts _ = refl
 
 both_of_version : (begins speaks second : Bool) → (not begins || second) ≡ true → (not speaks || second) ≡ true → (not (begins || speaks) || second) ≡ true

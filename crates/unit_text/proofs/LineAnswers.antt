@@ -1,6 +1,5 @@
 -- What is answered of a line that has no form, and of one that is noted.
-use Rattle.std.proofs.Common.{◌≡◌, ℕ, List, Result, Ok, Err, inl, inr, refl}
-use Rattle.std.specs.Result.{OnOk, result_and}
+use Rattle.std.proofs.Common.{◌≡◌, ℕ, List, Err, inl, inr, refl}
 use Rattle.unit_tree.specs.declared.line_form.LineForm.{LineForm}
 use Rattle.text_tokens.specs.Scanning.{ReadsAs}
 use Rattle.text_tokens.specs.declared.fault.Unread.{Unread}

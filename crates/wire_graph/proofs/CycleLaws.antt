@@ -14,6 +14,7 @@ use Rattle.language_laws.proofs.OrderLaws.{each_in, in_front}
 use Rattle.run_laws.proofs.PlaceOrders.{has_in, same_port_is}
 use Rattle.list_laws.proofs.Members.{has_behind}
 use Rattle.list_laws.proofs.Truths.{true_is_false}
+use Rattle.list_laws.proofs.Lists.{each_so}
 
 -- ---- Whether a port is among some
 
@@ -101,10 +102,6 @@ none_left order (first ∷ ports) none port (inr later) = none_left order ports 
 
 -- ---- A closed orderly list
 
-all_in : (P Q : PortName → Type 0) (ports : List PortName) → ((port : PortName) → P port → Q port) → AllByRecursion P ports → AllByRecursion Q ports
-all_in P Q [] leads all = tt
-all_in P Q (first ∷ ports) leads all = (leads first all.0, all_in P Q ports leads all.1)
-
 in_either : (front : List PortName) (last port : PortName) → IsIn (front ++ (last ∷ [])) port → IsIn front port ⊎ (last ≡ port)
 in_either [] last port (inl is) = inr is
 in_either [] last port (inr none) = absurd none
@@ -125,10 +122,10 @@ module _ (system : System) where
       → IsOrderlyAfter system before other → (port : PortName) → IsIn other port → IsIn order port
   within order before [] closed came orderly port none = absurd none
   within order before (first ∷ other) closed came orderly port (inl is) =
-      subst (IsIn order) is (closed first orderly.0 (all_in (IsIn before) (IsIn order) (needed_by system first) came orderly.2))
+      subst (IsIn order) is (closed first orderly.0 (each_so (IsIn before) (IsIn order) came (needed_by system first) orderly.2))
   within order before (first ∷ other) closed came orderly port (inr later) =
       within order (before ++ (first ∷ [])) other closed
-      (λ p. within_by order before first p (closed first orderly.0 (all_in (IsIn before) (IsIn order) (needed_by system first) came orderly.2)) came)
+      (λ p. within_by order before first p (closed first orderly.0 (each_so (IsIn before) (IsIn order) came (needed_by system first) orderly.2)) came)
       orderly.3 port later
 
   longer : (before order : List PortName) (last : PortName) → IsOrderlyAfter system before order → IsIn (outputs_of system) last
@@ -206,7 +203,7 @@ module _ (system : System) where
     later = later;
     cut = cut;
     has_no_order = λ other is_orderly here. outside (within order [] other closed (λ p none. absurd none) is_orderly port here);
-    is_first = all_in (IsIn order) (λ other. HasNoOrder system other → ⊥) before (λ p here none. none order orderly here) inside;
+    is_first = each_so (IsIn order) (λ other. HasNoOrder system other → ⊥) (λ p here none. none order orderly here) before inside;
   }
 
   all_more : (order before : List PortName) (port : PortName) → AllByRecursion (IsIn order) before → IsIn order port
