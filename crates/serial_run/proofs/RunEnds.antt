@@ -28,7 +28,7 @@ use Rattle.unit_tree.specs.declared.system.System.{System}
 use Rattle.run_laws.proofs.AssignmentLaws.{undefined_faults}
 use Rattle.run_laws.proofs.PositionLaws.{system_has_members}
 use Rattle.run_laws.proofs.RunTraces.{one_trace}
-use Rattle.serial_run.specs.Advances.{Moved, EndsThere, Advanced}
+use Rattle.serial_run.specs.Advances.{CameToNext, EndsThere, Advanced}
 use Rattle.serial_run.specs.Lines.{PutsRow, ShowsWords, header_of, lines_of, rows_here}
 use Rattle.serial_run.specs.Reports.{ReportsTrace, PutsFront, TellsFault}
 use Rattle.serial_run.specs.Sums.{sum_shown}
@@ -259,7 +259,7 @@ row_put_in plan lent stand held held' faults faults' before after result is puts
 pub opened_in : (plan lent : Planned) (r : RunState) → lent ≡ plan → IsOpened lent (first_position lent.run) r → IsOpened plan (first_position plan.run) r
 opened_in plan lent r is opened = subst (λ (p : Planned). IsOpened p (first_position p.run) r) is opened
 
-pub going_on : (old new : RunState) (came : Bool) → came ≡ true → Advanced old new came → Moved old new
+pub going_on : (old new : RunState) (came : Bool) → came ≡ true → Advanced old new came → CameToNext old new
 going_on old new came is advanced = (subst (Advanced old new) is advanced).0
 
 pub ended_by : (old new : RunState) (came : Bool) → came ≡ false → Advanced old new came → Advanced old new false

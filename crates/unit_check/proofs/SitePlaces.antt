@@ -100,33 +100,33 @@ lines_of system (UnitScope unit) = heads (block unit)
 lines_of system (StepScope unit) = lines_in_step unit.step
 lines_of system (InstanceScope instance) = heads (instance_block instance)
 
-pub record Stands (system : System) (site : Site) : Type 0 where
+pub record StandsInBlock (system : System) (site : Site) : Type 0 where
   pub rest : List LineForm
   pub cut : lines_of system site.scope ≡ site.earlier ++ (site.line ∷ rest)
 
 module _ (system : System) where
   each_stands : (scope : Scope) (earlier : List LineForm) (headed : List Headed) → lines_of system scope ≡ earlier ++ heads headed
-      → Inside (Stands system) headed → AllByRecursion (Stands system) (sites scope earlier headed)
+      → Inside (StandsInBlock system) headed → AllByRecursion (StandsInBlock system) (sites scope earlier headed)
   each_stands scope earlier [] cut inside = _
   each_stands scope earlier (first ∷ others) cut inside = (
     record { rest = heads others; cut = cut },
-    each_append (Stands system) first.block (sites scope (earlier ++ (first.head ∷ [])) others) inside.0
+    each_append (StandsInBlock system) first.block (sites scope (earlier ++ (first.head ∷ [])) others) inside.0
         (each_stands scope (earlier ++ (first.head ∷ [])) others (cut ∙ sym (append_assoc earlier (first.head ∷ []) (heads others))) inside.1),
   )
 
-  in_instance : (instance : Instance) → AllByRecursion (Stands system) (sites (InstanceScope instance) [] (instance_block instance))
-  in_instance instance = each_stands (InstanceScope instance) [] (instance_block instance) refl (inside_instance (Stands system) instance)
+  in_instance : (instance : Instance) → AllByRecursion (StandsInBlock system) (sites (InstanceScope instance) [] (instance_block instance))
+  in_instance instance = each_stands (InstanceScope instance) [] (instance_block instance) refl (inside_instance (StandsInBlock system) instance)
 
   in_step : (unit : Unit) (lines : List Line) → unit.step ≡ Some lines
-      → AllByRecursion (Stands system) (line_sites (StepScope unit) [] (flat_map line_forms lines))
+      → AllByRecursion (StandsInBlock system) (line_sites (StepScope unit) [] (flat_map line_forms lines))
   in_step unit lines is =
       let all : List LineForm = flat_map line_forms lines in
-      each_stands (StepScope unit) [] (map alone all) (ap lines_in_step is ∙ sym (heads_alone all)) (inside_alone (Stands system) all)
+      each_stands (StepScope unit) [] (map alone all) (ap lines_in_step is ∙ sym (heads_alone all)) (inside_alone (StandsInBlock system) all)
 
-  in_unit : (unit : Unit) → AllByRecursion (Stands system) (sites (UnitScope unit) [] (block unit))
-  in_unit unit = each_stands (UnitScope unit) [] (block unit) refl (inside_unit (Stands system) unit (in_step unit))
+  in_unit : (unit : Unit) → AllByRecursion (StandsInBlock system) (sites (UnitScope unit) [] (block unit))
+  in_unit unit = each_stands (UnitScope unit) [] (block unit) refl (inside_unit (StandsInBlock system) unit (in_step unit))
 
-  pub all_stand : AllByRecursion (Stands system) (sites_of system)
+  pub all_stand : AllByRecursion (StandsInBlock system) (sites_of system)
   all_stand =
-      subst (AllByRecursion (Stands system)) (sym (sites_are system))
-      (each_stands TopScope [] (whole system) refl (inside_system (Stands system) system in_unit in_instance))
+      subst (AllByRecursion (StandsInBlock system)) (sym (sites_are system))
+      (each_stands TopScope [] (whole system) refl (inside_system (StandsInBlock system) system in_unit in_instance))

@@ -38,16 +38,16 @@ use Rattle.list_laws.proofs.Truths.{true_is_false, le_asked, lt_asked}
 use Rattle.run_laws.proofs.PortLaws.{has_among}
 
 -- What is found in a list stands there.
-pub record Stands (xs : List Variable) (name : List ℕ) (one : Variable) : Type 0 where
+pub record IsFoundIn (xs : List Variable) (name : List ℕ) (one : Variable) : Type 0 where
   pub has : Has xs one
   pub named_so : one.name ≡ name
 
-find_stands : (xs : List Variable) (name : List ℕ) (one : Variable) → find (λ (x : Variable). bytes_eq x.name name) xs ≡ Some one → Stands xs name one
+find_stands : (xs : List Variable) (name : List ℕ) (one : Variable) → find (λ (x : Variable). bytes_eq x.name name) xs ≡ Some one → IsFoundIn xs name one
 find_stands [] name one is = absurd (cc)
 find_stands (x ∷ xs) name one is = by_test (bytes_eq x.name name) refl is (λ later. find_stands xs name one later)
   where
     by_test : (told : Bool) → bytes_eq x.name name ≡ told → cond told (Some x) (find (λ (y : Variable). bytes_eq y.name name) xs) ≡ Some one
-        → (find (λ (y : Variable). bytes_eq y.name name) xs ≡ Some one → Stands xs name one) → Stands (x ∷ xs) name one
+        → (find (λ (y : Variable). bytes_eq y.name name) xs ≡ Some one → IsFoundIn xs name one) → IsFoundIn (x ∷ xs) name one
     by_test true same here later = let alike : x ≡ one = cc in
         record { has = inl alike; named_so = ap (λ (v : Variable). v.name) (sym alike) ∙ same_bytes x.name name same }
     by_test false other here later = let rest = later here in record { has = inr rest.has; named_so = rest.named_so }
