@@ -16,7 +16,7 @@ use Rattle.code_pieces.proofs.ItemPlaces.{has_front, has_back, has_to, has_itsel
 use Rattle.code_pieces.proofs.PieceShapes.{made}
 use Rattle.code_pieces.proofs.Heights.{marks, marks_length, some_same, under_top, first_mark}
 use Rattle.code_pieces.proofs.PieceBlocks.{Placed, Block, block}
-use Rattle.code_pieces.proofs.Allowed.{allowed, allowed_both, allowed_end}
+use Rattle.code_pieces.proofs.AllowedInstructions.{allowed, allowed_both, allowed_end}
 
 same_instruction : (i j : Instruction) → Some i ≡ Some j → i ≡ j
 same_instruction i j e = cc

@@ -40,7 +40,7 @@ use Rattle.serial_run.proofs.BoundLaws.{cells_are_bounded}
 use Rattle.serial_run.proofs.CellLaws.{cells_ended}
 use Rattle.serial_run.proofs.RowLaws.{text_is}
 use Rattle.serial_run.proofs.RunKept.{Given, ArePut, IsAt, Come, Kept, moved_at, cells-push}
-use Rattle.serial_run.proofs.Walks.{Walked, walked_end, last_is, front_along}
+use Rattle.serial_run.proofs.PassedStands.{Walked, walked_end, last_is, front_along}
 
 -- ---- The run is over
 

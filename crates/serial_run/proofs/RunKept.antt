@@ -25,7 +25,7 @@ use Rattle.serial_run.specs.Lines.{IsPut, PutsRow, header_of, lines_of, rows_her
 use Rattle.serial_run.specs.Sums.{sum_shown}
 use Rattle.serial_run.specs.declared.tally.Tally.{Tally}
 use Rattle.serial_run.proofs.RowLaws.{no_lines}
-use Rattle.serial_run.proofs.Walks.{Walked, walked_first, walked_on}
+use Rattle.serial_run.proofs.PassedStands.{Walked, walked_first, walked_on}
 
 -- what is so of a plan, whatever its run does
 pub record Given (plan : Planned) : Type 0 where

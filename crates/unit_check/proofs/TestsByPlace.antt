@@ -1,7 +1,7 @@
 -- Each rule's test by the place of a line is the one of the definitions, at every line of a system in range.
 use Rattle.std.proofs.Common.{◌≡◌, true, ◌||◌, List, [], ◌∷◌, ◌++◌, refl, ap, sym, ◌∙◌, subst, append_assoc}
 use Rattle.std.specs.List.{AllByRecursion}
-use Rattle.unit_check.proofs.SaidAgain.{redeclares_is, connects_is, repeats_is}
+use Rattle.unit_check.proofs.RepeatsByPlace.{redeclares_is, connects_is, repeats_is}
 use Rattle.unit_check.proofs.BreakingLines.{says, broken_same}
 use Rattle.unit_check.proofs.WalksOfParts.{system_goes}
 use Rattle.unit_check.proofs.CountsByPlace.{InUnit, unit_agrees, exceeds_is}

@@ -20,7 +20,7 @@ use Rattle.text_laws.proofs.SpelledBytes.{is_spelled_byte, spelled_bytes, spelle
 use Rattle.text_laws.proofs.TokenTexts.{line_is_spelled}
 use Rattle.text_laws.proofs.ReadIsPrintable.{no_event_port}
 use Rattle.unit_print.specs.Fitting.{is_name, counts_fit, tail_fits, begins_in_version_2, line_fits, are_short}
-use Rattle.unit_print.proofs.NamesTold.{tail_told, tail_asked, names_told, names_asked, counts_told, counts_asked}
+use Rattle.unit_print.proofs.LineTests.{tail_told, tail_asked, names_told, names_asked, counts_told, counts_asked}
 
 -- ---- One line
 

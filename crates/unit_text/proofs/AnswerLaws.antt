@@ -22,9 +22,9 @@ use Rattle.text_lines.specs.Seen.{IsClean}
 use Rattle.unit_text.specs.Nesting.{Nested, headed_by, and_form, nested_forms}
 use Rattle.unit_text.proofs.NestingLaws.{before_next, same_parts, whole_forms, parts_close}
 use Rattle.text_laws.proofs.RefusalSteps.{unbroken, IsUnbroken, AreUnbroken, IsLeast, first_broken, no_break}
-use Rattle.unit_text.proofs.Walks.{FormsAreKnown, Decided, first_line, version_known, FormIn, form_in, same_forms, AreBlank, NestTo, are_short, blank_more}
-use Rattle.unit_text.proofs.Walks.{nest_blank, header_begins, line_nests, BreaksLeast, bytes_break, length_breaks, formless_breaks, place_breaks}
-use Rattle.unit_text.proofs.Walks.{first_place_breaks, headless_breaks, blank_unbroken, is_written, blank_have_none, one_in}
+use Rattle.unit_text.proofs.TextWalks.{FormsAreKnown, Decided, first_line, version_known, FormIn, form_in, same_forms, AreBlank, NestTo, are_short, blank_more}
+use Rattle.unit_text.proofs.TextWalks.{nest_blank, header_begins, line_nests, BreaksLeast, bytes_break, length_breaks, formless_breaks, place_breaks}
+use Rattle.unit_text.proofs.TextWalks.{first_place_breaks, headless_breaks, blank_unbroken, is_written, blank_have_none, one_in}
 use Rattle.text_laws.proofs.SpelledBytes.{none_forbidden}
 use Rattle.unit_tree.specs.Texts.{BeginsVersion2}
 use Rattle.text_laws.proofs.ReadIsPrintable.{none_written}

@@ -41,8 +41,8 @@ use Rattle.unit_text.proofs.DraftLaws.{draft_of, open_of, draft_goes}
 use Rattle.unit_text.proofs.NumberLaws.{numbers_of, numbers_begin, numbers_more, lengths_more, numbers_end, marks_more}
 use Rattle.unit_text.proofs.NestingLaws.{is_held, before_next, blocks_are, blocks_around, whole_forms}
 use Rattle.text_laws.proofs.RefusalSteps.{AreUnbroken}
-use Rattle.unit_text.proofs.Walks.{FormsAreKnown, FirstLine, first_is, begins_so, AreBlank, NestTo, BreaksLeast, blank_more, nest_blank, header_begins}
-use Rattle.unit_text.proofs.Walks.{line_nests, bytes_break, length_breaks, formless_breaks, place_breaks, first_place_breaks, headless_breaks}
+use Rattle.unit_text.proofs.TextWalks.{FormsAreKnown, FirstLine, first_is, begins_so, AreBlank, NestTo, BreaksLeast, blank_more, nest_blank, header_begins}
+use Rattle.unit_text.proofs.TextWalks.{line_nests, bytes_break, length_breaks, formless_breaks, place_breaks, first_place_breaks, headless_breaks}
 use Rattle.language_laws.proofs.SourceLaws.{version_is}
 
 -- ---- Cutting lines

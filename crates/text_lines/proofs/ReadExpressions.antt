@@ -5,7 +5,7 @@ use Rattle.std.specs.Prelude.{IfSome, option_and_then}
 use Rattle.std.proofs.lemmas.Bool.{and_parts, and_from, eqb-true}
 use Rattle.std.proofs.lemmas.Slice.Eq.{bytes_eq-Decides}
 use Rattle.unit_tree.specs.Phrases as phrase
-use Rattle.unit_tree.specs.Phrases.{Phrase, Level, Whole, Or, And, Not, Comparison, Sum, Product, Negation, Primary, level_of, unary_level, binary_level}
+use Rattle.unit_tree.specs.Phrases.{Phrase, Level, Whole, Not, Primary, level_of, unary_level, binary_level}
 use Rattle.unit_tree.specs.Phrases.{binary_nesting, operand_level, left_level, right_level, allows, stands, nesting, numbers_fit, tree_of, phrase_tokens}
 use Rattle.unit_tree.specs.Phrases.{unary_tokens, binary_tokens, call_of_two, operation, in_parens, keyword, symbol, whole}
 use Rattle.unit_tree.specs.Tokens.{symbol_text}

@@ -15,7 +15,7 @@ use Rattle.unit_tree.specs.declared.token.Token.{Token}
 use Rattle.unit_tree.proofs.FoldLemmas.{fold-Binary, fold-Clamp, fold-Choose}
 use Rattle.unit_print.specs.Growing.{with_token, with_tokens}
 use Rattle.unit_print.specs.Calls.{is_call}
-use Rattle.unit_print.proofs.Growth.{tokens_append, infix_tokens}
+use Rattle.unit_print.proofs.GrowingTexts.{tokens_append, infix_tokens}
 use Rattle.text_laws.proofs.ShortestPhrases.{placed_whole}
 
 call_phrase : (op : BinOp) (left right : Phrase) → IsTrue (is_call op)
