@@ -50,8 +50,8 @@ module _ (P : Site → Type 0) where
       each_append Block (resolution ++ names) ((greatest ++ step_heads unit unit.step) ++ (alone form.End ∷ []))
       (each_append Block resolution names (inside_alone (optional form.Resolution unit.resolution)) (inside_alone (plain_names unit ++ port_lines unit)))
       (each_append Block (greatest ++ step_heads unit unit.step) (alone form.End ∷ [])
-          (each_append Block greatest (step_heads unit unit.step) (inside_alone (optional form.Max unit.max)) (in_step unit.step refl))
-          (inside_alone (form.End ∷ [])))
+      (each_append Block greatest (step_heads unit unit.step) (inside_alone (optional form.Max unit.max)) (in_step unit.step refl))
+      (inside_alone (form.End ∷ [])))
     where
       in_step : (step : Option (List Line)) → unit.step ≡ step → Inside (step_heads unit step)
       in_step None is = _

@@ -68,7 +68,7 @@ pub states_typed : (unit : Unit) → AllByRecursion (λ one. AreDecimals one.ty)
 states_typed unit all =
     let front = (typed_parts ((param_variables unit.params ++ state_variables unit) ++ input_variables unit) (local_variables unit) all).0 in
     let states = (typed_parts (param_variables unit.params) (state_variables unit)
-        (typed_parts (param_variables unit.params ++ state_variables unit) (input_variables unit) front).0).1 in
+    (typed_parts (param_variables unit.params ++ state_variables unit) (input_variables unit) front).0).1 in
     of_mapped (λ (state : State). variable state.name state.ty) unit.states states
 
 pub inputs_typed : (unit : Unit) → AllByRecursion (λ one. AreDecimals one.ty) (variables_of unit)

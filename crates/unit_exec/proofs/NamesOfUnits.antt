@@ -313,7 +313,7 @@ module _ (system : System) (unit : Unit) (declared : Declares (Passes system) un
   in_run_inputs : (w : Variable) → Has input_variables w → Has run_variables w
   in_run_inputs w has =
       has_behind (param_variables unit.params) (slot_variables run) w
-          (has_behind state_variables (input_variables ++ local_variables) w (has_front input_variables local_variables w has))
+      (has_behind state_variables (input_variables ++ local_variables) w (has_front input_variables local_variables w has))
 
   use_param : (param : Param) → Has unit.params param → Usable param.name
   use_param param has =
@@ -347,7 +347,7 @@ module _ (system : System) (unit : Unit) (declared : Declares (Passes system) un
         among_declared =
             has_front (variables_of unit ++ events_of) (map port_variable (output_ports unit)) w
             (has_front (variables_of unit) events_of w
-                (has_behind ((param_variables unit.params ++ state_variables) ++ plain_input_variables) local_variables w here));
+            (has_behind ((param_variables unit.params ++ state_variables) ++ plain_input_variables) local_variables w here));
         among_run =
             has_behind (param_variables unit.params) (slot_variables run) w
             (has_behind state_variables (input_variables ++ local_variables) w (has_behind input_variables local_variables w here));

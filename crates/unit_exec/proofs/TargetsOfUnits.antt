@@ -291,7 +291,7 @@ module _ (system : System) (unit : Unit) (declared : Declares (Passes system) un
   local_slot slot low high =
       or_right (nat_lt slot (length unit.states)) _
       (and_from _ _ (le_asked (length unit.states + length run.inputs) slot low)
-          (lt_asked slot (length unit.states + length run.inputs + length unit.locals) high))
+      (lt_asked slot (length unit.states + length run.inputs + length unit.locals) high))
 
   none_behind : {A : Type 0} (given other : Option A) → given ≡ None → option_or given other ≡ other
   none_behind given other is = ap (λ g. option_or g other) is

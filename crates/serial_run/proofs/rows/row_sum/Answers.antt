@@ -20,6 +20,6 @@ loop-column-preserved c =
           (ap (λ s. s +ℤ row_sum (drop l.column-index c.args.columns.now) c.args.ports.now) (sym l.sum-is) ∙ l.invariant.summed);
       within = subst (IsBoundedBy ((l.column-index + 1) * 2 ^ 63)) (sym total)
           (within_more l.column-index l.sum c.word_shown.result
-              (subst (IsBoundedBy (l.column-index * 2 ^ 63)) l.sum-is l.invariant.within) (omega (arith, ints))
+          (subst (IsBoundedBy (l.column-index * 2 ^ 63)) l.sum-is l.invariant.within) (omega (arith, ints))
           (omega (arith, ints)));
     }
