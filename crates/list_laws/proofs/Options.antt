@@ -3,13 +3,13 @@ use Rattle.std.proofs.Common.{◌≡◌, ℕ, zero, suc, ◌+◌, ◌<◌, ◌�
 use Rattle.std.proofs.Common.{inr, refl, ap, sym, subst, ◌∙◌, ◌⊎◌, arith}
 use Rattle.std.specs.Prelude.{⊤, OnOk}
 use Rattle.std.specs.Result.{result_and}
-use Rattle.list_laws.specs.Options.{the_first}
+use Rattle.std.specs.Option.{option_or}
 
 pub on_ok : {T E : Type 0} (result : Result T E) (P Q : Type 0) → (P → Q) → OnOk result P → OnOk result Q
 on_ok (Ok value) P Q from holds = from holds
 on_ok (Err fault) P Q from holds = tt
 
-pub or_none : {A : Type 0} (one : Option A) → the_first one None ≡ one
+pub or_none : {A : Type 0} (one : Option A) → option_or one None ≡ one
 or_none None = refl
 or_none (Some x) = refl
 

@@ -2,7 +2,7 @@
 use Rattle.std.proofs.Common.{◌≡◌, ℕ, suc, zero, ◌^◌, ◌<◌, ◌≤◌, Bool, true, false, not, cond, ◌&&◌, List, [], ◌∷◌, ◌++◌, length, take, drop, refl, ap, sym, ◌∙◌}
 use Rattle.std.proofs.Common.{arith, ◌==◌, nat_lt, Option, Some, None, append_assoc, option_and_then, IsTrue}
 use Rattle.std.specs.List.{list_all, prefix_len}
-use Rattle.std.specs.Option.{option_map}
+use Rattle.std.specs.Option.{option_map, option_or}
 use Rattle.std.proofs.lemmas.Bool.{and_parts, and_from, and_left, and_right, or_parts, or_left, cond-true, cond-false}
 use Rattle.std.proofs.lemmas.Bool.Decides.{nat_tests}
 use Rattle.std.proofs.lemmas.List.{drop_all, take_at, drop_at, take-append-drop, length-append, length-take, length-drop, nil_from_length, append-nil}
@@ -14,7 +14,7 @@ use Rattle.unit_tree.specs.declared.token.Symbol.{Symbol}
 use Rattle.unit_tree.specs.declared.token.Token.{Token}
 use Rattle.unit_tree.specs.declared.token.Token.TheVariants as token
 use Rattle.text_tokens.specs.Scanning.{keyword_of, symbol_of, named, word_token, word_at, bounded_number, fraction_of, number_token, number_at, symbol_token}
-use Rattle.text_tokens.specs.Scanning.{or_else, symbol_at, token_at, with_rest, TokensAre}
+use Rattle.text_tokens.specs.Scanning.{symbol_at, token_at, with_rest, TokensAre}
 use Rattle.text_tokens.proofs.FrontLemmas.{front_passes, front_stops, prefix_len-none, prefix_len-front, prefix_len-some}
 use Rattle.text_tokens.proofs.NumberLemmas.{bounded_number_within, bounded_number_is}
 use Rattle.text_tokens.proofs.TableLemmas.{keyword_of-keyword_text, keyword_of_is, keyword_of_none, is_word_text, keyword_is_word, symbol_of-symbol_text}
@@ -460,7 +460,7 @@ symbol_at_second x xs first rest (Some symbol) none read e =
     }
 
 symbol_at_case : (x : ℕ) (xs : List ℕ) (first : Token) (rest : List ℕ) (pair : Option Symbol) → symbol_of (take 2 (x ∷ xs)) ≡ pair
-    → or_else (with_rest (symbol_token pair) (drop 2 (x ∷ xs))) (with_rest (symbol_token (symbol_of (x ∷ []))) xs) ≡ Some (first, rest)
+    → option_or (with_rest (symbol_token pair) (drop 2 (x ∷ xs))) (with_rest (symbol_token (symbol_of (x ∷ []))) xs) ≡ Some (first, rest)
     → Front (x ∷ xs) first rest
 symbol_at_case x xs first rest None read e = symbol_at_second x xs first rest (symbol_of (x ∷ [])) read refl e
 symbol_at_case x xs first rest (Some symbol) read e =

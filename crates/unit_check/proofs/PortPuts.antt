@@ -7,7 +7,7 @@ use Rattle.std.specs.Cmp.Lexicographic.{bytes_decides}
 use Rattle.unit_tree.specs.Names.{same_port}
 use Rattle.unit_tree.specs.declared.system.PortName.{PortName}
 use Rattle.std.proofs.lemmas.Bool.{and_parts}
-use Rattle.list_laws.specs.Options.{the_first}
+use Rattle.std.specs.Option.{option_or}
 use Rattle.list_laws.proofs.Options.{or_none}
 use Rattle.language_laws.proofs.NameLaws.{same_port_symm}
 
@@ -61,7 +61,7 @@ put port other value old new here keeps = step (same_port port other) refl
     step false is = others_stay port other old new keeps is
 
 pub newly : (asked stored : Bool) (old new : Option ℕ) (value : ℕ) → asked ≡ stored → (asked ≡ true → old ≡ None) → new ≡ cond stored (Some value) old
-    → new ≡ the_first old (cond asked (Some value) None)
+    → new ≡ option_or old (cond asked (Some value) None)
 newly true true old new value same none put = rw (none refl) put
 newly false false old new value same none put = put ∙ sym (or_none old)
 newly true false old new value same none put = absurd (cc)

@@ -9,7 +9,6 @@ use Rattle.unit_names.specs.declared.tables.Declared.{Declared}
 use Rattle.unit_names.specs.declared.tables.Entry.{Entry}
 use Rattle.unit_tree.specs.Names.{Port}
 use Rattle.unit_tree.specs.declared.unit.Unit.{Unit}
-use Rattle.list_laws.specs.Options.{the_first}
 
 -- The first place of a name in a list, from 0.
 abbrev pub first_place : List (List ℕ) → List ℕ → Option ℕ

@@ -4,6 +4,7 @@ use Rattle.std.proofs.Common.{zero, ◌<◌, ◌^◌, ◌+◌, take, drop, repli
 use Rattle.std.specs.Prelude.{IsTrue, IsFalse, slice_get, map, ◌&&◌, ◌||◌}
 use Rattle.std.specs.List.{last_or, flat_map, list_all}
 use Rattle.std.proofs.lemmas.List.{append-nil, length-append, length-replicate}
+use Rattle.std.proofs.lemmas.Bool.{or_right}
 use Rattle.fixed_words.specs.Digits.{pointed}
 use Rattle.fixed_words.specs.Texts.{fixed_text, padded}
 use Rattle.fixed_words.proofs.Numbers.{decimal_is, zeros_before}
@@ -43,16 +44,12 @@ ends_by_last (x ∷ xs) last is =
 
 -- ---- Numbers
 
-or_holds : (one other : Bool) → IsTrue other → IsTrue (one || other)
-or_holds true other holds = refl
-or_holds false other holds = holds
-
 begins_in_word : (place : ℕ) (digits rest : List ℕ) → 0 < place → 0 < length digits → IsTrue (list_all is_digit digits)
     → begins_with is_word_byte (take place digits ++ rest) ≡ true
 begins_in_word zero digits rest far long all = absurd (omega arith)
 begins_in_word (suc place) [] rest far long all = absurd (omega arith)
 begins_in_word (suc place) (digit ∷ digits) rest far long all =
-    or_holds (is_letter digit) (is_digit digit) (and_first (is_digit digit) (list_all is_digit digits) all)
+    or_right (is_letter digit) (is_digit digit) (and_first (is_digit digit) (list_all is_digit digits) all)
 
 number_begins : (decimals all : ℕ) → all < 2 ^ 64 → begins_with is_word_byte (fixed_text decimals all) ≡ true
 number_begins decimals all fits =
