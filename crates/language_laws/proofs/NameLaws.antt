@@ -27,7 +27,7 @@ use Rattle.unit_tree.specs.declared.unit.Output.{Output}
 use Rattle.unit_tree.specs.declared.unit.Unit.{Unit}
 use Rattle.language_laws.proofs.PartLaws.{unit_is}
 use Rattle.list_laws.proofs.Members.{Has, Distinct, has_front, has_behind, has_map}
-use Rattle.list_laws.proofs.Truths.{true_is_false}
+use Rattle.list_laws.proofs.Truths.{true_is_false, not_false}
 
 -- ---- Lists whose elements differ
 
@@ -347,10 +347,6 @@ same_port_symm one other =
 module _ (system : System) where
   abbrev pub Names : Site → Type 0
   Names site = misnames system site.scope site.line ≡ false
-
-  pub not_false : (b : Bool) → not b ≡ false → b ≡ true
-  not_false true is = refl
-  not_false false is = absurd (cc)
 
   pub outputs_need : (unit : Unit) (before : List LineForm) (outputs : List Output) (events : List EventOut)
       → Hold Names (UnitScope unit) before (map declaring_head (all_declaring outputs events))

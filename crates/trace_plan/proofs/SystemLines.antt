@@ -23,10 +23,11 @@ use Rattle.unit_tree.specs.declared.line_form.LineForm.TheVariants as form
 use Rattle.unit_tree.specs.declared.system.Instance.{Instance}
 use Rattle.unit_tree.specs.declared.system.System.{System}
 use Rattle.unit_tree.specs.declared.unit.Unit.{Unit}
-use Rattle.language_laws.proofs.NameLaws.{all_keep, Hold, instance_head, kept_parts, not_false}
+use Rattle.language_laws.proofs.NameLaws.{all_keep, Hold, instance_head, kept_parts}
 use Rattle.language_laws.proofs.PlainNames.{has_flat, unit_line}
 use Rattle.language_laws.proofs.SiteLaws.{line_at, sites_are}
 use Rattle.list_laws.proofs.Members.{Has, has_front, has_behind, each_has}
+use Rattle.list_laws.proofs.Truths.{not_false}
 
 -- ---- A rule that looks at the line alone
 
@@ -150,10 +151,10 @@ module _ (system : System) where
     timed = kept_line (mistimes system) kept.1.1.1.1.1.1.1.1.1.1.1.0
 
     pub stop_length : (seconds : Literal) → system.stop ≡ Some seconds → is_length 0 (seconds_of (resolution_of system) seconds) ≡ true
-    stop_length seconds is = not_false system _ (timed (form.Stop seconds) (stop_line seconds is))
+    stop_length seconds is = not_false _ (timed (form.Stop seconds) (stop_line seconds is))
 
     pub longest_length : (seconds : Literal) → system.longest ≡ Some seconds → is_length 1 (seconds_of (resolution_of system) seconds) ≡ true
-    longest_length seconds is = not_false system _ (timed (form.Longest seconds) (longest_line seconds is))
+    longest_length seconds is = not_false _ (timed (form.Longest seconds) (longest_line seconds is))
 
     pub stop_there : is_none system.stop ≡ false
     stop_there = kept_line (lacks_stop system) kept.1.1.1.1.1.1.1.1.1.1.0 (form.Header system.version) (inl refl)

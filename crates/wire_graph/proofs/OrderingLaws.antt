@@ -26,7 +26,7 @@ use Rattle.wire_graph.proofs.FaultLaws.{port_numbered}
 use Rattle.wire_graph.proofs.RoutePlaces.{ordered_along}
 use Rattle.run_laws.proofs.PlaceOrders.{port_at, at_is, count_is}
 use Rattle.unit_tree.proofs.RouteLaws.{count_is as route_count, needs_is as route_needs}
-use Rattle.list_laws.proofs.Truths.{one_or_two}
+use Rattle.list_laws.proofs.Truths.{one_or_two, true_is_false}
 
 -- ---- What is left
 
@@ -120,10 +120,6 @@ right_fault system routes places placed place (Loop instance output) ranged kept
           (ordered_along run [] places (subst (λ (all : Routes). IsRoutedAfter all [] places) routes_are sorted.routed))
           (are_closed run routes places placed routes_are sorted closed)
           within
-          (λ stands. apart (get_or placed place false) (sorted.among place stands) left.left)
+          (λ stands. true_is_false (get_or placed place false) (sorted.among place stands) left.left)
           (λ other below. sorted.marked other (left.others other below)),
     )
-  where
-    apart : (told : Bool) → told ≡ true → told ≡ false → ⊥
-    apart true is isnt = cc
-    apart false is isnt = cc
