@@ -1,4 +1,7 @@
 pub mod BlockLaws
+pub mod Declarations
+pub mod FirstVersion
+pub mod JudgedFacts
 pub mod JudgementLaws
 pub mod KindLemmas
 pub mod LineLaws
@@ -16,3 +19,4 @@ pub mod RefusalLaws
 pub mod ScopeLaws
 pub mod SiteLaws
 pub mod SourceLaws
+pub mod UnitSites

@@ -2,7 +2,6 @@ pub mod FirstFault
 pub mod Fronts
 pub mod InputPlaces
 pub mod InputsSet
-pub mod JudgedFacts
 pub mod LinkedSystems
 pub mod OneByOne
 pub mod OrderLoop

@@ -41,8 +41,9 @@ use Rattle.run_laws.proofs.PlainOrders.{plain_of, declared, named_has, output_is
 use Rattle.run_laws.proofs.PlainOrders.{comes_from, plain_differ, plain_unit_is, is_event_is}
 use Rattle.run_laws.proofs.PortLaws.{among, has_among, output_has}
 use Rattle.run_laws.proofs.SeenLaws.{and_false}
-use Rattle.port_solve.proofs.JudgedFacts.{UsesNeeds, IsJoined, inputs_differ, uses_needs, joined_wires}
-use Rattle.port_solve.proofs.LinkedSystems.{input_is, Joins, Linked}
+use Rattle.language_laws.proofs.JudgedFacts.{UsesNeeds, IsJoined, inputs_differ, uses_needs, joined_wires}
+use Rattle.run_laws.proofs.PlainOrders.{input_is}
+use Rattle.port_solve.proofs.LinkedSystems.{Joins, Linked}
 use Rattle.port_solve.proofs.PlainUses.{Names, plain_names, presence_names, word_names}
 use Rattle.list_laws.proofs.Members.{Has, has_front, has_behind, has_either, has_map, all_has, each_has}
 use Rattle.list_laws.proofs.Truths.{not_false}

@@ -5,11 +5,14 @@ pub mod EquationLaws
 pub mod EventLaws
 pub mod PlaceOrders
 pub mod PlainCycles
+pub mod PlainKept
 pub mod PlainOrders
 pub mod PortLaws
 pub mod PositionLaws
 pub mod Rests
+pub mod RunOrders
 pub mod RunSteps
 pub mod RunTraces
 pub mod SeenLaws
+pub mod SplitOutputs
 pub mod StepLaws

@@ -7,7 +7,7 @@ use Rattle.std.specs.List.{AllByRecursion, flat_map, filter_map, cons_option}
 use Rattle.std.specs.Option.{option_map, option_and_then}
 use Rattle.std.specs.Str.{bytes_eq}
 use Rattle.fixed_words.specs.declared.types.Ty.TheVariants as types
-use Rattle.unit_tree.specs.Names.{Port, output_ports, output_names, event_input_names, is_among, unit_named, unit_of_instance, port_named, output_at, same_port}
+use Rattle.unit_tree.specs.Names.{Port, input_at, input_names, input_ports, output_ports, output_names, event_input_names, is_among, unit_named, unit_of_instance, port_named, output_at, same_port}
 use Rattle.unit_tree.specs.Orders.{IsIn, IsOrderlyAfter, HasNoCycle, port_of, outputs_in, outputs_of, source_if, sources_of, needs_of, needed_by}
 use Rattle.unit_tree.specs.Plain.{presence_name, plain_need, plain_needs, plain_output, plain_outputs, plain_unit, presence_port, is_event_output, plain_wires}
 use Rattle.unit_tree.specs.Plain.{samples_or_all}
@@ -94,6 +94,17 @@ module _ (system : System) where
       ∙ ap (option_and_then (λ u. port_named (output_ports u) output.name)) unit_is
       ∙ found (λ (port : Port). port.name) (output_ports unit) output
       (each_has (λ u. Distinct (output_names u)) system.units unit differ.outputs (named_has system.units instance.unit unit unit_is)) has
+
+-- An input is found by its name.
+pub input_is : (system : System) → Distinct (map (λ (i : Instance). i.name) system.instances)
+    → AllByRecursion (λ unit. Distinct (input_names unit)) system.units → (instance : Instance) (unit : Unit) (port : Port) → Has system.instances instance
+    → unit_of_instance system instance ≡ Some unit → Has (input_ports unit) port → input_at system (port_of instance port.name) ≡ Some port
+input_is system instances inputs instance unit port instance_has unit_is has =
+    ap (λ named. option_and_then (λ u. port_named (input_ports u) port.name) (option_and_then (unit_of_instance system) named))
+    (found (λ (i : Instance). i.name) system.instances instance instances instance_has)
+    ∙ ap (option_and_then (λ u. port_named (input_ports u) port.name)) unit_is
+    ∙ found (λ (p : Port). p.name) (input_ports unit) port
+    (each_has (λ u. Distinct (input_names u)) system.units unit inputs (named_has system.units instance.unit unit unit_is)) has
 
 -- ---- Units
 

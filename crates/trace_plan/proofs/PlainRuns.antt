@@ -5,7 +5,7 @@ use Rattle.std.proofs.lemmas.Nat.{le-div}
 use Rattle.std.specs.Prelude.{is_none, nat_lt, ◌==◌, ◌/◌, min, max, unwrap_or, Ok, Err}
 use Rattle.std.specs.Int.{is_negative}
 use Rattle.std.specs.List.{AllByRecursion, filter_map, cons_option, fold}
-use Rattle.std.specs.Option.{option_map, IfSome}
+use Rattle.std.specs.Option.{IfSome}
 use Rattle.fixed_words.specs.declared.types.Literal.{Literal}
 use Rattle.fixed_words.specs.declared.types.Literal.TheVariants as literal
 use Rattle.super_time.specs.Seconds.{ticks_in, within_run, seconds_of, AreDecimalsOf}
@@ -16,72 +16,17 @@ use Rattle.trace_plan.specs.Lengths.{IsLengthOf, IsReadable}
 use Rattle.trace_plan.specs.declared.numbers.Numbers.{Numbers}
 use Rattle.unit_tree.specs.Compositions.{Member, member_with, members_of, ticks_or, default_zeros, default_rows, run_of}
 use Rattle.unit_tree.specs.Names.{unit_of_instance}
-use Rattle.unit_tree.specs.Plain.{plain_unit, plain_form}
+use Rattle.unit_tree.specs.Plain.{plain_form}
 use Rattle.unit_tree.specs.Printable.{IsRanged, IsLiteralInRange}
 use Rattle.unit_tree.specs.WellFormed.{IsWellFormed, unit_resolution, resolution_of, is_length}
 use Rattle.unit_tree.specs.declared.system.Instance.{Instance}
 use Rattle.unit_tree.specs.declared.system.System.{System}
 use Rattle.unit_tree.specs.declared.unit.Unit.{Unit}
-use Rattle.run_laws.proofs.PlainOrders.{plain_of, plain_named, named_has}
+use Rattle.run_laws.proofs.PlainKept.{Alike, alike}
+use Rattle.run_laws.proofs.PlainOrders.{named_has}
 use Rattle.trace_plan.proofs.SystemLines.{unit_decimals, zero_count, row_count, stop_in_range, longest_in_range, stop_length, longest_length, instance_there}
 use Rattle.trace_plan.proofs.SystemLines.{units_declared, few_instances}
 use Rattle.list_laws.proofs.Members.{Has}
-
--- ---- The plain form keeps the numbers and the instances
-
-same_resolution : (system : System) (given : Option Unit) → unit_resolution (option_map plain_unit given) ≡ unit_resolution given
-same_resolution system None = refl
-same_resolution system (Some unit) = refl
-
-resolutions : (system : System) (instances : List Instance)
-    → map (λ instance. unit_resolution (unit_of_instance (plain_of system) instance)) instances
-    ≡ map (λ instance. unit_resolution (unit_of_instance system instance)) instances
-resolutions system [] = refl
-resolutions system (instance ∷ instances) =
-    ap (λ first. first ∷ map (λ other. unit_resolution (unit_of_instance (plain_of system) other)) instances)
-    (ap unit_resolution (plain_named system.units instance.unit) ∙ same_resolution system (unit_of_instance system instance))
-    ∙ ap (λ rest. unit_resolution (unit_of_instance system instance) ∷ rest) (resolutions system instances)
-
-declared_too : (given : Option Unit) → is_none given ≡ false → is_none (option_map plain_unit given) ≡ false
-declared_too None is = is
-declared_too (Some unit) is = refl
-
-all_declared : (system : System) (instances : List Instance) → AllByRecursion (λ instance. is_none (unit_of_instance system instance) ≡ false) instances
-    → AllByRecursion (λ instance. is_none (unit_of_instance (plain_of system) instance) ≡ false) instances
-all_declared system [] all = tt
-all_declared system (instance ∷ instances) all = (
-  ap is_none (plain_named system.units instance.unit) ∙ declared_too (unit_of_instance system instance) all.0,
-  all_declared system instances all.1,
-)
-
--- What a system and its plain form have in common.
-pub record Alike (system plain : System) : Type 0 where
-  pub version : plain.version ≡ system.version
-  pub instances : plain.instances ≡ system.instances
-  pub stop : plain.stop ≡ system.stop
-  pub longest : plain.longest ≡ system.longest
-  pub zeros : plain.zero ≡ system.zero
-  pub rows : plain.rows ≡ system.rows
-  pub resolution : resolution_of plain ≡ resolution_of system
-  pub declared : AllByRecursion (λ instance. is_none (unit_of_instance system instance) ≡ false) system.instances
-      → AllByRecursion (λ instance. is_none (unit_of_instance plain instance) ≡ false) system.instances
-
-alike_by : (system : System) (told : Bool) → Alike system (cond told (plain_of system) system)
-alike_by system true = record {
-  version = refl;
-  instances = refl;
-  stop = refl;
-  longest = refl;
-  zeros = refl;
-  rows = refl;
-  resolution = ap (fold max 0) (resolutions system system.instances);
-  declared = all_declared system system.instances;
-}
-alike_by system false =
-    record { version = refl; instances = refl; stop = refl; longest = refl; zeros = refl; rows = refl; resolution = refl; declared = λ all. all }
-
-pub alike : (system : System) → Alike system (plain_form system)
-alike system = alike_by system (system.version == 2)
 
 -- ---- Members
 

@@ -31,7 +31,7 @@ use Rattle.run_laws.proofs.PlainOrders.{Declared, declared, output_is, named_has
 use Rattle.run_laws.proofs.PlainOrders.{plain_names_differ}
 use Rattle.run_laws.proofs.PortLaws.{output_has}
 use Rattle.trace_plan.proofs.PlacedOutputs.{Placed, placed}
-use Rattle.trace_plan.proofs.PlainRuns.{alike}
+use Rattle.run_laws.proofs.PlainKept.{alike}
 use Rattle.trace_plan.proofs.SystemLines.{few_instances}
 use Rattle.list_laws.proofs.Members.{Has, Distinct, has_front, has_map, each_has}
 use Rattle.list_laws.proofs.Truths.{one_or_two}

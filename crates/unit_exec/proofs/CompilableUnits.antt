@@ -38,8 +38,8 @@ use Rattle.unit_tree.specs.declared.unit.Output.{Output}
 use Rattle.unit_tree.specs.declared.unit.Unit.{Unit}
 use Rattle.language_laws.proofs.NameLaws.{Hold}
 use Rattle.language_laws.proofs.PlainNames.{map_has, flat_has}
-use Rattle.unit_exec.proofs.Declarations.{Declared, OfParam, OfState, OfLocal, OfInput, OfEventIn, OfOutput, OfEventOut, line_of, variable_of, Declares, AtLine}
-use Rattle.unit_exec.proofs.Declarations.{unit_limited}
+use Rattle.language_laws.proofs.Declarations.{Declared, OfParam, OfState, OfLocal, OfInput, OfEventIn, OfOutput, OfEventOut, line_of, variable_of, Declares, AtLine}
+use Rattle.language_laws.proofs.Declarations.{unit_limited}
 use Rattle.unit_exec.proofs.EventChoices.{word_names, word_events, presence_names, presence_events, word_ranged, presence_ranged, plain_ranged, presence_kinded}
 use Rattle.unit_exec.proofs.KindsOfRuns.{IsOf, kinded}
 use Rattle.unit_exec.proofs.KindsOfRuns as kind_laws
@@ -47,7 +47,7 @@ use Rattle.unit_exec.proofs.LinesOfRuns.{FormRight, lines_right}
 use Rattle.unit_exec.proofs.NamesOfUnits.{passes_at, Comes, Tells, from_run, Usable, usable_shared, usable_step, name_kind, presence_kind, output_has}
 use Rattle.unit_exec.proofs.NamesOfUnits.{event_out_has}
 use Rattle.unit_exec.proofs.TargetsOfUnits.{target_right}
-use Rattle.unit_exec.proofs.UnitSites.{Passes}
+use Rattle.language_laws.proofs.UnitSites.{Passes}
 use Rattle.list_laws.proofs.Members.{Has, has_either, all_has}
 use Rattle.list_laws.proofs.Truths.{lt_not_told, not_false, le_asked}
 

@@ -33,9 +33,9 @@ use Rattle.unit_tree.specs.declared.unit.State.{State}
 use Rattle.unit_tree.specs.declared.unit.Unit.{Unit}
 use Rattle.language_laws.proofs.NameLaws.{same_bytes, bytes_of, found}
 use Rattle.language_laws.proofs.PlainNames.{IsPlain, word_is_plain, map_has, flat_has, has_flat}
-use Rattle.unit_exec.proofs.Declarations.{Declared, OfParam, OfState, OfLocal, OfInput, OfEventIn, OfOutput, OfEventOut, line_of, variable_of, name_of}
-use Rattle.unit_exec.proofs.Declarations.{declarations, ports, front_lines, Declares, AtLine, each_line, names_apart}
-use Rattle.unit_exec.proofs.UnitSites.{Passes}
+use Rattle.language_laws.proofs.Declarations.{Declared, OfParam, OfState, OfLocal, OfInput, OfEventIn, OfOutput, OfEventOut, line_of, variable_of, name_of}
+use Rattle.language_laws.proofs.Declarations.{declarations, ports, front_lines, Declares, AtLine, each_line, names_apart}
+use Rattle.language_laws.proofs.UnitSites.{Passes}
 use Rattle.list_laws.proofs.Members.{Has, Distinct, has_front, has_behind, has_either, has_map}
 use Rattle.list_laws.proofs.Truths.{true_is_false}
 use Rattle.run_laws.proofs.PortLaws.{among}

@@ -30,9 +30,9 @@ use Rattle.language_laws.proofs.NameLaws.{same_bytes, bytes_of}
 use Rattle.language_laws.proofs.PlainNames.{map_has, flat_has}
 use Rattle.unit_vm.specs.Instructions.{is_stored}
 use Rattle.unit_vm.specs.declared.program.Sizes.{Sizes}
-use Rattle.unit_exec.proofs.Declarations.{Declared, OfParam, OfState, OfLocal, OfInput, OfEventIn, OfOutput, OfEventOut, name_of, declarations, ports, Declares}
+use Rattle.language_laws.proofs.Declarations.{Declared, OfParam, OfState, OfLocal, OfInput, OfEventIn, OfOutput, OfEventOut, name_of, declarations, ports, Declares}
 use Rattle.unit_exec.proofs.NamesOfUnits.{plain_name, from_declared}
-use Rattle.unit_exec.proofs.UnitSites.{Passes}
+use Rattle.language_laws.proofs.UnitSites.{Passes}
 use Rattle.list_laws.proofs.Members.{Has, has_front, has_behind, has_either, has_map}
 use Rattle.list_laws.proofs.Truths.{true_is_false, le_asked, lt_asked}
 use Rattle.run_laws.proofs.PortLaws.{has_among}

@@ -1,21 +1,14 @@
-use Rattle.std.proofs.Common.{◌≡◌, ◌⊎◌, ℕ, ◌==◌, inl, inr, cond, List, sym, subst}
+use Rattle.std.proofs.Common.{◌≡◌}
 use Rattle.unit_tree.specs.Compositions.{composition_of, run_of}
 use Rattle.unit_tree.specs.Plain.{plain_form}
-use Rattle.unit_tree.specs.Ports.{IsPlaceOrder}
-use Rattle.unit_tree.specs.Orders.{HasNoCycle}
-use Rattle.unit_tree.specs.Printable.{IsRanged}
 use Rattle.run_laws.specs.RunLaws.{RunsHaveOneTrace}
-use Rattle.unit_tree.specs.WellFormed.{IsWellFormed}
-use Rattle.unit_tree.specs.declared.system.System.{System}
-use Rattle.run_laws.proofs.EventLaws.{version_1_without_events, plain_form_1, plain_of_without_events, plain_form_without_events}
+use Rattle.run_laws.proofs.EventLaws.{plain_form_without_events}
 use Rattle.language_laws.proofs.NameLaws.{names_differ, is_wired}
 use Rattle.run_laws.proofs.PlaceOrders.{system_is_ordered, has_no_cycle}
-use Rattle.run_laws.proofs.PlainCycles.{plain_is_wired, has_none_of_plain}
-use Rattle.run_laws.proofs.PlainOrders.{plain_of, plain_names_differ, plain_has_no_cycle}
 use Rattle.run_laws.proofs.PositionLaws.{system_has_members}
+use Rattle.run_laws.proofs.RunOrders.{runs_have_orders, orders_have_runs}
 use Rattle.run_laws.proofs.RunTraces.{one_trace, one_trace_of}
 use Rattle.run_laws.proofs.laws.systems_have_one_trace.Goals as goal
-use Rattle.list_laws.proofs.Truths.{one_or_two}
 
 pub returns-clause-order : goal.returns-clause-order
 returns-clause-order c = λ system plain kept. (
@@ -27,34 +20,6 @@ pub returns-clause-trace : goal.returns-clause-trace
 returns-clause-trace c = λ system plain kept no_cycle.
     let order = system_is_ordered system plain (names_differ system kept) no_cycle in
     one_trace (composition_of system) order.0 (system_has_members system) order.1
-
--- ---- What is run
-
-abbrev HasOrder : System → Type 0
-HasOrder system = (order : List ℕ) × IsPlaceOrder (composition_of system) order
-
-runs_have_orders : (system : System) → IsRanged system → IsWellFormed system → HasNoCycle system → HasOrder (plain_form system)
-runs_have_orders system ranged kept no_cycle = by_version (one_or_two system.version ranged.version.0 ranged.version.1)
-  where
-    by_version : (system.version ≡ 1) ⊎ (system.version ≡ 2) → HasOrder (plain_form system)
-    by_version (inl is) =
-        subst HasOrder (sym (plain_form_1 system is)) (system_is_ordered system (version_1_without_events system ranged is) (names_differ system kept) no_cycle)
-    by_version (inr is) =
-        subst (λ version. HasOrder (cond (version == 2) (plain_of system) system)) (sym is)
-        (system_is_ordered (plain_of system) (plain_of_without_events system) (plain_names_differ system ranged kept)
-        (plain_has_no_cycle system ranged kept no_cycle))
-
-orders_have_runs : (system : System) → IsRanged system → IsWellFormed system → HasOrder (plain_form system) → HasNoCycle system
-orders_have_runs system ranged kept order = by_version (one_or_two system.version ranged.version.0 ranged.version.1)
-  where
-    by_version : (system.version ≡ 1) ⊎ (system.version ≡ 2) → HasNoCycle system
-    by_version (inl is) =
-        has_no_cycle system (version_1_without_events system ranged is) (names_differ system kept) (is_wired system kept)
-        (subst HasOrder (plain_form_1 system is) order)
-    by_version (inr is) =
-        has_none_of_plain system ranged kept
-        (has_no_cycle (plain_of system) (plain_of_without_events system) (plain_names_differ system ranged kept) (plain_is_wired system ranged kept)
-        (subst (λ version. HasOrder (cond (version == 2) (plain_of system) system)) is order))
 
 pub returns-clause-run_order : goal.returns-clause-run_order
 returns-clause-run_order c = λ system ranged kept. (runs_have_orders system ranged kept, orders_have_runs system ranged kept)

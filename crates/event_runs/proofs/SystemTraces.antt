@@ -1,0 +1,150 @@
+-- The trace of a system's plain form, read, is that of the system, which has no other.
+use Rattle.std.proofs.Common.{◌≡◌, ℕ, List, [], ◌∷◌, map, length, Option, Some, None, refl, ap, sym, subst, ◌∙◌}
+use Rattle.std.specs.List.{filter_map, flat_map, cons_option}
+use Rattle.std.specs.Option.{option_map, unwrap_or}
+use Rattle.fixed_words.specs.declared.types.Literal.{Literal}
+use Rattle.unit_tree.specs.Compositions.{Composition, Member, factor_of, member_with, members_of, composition_of, run_of, ticks_or, default_zeros, default_rows, AreMembers}
+use Rattle.unit_tree.specs.Names.{unit_of_instance}
+use Rattle.unit_tree.specs.Orders.{HasNoCycle}
+use Rattle.unit_tree.specs.Plain.{plain_form}
+use Rattle.unit_tree.specs.Ports.{IsPlaceOrder}
+use Rattle.unit_tree.specs.Printable.{IsRanged}
+use Rattle.unit_tree.specs.Trace.{Row, Stand, IsTraceOf, last_point}
+use Rattle.unit_tree.specs.WellFormed.{IsWellFormed, resolution_of}
+use Rattle.unit_tree.specs.declared.ending.Ending.{Ending}
+use Rattle.unit_tree.specs.declared.system.Instance.{Instance}
+use Rattle.unit_tree.specs.declared.system.System.{System}
+use Rattle.unit_tree.specs.declared.unit.Unit.{Unit}
+use Rattle.super_time.specs.declared.point.Point.{Point}
+use Rattle.run_laws.proofs.PlainKept.{Alike, alike}
+use Rattle.run_laws.proofs.PositionLaws.{system_has_members}
+use Rattle.run_laws.proofs.RunOrders.{runs_have_orders}
+use Rattle.event_runs.specs.EventPorts.{EventMember, plain_member, shape_of, IsPlainRun}
+use Rattle.event_runs.specs.EventRuns.{with_feeds, event_members_of, event_run_of, last_event_point, IsEventTraceOf, HasOneEventTraceOf, read_rows, read_end}
+use Rattle.event_runs.specs.EventTrace.{EventRun, EventStand, EventRow, IsEventTrace, event_rows_of, read_stand, HasOneEventTrace}
+use Rattle.event_runs.specs.Turns.{Pace, pace_of}
+use Rattle.event_runs.proofs.OnlyTraces.{one_event_trace}
+use Rattle.event_runs.proofs.RowLaws.{rows_read}
+use Rattle.event_runs.proofs.SystemMembers.{members_plain}
+use Rattle.event_runs.proofs.TraceLaws.{trace_read}
+
+-- ---- Pace
+
+-- The pace of a run, by the numbers of its system.
+abbrev paced : List ℕ → ℕ → Option Literal → Option Literal → Option ℕ → Option ℕ → ℕ → ℕ → Pace
+paced factors resolution stop longest zeros rows version instances = record {
+  stop = ticks_or 0 resolution stop;
+  longest = ticks_or (ticks_or 0 resolution stop) resolution longest;
+  zero_budget = unwrap_or zeros (default_zeros version);
+  row_budget = unwrap_or rows (default_rows version instances);
+  factors = factors;
+}
+
+pace_alike : (system plain : System) → Alike system plain → map (λ (one : Member). one.factor) (members_of plain) ≡ map (λ (one : Member). one.factor) (members_of system)
+    → pace_of (composition_of plain) ≡ pace_of (composition_of system)
+pace_alike system plain both factors =
+    ap (λ f. paced f (resolution_of plain) plain.stop plain.longest plain.zero plain.rows plain.version (length plain.instances)) factors
+    ∙ ap (λ r. paced (map (λ (one : Member). one.factor) (members_of system)) r plain.stop plain.longest plain.zero plain.rows plain.version (length plain.instances))
+    both.resolution
+    ∙ ap (λ s. paced (map (λ (one : Member). one.factor) (members_of system)) (resolution_of system) s plain.longest plain.zero plain.rows plain.version
+    (length plain.instances)) both.stop
+    ∙ ap (λ l. paced (map (λ (one : Member). one.factor) (members_of system)) (resolution_of system) system.stop l plain.zero plain.rows plain.version
+    (length plain.instances)) both.longest
+    ∙ ap (λ z. paced (map (λ (one : Member). one.factor) (members_of system)) (resolution_of system) system.stop system.longest z plain.rows plain.version
+    (length plain.instances)) both.zeros
+    ∙ ap (λ r. paced (map (λ (one : Member). one.factor) (members_of system)) (resolution_of system) system.stop system.longest system.zero r plain.version
+    (length plain.instances)) both.rows
+    ∙ ap (λ v. paced (map (λ (one : Member). one.factor) (members_of system)) (resolution_of system) system.stop system.longest system.zero system.rows v
+    (length plain.instances)) both.version
+    ∙ ap (λ (i : List Instance). paced (map (λ (one : Member). one.factor) (members_of system)) (resolution_of system) system.stop system.longest system.zero
+    system.rows system.version (length i)) both.instances
+
+-- A member with event ports has the factor of the member that it is made of.
+factors_by : (system : System) (instance : Instance) (given : Option Unit) (others : List EventMember) (rest : List Member)
+    → map (λ (one : EventMember). one.member.factor) others ≡ map (λ (one : Member). one.factor) rest
+    → map (λ (one : EventMember). one.member.factor) (cons_option (option_map (with_feeds system instance) (member_with system instance given)) others)
+    ≡ map (λ (one : Member). one.factor) (cons_option (member_with system instance given) rest)
+factors_by system instance None others rest same = same
+factors_by system instance (Some unit) others rest same = ap (λ more. factor_of system unit ∷ more) same
+
+factors_of : (system : System) (instances : List Instance)
+    → map (λ (one : EventMember). one.member.factor)
+    (filter_map (λ instance. option_map (with_feeds system instance) (member_with system instance (unit_of_instance system instance))) instances)
+    ≡ map (λ (one : Member). one.factor) (filter_map (λ instance. member_with system instance (unit_of_instance system instance)) instances)
+factors_of system [] = refl
+factors_of system (instance ∷ instances) =
+    factors_by system instance (unit_of_instance system instance)
+    (filter_map (λ i. option_map (with_feeds system i) (member_with system i (unit_of_instance system i))) instances)
+    (filter_map (λ i. member_with system i (unit_of_instance system i)) instances) (factors_of system instances)
+
+plain_factors : {A : Type 0} (given : A → EventMember) (made : A → Member) → ((x : A) → (made x).factor ≡ (given x).member.factor) → (xs : List A)
+    → map (λ (one : Member). one.factor) (map made xs) ≡ map (λ (one : EventMember). one.member.factor) (map given xs)
+plain_factors given made same [] = refl
+plain_factors given made same (x ∷ xs) =
+    ap (λ one. one ∷ map (λ (m : Member). m.factor) (map made xs)) (same x)
+    ∙ ap (λ rest. (given x).member.factor ∷ rest) (plain_factors given made same xs)
+
+map_itself : {A : Type 0} (xs : List A) → map (λ x. x) xs ≡ xs
+map_itself [] = refl
+map_itself (x ∷ xs) = ap (λ rest. x ∷ rest) (map_itself xs)
+
+-- ---- The last point
+
+last_read : (members : List EventMember) (stands : List Stand) → last_point stands ≡ last_event_point (map (read_stand members) stands)
+last_read members [] = refl
+last_read members (stand ∷ []) = refl
+last_read members (stand ∷ later ∷ others) = last_read members (later ∷ others)
+
+module _ (system : System) (ranged : IsRanged system) (kept : IsWellFormed system) (no_cycle : HasNoCycle system) where
+  abbrev members : List EventMember
+  members = event_members_of system
+
+  abbrev run : Composition
+  run = run_of system
+
+  plain : IsPlainRun members run
+  plain = members_plain system ranged kept
+
+  are : AreMembers run
+  are = system_has_members (plain_form system)
+
+  abbrev order : (order : List ℕ) × IsPlaceOrder run order
+  order = runs_have_orders system ranged kept no_cycle
+
+  same_pace : pace_of run ≡ pace_of (composition_of system)
+  same_pace =
+      pace_alike system (plain_form system) (alike system)
+      (ap (map (λ (one : Member). one.factor)) plain.members_are
+      ∙ plain_factors (λ one. one) (plain_member (flat_map shape_of members)) (λ one. refl) members
+      ∙ ap (map (λ (one : EventMember). one.member.factor)) (map_itself members)
+      ∙ factors_of system system.instances)
+
+  abbrev with_pace : Pace → EventRun
+  with_pace pace = record { members = members; pace = pace }
+
+  pub tells : (rows : List Row) (last : Point) (ending : Ending) → IsTraceOf system rows last ending
+      → IsEventTraceOf system (read_rows system rows) last (read_end system ending)
+  tells rows last ending of = record {
+    stands = map (read_stand members) of.stands;
+    trace = subst (λ pace. IsEventTrace (with_pace pace) (map (read_stand members) of.stands) (read_end system ending)) same_pace
+        (trace_read members run order.0 plain are order.1 of.stands ending of.trace);
+    rows_are = ap (read_rows system) of.rows_are ∙ sym (rows_read members run order.0 plain are order.1 of.stands ending of.trace);
+    last_is = of.last_is ∙ last_read members of.stands;
+  }
+
+  only_one : HasOneEventTrace (event_run_of system)
+  only_one = subst (λ pace. HasOneEventTrace (with_pace pace)) same_pace (one_event_trace members run order.0 plain are order.1)
+
+  pub one_outcome : HasOneEventTraceOf system
+  one_outcome = record {
+    rows = event_rows_of (event_run_of system) only_one.stands;
+    last = last_event_point only_one.stands;
+    ending = only_one.ending;
+    is_trace = record { stands = only_one.stands; trace = only_one.is_trace; rows_are = refl; last_is = refl };
+    is_only = λ others point end of.
+        let same = only_one.is_only of.stands end of.trace in (
+          of.rows_are ∙ ap (event_rows_of (event_run_of system)) same.0,
+          of.last_is ∙ ap last_event_point same.0,
+          same.1,
+        );
+  }

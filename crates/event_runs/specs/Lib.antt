@@ -1,0 +1,6 @@
+pub mod EventPorts
+pub mod EventRuns
+pub mod EventTrace
+pub mod Events
+pub mod Laws
+pub mod Turns

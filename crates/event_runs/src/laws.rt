@@ -1,0 +1,66 @@
+ghost use Rattle.event_runs.specs.Laws.{PlainExpressionsMeanTheSame, EventsAreTwo, NoEventsMeanTheSame, ComponentsHavePlainCalls};
+ghost use Rattle.event_runs.specs.EventTrace.{MembersGiveTheSame, FaultsAreRead, TracesAreRead, RowsAreRead, SourcesHaveOneTrace};
+ghost use Rattle.event_runs.specs.EventRuns.{MembersArePlain, PlainFormsTellTheTrace, SourcesHaveOneOutcome};
+ghost use Rattle.event_runs.specs.Turns.{SuccessorsAreByOffers, SameOffersLeadOn};
+ghost use Rattle.event_runs.specs.EventPorts.{AssignmentsAreRead, EventAssignmentsAreRead, EventAssignmentsAreUnique};
+
+use fixed_words::Fault as _F;
+use unit_tree::Expr as _E;
+
+/// A law: the plain form of an expression has its value; the two that an event output becomes tell of its event; and where no
+/// event occurs, a value is that without events.
+pub fn plain_expressions_mean_the_same()
+    ensures values { PlainExpressionsMeanTheSame }
+    ensures events { EventsAreTwo }
+    ensures none { NoEventsMeanTheSame }
+{}
+
+/// A law: the calls of a component with event ports are those of its plain form.
+pub fn components_have_plain_calls()
+    ensures { ComponentsHavePlainCalls }
+{}
+
+/// A law: the port assignments of a source are those of its plain form, read as signals; so there is exactly one where the plain
+/// form's places have an order.
+pub fn assignments_are_read()
+    ensures read { AssignmentsAreRead }
+    ensures all { EventAssignmentsAreRead }
+    ensures one { EventAssignmentsAreUnique }
+{}
+
+/// A law: the successor of a position is by what members give there, and the same where they give the same.
+pub fn successors_are_by_offers()
+    ensures successor { SuccessorsAreByOffers }
+    ensures same { SameOffersLeadOn }
+{}
+
+/// A law: where no output is undefined, members give in the source what they give in the plain form.
+pub fn members_give_the_same()
+    ensures { MembersGiveTheSame }
+{}
+
+/// A law: the port fault of a source is that of its plain form, where the two ports of an event output are one.
+pub fn faults_are_read()
+    ensures { FaultsAreRead }
+{}
+
+/// A law: the trace of a plain form, read, is that of the source: the same positions, rows and end. The source has
+/// no other.
+pub fn traces_are_read()
+    ensures read { TracesAreRead }
+    ensures rows { RowsAreRead }
+    ensures one { SourcesHaveOneTrace }
+{}
+
+/// A law: what is run of a system in range that is well-formed are its members, read: they have the plain forms of its units,
+/// and two sources for each event input.
+pub fn members_are_plain()
+    ensures { MembersArePlain }
+{}
+
+/// A law: a system in range that is well-formed and has no cycle has exactly one trace, which is that of its plain form, read:
+/// the same points, the same last point, and the same end.
+pub fn systems_have_one_event_trace()
+    ensures tells { PlainFormsTellTheTrace }
+    ensures one { SourcesHaveOneOutcome }
+{}
