@@ -3,6 +3,7 @@ use Rattle.std.proofs.Common.{◌≡◌, ℕ, zero, suc, ◌+◌, ◌-◌, ◌�
 use Rattle.std.proofs.Common.{arith, length-append}
 use Rattle.std.proofs.lemmas.Bool.Decides.{nat_tests}
 use Rattle.std.specs.Prelude.{nat_eq, nat_le, slice_get, unwrap_or, IsTrue, if◌then◌else◌}
+use Rattle.std.proofs.lemmas.Option.{same_Some}
 use Rattle.unit_vm.specs.declared.instruction.Instruction.{Instruction}
 use Rattle.unit_vm.specs.declared.instruction.Instruction.TheVariants.{Jump, Next}
 use Rattle.unit_vm.specs.Instructions.{takes, leaves}
@@ -49,10 +50,7 @@ marks_length (Turns count body) height =
 
 -- What it says that there is a height behind a piece.
 if_told : (b : Bool) (n told : ℕ) → (if b then Some n else None) ≡ Some told → IsTrue b × (n ≡ told)
-if_told true n told e = (refl, same n told e)
-  where
-    same : (n told : ℕ) → Some n ≡ Some told → n ≡ told
-    same n told e = cc
+if_told true n told e = (refl, same_Some n told e)
 if_told false n told e = absurd (nothing told e)
   where
     nothing : (told : ℕ) → None ≡ Some told → ⊥
@@ -60,9 +58,6 @@ if_told false n told e = absurd (nothing told e)
 
 eq_told : (a b : ℕ) → IsTrue (nat_eq a b) → a ≡ b
 eq_told a b e = grind (arith, nat_tests)
-
-pub some_same : (n told : ℕ) → Some n ≡ Some told → n ≡ told
-some_same n told e = cc
 
 pub single_told : (i : Instruction) (height told : ℕ) → height_behind (One i) height ≡ Some told → (takes i ≤ height) × (height - takes i + leaves i ≡ told)
 single_told i height told e = let t = if_told (nat_le (takes i) height) (height - takes i + leaves i) told e in (le_told (takes i) height t.0, t.1)
@@ -86,7 +81,7 @@ both_told (Some one) (Some other) told e =
 
 -- Both ends of a piece are as high as its top at most.
 pub under_top : (piece : Piece) (height told : ℕ) → height_behind piece height ≡ Some told → (height ≤ top_of piece height) × (told ≤ top_of piece height)
-under_top Nothing height told e = let same = some_same height told e in (omega arith, omega (arith, same))
+under_top Nothing height told e = let same = same_Some height told e in (omega arith, omega (arith, same))
 under_top (One instruction) height told e =
     let t = single_told instruction height told e in
     let sum = t.1 in

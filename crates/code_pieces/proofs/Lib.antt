@@ -1,4 +1,4 @@
-pub mod Allowed
+pub mod AllowedInstructions
 pub mod Heights
 pub mod ItemPlaces
 pub mod MachineFollows

@@ -14,7 +14,7 @@ use Rattle.unit_vm.specs.Instructions.{flow_of}
 use Rattle.unit_vm.specs.Loops.{cost_of}
 use Rattle.unit_vm.specs.Machine.{Work, Did, Does, Fails, Lacks, act, State, Course, Goes, Ends, Faults, Stuck, goes_on, branches, ends_with, ends, follows}
 use Rattle.unit_vm.specs.Machine.{turn, then_goes, after, opening, run_part}
-use Rattle.unit_vm.specs.Laws.{IsWithin, IsOver}
+use Rattle.unit_vm.specs.Laws.{StaysWithinHeights, IsOver}
 use Rattle.unit_vm.proofs.RunEndings.{valid_runs_end_lem}
 use Rattle.code_pieces.specs.Pieces.{Piece, Nothing, One, Then, Choice, When, Turns, flat, and_then, chosen, repeated, does, part_code, finished}
 use Rattle.code_pieces.specs.Laws.{PiecesAreFollowed}
@@ -194,7 +194,7 @@ finished_last finish (Does work) = ends_last finish work
 finished_last finish (Fails failed) = tt
 finished_last finish Lacks = tt
 
-last_over : (facts : CodeFacts) (course : Course) → IsLast course → IsWithin facts course → IsOver course
+last_over : (facts : CodeFacts) (course : Course) → IsLast course → StaysWithinHeights facts course → IsOver course
 last_over facts (Goes state) l w = absurd l
 last_over facts (Ends work answer) l w = tt
 last_over facts (Faults failed) l w = tt
@@ -239,7 +239,7 @@ pieces_are_followed_lem program facts h entry piece finish part e right slots l 
     let end = has_back code 0 (flat piece) (finish ∷ []) has in
     let leads = piece_leads code program.sizes piece (made program.sizes piece right) 0 front [] s.work in
     let told = finish_leads code s (0 + length (flat piece)) finish (does piece s.work) end.0 e leads in
-    let within = subst (IsWithin facts) told.1 (run.stacks told.0) in
+    let within = subst (StaysWithinHeights facts) told.1 (run.stacks told.0) in
     let over = last_over facts (finished finish (does piece s.work)) (finished_last finish (does piece s.work)) within in
     is_run ∙ one_answer code (cost_of code) told.0 s (after code (cost_of code) s) (finished finish (does piece s.work))
     (subst IsOver is_run run.over) over refl told.1

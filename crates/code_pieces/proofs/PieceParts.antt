@@ -2,7 +2,7 @@
 use Rattle.std.proofs.Common.{◌≡◌, ℕ, zero, suc, ◌+◌, ◌-◌, ◌<◌, ◌≤◌, List, [], ◌∷◌, ◌++◌, length, Some, refl, sym, ap, ◌∙◌, subst, ⊎_elim, arith, length-append}
 use Rattle.std.proofs.Common.{one-mul}
 use Rattle.std.proofs.lemmas.Bool.{cases_lt}
-use Rattle.std.proofs.lemmas.Option.{slice_get_within}
+use Rattle.std.proofs.lemmas.Option.{slice_get_within, same_Some}
 use Rattle.std.specs.Prelude.{slice_get}
 use Rattle.unit_vm.specs.declared.instruction.Instruction.{Instruction}
 use Rattle.unit_vm.specs.declared.instruction.Flow.TheVariants as flow
@@ -14,9 +14,9 @@ use Rattle.code_pieces.specs.Pieces.{flat, cost, part_code}
 use Rattle.code_pieces.specs.Laws.{PiecePartsAreValid}
 use Rattle.code_pieces.proofs.ItemPlaces.{has_front, has_back, has_to, has_itself}
 use Rattle.code_pieces.proofs.PieceShapes.{made}
-use Rattle.code_pieces.proofs.Heights.{marks, marks_length, some_same, under_top, first_mark}
+use Rattle.code_pieces.proofs.Heights.{marks, marks_length, under_top, first_mark}
 use Rattle.code_pieces.proofs.PieceBlocks.{Placed, Block, block}
-use Rattle.code_pieces.proofs.Allowed.{allowed, allowed_both, allowed_end}
+use Rattle.code_pieces.proofs.AllowedInstructions.{allowed, allowed_both, allowed_end}
 
 same_instruction : (i j : Instruction) → Some i ≡ Some j → i ≡ j
 same_instruction i j e = cc
@@ -52,11 +52,11 @@ module _ (code : List Instruction) (heights : List ℕ) (end last price : ℕ) (
   operands enough low place i height at is =
       at_each (λ place i. (height : ℕ) → slice_get heights place ≡ Some height → (takes i ≤ height) × (height ≤ 64))
       (λ place h height is.
-      let same = some_same h.height height (sym h.high ∙ is) in
+      let same = same_Some h.height height (sym h.high ∙ is) in
       let a = h.operand in
       let b = h.low in
       (omega (arith, same, a), omega (arith, same, b)))
-      (λ height is. let same = some_same last height (sym high ∙ is) in (omega (arith, same, enough), omega (arith, same, low)))
+      (λ height is. let same = same_Some last height (sym high ∙ is) in (omega (arith, same, enough), omega (arith, same, low)))
       place i at height is
 
   pub ways : (from to : ℕ) (i : Instruction) (height : ℕ) → slice_get code from ≡ Some i → slice_get heights from ≡ Some height → LeadsTo from (flow_of i) to
@@ -64,7 +64,7 @@ module _ (code : List Instruction) (heights : List ℕ) (end last price : ℕ) (
   ways from to i height at is l =
       at_each (λ place i. (to height : ℕ) → slice_get heights place ≡ Some height → LeadsTo place (flow_of i) to
       → slice_get heights to ≡ Some (height - takes i + leaves i))
-      (λ place h to height is l. let same = some_same h.height height (sym h.high ∙ is) in
+      (λ place h to height is l. let same = same_Some h.height height (sym h.high ∙ is) in
       h.ways to l ∙ ap (λ n. Some (n - takes h.instruction + leaves h.instruction)) same)
       (λ to height is l. absurd (let never : LeadsTo end flow.End to = subst (λ f. LeadsTo end f to) ends l in never))
       from i at to height is l

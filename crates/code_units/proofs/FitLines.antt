@@ -2,7 +2,7 @@
 use Rattle.std.proofs.Common.{◌≡◌, ℕ, ◌+◌, ◌*◌, ◌≤◌, true, ◌&&◌, nat_le, List, [], ◌∷◌, map, Option, Some, None, refl, sym, ap, ◌∙◌, subst, arith}
 use Rattle.std.specs.List.{sum}
 use Rattle.std.proofs.Math.Nat.{max-le, mul-le-mul_left}
-use Rattle.std.proofs.lemmas.Bool.{and_parts}
+use Rattle.std.proofs.lemmas.Bool.{and_parts, and_from}
 use Rattle.std.proofs.lemmas.List.Sums.{sum_by-cons}
 use Rattle.code_units.specs.Expressions.{code_of}
 use Rattle.code_units.specs.Scopes.{named}
@@ -12,7 +12,7 @@ use Rattle.code_units.specs.declared.scope.Named.{Named}
 use Rattle.code_units.specs.declared.scope.NamePlace.{NamePlace}
 use Rattle.code_units.specs.declared.scope.NamePlace.TheVariants.{Constant, Slot}
 use Rattle.code_units.specs.declared.scope.Scope.{Scope}
-use Rattle.code_units.proofs.FitPieces.{test_le, both, one_is, then_is, then_top, choice_is, choice_top, NamedFits, Known, type_known, fine}
+use Rattle.code_units.proofs.FitPieces.{one_is, then_is, then_top, choice_is, choice_top, NamedFits, Known, type_known, fine}
 use Rattle.code_pieces.specs.Pieces.{Piece, One, When, Turns, cost, is_made, one_height, height_behind, top_of}
 use Rattle.unit_tree.specs.Costs.{cost_of, part_cost, line_cost}
 use Rattle.unit_tree.specs.Names.{depth_of}
@@ -27,6 +27,7 @@ use Rattle.unit_tree.specs.declared.line.Line.TheVariants.{rolls-Assign, rolls-I
 use Rattle.unit_tree.proofs.FoldLemmas.{fold-Assign, fold-If, fold-Repeat, fold-Accept}
 use Rattle.unit_vm.specs.declared.instruction.Instruction.TheVariants.{Store, Accept}
 use Rattle.unit_vm.specs.declared.program.Sizes.{Sizes}
+use Rattle.list_laws.proofs.Truths.{le_told}
 
 -- From one height to another, with at most 64 words on the stack.
 pub record Moves (sizes : Sizes) (piece : Piece) (before after : ℕ) : Type 0 where
@@ -50,7 +51,7 @@ module _ (sizes : Sizes) where
         let one = f.moves parts.0 in
         let other = g.moves parts.1 in
         record {
-          made = both _ _ one.made other.made;
+          made = and_from _ _ one.made other.made;
           height = then_is a.piece b.piece 0 0 0 one.height other.height;
           top =
               then_top a.piece b.piece 0 0 64 one.height one.top other.top;
@@ -63,7 +64,7 @@ module _ (sizes : Sizes) where
   place_good (Constant word) found at fits = record { moves = λ is. absurd (cc); cheap = omega arith }
   place_good (Slot slot) found at fits = record {
     moves = λ is. record {
-      made = both _ _ refl (both _ _ is (type_known found.ty fits.1));
+      made = and_from _ _ refl (and_from _ _ is (type_known found.ty fits.1));
       height = one_is (Store slot found.ty) 1 0 (omega arith) refl;
       top = omega arith;
     };
@@ -98,7 +99,7 @@ module _ (sizes : Sizes) where
         let one = f.moves parts.0 in
         let other = g.moves parts.1 in
         record {
-          made = both _ _ one.made other.made;
+          made = and_from _ _ one.made other.made;
           height = choice_is a.piece b.piece 0 0 one.height other.height;
           top =
               choice_top a.piece b.piece 0 64 (omega arith) one.top other.top;
@@ -119,7 +120,7 @@ module _ (sizes : Sizes) where
     moves = λ is.
         let parts = and_parts (nat_le 1 count && nat_le count 1000) body.is_right is in
         let one = f.moves parts.1 in
-        record { made = both _ _ parts.0 one.made; height = turns_is count body.piece one.height; top = max-le (omega arith) one.top };
+        record { made = and_from _ _ parts.0 one.made; height = turns_is count body.piece one.height; top = max-le (omega arith) one.top };
     cheap = no_dearer count (cost body.piece) p f.cheap;
   }
 
@@ -132,9 +133,9 @@ module _ (scope : Scope) (known : Known scope) where
             let parts = and_parts (is_right_in scope value) next.is_right is in
             let tests = and_parts (code_of value scope).agrees (is_ranged value && nat_le (depth_of value) 32) parts.0 in
             let limits = and_parts (is_ranged value) (nat_le (depth_of value) 32) tests.1 in
-            let deep : depth_of value ≤ 32 = test_le (depth_of value) 32 limits.1 in
+            let deep : depth_of value ≤ 32 = le_told (depth_of value) 32 limits.1 in
             let other = g.moves parts.1 in record {
-              made = both _ _ (good.made limits.0) other.made;
+              made = and_from _ _ (good.made limits.0) other.made;
               height = then_is (code_of value scope).piece next.piece 0 1 0 (good.pushes.height 0) other.height;
               top = then_top (code_of value scope).piece next.piece 0 1 64 (good.pushes.height 0) (good.pushes.top 0 64 (omega arith)) other.top;
             };

@@ -1,11 +1,10 @@
 -- Pieces of expressions and step lines are made right, as high as the expressions are deep, and cost what the trees cost.
-use Rattle.std.proofs.Common.{◌≡◌, ℕ, zero, suc, ◌+◌, ◌-◌, ◌*◌, ◌<◌, ◌≤◌, max, Bool, true, false, ◌&&◌, nat_le, nat_lt, List, Option, Some, None, refl, sym, ap}
+use Rattle.std.proofs.Common.{◌≡◌, ℕ, zero, suc, ◌+◌, ◌-◌, ◌*◌, ◌<◌, ◌≤◌, max, Bool, true, false, ◌&&◌, nat_le, List, Option, Some, None, refl, sym, ap}
 use Rattle.std.proofs.Common.{◌∙◌, subst, eq-eqb, arith}
 use Rattle.std.specs.Prelude.{⊤, if◌then◌else◌}
 use Rattle.std.specs.Option.{unwrap_or}
 use Rattle.std.proofs.Math.Nat.{le-max_left, le-max_right, max-le}
-use Rattle.std.proofs.lemmas.Bool.{and_parts}
-use Rattle.std.proofs.lemmas.Bool.Decides.{nat_tests}
+use Rattle.std.proofs.lemmas.Bool.{and_parts, and_from}
 use Rattle.fixed_words.specs.Types.{kind_of, AreDecimals}
 use Rattle.fixed_words.specs.declared.types.Kind.{Kind}
 use Rattle.fixed_words.specs.declared.types.Kind.TheVariants as kinds
@@ -39,28 +38,16 @@ use Rattle.unit_vm.specs.Instructions.{takes, leaves, flow_of, slots_of, is_type
 use Rattle.unit_vm.specs.declared.instruction.Instruction.{Instruction}
 use Rattle.unit_vm.specs.declared.instruction.Instruction.TheVariants.{Push, Load, Clamp, ScaleUp, ScaleDown}
 use Rattle.unit_vm.specs.declared.program.Sizes.{Sizes}
+use Rattle.list_laws.proofs.Truths.{le_asked, lt_asked, le_told}
 
 -- ---- Tests
-
-pub le_test : (m n : ℕ) → m ≤ n → nat_le m n ≡ true
-le_test m n le = grind (arith, nat_tests)
-
-pub lt_test : (m n : ℕ) → m < n → nat_lt m n ≡ true
-lt_test m n lt = grind (arith, nat_tests)
-
-pub test_le : (m n : ℕ) → nat_le m n ≡ true → m ≤ n
-test_le m n is = grind (arith, nat_tests)
-
-pub both : (one other : Bool) → one ≡ true → other ≡ true → (one && other) ≡ true
-both true other is also = also
-both false other is also = is
 
 -- ---- Heights of pieces
 
 pub one_is : (instruction : Instruction) (height after : ℕ) → takes instruction ≤ height → height - takes instruction + leaves instruction ≡ after
     → height_behind (One instruction) height ≡ Some after
 one_is instruction height after enough is =
-    ap (λ (b : Bool). if b then Some (height - takes instruction + leaves instruction) else None) (le_test (takes instruction) height enough)
+    ap (λ (b : Bool). if b then Some (height - takes instruction + leaves instruction) else None) (le_asked (takes instruction) height enough)
     ∙ ap (λ n. Some n) is
 
 pub then_is : (first second : Piece) (height between after : ℕ) → height_behind first height ≡ Some between → height_behind second between ≡ Some after
@@ -121,7 +108,7 @@ type_known types.Int32 are = refl
 type_known types.UInt32 are = refl
 type_known types.Int64 are = refl
 type_known types.Bool are = refl
-type_known (types.Fixed decimals) are = le_test decimals 9 are
+type_known (types.Fixed decimals) are = le_asked decimals 9 are
 
 -- ---- Expressions
 
@@ -197,27 +184,27 @@ module _ (sizes : Sizes) where
   is_fine instruction = is_on (flow_of instruction) && is_argued sizes instruction
 
   scale_fine : (longer : Bool) (n had : ℕ) → n ≤ 9 → had ≤ 9 → is_fine (if longer then ScaleUp (n - had) else ScaleDown (had - n)) ≡ true
-  scale_fine true n had one other = le_test (n - had) 9 (omega arith)
-  scale_fine false n had one other = le_test (had - n) 9 (omega arith)
+  scale_fine true n had one other = le_asked (n - had) 9 (omega arith)
+  scale_fine false n had one other = le_asked (had - n) 9 (omega arith)
 
   unary_made : (op : UnOp) (kind : Kind) (piece : Piece) → unary_is_ranged op ≡ true → IsKind kind → is_made sizes piece ≡ true
       → is_made sizes (and_perhaps piece (unary_code op kind)) ≡ true
-  unary_made of.Neg kind piece ranged known made = both _ _ made refl
-  unary_made of.Not kind piece ranged known made = both _ _ made refl
-  unary_made of.Abs kind piece ranged known made = both _ _ made refl
+  unary_made of.Neg kind piece ranged known made = and_from _ _ made refl
+  unary_made of.Not kind piece ranged known made = and_from _ _ made refl
+  unary_made of.Abs kind piece ranged known made = and_from _ _ made refl
   unary_made of.ToInt kinds.Int piece ranged known made = made
   unary_made of.ToInt kinds.Bool piece ranged known made = made
-  unary_made of.ToInt (kinds.Fixed had) piece ranged known made = both _ _ made (le_test had 9 known)
-  unary_made (of.ToFix n) kinds.Int piece ranged known made = both _ _ made ranged
-  unary_made (of.ToFix n) kinds.Bool piece ranged known made = both _ _ made ranged
-  unary_made (of.ToFix n) (kinds.Fixed had) piece ranged known made = both _ _ made (scale_fine (nat_le had n) n had (test_le n 9 ranged) known)
+  unary_made of.ToInt (kinds.Fixed had) piece ranged known made = and_from _ _ made (le_asked had 9 known)
+  unary_made (of.ToFix n) kinds.Int piece ranged known made = and_from _ _ made ranged
+  unary_made (of.ToFix n) kinds.Bool piece ranged known made = and_from _ _ made ranged
+  unary_made (of.ToFix n) (kinds.Fixed had) piece ranged known made = and_from _ _ made (scale_fine (nat_le had n) n had (le_told n 9 ranged) known)
 
   unary_kind_known : (op : UnOp) (kind : Kind) → unary_is_ranged op ≡ true → IsKind kind → IsKind (unary_kind_of op kind)
   unary_kind_known of.Neg kind ranged known = known
   unary_kind_known of.Not kind ranged known = _
   unary_kind_known of.Abs kind ranged known = known
   unary_kind_known of.ToInt kind ranged known = _
-  unary_kind_known (of.ToFix n) kind ranged known = test_le n 9 ranged
+  unary_kind_known (of.ToFix n) kind ranged known = le_told n 9 ranged
 
   unary_good : (op : UnOp) (a : Coded) (ranged : Bool) (depth price : ℕ) → Good sizes a ranged depth price
       → Good sizes (unary_joined op a) (unary_is_ranged op && ranged) (suc depth) (price + 1)
@@ -256,8 +243,8 @@ module _ (sizes : Sizes) where
   binary_joins by.Max kind = record { two = refl; one = refl }
 
   binary_fine : (op : BinOp) (kind : Kind) → IsKind kind → is_fine (binary_code op kind) ≡ true
-  binary_fine by.Mul (kinds.Fixed n) known = le_test n 9 known
-  binary_fine by.Slash (kinds.Fixed n) known = le_test n 9 known
+  binary_fine by.Mul (kinds.Fixed n) known = le_asked n 9 known
+  binary_fine by.Slash (kinds.Fixed n) known = le_asked n 9 known
   binary_fine by.Mul kinds.Int known = refl
   binary_fine by.Mul kinds.Bool known = refl
   binary_fine by.Slash kinds.Int known = refl
@@ -317,7 +304,7 @@ module _ (sizes : Sizes) where
   binary_good : (op : BinOp) (a b : Coded) (one other : Bool) (d e p q : ℕ) → Good sizes a one d p → Good sizes b other e q
       → Good sizes (binary_joined op a b) (one && other) (suc (max d e)) (p + q + 1)
   binary_good op a b one other d e p q f g = record {
-    made = λ is. let parts = and_parts one other is in both _ _ (f.made parts.0) (both _ _ (g.made parts.1) (binary_fine op a.kind (f.kind parts.0)));
+    made = λ is. let parts = and_parts one other is in and_from _ _ (f.made parts.0) (and_from _ _ (g.made parts.1) (binary_fine op a.kind (f.kind parts.0)));
     kind = λ is. binary_kind_known op a.kind (f.kind (and_parts one other is).0);
     pushes = join_pushes a.piece b.piece (binary_code op a.kind) d e (binary_joins op a.kind) f.pushes g.pushes;
     cheap = let less = f.cheap in let also = g.cheap in omega arith;
@@ -351,7 +338,7 @@ module _ (sizes : Sizes) where
     made = λ is.
         let parts = and_parts one (other && third) is in
         let rest = and_parts other third parts.1 in
-        both _ _ (g.made parts.0) (both _ _ (h.made rest.0) (both _ _ (i.made rest.1) refl));
+        and_from _ _ (g.made parts.0) (and_from _ _ (h.made rest.0) (and_from _ _ (i.made rest.1) refl));
     kind = λ is. g.kind (and_parts one (other && third) is).0;
     pushes = clamp_pushes a.piece b.piece c.piece d e f g.pushes h.pushes i.pushes;
     cheap = let x = g.cheap in let y = h.cheap in let z = i.cheap in omega arith;
@@ -377,7 +364,7 @@ module _ (sizes : Sizes) where
     made = λ is.
         let parts = and_parts third (one && other) is in
         let rest = and_parts one other parts.1 in
-        both _ _ (g.made parts.0) (both _ _ (h.made rest.0) (i.made rest.1));
+        and_from _ _ (g.made parts.0) (and_from _ _ (h.made rest.0) (i.made rest.1));
     kind = λ is. h.kind (and_parts one other (and_parts third (one && other) is).1).0;
     pushes = choice_pushes c.piece a.piece b.piece f d e g.pushes h.pushes i.pushes;
     cheap = let x = g.cheap in let y = h.cheap in let z = i.cheap in omega arith;
@@ -387,7 +374,7 @@ module _ (sizes : Sizes) where
 
   number_kind : (decimals : ℕ) → nat_le decimals 9 ≡ true → IsKind (kind_of_number decimals)
   number_kind zero is = _
-  number_kind (suc less) is = test_le (suc less) 9 is
+  number_kind (suc less) is = le_told (suc less) 9 is
 
   name_good : (found : Option Named) → NamedFits sizes found → Good sizes (name_code found) true 1 1
   name_good None fits = leaf_good (Push _) kinds.Int true refl refl (λ is. refl) (λ is. tt)
@@ -396,7 +383,7 @@ module _ (sizes : Sizes) where
       placed : (place : NamePlace) → PlaceFits sizes place → Good sizes (leaf (place_code place) (kind_of found.ty)) true 1 1
       placed (Constant word) fit = leaf_good (Push word) (kind_of found.ty) true refl refl (λ is. refl) (λ is. type_kind found.ty fits.1)
       placed (Slot slot) fit =
-          leaf_good (Load slot) (kind_of found.ty) true refl refl (λ is. lt_test slot (slots_of sizes) fit) (λ is. type_kind found.ty fits.1)
+          leaf_good (Load slot) (kind_of found.ty) true refl refl (λ is. lt_asked slot (slots_of sizes) fit) (λ is. type_kind found.ty fits.1)
 
   truth_good : (told : Bool) → Good sizes (leaf (truth_code told) kinds.Bool) true 1 1
   truth_good true = leaf_good (truth_code true) kinds.Bool true refl refl (λ is. refl) (λ is. tt)
@@ -439,11 +426,11 @@ module _ (scope : Scope) (known : Known scope) where
   node Expr-F.Time =
       subst Fine (sym rolls-Time)
       (by_folds expr.Time _ _ _ _ (fold-Time Coding node_code) (fold-Time Bool node_is_ranged) (fold-Time ℕ node_depth) (fold-Time ℕ node_cost)
-      (leaf_good scope.sizes (Load scope.time) kinds.Int true refl refl (λ is. lt_test scope.time (slots_of scope.sizes) known.time) (λ is. tt)))
+      (leaf_good scope.sizes (Load scope.time) kinds.Int true refl refl (λ is. lt_asked scope.time (slots_of scope.sizes) known.time) (λ is. tt)))
   node Expr-F.Step =
       subst Fine (sym rolls-Step)
       (by_folds expr.Step _ _ _ _ (fold-Step Coding node_code) (fold-Step Bool node_is_ranged) (fold-Step ℕ node_depth) (fold-Step ℕ node_cost)
-      (leaf_good scope.sizes (Load scope.step) kinds.Int true refl refl (λ is. lt_test scope.step (slots_of scope.sizes) known.step) (λ is. tt)))
+      (leaf_good scope.sizes (Load scope.step) kinds.Int true refl refl (λ is. lt_asked scope.step (slots_of scope.sizes) known.step) (λ is. tt)))
   node (Expr-F.Unary op a) =
       subst Fine (sym (rolls-Unary op (bare a)))
       (by_folds (expr.Unary op (bare a)) _ _ _ _ (fold-Unary Coding node_code op (bare a)) (fold-Unary Bool node_is_ranged op (bare a))

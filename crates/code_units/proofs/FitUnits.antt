@@ -13,7 +13,7 @@ use Rattle.code_units.specs.Scopes.{constants, slots_from, slot_variables, sizes
 use Rattle.code_units.specs.UnitPrograms.{output_code, limit_code, step_piece, program_of, IsCallable, IsRunnable, IsCompilable}
 use Rattle.code_units.specs.declared.scope.Named.{Named}
 use Rattle.code_units.specs.declared.scope.Scope.{Scope}
-use Rattle.code_units.proofs.FitPieces.{test_le, NamedFits, Known, type_known, fine}
+use Rattle.code_units.proofs.FitPieces.{NamedFits, Known, type_known, fine}
 use Rattle.code_units.proofs.FitLines.{fine_lines}
 use Rattle.code_units.proofs.NamesInSlots.{param_variables, variables_are}
 use Rattle.code_pieces.specs.Laws.{FitsPart, role_of, IsPieceCode, IsOfPieces}
@@ -35,6 +35,7 @@ use Rattle.unit_vm.specs.declared.program.Entry.{Entry}
 use Rattle.unit_vm.specs.declared.program.Entry.TheVariants as entry
 use Rattle.unit_vm.specs.declared.program.Role.TheVariants as role
 use Rattle.unit_vm.specs.declared.program.Sizes.{Sizes}
+use Rattle.list_laws.proofs.Truths.{le_told}
 
 -- ---- Scopes
 
@@ -106,7 +107,7 @@ module _ (scope : Scope) (known : Known scope) where
   limits value callable =
       let one = and_parts (code_of value scope).agrees _ callable.right in
       let other = and_parts (is_ranged value) _ one.1 in
-      record { agrees = one.0; ranged = other.0; deep = test_le (depth_of value) 32 other.1 }
+      record { agrees = one.0; ranged = other.0; deep = le_told (depth_of value) 32 other.1 }
 
   pub output_fits : (output : Output) → Callable output.value → AreDecimals output.ty
       → FitsPart scope.sizes role.Output (code_of output.value scope).piece (Give output.ty)

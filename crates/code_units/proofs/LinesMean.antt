@@ -31,11 +31,11 @@ use Rattle.unit_tree.specs.declared.line.Line.TheViews.{roll-Line}
 use Rattle.unit_tree.specs.declared.line.Line.TheOpen.{Line-F}
 use Rattle.unit_tree.specs.declared.line.Line.TheVariants.{rolls-Assign, rolls-If, rolls-Repeat, rolls-Accept}
 use Rattle.unit_tree.proofs.FoldLemmas.{fold-Assign, fold-If, fold-Repeat, fold-Accept}
-use Rattle.unit_vm.specs.Machine.{Did, Does, Fails, step_length}
+use Rattle.unit_vm.specs.Machine.{Did, Does, Fails, length_in_slots}
 use Rattle.unit_vm.specs.declared.instruction.Instruction.TheVariants.{Accept}
 
 -- The step's length stands last.
-pub step_is : (words : List ℤ) (one other : ℤ) → step_length (words ++ (one ∷ other ∷ [])) ≡ other
+pub step_is : (words : List ℤ) (one other : ℤ) → length_in_slots (words ++ (one ∷ other ∷ [])) ≡ other
 step_is words one other =
     let size : length (words ++ (one ∷ other ∷ [])) ≡ length words + 2 = length-append words (one ∷ other ∷ []) in
     let front : length (words ++ (one ∷ [])) ≡ length words + 1 = length-append words (one ∷ []) in

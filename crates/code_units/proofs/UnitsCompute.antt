@@ -37,7 +37,7 @@ use Rattle.unit_tree.specs.declared.expr.Expr.{Expr}
 use Rattle.unit_tree.specs.declared.line.Line.{Line}
 use Rattle.unit_tree.specs.declared.unit.Local.{Local}
 use Rattle.unit_tree.specs.declared.unit.Output.{Output}
-use Rattle.unit_vm.specs.Machine.{Did, Ends, Faults, step_length, with_locals_zero, opening, run_of}
+use Rattle.unit_vm.specs.Machine.{Did, Ends, Faults, length_in_slots, with_locals_zero, opening, run_of}
 use Rattle.unit_vm.specs.Programs.{part_at}
 use Rattle.unit_vm.specs.Valid.{HasFacts}
 use Rattle.unit_vm.specs.declared.instruction.Instruction.{Instruction}
@@ -49,6 +49,7 @@ use Rattle.unit_vm.specs.declared.program.Entry.{Entry}
 use Rattle.unit_vm.specs.declared.program.Entry.TheVariants as entry
 use Rattle.unit_vm.specs.declared.program.Program.{Program}
 use Rattle.unit_vm.specs.declared.program.Sizes.{Sizes}
+use Rattle.list_laws.proofs.Truths.{not_negative}
 
 -- ---- Openings
 
@@ -79,9 +80,6 @@ zeroed sizes front old behind one other =
 
 not_below : (n : ℕ) → int_le (pos 0) (pos n) ≡ true
 not_below n = grind (arith, nat_tests)
-
-not_negative : (n : ℕ) → is_negative (pos n) ≡ false
-not_negative n = grind (arith, nat_tests)
 
 module _ (component : Component) (fits : IsCompilable component.unit component.params) where
   abbrev program : Program
@@ -145,9 +143,9 @@ module _ (component : Component) (fits : IsCompilable component.unit component.p
         let cleared : with_locals_zero program.sizes (slots time step) ≡ slots time step =
         ap (with_locals_zero program.sizes) parted
         ∙ zeroed program.sizes (state ++ inputs) locals (pos time ∷ pos step ∷ []) front (zeros_count scope.sizes.locals) ∙ sym parted in
-        let last : unsigned_abs (step_length (slots time step)) ≡ step =
-        ap (λ xs. unsigned_abs (step_length xs)) (in_slots time step) ∙ ap unsigned_abs (step_is (held step).words (pos time) (pos step)) in
-        ap (λ xs. record { stack = []; slots = xs; accepted = unsigned_abs (step_length (slots time step)) }) (cleared ∙ in_slots time step)
+        let last : unsigned_abs (length_in_slots (slots time step)) ≡ step =
+        ap (λ xs. unsigned_abs (length_in_slots xs)) (in_slots time step) ∙ ap unsigned_abs (step_is (held step).words (pos time) (pos step)) in
+        ap (λ xs. record { stack = []; slots = xs; accepted = unsigned_abs (length_in_slots (slots time step)) }) (cleared ∙ in_slots time step)
         ∙ ap (λ n. record { stack = []; slots = (held step).words ++ (pos time ∷ pos step ∷ []); accepted = n }) last
 
     by_names : (time step : ℕ) → environment_of component state inputs time step ≡ environment_at component time step (held step)

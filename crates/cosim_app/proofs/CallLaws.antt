@@ -8,7 +8,7 @@ use Rattle.cosim_io.specs.Faults.{Rose}
 use Rattle.cosim_io.specs.Pieces.{AppendsPrefix}
 use Rattle.cosim_io.proofs.PieceLemmas.{AppendsPrefix-nil, AppendsPrefix-whole}
 use Rattle.cosim_app.specs.Answer.{Answer, CommandAnswers, IsAnswer, usage_answer}
-use Rattle.cosim_app.specs.Commands.{words_of, HaveNoForm}
+use Rattle.cosim_app.specs.Commands.{words_of_command, HaveNoForm}
 use Rattle.cosim_app.specs.declared.command_words.Command.{Command}
 use Rattle.cosim_app.specs.Headline.{Streams, Gives, PutsNothing, EndsWith, BreaksARule, IsNotesText, Promises}
 use Rattle.cosim_app.specs.Judgement.{PutsAnswer, PutsAnswerFront, IsOwn, AnswersInput, TellsNote}
@@ -21,7 +21,7 @@ use Rattle.cosim_app.proofs.CommandLaws.{answers_same, one_command, served_unref
 -- ---- One answer
 
 -- the answer of a command's words is that of the command
-pub answer_of : (command : Command) (words : List (List ℕ)) (text : List ℕ) (answer : Answer) → words ≡ words_of command → IsAnswer words text answer
+pub answer_of : (command : Command) (words : List (List ℕ)) (text : List ℕ) (answer : Answer) → words ≡ words_of_command command → IsAnswer words text answer
     → CommandAnswers command text answer
 answer_of command words text answer is (inl found) =
     subst (λ c. CommandAnswers c text answer) (one_command found.command command (sym found.words_are ∙ is)) found.is
@@ -32,13 +32,13 @@ usage_of words text answer not (inl found) = absurd (not found.command found.wor
 usage_of words text answer not (inr found) = found.1
 
 -- what was put begins each answer
-front_of : (command : Command) (words : List (List ℕ)) (text : List ℕ) (held held' : Option (List ℕ)) → words ≡ words_of command
+front_of : (command : Command) (words : List (List ℕ)) (text : List ℕ) (held held' : Option (List ℕ)) → words ≡ words_of_command command
     → PutsAnswerFront command text held held' → (answer : Answer) → IsAnswer words text answer → AppendsPrefix held held' answer.out
 front_of command words text held held' is puts answer found =
     subst (λ (a : Answer). AppendsPrefix held held' a.out)
     (answers_same command text puts.answer answer puts.is (answer_of command words text answer is found)) puts.front
 
-fronts_of : (command : Command) (words : List (List ℕ)) (left held held' : Option (List ℕ)) → words ≡ words_of command
+fronts_of : (command : Command) (words : List (List ℕ)) (left held held' : Option (List ℕ)) → words ≡ words_of_command command
     → IfSome left (λ text. PutsAnswerFront command text held held')
     → IfSome left (λ text. (answer : Answer) → IsAnswer words text answer → AppendsPrefix held held' answer.out)
 fronts_of command words None held held' is puts = tt
@@ -250,7 +250,7 @@ fixed_text_is : (words : List (List ℕ)) (left : Option (List ℕ)) (note : Lis
 fixed_text_is words None note is = tt
 fixed_text_is words (Some text) note is = is text
 
-pub facts_read_fault : (command : Command) (words : List (List ℕ)) (before now : Streams) → words ≡ words_of command
+pub facts_read_fault : (command : Command) (words : List (List ℕ)) (before now : Streams) → words ≡ words_of_command command
     → IfSome before.left (λ text. PutsAnswerFront command text before.held before.held) → Rose before.read_faults now.read_faults → now.held ≡ before.held
     → now.put_faults ≡ before.put_faults → Facts words before now status.ReadFault read_fault_note
 facts_read_fault command words before now words_are nothing rose held puts = record {
@@ -284,7 +284,7 @@ facts_read_fault command words before now words_are nothing rose held puts = rec
   no_memory_text = λ e. absurd (cc);
 }
 
-pub facts_write_fault : (command : Command) (words : List (List ℕ)) (before now : Streams) → words ≡ words_of command
+pub facts_write_fault : (command : Command) (words : List (List ℕ)) (before now : Streams) → words ≡ words_of_command command
     → IfSome before.left (λ text. PutsAnswerFront command text before.held now.held) → now.read_faults ≡ before.read_faults
     → Rose before.put_faults now.put_faults → Facts words before now status.WriteFault write_fault_note
 facts_write_fault command words before now words_are puts_front reads rose = record {
@@ -316,7 +316,7 @@ facts_write_fault command words before now words_are puts_front reads rose = rec
   no_memory_text = λ e. absurd (cc);
 }
 
-pub facts_no_memory : (command : Command) (words : List (List ℕ)) (before now : Streams) → words ≡ words_of command
+pub facts_no_memory : (command : Command) (words : List (List ℕ)) (before now : Streams) → words ≡ words_of_command command
     → IfSome before.left (λ text. PutsAnswerFront command text before.held now.held) → now.read_faults ≡ before.read_faults
     → now.put_faults ≡ before.put_faults → Facts words before now status.NoMemory no_memory_note
 facts_no_memory command words before now words_are puts_front reads puts = record {
@@ -349,7 +349,7 @@ facts_no_memory command words before now words_are puts_front reads puts = recor
 }
 
 -- an answer of its own
-own_front : (command : Command) (words : List (List ℕ)) (left held held' : Option (List ℕ)) (given : Status) (note : List ℕ) → words ≡ words_of command
+own_front : (command : Command) (words : List (List ℕ)) (left held held' : Option (List ℕ)) (given : Status) (note : List ℕ) → words ≡ words_of_command command
     → IfSome left (λ text. PutsAnswer command text held held' given note)
     → IfSome left (λ text. (answer : Answer) → IsAnswer words text answer → Appends held held' answer.out × (note ≡ answer.notes) × (given ≡ answer.status))
 own_front command words None held held' given note words_are gives = tt
@@ -373,24 +373,26 @@ own_text : (words : List (List ℕ)) (left held held' : Option (List ℕ)) (give
 own_text words None held held' given note answers = tt
 own_text words (Some text) held held' given note answers = inr (inr (inr (λ answer found. (answers answer found).1)))
 
-breaks : (command : Command) (words : List (List ℕ)) (text : List ℕ) (answer : Answer) → words ≡ words_of command → CommandAnswers command text answer
+breaks : (command : Command) (words : List (List ℕ)) (text : List ℕ) (answer : Answer) → words ≡ words_of_command command → CommandAnswers command text answer
     → answer.status ≡ status.Refused → BreaksARule words text
 breaks command words text answer words_are (inl a) is = record { command = command; words_are = words_are; line = a.line; rule = a.rule; refused = a.refused }
 breaks command words text answer words_are (inr a) is = absurd (served_unrefused command text answer a is)
 
-breaks_a_rule : (command : Command) (words : List (List ℕ)) (left held held' : Option (List ℕ)) (given : Status) (note : List ℕ) → words ≡ words_of command
+breaks_a_rule : (command : Command) (words : List (List ℕ)) (left held held' : Option (List ℕ)) (given : Status) (note : List ℕ)
+    → words ≡ words_of_command command
     → IfSome left (λ text. PutsAnswer command text held held' given note) → given ≡ status.Refused → IfSome left (BreaksARule words)
 breaks_a_rule command words None held held' given note words_are gives is = tt
 breaks_a_rule command words (Some text) held held' given note words_are gives is =
     breaks command words text gives.answer words_are gives.is (sym gives.same_status ∙ is)
 
-ends_so : (command : Command) (words : List (List ℕ)) (text : List ℕ) (answer : Answer) (end : Status) → (end ≡ status.Refused → ⊥) → words ≡ words_of command
+ends_so : (command : Command) (words : List (List ℕ)) (text : List ℕ) (answer : Answer) (end : Status) → (end ≡ status.Refused → ⊥)
+    → words ≡ words_of_command command
     → CommandAnswers command text answer → answer.status ≡ end → EndsWith words end text
 ends_so command words text answer end other words_are (inl a) is = absurd (other (sym is ∙ ap (λ (x : Answer). x.status) a.is))
 ends_so command words text answer end other words_are (inr a) is = record { command = command; words_are = words_are; answer = answer; serves = a; status = is }
 
 ends_with : (command : Command) (words : List (List ℕ)) (left held held' : Option (List ℕ)) (given end : Status) (note : List ℕ) → (end ≡ status.Refused → ⊥)
-    → words ≡ words_of command → IfSome left (λ text. PutsAnswer command text held held' given note) → given ≡ end → IfSome left (EndsWith words end)
+    → words ≡ words_of_command command → IfSome left (λ text. PutsAnswer command text held held' given note) → given ≡ end → IfSome left (EndsWith words end)
 ends_with command words None held held' given end note other words_are gives is = tt
 ends_with command words (Some text) held held' given end note other words_are gives is =
     ends_so command words text gives.answer end other words_are gives.is (sym gives.same_status ∙ is)
@@ -414,7 +416,7 @@ read_or_long : (given : Status) (left left' : Option (List ℕ)) → IsAtEnd lef
 read_or_long given left left' (inl end) = inl end
 read_or_long given left left' (inr long) = inr long.1
 
-pub facts_answered : (command : Command) (words : List (List ℕ)) (before now : Streams) (given : Status) (note : List ℕ) → words ≡ words_of command
+pub facts_answered : (command : Command) (words : List (List ℕ)) (before now : Streams) (given : Status) (note : List ℕ) → words ≡ words_of_command command
     → AnswersInput command before.left now.left before.read_faults now.read_faults before.held now.held before.put_faults now.put_faults given note
     → Facts words before now given note
 facts_answered command words before now given note words_are a =

@@ -10,7 +10,7 @@ use Rattle.unit_tree.specs.declared.ending.Ending.TheVariants.{Completed, RowBud
 use Rattle.unit_tree.specs.declared.system.System.{System}
 use Rattle.cosim_app.specs.Answer.{Answer, AnswersRun, Serves, CommandAnswers, run_answer, refused_answer, accepted_answer}
 use Rattle.cosim_app.specs.Answer.{printed_answer, status_of}
-use Rattle.cosim_app.specs.Commands.{words_of}
+use Rattle.cosim_app.specs.Commands.{words_of_command}
 use Rattle.cosim_app.specs.declared.command_words.Command.{Command}
 use Rattle.cosim_app.specs.declared.command_words.Command.TheVariants.{Run, Check, Print}
 use Rattle.cosim_app.specs.declared.status.Status.{Status}
@@ -24,15 +24,15 @@ abbrev is_word : List ℕ → List (List ℕ) → Bool
 is_word word (one ∷ []) = bytes_eq one word
 is_word word words = false
 
-told_apart : (word : List ℕ) (one other : Command) → words_of one ≡ words_of other → is_word word (words_of one) ≡ true
-    → is_word word (words_of other) ≡ false → ⊥
+told_apart : (word : List ℕ) (one other : Command) → words_of_command one ≡ words_of_command other → is_word word (words_of_command one) ≡ true
+    → is_word word (words_of_command other) ≡ false → ⊥
 told_apart word one other is first second = let same = sym first ∙ ap (is_word word) is ∙ second in true_is_not_false same
   where
     true_is_not_false : true ≡ false → ⊥
     true_is_not_false same = cc
 
 -- commands of the same words are one
-pub one_command : (one other : Command) → words_of one ≡ words_of other → one ≡ other
+pub one_command : (one other : Command) → words_of_command one ≡ words_of_command other → one ≡ other
 one_command Run Run is = refl
 one_command Run Check is = absurd (told_apart (codes "run") Run Check is refl refl)
 one_command Run Print is = absurd (told_apart (codes "run") Run Print is refl refl)

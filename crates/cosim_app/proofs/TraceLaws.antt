@@ -13,7 +13,8 @@ use Rattle.unit_tree.specs.Plain.{plain_form}
 use Rattle.unit_tree.specs.declared.system.PortName.{PortName}
 use Rattle.unit_tree.specs.declared.system.System.{System}
 use Rattle.run_laws.specs.RunLaws.{HasOneTraceOf}
-use Rattle.run_laws.proofs.EventLaws.{one_or_two, plain_form_1}
+use Rattle.list_laws.proofs.Truths.{one_or_two}
+use Rattle.run_laws.proofs.EventLaws.{plain_form_1}
 use Rattle.run_laws.proofs.PlainOrders.{plain_has_no_cycle, plain_of}
 use Rattle.run_laws.proofs.PositionLaws.{system_has_members}
 use Rattle.run_laws.proofs.RunOrders.{runs_have_orders}

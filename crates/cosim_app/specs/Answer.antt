@@ -11,7 +11,7 @@ use Rattle.unit_tree.specs.WellFormed.{resolution_of}
 use Rattle.unit_tree.specs.declared.ending.Ending.{Ending}
 use Rattle.unit_tree.specs.declared.ending.Ending.TheVariants.{Completed, RowBudget, ZeroBudget, UnitFault, StepRefused}
 use Rattle.unit_tree.specs.declared.system.System.{System}
-use Rattle.cosim_app.specs.Commands.{words_of, HaveNoForm}
+use Rattle.cosim_app.specs.Commands.{words_of_command, HaveNoForm}
 use Rattle.cosim_app.specs.Notes.{line_end, usage_note, refused_note, ending_note}
 use Rattle.cosim_app.specs.declared.command_words.Command.{Command}
 use Rattle.cosim_app.specs.declared.command_words.Command.TheVariants.{Run, Check, Print}
@@ -108,7 +108,7 @@ CommandAnswers command text answer = AnswersRefusal text answer ⊎ Serves comma
 -- The answer for the words of a command on its input.
 pub record AnswersCommand (words : List (List ℕ)) (text : List ℕ) (answer : Answer) : Type 0 where
   pub command : Command
-  pub words_are : words ≡ words_of command
+  pub words_are : words ≡ words_of_command command
   pub is : CommandAnswers command text answer
 
 -- The answer for the words and the input: that of the command; words that are those of no command have no form, and the input

@@ -8,7 +8,7 @@ use Rattle.cosim_io.specs.Faults.{Rose}
 use Rattle.cosim_io.specs.Pieces.{AppendsPrefix}
 use Rattle.text_accept.specs.Accepting.{IsRefusedAt}
 use Rattle.cosim_app.specs.Answer.{Answer, IsAnswer, Serves}
-use Rattle.cosim_app.specs.Commands.{words_of, HaveNoForm}
+use Rattle.cosim_app.specs.Commands.{words_of_command, HaveNoForm}
 use Rattle.cosim_app.specs.Notes.{read_fault_note, write_fault_note, no_memory_note}
 use Rattle.cosim_app.specs.declared.command_words.Command.{Command}
 use Rattle.cosim_app.specs.declared.status.Status.{Status}
@@ -58,7 +58,7 @@ pub record PrefixClause (words : List (List ℕ)) (before now : Streams) (given 
 -- The words are those of a command that serves the text, and its answer has this status: of a run, its trace ends so.
 pub record EndsWith (words : List (List ℕ)) (given : Status) (text : List ℕ) : Type 0 where
   pub command : Command
-  pub words_are : words ≡ words_of command
+  pub words_are : words ≡ words_of_command command
   pub answer : Answer
   pub serves : Serves command text answer
   pub status : answer.status ≡ given
@@ -66,7 +66,7 @@ pub record EndsWith (words : List (List ℕ)) (given : Status) (text : List ℕ)
 -- The words are those of a command, and the text breaks a rule.
 pub record BreaksARule (words : List (List ℕ)) (text : List ℕ) : Type 0 where
   pub command : Command
-  pub words_are : words ≡ words_of command
+  pub words_are : words ≡ words_of_command command
   pub line : ℕ
   pub rule : ℕ
   pub refused : IsRefusedAt text line rule

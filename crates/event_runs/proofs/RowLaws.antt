@@ -4,6 +4,7 @@ use Rattle.std.specs.Prelude.{⊤, is_some, ◌&&◌}
 use Rattle.std.specs.List.{AllByRecursion, flat_map, filter_map, list_all, cons_option}
 use Rattle.std.specs.Option.{option_map}
 use Rattle.std.specs.Ordering.{int_eq}
+use Rattle.std.proofs.lemmas.Slice.Zip.{AllZip-long}
 use Rattle.event_runs.specs.Events.{Occurs, Absent}
 use Rattle.unit_tree.specs.Compositions.{Composition, AreMembers}
 use Rattle.unit_tree.specs.Ports.{Ports, IsPlaceOrder, port_fault}
@@ -11,7 +12,6 @@ use Rattle.unit_tree.specs.Trace.{Row, Stand, IsStand, Follows, IsTrace, HasWord
 use Rattle.unit_tree.specs.declared.ending.Ending.{Ending}
 use Rattle.run_laws.proofs.AssignmentLaws.{undefined_faults}
 use Rattle.run_laws.proofs.PositionLaws.{positions_keep}
-use Rattle.list_laws.proofs.Pairs.{one_each}
 use Rattle.run_laws.proofs.RunTraces.{goes_keeps}
 use Rattle.event_runs.specs.EventPorts.{EventMember, shape_of, read_ports, AreTidy, IsPlainRun}
 use Rattle.event_runs.specs.EventTrace.{EventRow, event_port_fault, event_row_unless, event_rows_of, read_ending, read_stand, read_words, read_row}
@@ -73,7 +73,7 @@ module _ (members : List EventMember) (run : Composition) (order : List ℕ) (pl
   row_by None stand words is told =
       let fit = fits members run order plain are ordered stand.at words in
       let tidy = (assignment_is_read members run stand.at.states plain fit stand.ports is).0 in
-      let count : length stand.at.states ≡ length run.members = one_each _ run.members stand.at.states words in
+      let count : length stand.at.states ≡ length run.members = AllZip-long _ run.members stand.at.states words in
       let defined : list_all is_some stand.ports ≡ true = (undefined_faults run order stand.at.states stand.ports ordered count is).0 told in
       ap (λ fault. event_row_unless fault stand.at.point (read_stand members stand).signals)
           (fault_is_read members run stand.at.states stand.ports plain fit tidy ∙ ap (option_map (read_ending members)) told)

@@ -3,7 +3,7 @@ use Rattle.std.proofs.Common.{◌≡◌, ℕ, Bool, true, false, List, [], ◌�
 use Rattle.std.specs.Prelude.{◌&&◌, ◌||◌, is_none, not}
 use Rattle.std.specs.List.{AllByRecursion, flat_map, list_all}
 use Rattle.std.specs.Option.{IfSome}
-use Rattle.std.proofs.lemmas.Bool.{and_parts}
+use Rattle.std.proofs.lemmas.Bool.{and_parts, or_parts}
 use Rattle.std.proofs.lemmas.Grind.{flat_map-append}
 use Rattle.unit_tree.specs.Canonical.{optional}
 use Rattle.unit_tree.specs.Components.{variable}
@@ -28,14 +28,14 @@ use Rattle.unit_tree.specs.declared.unit.Output.{Output}
 use Rattle.unit_tree.specs.declared.unit.Param.{Param}
 use Rattle.unit_tree.specs.declared.unit.State.{State}
 use Rattle.unit_tree.specs.declared.unit.Unit.{Unit}
-use Rattle.language_laws.proofs.BlockLaws.{all_step_lines, each_append}
+use Rattle.language_laws.proofs.BlockLaws.{all_step_lines}
 use Rattle.language_laws.proofs.Declarations.{Declared, OfParam, OfState, OfLocal, OfInput, OfEventIn, OfOutput, OfEventOut, line_of, declarations, ports}
 use Rattle.language_laws.proofs.Declarations.{Declares, AtLine, each_line, front_lines, tail_parts}
 use Rattle.language_laws.proofs.NameLaws.{Hold}
 use Rattle.language_laws.proofs.UnitSites.{Passes}
-use Rattle.list_laws.proofs.Lists.{back_of, of_flat}
+use Rattle.list_laws.proofs.Lists.{back_of, of_flat, each_append}
 use Rattle.list_laws.proofs.Members.{Has, all_has, has_behind, has_front, has_map}
-use Rattle.list_laws.proofs.Truths.{not_false, or_false}
+use Rattle.list_laws.proofs.Truths.{not_false}
 use Rattle.event_runs.specs.EventPorts.{Out, Plain, Event, outs_of, needs_in}
 use Rattle.event_runs.specs.Events.{all_variables_of}
 use Rattle.event_runs.specs.Laws.{Speaks, FormSpeaks, LineSpeaks, IsSaid, asks_of}
@@ -141,7 +141,7 @@ module _ (system : System) (unit : Unit) (declared : Declares (Passes system) un
       → are_among asks (events_asked_in value) ≡ true
   used needs value none =
       asked (output_uses unit) value
-      (not_false (keeps_to (output_uses unit) value) (or_false (not (keeps_to (output_uses unit) value)) (not (are_among (input_names unit) needs)) none).0)
+      (not_false (keeps_to (output_uses unit) value) (or_parts (not (keeps_to (output_uses unit) value)) (not (are_among (input_names unit) needs)) none).0)
 
   output_speaks : (output : Output) → Has unit.outputs output → Speaks asks output.value
   output_speaks output has =
@@ -202,7 +202,7 @@ module _ (system : System) (unit : Unit) (declared : Declares (Passes system) un
   form_asks form.End earlier is passes = tt
   form_asks (form.Assign target value) earlier is passes =
       asked (step_uses unit) value
-      (not_false (keeps_to (step_uses unit) value) (or_false (is_none (type_in unit target)) (not (keeps_to (step_uses unit) value)) passes.named).1)
+      (not_false (keeps_to (step_uses unit) value) (or_parts (is_none (type_in unit target)) (not (keeps_to (step_uses unit) value)) passes.named).1)
   form_asks (form.If cond) earlier is passes = asked (step_uses unit) cond (not_false (keeps_to (step_uses unit) cond) passes.named)
   form_asks form.Else earlier is passes = tt
   form_asks (form.Repeat count) earlier is passes = tt

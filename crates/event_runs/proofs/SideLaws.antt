@@ -24,8 +24,7 @@ use Rattle.unit_tree.specs.declared.unit.Output.{Output}
 use Rattle.unit_tree.specs.declared.unit.Unit.{Unit}
 use Rattle.list_laws.proofs.Members.{Has, has_map}
 use Rattle.language_laws.proofs.NameLaws.{bytes_of}
-use Rattle.list_laws.proofs.Members.{all_has}
-use Rattle.language_laws.proofs.PlainNames.{each_has}
+use Rattle.list_laws.proofs.Members.{all_has, each_has}
 use Rattle.event_runs.specs.EventPorts.{Signals, EventMember, Plain, Event, needs_in, get_out, word_needed, signal_needed, seen_for, EventStanding, signal_of}
 use Rattle.event_runs.specs.EventPorts.{signals_at, is_event, shape_of, read_pair, read_ports, plain_source, plain_feed, plain_member, IsTidyPair, AreTidy}
 use Rattle.event_runs.specs.EventPorts.{IsWired}

@@ -7,6 +7,7 @@ use Rattle.std.specs.List.{AllByRecursion, flat_map, filter_map, cons_option}
 use Rattle.std.specs.Option.{option_map}
 use Rattle.std.proofs.lemmas.Grind.{flat_map-append}
 use Rattle.std.proofs.lemmas.List.{append-nil, length-map, map-append}
+use Rattle.std.proofs.lemmas.Bool.{or_parts}
 use Rattle.fixed_words.specs.declared.types.Literal.TheVariants as literal
 use Rattle.fixed_words.specs.declared.types.Ty.TheVariants as types
 use Rattle.unit_tree.specs.Components.{start_word}
@@ -30,14 +31,14 @@ use Rattle.language_laws.proofs.Declarations.{Declares, declares}
 use Rattle.language_laws.proofs.FirstVersion.{unit_stays}
 use Rattle.language_laws.proofs.JudgedFacts.{IsJoined, inputs_differ, joined_wires}
 use Rattle.language_laws.proofs.NameLaws.{PortsDiffer, ports_differ}
-use Rattle.language_laws.proofs.PlainNames.{each_has, of_output, of_event, word_is_plain}
+use Rattle.language_laws.proofs.PlainNames.{of_output, of_event, word_is_plain}
 use Rattle.language_laws.proofs.UnitSites.{Passes, unit_passes}
-use Rattle.run_laws.proofs.EventLaws.{one_or_two, plain_form_1, version_1_without_events}
+use Rattle.run_laws.proofs.EventLaws.{plain_form_1, version_1_without_events}
 use Rattle.run_laws.proofs.PlainCycles.{comes_from_output, of_input, of_event_in}
 use Rattle.run_laws.proofs.PlainKept.{alike_by}
 use Rattle.run_laws.proofs.PlainOrders.{declared, input_is, is_event_is, named_has, plain_named, plain_of, wired}
-use Rattle.list_laws.proofs.Members.{Has, has_behind, has_front, has_map}
-use Rattle.list_laws.proofs.Truths.{not_false, or_false}
+use Rattle.list_laws.proofs.Members.{Has, has_behind, has_front, has_map, each_has}
+use Rattle.list_laws.proofs.Truths.{not_false, one_or_two}
 use Rattle.event_runs.specs.EventPorts.{EventMember, Plain, Event, outs_of, is_event, shape_of, plain_place, plain_source, plain_feed, plain_member}
 use Rattle.event_runs.specs.EventPorts.{SourceFits, FeedFits, IsWired}
 use Rattle.event_runs.specs.EventPorts.{IsPlainRun}
@@ -84,7 +85,7 @@ module _ (system : System) (ranged : IsRanged system) (kept : IsWellFormed syste
   from_by wire port None is some same = absurd (cc)
   from_by wire port (Some output) is some same =
       ap (λ given. unwrap_or (option_map (λ (o : Port). o.is_event) given) false) is
-      ∙ beq_same output.is_event port.is_event (not_false (beq output.is_event port.is_event) (or_false _ _ same).1)
+      ∙ beq_same output.is_event port.is_event (not_false (beq output.is_event port.is_event) (or_parts _ _ same).1)
 
   joined_alike : (wire : Wire) → Has system.wires wire → (instance : Instance) (unit : Unit) (port : Port) → Has system.instances instance
       → unit_of_instance system instance ≡ Some unit → Has (input_ports unit) port → wire.to ≡ port_of instance port.name

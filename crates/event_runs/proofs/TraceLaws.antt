@@ -4,6 +4,7 @@ use Rattle.std.proofs.Common.{refl, sym, ap, ◌∙◌, subst}
 use Rattle.std.specs.Prelude.{zip, ⊤, is_some, nat_lt, ◌&&◌}
 use Rattle.std.specs.List.{AllByRecursion, AllZip, flat_map, enumerate_from, list_all}
 use Rattle.std.specs.Option.{option_map}
+use Rattle.std.proofs.lemmas.Slice.Zip.{AllZip-long}
 use Rattle.fixed_words.specs.declared.types.Fault.{Fault}
 use Rattle.super_time.specs.LocalTime.{local_step}
 use Rattle.unit_tree.specs.Components.{Moved, initial}
@@ -15,7 +16,6 @@ use Rattle.unit_tree.specs.declared.ending.Ending.{Ending}
 use Rattle.unit_tree.specs.declared.ending.Ending.TheVariants.{Completed, RowBudget, ZeroBudget, StepRefused}
 use Rattle.run_laws.proofs.AssignmentLaws.{undefined_faults}
 use Rattle.run_laws.proofs.PositionLaws.{positions_keep}
-use Rattle.list_laws.proofs.Pairs.{one_each}
 use Rattle.run_laws.proofs.RunTraces.{goes_keeps}
 use Rattle.event_runs.specs.EventPorts.{Signals, EventMember, shape_of, read_ports, plain_member, IsEventAssignment, IsPlainRun, StatesFit}
 use Rattle.event_runs.specs.EventTrace.{EventRun, event_port_fault, event_offers, event_successor, first_event_position, EventFollows, IsEventTrace}
@@ -33,7 +33,7 @@ fit_of : (shape : _) (members : List EventMember) (states : List (List ℤ))
 fit_of shape [] [] all = tt
 fit_of shape [] (state ∷ states) all = absurd all
 fit_of shape (one ∷ members) [] all = absurd all
-fit_of shape (one ∷ members) (state ∷ states) all = (one_each _ one.member.component.unit.states state all.0, fit_of shape members states all.1)
+fit_of shape (one ∷ members) (state ∷ states) all = (AllZip-long _ one.member.component.unit.states state all.0, fit_of shape members states all.1)
 
 initial_states : (shape : _) (members : List EventMember)
     → map (λ member. initial member.component) (map (plain_member shape) members) ≡ map (λ one. initial one.member.component) members
@@ -151,7 +151,7 @@ module _ (members : List EventMember) (run : Composition) (order : List ℕ) (pl
   next_read None at ports words is told =
       let fit = fits at words in
       let tidy = (assignment_is_read members run at.states plain fit ports is).0 in
-      let count : length at.states ≡ length run.members = one_each _ run.members at.states words in
+      let count : length at.states ≡ length run.members = AllZip-long _ run.members at.states words in
       let defined : list_all is_some ports ≡ true = (undefined_faults run order at.states ports ordered count is).0 told in
       let same = give_the_same members run at ports plain fit tidy defined in
       let event_told : event_port_fault members at.states (read ports) ≡ None = fault_is_read members run at.states ports plain fit tidy

@@ -15,7 +15,7 @@ use Rattle.fixed_words.proofs.Floors.{by_positive, by_negative, never_below_zero
 use Rattle.fixed_words.proofs.Remainders.{positive_by_positive, negative_by_positive, positive_by_negative, negative_by_negative, nothing_by_negative}
 
 -- One more than a number: what is left by the divisor grows by one, or all is taken and the quotient grows.
-pub record HasRoom (a b : ℕ) : Type 0 where
+pub record RestGrows (a b : ℕ) : Type 0 where
   pub quotient : suc a / suc b ≡ a / suc b
   pub left : suc a % suc b ≡ suc (a % suc b)
 
@@ -24,7 +24,7 @@ pub record IsFull (a b : ℕ) : Type 0 where
   pub left : suc a % suc b ≡ 0
   pub was : a % suc b ≡ b
 
-one_more : (a b : ℕ) → HasRoom a b ⊎ IsFull a b
+one_more : (a b : ℕ) → RestGrows a b ⊎ IsFull a b
 one_more a b =
     let parts : suc b * (a / suc b) + a % suc b ≡ a = div-add-mod a (suc b) in
     elim (cases_lt (suc (a % suc b)) (suc b)) [
@@ -93,7 +93,7 @@ nothing b =
     }
 
 -- a negative dividend by a positive divisor
-below_room : (a b : ℕ) → HasRoom a b → IsAboveFloor (negsuc a) (pos (suc b))
+below_room : (a b : ℕ) → RestGrows a b → IsAboveFloor (negsuc a) (pos (suc b))
 below_room a b room = record {
   floor = ap (λ n. neg_ℤ (pos n) -ℤ pos 1) room.quotient ∙ omega (arith, ints) ∙ sym (by_positive (negsuc a) b);
   rest = ap (λ n. neg_ℤ (pos n) +ℤ pos (suc b)) room.left ∙ omega (arith, ints) ∙ sym (negative_by_positive a b);
@@ -111,7 +111,7 @@ below_full a b full =
     }
 
 -- a positive dividend by a negative divisor
-above_room : (a b : ℕ) → HasRoom a b → IsAboveFloor (pos (suc a)) (negsuc b)
+above_room : (a b : ℕ) → RestGrows a b → IsAboveFloor (pos (suc a)) (negsuc b)
 above_room a b room = record {
   floor = ap (λ n. neg_ℤ (pos n) -ℤ pos 1) room.quotient ∙ omega (arith, ints) ∙ sym (by_negative (pos (suc a)) b);
   rest = ap (λ n. pos n +ℤ negsuc b) room.left ∙ omega (arith, ints) ∙ sym (positive_by_negative a b);

@@ -12,7 +12,7 @@ use Rattle.std.proofs.lemmas.Fmt.{decimal_by_steps}
 use Rattle.fixed_words.specs.Digits.{is_digit, number_from, pointed, IsNumber, number_of_digits}
 
 -- a number grows with each digit
-number_from-ge : (before : ℕ) (bytes : List ℕ) → before ≤ number_from before bytes
+pub number_from-ge : (before : ℕ) (bytes : List ℕ) → before ≤ number_from before bytes
 number_from-ge before [] = omega arith
 number_from-ge before (byte ∷ bytes) = omega (arith, number_from-ge (10 * before + (byte - 48)) bytes)
 

@@ -25,5 +25,5 @@ bit_of false = 0
 bit_of true = 1
 
 -- the two words of the cell
-abbrev pub words_of : Front → List ℕ
-words_of front = front.rows ∷ bit_of front.closed ∷ []
+abbrev pub cell_words : Front → List ℕ
+cell_words front = front.rows ∷ bit_of front.closed ∷ []

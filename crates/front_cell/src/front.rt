@@ -37,9 +37,9 @@ impl Front {
 }
 
 impl Words<2> for Front {
-    ghost use Rattle.front_cell.specs.Front.{words_of};
+    ghost use Rattle.front_cell.specs.Front.{cell_words};
 
-    ghost words = { words_of };
+    ghost words = { cell_words };
 
     fn to_words(self) -> [u64; 2] {
         [self.rows, u64::from(self.closed)]

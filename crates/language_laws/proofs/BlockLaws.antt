@@ -23,7 +23,7 @@ use Rattle.unit_tree.specs.declared.system.System.{System}
 use Rattle.unit_tree.specs.declared.unit.Unit.{Unit}
 use Rattle.unit_tree.proofs.FoldLemmas.{fold-Assign, fold-If, fold-Repeat, fold-Accept}
 use Rattle.language_laws.proofs.PartLaws.{grouped, unit_is}
-use Rattle.list_laws.proofs.Lists.{all_of_two}
+use Rattle.list_laws.proofs.Lists.{all_of_two, each_append}
 
 -- ---- Lists that are cut at a member
 
@@ -202,10 +202,6 @@ heads_on_level scope earlier (first ∷ others) below =
     ∙ rw (none_on_level scope first.block below.0) (heads_on_level scope (earlier ++ (first.head ∷ [])) others below.1)))
 
 -- ---- Facts of each of many
-
-pub each_append : {A : Type 0} (P : A → Type 0) (xs ys : List A) → AllByRecursion P xs → AllByRecursion P ys → AllByRecursion P (xs ++ ys)
-each_append P [] ys on_xs on_ys = on_ys
-each_append P (x ∷ xs) ys on_xs on_ys = (on_xs.0, each_append P xs ys on_xs.1 on_ys)
 
 pub each_front : {A : Type 0} (P : A → Type 0) (xs : List A) (y : A) (ys : List A) → AllByRecursion P (xs ++ (y ∷ ys)) → AllByRecursion P xs × P y
 each_front P [] y ys all = (_, all.0)

@@ -1,14 +1,14 @@
 -- What a unit declares, as one list in the order of its lines: the names differ, and there are not too many of a kind.
 use Rattle.std.proofs.Common.{◌≡◌, ℕ, suc, ◌+◌, ◌*◌, ◌≤◌, ◌⊎◌, false, List, [], ◌∷◌, ◌++◌, append_assoc, map, length, Option, Some, None, inl, inr, refl, sym}
 use Rattle.std.proofs.Common.{ap, ◌∙◌, subst, arith}
-use Rattle.std.specs.Prelude.{cond, nat_lt, count_by}
+use Rattle.std.specs.Prelude.{cond, count_by}
 use Rattle.std.specs.List.{flat_map, filter_map, cons_option, list_any}
 use Rattle.std.proofs.lemmas.List.Elements.{filter_map-append}
 use Rattle.std.specs.Str.{bytes_eq}
 use Rattle.std.proofs.lemmas.Grind.{flat_map-append}
 use Rattle.std.proofs.lemmas.List.{map-append, append-nil, length-map, length-append}
 use Rattle.std.proofs.lemmas.List.Sums.{sum_by-cons, sum_by-append}
-use Rattle.std.proofs.lemmas.Bool.Decides.{nat_tests}
+use Rattle.std.proofs.lemmas.Bool.{or_parts}
 use Rattle.fixed_words.specs.declared.types.Literal.TheVariants as literal
 use Rattle.fixed_words.specs.declared.types.Ty.TheVariants as types
 use Rattle.unit_tree.specs.Canonical.{optional, unit_parts}
@@ -35,7 +35,7 @@ use Rattle.unit_tree.specs.declared.unit.Unit.{Unit}
 use Rattle.language_laws.proofs.NameLaws.{bytes_of, Hold, hold_front, hold_behind, not_among, name_unsaid}
 use Rattle.language_laws.proofs.UnitSites.{Passes, UnitHolds}
 use Rattle.list_laws.proofs.Members.{Has, Distinct, has_front, has_behind}
-use Rattle.list_laws.proofs.Truths.{or_false, lt_not_told}
+use Rattle.list_laws.proofs.Truths.{lt_not_told}
 
 -- ---- The list
 
@@ -337,21 +337,21 @@ module _ (system : System) (unit : Unit) where
   outputs_count (OfLocal local) = inr refl
   outputs_count (OfInput input) = inr refl
   outputs_count (OfEventIn event) = inr refl
-  outputs_count (OfOutput output) = inl (λ earlier is. lt_not_told 32 _ (or_false _ _ is).0)
-  outputs_count (OfEventOut event) = inl (λ earlier is. lt_not_told 32 _ (or_false _ _ is).0)
+  outputs_count (OfOutput output) = inl (λ earlier is. lt_not_told 32 _ (or_parts _ _ is).0)
+  outputs_count (OfEventOut event) = inl (λ earlier is. lt_not_told 32 _ (or_parts _ _ is).0)
 
   inputs_count : (one : Declared) → Counts system unit any_input 32 one
   inputs_count (OfParam param) = inr refl
   inputs_count (OfState state) = inr refl
   inputs_count (OfLocal local) = inr refl
-  inputs_count (OfInput input) = inl (λ earlier is. lt_not_told 32 _ (or_false _ _ is).0)
-  inputs_count (OfEventIn event) = inl (λ earlier is. lt_not_told 32 _ (or_false _ _ is).0)
+  inputs_count (OfInput input) = inl (λ earlier is. lt_not_told 32 _ (or_parts _ _ is).0)
+  inputs_count (OfEventIn event) = inl (λ earlier is. lt_not_told 32 _ (or_parts _ _ is).0)
   inputs_count (OfOutput output) = inr refl
   inputs_count (OfEventOut event) = inr refl
 
   states_count : (one : Declared) → Counts system unit any_state 64 one
   states_count (OfParam param) = inr refl
-  states_count (OfState state) = inl (λ earlier is. lt_not_told 64 _ (or_false _ _ is).0)
+  states_count (OfState state) = inl (λ earlier is. lt_not_told 64 _ (or_parts _ _ is).0)
   states_count (OfLocal local) = inr refl
   states_count (OfInput input) = inr refl
   states_count (OfEventIn event) = inr refl
@@ -361,7 +361,7 @@ module _ (system : System) (unit : Unit) where
   locals_count : (one : Declared) → Counts system unit any_local 64 one
   locals_count (OfParam param) = inr refl
   locals_count (OfState state) = inr refl
-  locals_count (OfLocal local) = inl (λ earlier is. lt_not_told 64 _ (or_false _ _ is).0)
+  locals_count (OfLocal local) = inl (λ earlier is. lt_not_told 64 _ (or_parts _ _ is).0)
   locals_count (OfInput input) = inr refl
   locals_count (OfEventIn event) = inr refl
   locals_count (OfOutput output) = inr refl

@@ -5,11 +5,12 @@ use Rattle.std.specs.List.{AllByRecursion, flat_map}
 use Rattle.std.specs.Option.{option_map}
 use Rattle.std.proofs.lemmas.Grind.{flat_map-append}
 use Rattle.std.proofs.lemmas.List.{append-nil}
+use Rattle.std.proofs.lemmas.Bool.{or_parts}
 use Rattle.unit_tree.specs.Canonical.{optional}
 use Rattle.unit_tree.specs.LineForms.{tail_of, tail_speaks_of_events, node_speaks_of_events, speaks_of_events}
 use Rattle.unit_tree.specs.Names.{is_among}
 use Rattle.unit_tree.specs.Parts as parts
-use Rattle.unit_tree.specs.Parts.{UnitPart, joined, else_forms, block_forms, line_forms}
+use Rattle.unit_tree.specs.Parts.{UnitPart, joined, block_forms, line_forms}
 use Rattle.unit_tree.specs.Plain.{plain_expression, node_plain_line, plain_line, plain_inputs, plain_need, plain_needs, plain_output, plain_outputs, plain_unit}
 use Rattle.unit_tree.specs.Sites.{UnitScope, StepScope, Site, Headed, alone, sites, headed_unit_part}
 use Rattle.unit_tree.specs.declared.expr.Expr as expr
@@ -35,10 +36,9 @@ use Rattle.unit_tree.proofs.FoldLemmas.{fold-Accept}
 use Rattle.language_laws.proofs.NameLaws.{Hold}
 use Rattle.language_laws.proofs.PlainLemmas.{plain-Number, plain-Truth, plain-Var, plain-Time, plain-Step, plain-Unary, plain-Binary, plain-Clamp, plain-Choose}
 use Rattle.language_laws.proofs.Declarations.{Declares, AtLine}
-use Rattle.list_laws.proofs.Lists.{all_parts}
 use Rattle.language_laws.proofs.UnitSites.{Passes}
 use Rattle.list_laws.proofs.Members.{Has}
-use Rattle.list_laws.proofs.Truths.{or_false}
+use Rattle.list_laws.proofs.Lists.{each_part}
 
 -- ---- Expressions
 
@@ -60,16 +60,16 @@ node Expr-F.Step = subst Stays (sym rolls-Step) (λ silent. plain-Step)
 node (Expr-F.Unary op a) = subst Stays (sym (rolls-Unary op (bare a))) (λ silent.
     plain-Unary op (bare a) ∙ ap (expr.Unary op) (a.1 (sym (fold-Unary Bool node_speaks_of_events op (bare a)) ∙ silent)))
 node (Expr-F.Binary op a b) = subst Stays (sym (rolls-Binary op (bare a) (bare b))) (λ silent.
-    let parts = or_false _ _ (sym (fold-Binary Bool node_speaks_of_events op (bare a) (bare b)) ∙ silent) in
+    let parts = or_parts _ _ (sym (fold-Binary Bool node_speaks_of_events op (bare a) (bare b)) ∙ silent) in
     plain-Binary op (bare a) (bare b) ∙ ap (λ x. expr.Binary op x (plain_expression (bare b))) (a.1 parts.0) ∙ ap (expr.Binary op (bare a)) (b.1 parts.1))
 node (Expr-F.Clamp a b c) = subst Stays (sym (rolls-Clamp (bare a) (bare b) (bare c))) (λ silent.
-    let parts = or_false _ _ (sym (fold-Clamp Bool node_speaks_of_events (bare a) (bare b) (bare c)) ∙ silent) in
-    let rest = or_false _ _ parts.1 in
+    let parts = or_parts _ _ (sym (fold-Clamp Bool node_speaks_of_events (bare a) (bare b) (bare c)) ∙ silent) in
+    let rest = or_parts _ _ parts.1 in
     plain-Clamp (bare a) (bare b) (bare c) ∙ ap (λ x. expr.Clamp x (plain_expression (bare b)) (plain_expression (bare c))) (a.1 parts.0)
     ∙ ap (λ x. expr.Clamp (bare a) x (plain_expression (bare c))) (b.1 rest.0) ∙ ap (expr.Clamp (bare a) (bare b)) (c.1 rest.1))
 node (Expr-F.Choose c a b) = subst Stays (sym (rolls-Choose (bare c) (bare a) (bare b))) (λ silent.
-    let parts = or_false _ _ (sym (fold-Choose Bool node_speaks_of_events (bare c) (bare a) (bare b)) ∙ silent) in
-    let rest = or_false _ _ parts.1 in
+    let parts = or_parts _ _ (sym (fold-Choose Bool node_speaks_of_events (bare c) (bare a) (bare b)) ∙ silent) in
+    let rest = or_parts _ _ parts.1 in
     plain-Choose (bare c) (bare a) (bare b) ∙ ap (λ x. expr.Choose x (plain_expression (bare a)) (plain_expression (bare b))) (c.1 parts.0)
     ∙ ap (λ x. expr.Choose (bare c) x (plain_expression (bare b))) (a.1 rest.0) ∙ ap (expr.Choose (bare c) (bare a)) (b.1 rest.1))
 node Expr-F.Absent = subst Stays (sym rolls-Absent) (λ silent. absurd (true_false (sym (fold-Absent Bool node_speaks_of_events) ∙ silent)))
@@ -103,7 +103,7 @@ all_stay : (lines : List ProvedLine) → AllByRecursion Silent (joined (map line
     → map plain_line (map bare_line lines) ≡ map bare_line lines
 all_stay [] all = refl
 all_stay (first ∷ others) all =
-    let parts = all_parts Silent (line_forms (bare_line first)) (joined (map line_forms (map bare_line others))) all in
+    let parts = each_part Silent (line_forms (bare_line first)) (joined (map line_forms (map bare_line others))) all in
     ap (λ x. x ∷ map plain_line (map bare_line others)) (first.1 parts.0) ∙ ap (λ xs. bare_line first ∷ xs) (all_stay others parts.1)
 
 line_node : (y : Line-F ProvedLine) → LineStays (roll-Line (map-Line ProvedLine Line bare_line y))
@@ -112,8 +112,8 @@ line_node (Line-F.Assign target value) = subst LineStays (sym (rolls-Assign targ
     fold-Assign Line node_plain_line target value ∙ ap (line.Assign target) (expression_stays value here.0))
 line_node (Line-F.If cond then_lines None) = subst LineStays (sym (rolls-If cond (map bare_line then_lines) None)) (λ all.
     let here = subst (AllByRecursion Silent) (fold-If (List LineForm) block_forms cond (map bare_line then_lines) None) all in
-    let inside = all_parts Silent (joined (map line_forms (map bare_line then_lines)) ++ []) (form.End ∷ []) here.1 in
-    let then_all = all_parts Silent (joined (map line_forms (map bare_line then_lines))) [] inside.0 in
+    let inside = each_part Silent (joined (map line_forms (map bare_line then_lines)) ++ []) (form.End ∷ []) here.1 in
+    let then_all = each_part Silent (joined (map line_forms (map bare_line then_lines))) [] inside.0 in
     fold-If Line node_plain_line cond (map bare_line then_lines) None
     ∙ ap (λ c. line.If c (map plain_line (map bare_line then_lines)) None) (expression_stays cond here.0)
     ∙ ap (λ xs. line.If cond xs None) (all_stay then_lines then_all.0))
@@ -121,17 +121,17 @@ line_node (Line-F.If cond then_lines (Some else_lines)) =
     subst LineStays (sym (rolls-If cond (map bare_line then_lines) (Some (map bare_line else_lines)))) (λ all.
     let here = subst (AllByRecursion Silent) (fold-If (List LineForm) block_forms cond (map bare_line then_lines) (Some (map bare_line else_lines))) all in
     let inside =
-    all_parts Silent (joined (map line_forms (map bare_line then_lines)) ++ (form.Else ∷ joined (map line_forms (map bare_line else_lines))))
+    each_part Silent (joined (map line_forms (map bare_line then_lines)) ++ (form.Else ∷ joined (map line_forms (map bare_line else_lines))))
     (form.End ∷ []) here.1 in
     let branches =
-    all_parts Silent (joined (map line_forms (map bare_line then_lines))) (form.Else ∷ joined (map line_forms (map bare_line else_lines))) inside.0 in
+    each_part Silent (joined (map line_forms (map bare_line then_lines))) (form.Else ∷ joined (map line_forms (map bare_line else_lines))) inside.0 in
     fold-If Line node_plain_line cond (map bare_line then_lines) (Some (map bare_line else_lines))
     ∙ ap (λ c. line.If c (map plain_line (map bare_line then_lines)) (Some (map plain_line (map bare_line else_lines)))) (expression_stays cond here.0)
     ∙ ap (λ xs. line.If cond xs (Some (map plain_line (map bare_line else_lines)))) (all_stay then_lines branches.0)
     ∙ ap (λ xs. line.If cond (map bare_line then_lines) (Some xs)) (all_stay else_lines branches.1.1))
 line_node (Line-F.Repeat count body) = subst LineStays (sym (rolls-Repeat count (map bare_line body))) (λ all.
     let here = subst (AllByRecursion Silent) (fold-Repeat (List LineForm) block_forms count (map bare_line body)) all in
-    let inside = all_parts Silent (joined (map line_forms (map bare_line body))) (form.End ∷ []) here.1 in
+    let inside = each_part Silent (joined (map line_forms (map bare_line body))) (form.End ∷ []) here.1 in
     fold-Repeat Line node_plain_line count (map bare_line body) ∙ ap (line.Repeat count) (all_stay body inside.0))
 line_node (Line-F.Accept value) = subst LineStays (sym (rolls-Accept value)) (λ all.
     let here = subst (AllByRecursion Silent) (fold-Accept (List LineForm) block_forms value) all in
@@ -143,7 +143,7 @@ line_stays = ind-Line LineStays (λ x y is. subst (λ z. LineStays (roll-Line z)
 lines_stay : (lines : List Line) → AllByRecursion Silent (flat_map line_forms lines) → map plain_line lines ≡ lines
 lines_stay [] all = refl
 lines_stay (first ∷ others) all =
-    let parts = all_parts Silent (line_forms first) (flat_map line_forms others) all in
+    let parts = each_part Silent (line_forms first) (flat_map line_forms others) all in
     ap (λ x. x ∷ map plain_line others) (line_stays first parts.0) ∙ ap (λ xs. first ∷ xs) (lines_stay others parts.1)
 
 -- ---- Units
@@ -160,8 +160,8 @@ needs_stay unit none (need ∷ needs) =
 module _ (system : System) (first : system.version ≡ 1) (unit : Unit) (declared : Declares (Passes system) unit) where
   silent : (site : Site) → Passes system site → Silent site.line
   silent site passes =
-      let kinds = or_false _ _ passes.kinded in
-      let events = or_false _ _ kinds.1 in
+      let kinds = or_parts _ _ passes.kinded in
+      let events = or_parts _ _ kinds.1 in
       sym (ap (λ (v : ℕ). (v == 1) && tail_speaks_of_events (tail_of site.line)) first) ∙ events.0
 
   output_stays : unit.events_in ≡ [] → (output : Output) → AtLine (Passes system) unit (form.Output output) → plain_output unit output ≡ output

@@ -4,6 +4,7 @@ use Rattle.std.specs.Prelude.{is_none}
 use Rattle.std.specs.List.{AllByRecursion, flat_map}
 use Rattle.std.specs.Str.{bytes_eq}
 use Rattle.std.proofs.lemmas.Grind.{flat_map-append}
+use Rattle.std.proofs.lemmas.Bool.{or_parts}
 use Rattle.unit_tree.specs.Canonical.{optional, unit_parts}
 use Rattle.unit_tree.specs.Names.{Port, input_names, output_at, input_at}
 use Rattle.unit_tree.specs.Parts as parts
@@ -23,7 +24,6 @@ use Rattle.language_laws.proofs.NameLaws.{bytes_of, all_keep, Hold, hold_all, ho
 use Rattle.language_laws.proofs.NameLaws.{said, said_units, drop_last, outputs_hold, kept_parts, wire_head}
 use Rattle.language_laws.proofs.PartLaws.{unit_is}
 use Rattle.list_laws.proofs.Members.{Distinct}
-use Rattle.list_laws.proofs.Truths.{or_false}
 
 -- ---- Units
 
@@ -163,7 +163,7 @@ module _ (system : System) (well_formed : IsWellFormed system) where
       → Hold JoinsTypes TopScope earlier (map wire_head wires) → AllByRecursion (IsJoined system) wires
   wires_joined [] before earlier named joined = tt
   wires_joined (wire ∷ wires) before earlier named joined =
-      let ends = or_false (is_none (output_at system wire.from)) (is_none (input_at system wire.to)) named.0 in (
+      let ends = or_parts (is_none (output_at system wire.from)) (is_none (input_at system wire.to)) named.0 in (
         record { from = ends.0; to = ends.1; same = joined.0 },
         wires_joined wires (before ++ (form.Connect wire ∷ [])) (earlier ++ (form.Connect wire ∷ [])) named.2 joined.2,
       )

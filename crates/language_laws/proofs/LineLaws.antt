@@ -7,6 +7,7 @@ use Rattle.std.specs.Option.{option_map, option_and_then}
 use Rattle.std.specs.Str.{bytes_eq}
 use Rattle.std.proofs.lemmas.List.{append-nil, map-append}
 use Rattle.std.proofs.lemmas.Slice.Eq.{bytes_eq-Decides}
+use Rattle.std.proofs.lemmas.Bool.{or_parts}
 use Rattle.unit_tree.specs.Canonical.{optional, unit_parts, canonical_parts}
 use Rattle.unit_tree.specs.Names.{Port, output_ports, unit_named, unit_of_instance, instance_named, unit_at}
 use Rattle.unit_tree.specs.Orders.{IsIn, port_of, outputs_in, outputs_of, declares_output, line_of_output}
@@ -20,11 +21,10 @@ use Rattle.unit_tree.specs.declared.system.Instance.{Instance}
 use Rattle.unit_tree.specs.declared.system.PortName.{PortName}
 use Rattle.unit_tree.specs.declared.system.System.{System}
 use Rattle.unit_tree.specs.declared.unit.Unit.{Unit}
-use Rattle.language_laws.proofs.BlockLaws.{heads, site_at, headed_of, in_unit, unit_part, parts_behind, each_front, each_append, one_more, each_headed}
+use Rattle.language_laws.proofs.BlockLaws.{heads, site_at, headed_of, in_unit, unit_part, parts_behind, each_front, one_more, each_headed}
 use Rattle.language_laws.proofs.BlockLaws.{canonical_are}
 use Rattle.language_laws.proofs.PartLaws.{grouped_ten, unit_is}
-use Rattle.list_laws.proofs.Lists.{each_so, of_mapped, front_of, back_of, of_flat}
-use Rattle.list_laws.proofs.Truths.{or_false}
+use Rattle.list_laws.proofs.Lists.{each_so, of_mapped, front_of, back_of, of_flat, each_append}
 use Rattle.language_laws.proofs.NameLaws.{all_keep}
 
 -- ---- Facts of each of many
@@ -111,7 +111,7 @@ pub first_named : (before later : List Instance) (instance : Instance) → list_
     → find (λ one. bytes_eq one.name instance.name) (before ++ (instance ∷ later)) ≡ Some instance
 first_named [] later instance none = ap (λ test. cond test (Some instance) (find (λ one. bytes_eq one.name instance.name) later)) (same_name instance.name)
 first_named (first ∷ before) later instance none =
-    let both = or_false (bytes_eq instance.name first.name) (list_any (bytes_eq instance.name) (map (λ one. one.name) before)) none in
+    let both = or_parts (bytes_eq instance.name first.name) (list_any (bytes_eq instance.name) (map (λ one. one.name) before)) none in
     let apart : bytes_eq first.name instance.name ≡ false = turned (bytes_eq first.name instance.name) first.name instance.name refl both.0 in
     ap (λ test. cond test (Some first) (find (λ one. bytes_eq one.name instance.name) (before ++ (instance ∷ later)))) apart
     ∙ first_named before later instance both.1

@@ -7,6 +7,8 @@ use Rattle.std.specs.Str.{bytes_eq}
 use Rattle.std.proofs.lemmas.Grind.{flat_map-append}
 use Rattle.std.proofs.lemmas.List.Elements.{filter_map-append}
 use Rattle.std.proofs.lemmas.Slice.Eq.{bytes_eq-Decides}
+use Rattle.std.proofs.lemmas.Bool.{or_parts}
+use Rattle.std.specs.Cmp.Lexicographic.{nat_list_eq_equiv}
 use Rattle.unit_tree.specs.Canonical.{optional, unit_parts, canonical_parts}
 use Rattle.unit_tree.specs.Names.{Port, output_ports, output_names, input_names, output_uses, keeps_to, are_among, output_at, input_at, same_port}
 use Rattle.unit_tree.specs.Parts as parts
@@ -25,7 +27,7 @@ use Rattle.unit_tree.specs.declared.unit.Output.{Output}
 use Rattle.unit_tree.specs.declared.unit.Unit.{Unit}
 use Rattle.language_laws.proofs.PartLaws.{unit_is}
 use Rattle.list_laws.proofs.Members.{Has, Distinct, has_front, has_behind, has_map}
-use Rattle.list_laws.proofs.Truths.{or_false, true_is_false}
+use Rattle.list_laws.proofs.Truths.{true_is_false, not_false}
 
 -- ---- Lists whose elements differ
 
@@ -40,8 +42,8 @@ pub not_among : {B : Type 0} (same : B → B → Bool) (tells : (one other : B) 
     → list_any (same name) names ≡ false → Has names name → ⊥
 not_among same tells name [] none has = has
 not_among same tells name (first ∷ names) none (inl is) =
-    true_is_false (same name first) (tells name first (sym is)) (or_false (same name first) (list_any (same name) names) none).0
-not_among same tells name (first ∷ names) none (inr has) = not_among same tells name names (or_false (same name first) (list_any (same name) names) none).1 has
+    true_is_false (same name first) (tells name first (sym is)) (or_parts (same name first) (list_any (same name) names) none).0
+not_among same tells name (first ∷ names) none (inr has) = not_among same tells name names (or_parts (same name first) (list_any (same name) names) none).1 has
 
 -- The first of a name is the only one.
 pub found_by : {A : Type 0} (name : A → List ℕ) (x first : A) (others : List A) (named : Bool) → bytes_eq (name first) (name x) ≡ named
@@ -140,14 +142,14 @@ Keeps system site = redeclares system site ≡ false
 pub instance_unsaid : (system : System) (site : Site) → Keeps system site
     → is_said bytes_eq (filter_map instance_declared site.earlier) (instance_declared site.line) ≡ false
 instance_unsaid system site kept =
-    (or_false (says_again bytes_eq instance_declared site) (says_again bytes_eq name_declared site)
-    (or_false (says_again bytes_eq unit_declared site) (says_again bytes_eq instance_declared site || says_again bytes_eq name_declared site) kept).1).0
+    (or_parts (says_again bytes_eq instance_declared site) (says_again bytes_eq name_declared site)
+    (or_parts (says_again bytes_eq unit_declared site) (says_again bytes_eq instance_declared site || says_again bytes_eq name_declared site) kept).1).0
 
 pub name_unsaid : (system : System) (site : Site) → Keeps system site
     → is_said bytes_eq (filter_map name_declared site.earlier) (name_declared site.line) ≡ false
 name_unsaid system site kept =
-    (or_false (says_again bytes_eq instance_declared site) (says_again bytes_eq name_declared site)
-    (or_false (says_again bytes_eq unit_declared site) (says_again bytes_eq instance_declared site || says_again bytes_eq name_declared site) kept).1).1
+    (or_parts (says_again bytes_eq instance_declared site) (says_again bytes_eq name_declared site)
+    (or_parts (says_again bytes_eq unit_declared site) (says_again bytes_eq instance_declared site || says_again bytes_eq name_declared site) kept).1).1
 
 abbrev pub instance_head : Instance → Headed
 instance_head instance = record {
@@ -337,20 +339,21 @@ same_port_of one other is =
     ap (λ b. b && bytes_eq one.port other.port) (bytes_of one.instance other.instance (ap (λ (p : PortName). p.instance) is))
     ∙ bytes_of one.port other.port (ap (λ (p : PortName). p.port) is)
 
+pub same_port_symm : (one other : PortName) → same_port one other ≡ same_port other one
+same_port_symm one other =
+    ap (λ told. told && bytes_eq one.port other.port) (nat_list_eq_equiv.symm one.instance other.instance)
+    ∙ ap (λ told. bytes_eq other.instance one.instance && told) (nat_list_eq_equiv.symm one.port other.port)
+
 module _ (system : System) where
   abbrev pub Names : Site → Type 0
   Names site = misnames system site.scope site.line ≡ false
-
-  pub not_false : (b : Bool) → not b ≡ false → b ≡ true
-  not_false true is = refl
-  not_false false is = absurd (cc)
 
   pub outputs_need : (unit : Unit) (before : List LineForm) (outputs : List Output) (events : List EventOut)
       → Hold Names (UnitScope unit) before (map declaring_head (all_declaring outputs events))
       → AllByRecursion (λ output. are_among (input_names unit) output.needs ≡ true) outputs
   outputs_need unit before [] events hold = tt
   outputs_need unit before (output ∷ outputs) events hold = (
-    not_false _ (or_false (not (keeps_to (output_uses unit) output.value)) (not (are_among (input_names unit) output.needs)) hold.0).1,
+    not_false _ (or_parts (not (keeps_to (output_uses unit) output.value)) (not (are_among (input_names unit) output.needs)) hold.0).1,
     outputs_need unit (before ++ (form.Output output ∷ [])) outputs events hold.2,
   )
 
@@ -370,11 +373,11 @@ module _ (system : System) where
       → AllByRecursion (λ (port : Port). are_among (input_names unit) port.needs ≡ true) (ports_declared outputs events)
   ports_need unit before [] [] hold = tt
   ports_need unit before [] (event ∷ events) hold = (
-    not_false _ (or_false (not (keeps_to (output_uses unit) event.value)) (not (are_among (input_names unit) event.needs)) hold.0).1,
+    not_false _ (or_parts (not (keeps_to (output_uses unit) event.value)) (not (are_among (input_names unit) event.needs)) hold.0).1,
     ports_need unit (before ++ (form.EventOutput event ∷ [])) [] events hold.2,
   )
   ports_need unit before (output ∷ outputs) events hold = (
-    not_false _ (or_false (not (keeps_to (output_uses unit) output.value)) (not (are_among (input_names unit) output.needs)) hold.0).1,
+    not_false _ (or_parts (not (keeps_to (output_uses unit) output.value)) (not (are_among (input_names unit) output.needs)) hold.0).1,
     ports_need unit (before ++ (form.Output output ∷ [])) outputs events hold.2,
   )
 
@@ -398,7 +401,7 @@ module _ (system : System) where
       → AllByRecursion (λ wire. is_none (output_at system wire.from) ≡ false) wires
   wires_from [] earlier hold = tt
   wires_from (wire ∷ wires) earlier hold = (
-    (or_false (is_none (output_at system wire.from)) (is_none (input_at system wire.to)) hold.0).0,
+    (or_parts (is_none (output_at system wire.from)) (is_none (input_at system wire.to)) hold.0).0,
     wires_from wires (earlier ++ (form.Connect wire ∷ [])) hold.2,
   )
 

@@ -1,6 +1,7 @@
 -- The canonical parts of a system say this system.
 use Rattle.std.proofs.Common.{◌≡◌, ℕ, List, [], ◌∷◌, ◌++◌, append_assoc, map, Option, Some, None, refl, ap, sym, ◌∙◌}
 use Rattle.std.proofs.lemmas.List.{append-nil}
+use Rattle.std.specs.Option.{option_or}
 use Rattle.fixed_words.specs.declared.types.Literal.{Literal}
 use Rattle.unit_tree.specs.Canonical.{optional, unit_parts, canonical_parts}
 use Rattle.unit_tree.specs.Parts as parts
@@ -19,6 +20,7 @@ use Rattle.unit_tree.specs.declared.unit.Output.{Output}
 use Rattle.unit_tree.specs.declared.unit.Param.{Param}
 use Rattle.unit_tree.specs.declared.unit.State.{State}
 use Rattle.unit_tree.specs.declared.unit.Unit.{Unit}
+use Rattle.list_laws.proofs.Options.{or_none}
 
 -- ---- Parts in front of others, of which it is known what they say
 
@@ -31,14 +33,6 @@ listed of part put none one join [] rest s is = is ∙ sym (none s)
 listed of part put none one join (x ∷ xs) rest s is =
     one x (map part xs ++ rest) ∙ ap (put (x ∷ [])) (listed of part put none one join xs rest s is) ∙ join x xs s
 
-abbrev or_kept : {A : Type 0} → Option A → Option A → Option A
-or_kept None kept = kept
-or_kept (Some x) kept = Some x
-
-or_none : {A : Type 0} (given : Option A) → or_kept given None ≡ given
-or_none None = refl
-or_none (Some x) = refl
-
 pub grouped : {A : Type 0} (a b c d e f g h : List A) → a ++ b ++ c ++ d ++ e ++ f ++ g ++ h ≡ a ++ (b ++ (c ++ (d ++ (e ++ (f ++ (g ++ h))))))
 grouped a b c d e f g h = simp append_assoc
 
@@ -49,7 +43,7 @@ grouped_ten a b c d e f g h i j = simp append_assoc
 -- ---- A unit
 
 resolution_said : (name : List ℕ) (given : Option ℕ) (rest : List UnitPart) (unit : Unit) → unit_of name rest ≡ unit
-    → unit_of name (optional parts.Resolution given ++ rest) ≡ record unit { resolution = or_kept given unit.resolution }
+    → unit_of name (optional parts.Resolution given ++ rest) ≡ record unit { resolution = option_or given unit.resolution }
 resolution_said name None rest unit is = is
 resolution_said name (Some x) rest unit is = ap (with_unit_part (parts.Resolution x)) is
 
@@ -84,7 +78,7 @@ events_out_said name =
     listed (unit_of name) parts.HasEventOut (λ xs u. record u { events_out = xs ++ u.events_out }) (λ u. refl) (λ x others. refl) (λ x xs u. refl)
 
 max_said : (name : List ℕ) (given : Option Expr) (rest : List UnitPart) (unit : Unit) → unit_of name rest ≡ unit
-    → unit_of name (optional parts.Max given ++ rest) ≡ record unit { max = or_kept given unit.max }
+    → unit_of name (optional parts.Max given ++ rest) ≡ record unit { max = option_or given unit.max }
 max_said name None rest unit is = is
 max_said name (Some x) rest unit is = ap (with_unit_part (parts.Max x)) is
 
@@ -132,22 +126,22 @@ wires_said : (version : ℕ) (xs : List Wire) (rest : List Part) (system : Syste
 wires_said version = listed (system_of version) parts.Connects (λ xs s. record s { wires = xs ++ s.wires }) (λ s. refl) (λ x others. refl) (λ x xs s. refl)
 
 stop_said : (version : ℕ) (given : Option Literal) (rest : List Part) (system : System) → system_of version rest ≡ system
-    → system_of version (optional parts.Stop given ++ rest) ≡ record system { stop = or_kept given system.stop }
+    → system_of version (optional parts.Stop given ++ rest) ≡ record system { stop = option_or given system.stop }
 stop_said version None rest system is = is
 stop_said version (Some x) rest system is = ap (with_part (parts.Stop x)) is
 
 longest_said : (version : ℕ) (given : Option Literal) (rest : List Part) (system : System) → system_of version rest ≡ system
-    → system_of version (optional parts.Longest given ++ rest) ≡ record system { longest = or_kept given system.longest }
+    → system_of version (optional parts.Longest given ++ rest) ≡ record system { longest = option_or given system.longest }
 longest_said version None rest system is = is
 longest_said version (Some x) rest system is = ap (with_part (parts.Longest x)) is
 
 zero_said : (version : ℕ) (given : Option ℕ) (rest : List Part) (system : System) → system_of version rest ≡ system
-    → system_of version (optional parts.Zero given ++ rest) ≡ record system { zero = or_kept given system.zero }
+    → system_of version (optional parts.Zero given ++ rest) ≡ record system { zero = option_or given system.zero }
 zero_said version None rest system is = is
 zero_said version (Some x) rest system is = ap (with_part (parts.Zero x)) is
 
 rows_said : (version : ℕ) (given : Option ℕ) (rest : List Part) (system : System) → system_of version rest ≡ system
-    → system_of version (optional parts.Rows given ++ rest) ≡ record system { rows = or_kept given system.rows }
+    → system_of version (optional parts.Rows given ++ rest) ≡ record system { rows = option_or given system.rows }
 rows_said version None rest system is = is
 rows_said version (Some x) rest system is = ap (with_part (parts.Rows x)) is
 

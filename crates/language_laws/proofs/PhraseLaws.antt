@@ -21,10 +21,10 @@ use Rattle.unit_tree.specs.declared.expr.UnOp.{UnOp}
 use Rattle.unit_tree.proofs.FoldLemmas.{fold-Number, fold-Unary, fold-Binary, fold-Clamp, fold-Choose}
 
 -- The weakest level allows every other, and the strongest stands everywhere.
-all_in_whole : (level : Level) → allows Whole level ≡ true
+pub all_in_whole : (level : Level) → allows Whole level ≡ true
 all_in_whole level = search rules
 
-primary_stands : (asked : Level) → allows asked Primary ≡ true
+pub primary_stands : (asked : Level) → allows asked Primary ≡ true
 primary_stands Whole = refl
 primary_stands Or = refl
 primary_stands And = refl

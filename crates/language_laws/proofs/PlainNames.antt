@@ -17,14 +17,9 @@ use Rattle.unit_tree.specs.declared.system.Wire.{Wire}
 use Rattle.unit_tree.specs.declared.unit.EventOut.{EventOut}
 use Rattle.unit_tree.specs.declared.unit.Output.{Output}
 use Rattle.unit_tree.specs.declared.unit.Unit.{Unit}
-use Rattle.list_laws.proofs.Members.{Has, has_front, has_behind, has_either, has_map}
+use Rattle.list_laws.proofs.Members.{Has, has_front, has_behind, has_either, has_map, each_has}
 
 -- ---- Lists
-
-pub each_has : {A : Type 0} (P : A → Type 0) (xs : List A) (x : A) → AllByRecursion P xs → Has xs x → P x
-each_has P [] x all has = absurd has
-each_has P (first ∷ xs) x all (inl is) = subst P is all.0
-each_has P (first ∷ xs) x all (inr has) = each_has P xs x all.1 has
 
 pub has_flat : {A B : Type 0} (f : A → List B) (xs : List A) (x : A) (y : B) → Has xs x → Has (f x) y → Has (flat_map f xs) y
 has_flat f [] x y has inside = absurd has

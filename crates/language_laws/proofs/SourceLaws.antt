@@ -21,6 +21,7 @@ use Rattle.unit_tree.specs.declared.unit.Unit.{Unit}
 use Rattle.language_laws.proofs.BlockLaws.{all_step_lines}
 use Rattle.language_laws.proofs.PartLaws.{grouped, grouped_ten}
 use Rattle.list_laws.proofs.Lists.{all_of_two}
+use Rattle.list_laws.proofs.Truths.{not_true}
 
 -- ---- Lines that go along with themselves
 
@@ -632,11 +633,7 @@ no_rival : (before : Before) (line : LineForm) (rest : List LineForm) → are_pl
 no_rival before line rest placed =
     let stands = and_parts (may_stand before line) (are_placed (and_line before line) rest) placed in
     let parts = and_parts (holds_form before.open_blocks line) (not (has_rival before line) && has_room before.open_blocks line) stands.0 in
-    turned (has_rival before line) ((and_parts (not (has_rival before line)) (has_room before.open_blocks line) parts.1).0)
-  where
-    turned : (test : Bool) → not test ≡ true → test ≡ false
-    turned true told = absurd (cc told)
-    turned false told = refl
+    not_true (has_rival before line) ((and_parts (not (has_rival before line)) (has_room before.open_blocks line) parts.1).0)
 
 resolution_shows : (part : UnitPart) → (unit_part_rank part == 0) ≡ true → list_any (are_alike (form.Resolution 0)) (unit_part_forms part) ≡ true
 resolution_shows (parts.Resolution decimals) is = refl

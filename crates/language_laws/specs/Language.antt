@@ -20,7 +20,7 @@ use Rattle.unit_tree.specs.declared.system.System.{System}
 
 -- Every system is well-formed or refused, and not both: there is no refusal exactly where it is well-formed, and a
 -- refusal names the least rule that a line breaks, and the first line that breaks it. No other does.
-pub record IsJudgedOnce : Type 0 where
+pub record SystemsAreJudgedOnce : Type 0 where
   pub well_formed : (system : System) → IsWellFormed system ↔ (refusal_of system ≡ None)
   pub refused : (system : System) (refusal : Refusal) → refusal_of system ≡ Some refusal → IsRefusal rules system refusal
   pub only : (system : System) (refusal : Refusal) → IsRefusal rules system refusal → refusal_of system ≡ Some refusal

@@ -1,4 +1,4 @@
-ghost use Rattle.language_laws.specs.Language.{IsRefusedOnce, IsJudgedOnce, SitesAreCanonicalLines, PlainLinesAreThose, CanonicalPartsSayTheSystem, CanonicalPhrasesAreRight, CyclesHaveNoOrder, OutputsHaveLines, SourceLinesAreRight};
+ghost use Rattle.language_laws.specs.Language.{IsRefusedOnce, SystemsAreJudgedOnce, SitesAreCanonicalLines, PlainLinesAreThose, CanonicalPartsSayTheSystem, CanonicalPhrasesAreRight, CyclesHaveNoOrder, OutputsHaveLines, SourceLinesAreRight};
 
 /// A law: a text is refused at one line and by one rule at most.
 pub fn texts_are_refused_once()
@@ -7,7 +7,7 @@ pub fn texts_are_refused_once()
 
 /// A law: each system is well-formed, or refused by one rule at one canonical line.
 pub fn each_system_is_judged_once()
-    ensures { IsJudgedOnce }
+    ensures { SystemsAreJudgedOnce }
 {}
 
 /// A law: the rules of a system speak of its canonical lines, one for one, each in its block and behind the lines before

@@ -4,6 +4,7 @@ use Rattle.std.proofs.Common.{inr, refl, ap, sym, subst, ◌∙◌, ◌⊎◌, a
 use Rattle.std.specs.Prelude.{⊤, ◌&&◌}
 use Rattle.std.specs.List.{AllByRecursion, flat_map, list_all}
 use Rattle.std.proofs.lemmas.Bool.{and_parts}
+use Rattle.std.proofs.lemmas.List.Folds.{list_all-append}
 
 pub each_so : {A : Type 0} (P Q : A → Type 0) → ((x : A) → P x → Q x) → (xs : List A) → AllByRecursion P xs → AllByRecursion Q xs
 each_so P Q so [] all = _
@@ -32,6 +33,20 @@ all_of_two test (x ∷ xs) ys on_xs on_ys =
     let both = and_parts (test x) (list_all test xs) on_xs in
     rw (both.0) (all_of_two test xs ys both.1 on_ys)
 
-pub all_parts : {A : Type 0} (P : A → Type 0) (front others : List A) → AllByRecursion P (front ++ others) → AllByRecursion P front × AllByRecursion P others
-all_parts P [] others all = (tt, all)
-all_parts P (one ∷ front) others all = let rest = all_parts P front others all.1 in ((all.0, rest.0), rest.1)
+pub each_append : {A : Type 0} (P : A → Type 0) (xs ys : List A) → AllByRecursion P xs → AllByRecursion P ys → AllByRecursion P (xs ++ ys)
+each_append P [] ys on_xs on_ys = on_ys
+each_append P (x ∷ xs) ys on_xs on_ys = (on_xs.0, each_append P xs ys on_xs.1 on_ys)
+
+pub each_part : {A : Type 0} (P : A → Type 0) (xs ys : List A) → AllByRecursion P (xs ++ ys) → AllByRecursion P xs × AllByRecursion P ys
+each_part P xs ys all = (front_of P xs ys all, back_of P xs ys all)
+
+pub flat_all : {A B : Type 0} (test : B → Bool) (f : A → List B) (xs : List A) → list_all test (flat_map f xs) ≡ list_all (λ x. list_all test (f x)) xs
+flat_all test f [] = refl
+flat_all test f (x ∷ xs) = list_all-append test (f x) (flat_map f xs) ∙ ap (λ rest. list_all test (f x) && rest) (flat_all test f xs)
+
+pub mapped_all : {A B C : Type 0} (test : C → Bool) (forms : B → List C) (part : A → B) (xs : List A)
+    → list_all test (flat_map forms (map part xs)) ≡ list_all (λ x. list_all test (forms (part x))) xs
+mapped_all test forms part [] = refl
+mapped_all test forms part (x ∷ xs) =
+    list_all-append test (forms (part x)) (flat_map forms (map part xs)) ∙ ap (λ rest. list_all test (forms (part x)) && rest)
+    (mapped_all test forms part xs)

@@ -49,3 +49,8 @@ pub distinct_append : {A : Type 0} (xs ys : List A) → Distinct xs → Distinct
 distinct_append [] ys one other apart = other
 distinct_append (x ∷ xs) ys one other apart =
     (λ has. elim (has_either xs ys x has) [ inl h ↦ one.0 h | inr h ↦ apart x (inl refl) h ], distinct_append xs ys one.1 other (λ y h. apart y (inr h)))
+
+pub each_has : {A : Type 0} (P : A → Type 0) (xs : List A) (x : A) → AllByRecursion P xs → Has xs x → P x
+each_has P [] x all has = absurd has
+each_has P (first ∷ xs) x all (inl is) = subst P is all.0
+each_has P (first ∷ xs) x all (inr has) = each_has P xs x all.1 has

@@ -1,8 +1,9 @@
 -- Two lists side by side.
-use Rattle.std.proofs.Common.{◌≡◌, ℕ, zero, suc, ◌+◌, ◌<◌, ◌≤◌, Bool, true, false, List, [], ◌∷◌, ◌++◌, map, length, Option, Some, None, Result, Ok, Err, inl}
-use Rattle.std.proofs.Common.{inr, refl, ap, sym, subst, ◌∙◌, ◌⊎◌, arith}
+use Rattle.std.proofs.Common.{◌≡◌, ℕ, zero, suc, ◌+◌, ◌<◌, ◌≤◌, Bool, true, false, List, [], ◌∷◌, ◌++◌, map, Option, Some, None, Result, Ok, Err, inl}
+use Rattle.std.proofs.Common.{inr, refl, ap, sym, subst, ◌∙◌, ◌⊎◌}
 use Rattle.std.specs.Prelude.{⊤, slice_get, get_or, set}
-use Rattle.std.specs.List.{AllZip}
+use Rattle.std.specs.List.{AllZip, zip}
+use Rattle.std.proofs.lemmas.Option.{same_Some}
 
 pub zip_append : {A B : Type 0} (R : A → B → Type 0) (xs xs' : List A) (ys ys' : List B) → AllZip R xs ys → AllZip R xs' ys' → AllZip R (xs ++ xs') (ys ++ ys')
 zip_append R [] xs' [] ys' one other = other
@@ -30,8 +31,9 @@ zip_set R (x ∷ xs) [] k default y all one = absurd all
 zip_set R (x ∷ xs) (first ∷ ys) zero default y all one = (one x all.0, all.1)
 zip_set R (x ∷ xs) (first ∷ ys) (suc k) default y all one = (all.0, zip_set R xs ys k default y all.1 one)
 
-pub one_each : {A B : Type 0} (R : A → B → Type 0) (xs : List A) (ys : List B) → AllZip R xs ys → length ys ≡ length xs
-one_each R [] [] all = refl
-one_each R [] (y ∷ ys) all = absurd all
-one_each R (x ∷ xs) [] all = absurd all
-one_each R (x ∷ xs) (y ∷ ys) all = let rest = one_each R xs ys all.1 in omega arith
+pub zip_there : {A B : Type 0} (xs : List A) (ys : List B) (k : ℕ) (x : A) (y : B) → slice_get xs k ≡ Some x → slice_get ys k ≡ Some y
+    → slice_get (zip xs ys) k ≡ Some (x, y)
+zip_there [] ys k x y x_is y_is = absurd (cc)
+zip_there (one ∷ xs) [] k x y x_is y_is = absurd (cc)
+zip_there (one ∷ xs) (other ∷ ys) zero x y x_is y_is = ap (λ z. Some (z, other)) (same_Some one x x_is) ∙ ap (λ z. Some (x, z)) (same_Some other y y_is)
+zip_there (one ∷ xs) (other ∷ ys) (suc k) x y x_is y_is = zip_there xs ys k x y x_is y_is

@@ -1,7 +1,6 @@
 -- The first fault by place is the port fault.
-use Rattle.std.proofs.Common.{◌≡◌, ◌∙◌, ℕ, zero, suc, ◌<◌, ◌≤◌, Bool, true, false, cond, ℤ, List, [], ◌∷◌, ◌++◌, map, length, Option, Some, None, inl, inr}
+use Rattle.std.proofs.Common.{◌≡◌, ◌∙◌, ℕ, zero, suc, ◌<◌, ◌≤◌, Bool, true, false, cond, ℤ, List, [], ◌∷◌, ◌++◌, map, length, Option, Some, None}
 use Rattle.std.proofs.Common.{refl, ap, sym, arith}
-use Rattle.std.proofs.lemmas.Bool.Decides.{nat_tests}
 use Rattle.std.proofs.lemmas.Option.{slice_get-map, slice_get_within}
 use Rattle.std.specs.Prelude.{slice_get, nat_lt}
 use Rattle.std.specs.List.{AllByRecursion}
@@ -16,25 +15,11 @@ use Rattle.unit_tree.specs.declared.ending.Ending.{Ending}
 use Rattle.unit_tree.specs.declared.ending.Ending.TheVariants.{UnitFault}
 use Rattle.unit_tree.specs.declared.ending.Place.TheVariants as place
 use Rattle.run_laws.proofs.AssignmentLaws.{outlets_count}
-use Rattle.run_laws.proofs.EquationLaws.{each_among, all_behind}
+use Rattle.run_laws.proofs.EquationLaws.{each_among, all_behind, among_last, among_front}
 use Rattle.port_solve.proofs.Fronts.{mapped}
+use Rattle.list_laws.proofs.Truths.{lt_not_told, lt_told}
 
 -- ---- One output more
-
-in_longer : (front : List ℕ) (place q : ℕ) → IsAmong front q → IsAmong (front ++ (place ∷ [])) q
-in_longer [] place q among = absurd among
-in_longer (first ∷ front) place q (inl is) = inl is
-in_longer (first ∷ front) place q (inr later) = inr (in_longer front place q later)
-
-at_end : (front : List ℕ) (place : ℕ) → IsAmong (front ++ (place ∷ [])) place
-at_end [] place = inl refl
-at_end (first ∷ front) place = inr (at_end front place)
-
-below : (m n : ℕ) → nat_lt m n ≡ true → m < n
-below m n told = grind (arith, nat_tests)
-
-not_below : (m n : ℕ) → nat_lt m n ≡ false → n ≤ m
-not_below m n told = grind (arith, nat_tests)
 
 module _ (run : Composition) (states : List (List ℤ)) (right : Ports) where
   abbrev NoFault : ℕ → Type 0
@@ -53,14 +38,14 @@ module _ (run : Composition) (states : List (List ℤ)) (right : Ports) where
       → fault_there run states right place ≡ Some fault → IsFirst run states right front (Some first)
       → IsFirst run states right (front ++ (place ∷ [])) (cond told (Some first) (Some (record { place = place; fault = fault })))
   noted_by true front place first fault lower is was = (
-    in_longer front place first.place was.0,
+    among_front front (place ∷ []) first.place was.0,
     was.1,
-    all_behind (λ q. q < first.place → NoFault q) front place was.2 (λ above. absurd (omega (arith, above, below first.place place lower))),
+    all_behind (λ q. q < first.place → NoFault q) front place was.2 (λ above. absurd (omega (arith, above, lt_told first.place place lower))),
   )
   noted_by false front place first fault lower is was = (
-    at_end front place,
+    among_last front place,
     is,
-    all_behind (λ q. q < place → NoFault q) front place (nearer front first.place place (not_below first.place place lower) was.2)
+    all_behind (λ q. q < place → NoFault q) front place (nearer front first.place place (lt_not_told first.place place lower) was.2)
         (λ above. absurd (omega (arith, above))),
   )
 
@@ -68,12 +53,12 @@ module _ (run : Composition) (states : List (List ℤ)) (right : Ports) where
       → IsFirst run states right front first → IsFirst run states right (front ++ (place ∷ [])) (noted first place fault)
   first_noted front place None None is was = all_behind NoFault front place was is
   first_noted front place (Some first) None is was = (
-    in_longer front place first.place was.0,
+    among_front front (place ∷ []) first.place was.0,
     was.1,
     all_behind (λ q. q < first.place → NoFault q) front place was.2 (λ lower. is),
   )
   first_noted front place None (Some fault) is was = (
-    at_end front place,
+    among_last front place,
     is,
     all_behind (λ q. q < place → NoFault q) front place (weaker front place was) (λ above. absurd (omega (arith, above))),
   )

@@ -8,6 +8,7 @@ use Rattle.std.specs.Prelude.{slice_get, zip, IfSome, IsSome}
 use Rattle.std.specs.List.{AllByRecursion, list_all, filter_map, cons_option}
 use Rattle.std.specs.Option.{option_map, option_and_then}
 use Rattle.std.specs.Result.{result_ok, result_err}
+use Rattle.std.proofs.lemmas.Slice.Zip.{AllZip-long}
 use Rattle.fixed_words.specs.Operations.{Outcome}
 use Rattle.fixed_words.specs.Types.{lowest, highest, is_between, is_word_of}
 use Rattle.fixed_words.specs.declared.types.Ty.{Ty}
@@ -29,14 +30,14 @@ use Rattle.unit_tree.specs.declared.order.StartWord.{StartWord}
 use Rattle.unit_tree.specs.declared.unit.Input.{Input}
 use Rattle.unit_tree.specs.declared.unit.Output.{Output}
 use Rattle.run_laws.proofs.AssignmentLaws.{Defined, needs_of, needs_here, all_seen, side_at}
-use Rattle.run_laws.proofs.EquationLaws.{all_among, all_behind}
-use Rattle.language_laws.proofs.PlainNames.{each_has, map_has}
+use Rattle.run_laws.proofs.EquationLaws.{all_among, all_behind, among_either}
+use Rattle.language_laws.proofs.PlainNames.{map_has}
 use Rattle.run_laws.proofs.SeenLaws.{get_same, get_fits}
 use Rattle.port_solve.proofs.InputPlaces.{source_at, feed_is, has_feed}
 use Rattle.port_solve.proofs.SetWords.{word_after, shape_after}
 use Rattle.port_solve.proofs.OutputPlaces.{OutletAt, outlet_of, given_is, type_is}
-use Rattle.list_laws.proofs.Members.{Has, has_map, has_at, at_place, all_has}
-use Rattle.list_laws.proofs.Pairs.{Beside, zip_at, one_each}
+use Rattle.list_laws.proofs.Members.{Has, has_map, has_at, at_place, all_has, each_has}
+use Rattle.list_laws.proofs.Pairs.{Beside, zip_at}
 
 -- ---- What is known at a front
 
@@ -196,12 +197,6 @@ get_other (x ∷ xs) zero (suc j) y differ = refl
 get_other (x ∷ xs) (suc k) zero y differ = refl
 get_other (x ∷ xs) (suc k) (suc j) y differ = get_other xs k j y (λ is. differ (ap suc is))
 
-among_either : (front : List ℕ) (place q : ℕ) → IsAmong (front ++ (place ∷ [])) q → IsAmong front q ⊎ (place ≡ q)
-among_either [] place q (inl is) = inr is
-among_either [] place q (inr none) = absurd none
-among_either (first ∷ front) place q (inl is) = inl (inl is)
-among_either (first ∷ front) place q (inr later) = elim (among_either front place q later) [ inl there ↦ inl (inr there) | inr here ↦ inr here ]
-
 is_between_same : (ty other : Ty) (word : ℤ) → lowest ty ≡ lowest other → highest ty ≡ highest other → is_word_of ty word ≡ true → is_word_of other word ≡ true
 is_between_same ty other word low high is = sym (ap (λ l. is_between l (highest ty) word) low ∙ ap (λ h. is_between (lowest other) h word) high) ∙ is
 
@@ -263,7 +258,7 @@ module _ (run : Composition) (sound : IsSound run) where
 
 module _ (run : Composition) (states : List (List ℤ)) (sound : IsSound run) (have : HaveStates run states) where
   abbrev pub one_state : length states ≡ length run.members
-  one_state = one_each HasState run.members states have
+  one_state = AllZip-long HasState run.members states have
 
   -- An output can be asked where there are words for all inputs.
   pub can_be_asked : (inputs : List (List ℤ)) (place : ℕ) (route : Route) → HaveInputs run inputs → slice_get (routes_of run).outputs place ≡ Some route

@@ -4,11 +4,10 @@ use Rattle.std.proofs.Common.{◌≡◌, ◌∙◌, true, false, List, [], ◌�
 use Rattle.std.proofs.lemmas.List.{length-map}
 use Rattle.std.specs.Prelude.{is_none, slice_get, zip}
 use Rattle.std.specs.List.{AllByRecursion, AllZip, flat_map, filter_map, cons_option}
-use Rattle.std.specs.Option.{option_and_then}
 use Rattle.fixed_words.specs.declared.types.Ty.{Ty}
 use Rattle.port_solve.specs.Sound.{types_of_places, HaveSameWords, Suits, IsSoundMember, IsSound}
 use Rattle.unit_tree.specs.Compositions.{Member, HasNoEvents, component_with, factor_of, place_of, source_from, source_of, member_with, composition_of}
-use Rattle.unit_tree.specs.Names.{Port, output_ports, input_ports, input_names, unit_of_instance, port_named, output_at, input_at}
+use Rattle.unit_tree.specs.Names.{Port, output_ports, unit_of_instance, output_at}
 use Rattle.unit_tree.specs.Orders.{port_of, outputs_in, outputs_of, sources_of}
 use Rattle.unit_tree.specs.WellFormed.{uses_other_input}
 use Rattle.unit_tree.specs.declared.system.Instance.{Instance}
@@ -19,13 +18,12 @@ use Rattle.unit_tree.specs.declared.unit.EventOut.{EventOut}
 use Rattle.unit_tree.specs.declared.unit.Input.{Input}
 use Rattle.unit_tree.specs.declared.unit.Output.{Output}
 use Rattle.unit_tree.specs.declared.unit.Unit.{Unit}
-use Rattle.language_laws.proofs.NameLaws.{PortsDiffer, found}
+use Rattle.language_laws.proofs.NameLaws.{PortsDiffer}
 use Rattle.run_laws.proofs.PlaceOrders.{has_in, found_at, plain_port}
-use Rattle.language_laws.proofs.PlainNames.{each_has}
-use Rattle.run_laws.proofs.PlainOrders.{input_is, named_has, output_is, wired}
+use Rattle.run_laws.proofs.PlainOrders.{named_has, output_is, wired}
 use Rattle.run_laws.proofs.PortLaws.{ports_in, output_has}
 use Rattle.run_laws.proofs.PositionLaws.{start_fits}
-use Rattle.list_laws.proofs.Members.{Has, Distinct, has_front, has_map}
+use Rattle.list_laws.proofs.Members.{Has, has_front, has_map, each_has}
 use Rattle.list_laws.proofs.Pairs.{zip_append, zip_at}
 
 -- ---- Linked systems

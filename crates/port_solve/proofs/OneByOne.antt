@@ -14,12 +14,12 @@ use Rattle.unit_tree.specs.Routes.{inputs_of, feeds_of, routes_of}
 use Rattle.unit_tree.specs.declared.order.InputAt.{InputAt}
 use Rattle.unit_tree.specs.declared.order.Route.{Route}
 use Rattle.unit_tree.specs.declared.order.StartWord.{StartWord}
-use Rattle.language_laws.proofs.PlainNames.{each_has, map_has}
+use Rattle.language_laws.proofs.PlainNames.{map_has}
 use Rattle.port_solve.proofs.Fronts.{Known, Agreed, IsFront, get_other, same_sources, feed_fits, one_state, asked_is}
 use Rattle.port_solve.proofs.InputPlaces.{source_at, source_is, has_source, feed_is, has_feed}
 use Rattle.port_solve.proofs.OutputPlaces.{outlet_of}
 use Rattle.port_solve.proofs.SetWords.{word_after}
-use Rattle.list_laws.proofs.Members.{Has, has_map, all_has}
+use Rattle.list_laws.proofs.Members.{Has, has_map, all_has, each_has}
 
 -- ---- An output that is asked
 

@@ -1,6 +1,6 @@
 -- The plain form of a judged system is linked: its connections join equal types, and its outputs use their needs alone.
 use Rattle.std.proofs.Common.{◌≡◌, ◌∙◌, ℕ, ℤ, Bool, true, false, cond, List, [], ◌∷◌, ◌++◌, map, Option, Some, None, inl, inr, refl, ap, sym, subst, ◌⊎◌}
-use Rattle.std.proofs.lemmas.Bool.{and_parts}
+use Rattle.std.proofs.lemmas.Bool.{and_parts, or_parts}
 use Rattle.std.specs.Prelude.{not, is_none, ◌&&◌}
 use Rattle.std.specs.Bool.{beq}
 use Rattle.std.specs.Cmp.{signed_Decides}
@@ -35,7 +35,7 @@ use Rattle.unit_tree.specs.declared.unit.Unit.{Unit}
 use Rattle.language_laws.proofs.NameLaws.{PortsDiffer, ports_differ}
 use Rattle.run_laws.proofs.PlaceOrders.{has_in}
 use Rattle.run_laws.proofs.PlainCycles.{of_input, of_event_in}
-use Rattle.language_laws.proofs.PlainNames.{each_has, has_flat, map_has, flat_has, IsPlain, word_is_plain, same_presence, words_on, plain_on, plain_wire}
+use Rattle.language_laws.proofs.PlainNames.{has_flat, map_has, flat_has, IsPlain, word_is_plain, same_presence, words_on, plain_on, plain_wire}
 use Rattle.language_laws.proofs.PlainNames.{unit_line, output_line, event_line}
 use Rattle.run_laws.proofs.PlainOrders.{plain_of, declared, named_has, output_is, plain_one, presence_one, becomes, presence_wire, wire_by, plain_named}
 use Rattle.run_laws.proofs.PlainOrders.{comes_from, plain_differ, plain_unit_is, is_event_is}
@@ -45,8 +45,8 @@ use Rattle.language_laws.proofs.JudgedFacts.{UsesNeeds, IsJoined, inputs_differ,
 use Rattle.run_laws.proofs.PlainOrders.{input_is}
 use Rattle.port_solve.proofs.LinkedSystems.{Joins, Linked}
 use Rattle.port_solve.proofs.PlainUses.{Names, plain_names, presence_names, word_names}
-use Rattle.list_laws.proofs.Members.{Has, has_front, has_behind, has_either, has_map, all_has}
-use Rattle.list_laws.proofs.Truths.{or_false, not_false}
+use Rattle.list_laws.proofs.Members.{Has, has_front, has_behind, has_either, has_map, all_has, each_has}
+use Rattle.list_laws.proofs.Truths.{not_false}
 
 -- ---- What a rule on uses says of single names
 
@@ -58,7 +58,7 @@ all_shown : (unit : Unit) (needs names : List (List ℕ)) → list_any (λ name.
 all_shown unit needs [] none = tt
 all_shown unit needs (name ∷ names) none =
     let both =
-    or_false (is_among (input_names unit) name && not (is_among needs name))
+    or_parts (is_among (input_names unit) name && not (is_among needs name))
     (list_any (λ n. is_among (input_names unit) n && not (is_among needs n)) names) none in
     (both.0, all_shown unit needs names both.1)
 
@@ -78,7 +78,7 @@ int_same one other is = (signed_Decides one other).0 is
 
 same_words : (one other : Port) → differ (Some one) (Some other) ≡ false → HaveSameWords one.ty other.ty
 same_words one other is =
-    let same = not_false (same_type one.ty other.ty) (or_false (not (same_type one.ty other.ty)) (not (beq one.is_event other.is_event)) is).0 in
+    let same = not_false (same_type one.ty other.ty) (or_parts (not (same_type one.ty other.ty)) (not (beq one.is_event other.is_event)) is).0 in
     let ends =
     (and_parts (same_kind (kind_of one.ty) (kind_of other.ty))
     (int_eq (lowest one.ty) (lowest other.ty) && int_eq (highest one.ty) (highest other.ty)) same).1 in

@@ -6,6 +6,7 @@ use Rattle.std.proofs.lemmas.Option.{slice_get-map, slice_get_within, slice_get-
 use Rattle.std.specs.Prelude.{slice_get, is_some, unwrap_or, IfSome}
 use Rattle.std.specs.List.{AllByRecursion, list_all}
 use Rattle.std.specs.Option.{option_map, option_and_then}
+use Rattle.std.proofs.lemmas.Slice.Zip.{AllZip-long}
 use Rattle.port_solve.specs.Solved.{HaveStates, HaveInputs, HaveTheirWords, HasItsWord, word_in, ports_told}
 use Rattle.port_solve.specs.Sound.{types_of_places, IsSoundMember, IsSound}
 use Rattle.unit_tree.specs.Compositions.{InputSource, Start, AtPlace, Member, Composition}
@@ -15,12 +16,11 @@ use Rattle.unit_tree.specs.Routes.{inputs_of}
 use Rattle.unit_tree.specs.declared.order.InputAt.{InputAt}
 use Rattle.run_laws.proofs.AssignmentLaws.{are_equations, outlets_count}
 use Rattle.run_laws.proofs.EquationLaws.{each_among, same_lists}
-use Rattle.language_laws.proofs.PlainNames.{each_has}
 use Rattle.port_solve.proofs.Fronts.{Known, Agreed, IsFront, HasWords, one_state, sound_member, suits_at}
 use Rattle.port_solve.proofs.InputPlaces.{source_at, source_is, has_source}
 use Rattle.port_solve.proofs.OutputPlaces.{types_count}
-use Rattle.list_laws.proofs.Members.{Has, at_place, all_has}
-use Rattle.list_laws.proofs.Pairs.{zip_at, one_each}
+use Rattle.list_laws.proofs.Members.{Has, at_place, all_has, each_has}
+use Rattle.list_laws.proofs.Pairs.{zip_at}
 
 -- ---- Along an order
 
@@ -157,9 +157,10 @@ module _ (run : Composition) (states : List (List ℤ)) (sound : IsSound run) (h
 
   pub all_right : inputs ≡ all_inputs run told
   all_right =
-      same_lists inputs (all_inputs run told) (length inputs) refl (length-map run.members (inputs_at told) ∙ sym (one_each HasWords run.members inputs shape))
+      same_lists inputs (all_inputs run told) (length inputs) refl
+      (length-map run.members (inputs_at told) ∙ sym (AllZip-long HasWords run.members inputs shape))
       (λ instance within.
-      let member = at_place run.members instance (omega (arith, within, one_each HasWords run.members inputs shape)) in
+      let member = at_place run.members instance (omega (arith, within, AllZip-long HasWords run.members inputs shape)) in
       let beside = zip_at HasWords run.members inputs instance member.0 shape member.1 in
       beside.is
       ∙ ap Some (words_right instance member.0 member.1 beside.other beside.is beside.related)

@@ -1,6 +1,6 @@
 -- Systems of equations, one for each place, whose places have an order: they have exactly one solution.
 use Rattle.std.proofs.Common.{◌≡◌, ℕ, zero, suc, ◌+◌, ◌<◌, List, [], ◌∷◌, ◌++◌, length, Some, None, append_assoc, append-nil, replicate, inl, inr, refl, ap}
-use Rattle.std.proofs.Common.{sym, subst, ◌∙◌, arith}
+use Rattle.std.proofs.Common.{sym, subst, ◌∙◌, arith, ◌⊎◌}
 use Rattle.std.proofs.lemmas.List.{length-replicate}
 use Rattle.std.specs.Prelude.{slice_get}
 use Rattle.std.specs.List.{AllByRecursion}
@@ -17,6 +17,21 @@ each_among P (first ∷ places) place all (inr later) = each_among P places plac
 pub all_among : (P : ℕ → Type 0) (places asked : List ℕ) → AllByRecursion P places → AllByRecursion (IsAmong places) asked → AllByRecursion P asked
 all_among P places [] all among = tt
 all_among P places (first ∷ asked) all among = (each_among P places first all among.0, all_among P places asked all among.1)
+
+pub among_front : (places behind : List ℕ) (place : ℕ) → IsAmong places place → IsAmong (places ++ behind) place
+among_front [] behind place stands = absurd stands
+among_front (first ∷ places) behind place (inl is) = inl is
+among_front (first ∷ places) behind place (inr later) = inr (among_front places behind place later)
+
+pub among_last : (places : List ℕ) (place : ℕ) → IsAmong (places ++ (place ∷ [])) place
+among_last [] place = inl refl
+among_last (first ∷ places) place = inr (among_last places place)
+
+pub among_either : (places : List ℕ) (last place : ℕ) → IsAmong (places ++ (last ∷ [])) place → IsAmong places place ⊎ (last ≡ place)
+among_either [] last place (inl is) = inr is
+among_either [] last place (inr none) = absurd none
+among_either (first ∷ places) last place (inl is) = inl (inl is)
+among_either (first ∷ places) last place (inr later) = elim (among_either places last place later) [ inl stands ↦ inl (inr stands) | inr is ↦ inr is ]
 
 pub all_behind : (P : ℕ → Type 0) (places : List ℕ) (place : ℕ) → AllByRecursion P places → P place → AllByRecursion P (places ++ (place ∷ []))
 all_behind P [] place all holds = (holds, tt)

@@ -1,8 +1,9 @@
 -- Systems without event ports.
-use Rattle.std.proofs.Common.{◌≡◌, ◌≤◌, ◌⊎◌, inl, inr, ℕ, zero, suc, ◌==◌, cond, Bool, true, false, List, [], ◌∷◌, ◌++◌, map, refl, sym, subst, ap, arith}
+use Rattle.std.proofs.Common.{◌≡◌, ◌≤◌, ◌⊎◌, inl, inr, zero, ◌==◌, cond, Bool, true, false, List, [], ◌∷◌, ◌++◌, map, refl, sym, subst, ap}
 use Rattle.std.specs.Prelude.{◌||◌}
 use Rattle.std.specs.List.{AllByRecursion, flat_map, list_any}
 use Rattle.std.proofs.lemmas.Grind.{flat_map-append}
+use Rattle.std.proofs.lemmas.Bool.{or_parts}
 use Rattle.unit_tree.specs.Canonical.{optional, unit_parts, canonical_forms}
 use Rattle.unit_tree.specs.Compositions.{HasNoEvents}
 use Rattle.unit_tree.specs.Parts as parts
@@ -16,7 +17,7 @@ use Rattle.unit_tree.specs.declared.unit.EventIn.{EventIn}
 use Rattle.unit_tree.specs.declared.unit.EventOut.{EventOut}
 use Rattle.unit_tree.specs.declared.unit.Unit.{Unit}
 use Rattle.run_laws.proofs.PlainOrders.{plain_of}
-use Rattle.list_laws.proofs.Truths.{or_false}
+use Rattle.list_laws.proofs.Truths.{one_or_two}
 
 -- ---- Lines that declare no event port
 
@@ -26,7 +27,7 @@ has_event = list_any is_event_port
 in_both : (one other : List LineForm) → has_event (one ++ other) ≡ false → (has_event one ≡ false) × (has_event other ≡ false)
 in_both [] other told = (refl, told)
 in_both (line ∷ one) other told =
-    let first = or_false (is_event_port line) (has_event (one ++ other)) told in
+    let first = or_parts (is_event_port line) (has_event (one ++ other)) told in
     let rest = in_both one other first.1 in
     (rw (first.0, rest.0) refl, rest.1)
 
@@ -105,12 +106,6 @@ plain_units_have_none (unit ∷ units) = ((refl, refl), plain_units_have_none un
 
 pub plain_of_without_events : (system : System) → HasNoEvents (plain_of system)
 plain_of_without_events system = plain_units_have_none system.units
-
-pub one_or_two : (version : ℕ) → 1 ≤ version → version ≤ 2 → (version ≡ 1) ⊎ (version ≡ 2)
-one_or_two zero least most = absurd (omega arith)
-one_or_two (suc zero) least most = inl refl
-one_or_two (suc (suc zero)) least most = inr refl
-one_or_two (suc (suc (suc more))) least most = absurd (omega arith)
 
 pub plain_form_without_events : (system : System) → IsRanged system → HasNoEvents (plain_form system)
 plain_form_without_events system ranged = by_version (one_or_two system.version ranged.version.0 ranged.version.1)

@@ -8,6 +8,7 @@ use Rattle.std.specs.Prelude.{not, is_none, slice_get, zip, unwrap_or}
 use Rattle.std.specs.List.{AllByRecursion, AllZip, flat_map, filter_map, cons_option, position_or_len}
 use Rattle.std.specs.Option.{option_and_then}
 use Rattle.std.specs.Str.{bytes_eq}
+use Rattle.std.proofs.lemmas.Slice.Zip.{AllZip-long}
 use Rattle.unit_tree.specs.Compositions.{Member, HasNoEvents, component_with, factor_of, place_of, source_from, source_of, member_with, composition_of}
 use Rattle.unit_tree.specs.Names.{Port, output_ports, input_names, port_names, is_among, are_among, instance_named, unit_named, unit_of_instance, port_named}
 use Rattle.unit_tree.specs.Names.{output_at, same_port}
@@ -26,7 +27,7 @@ use Rattle.language_laws.proofs.NameLaws.{NamesDiffer, Wired, same_port_of, same
 use Rattle.language_laws.proofs.OrderLaws.{each_in}
 use Rattle.run_laws.proofs.PortLaws.{among, has_among, each_among, ports_in, output_has}
 use Rattle.list_laws.proofs.Members.{Has, Distinct, has_front, has_behind, has_either, has_map, has_at, at_place, all_has, distinct_append}
-use Rattle.list_laws.proofs.Pairs.{zip_append, zip_at, one_each}
+use Rattle.list_laws.proofs.Pairs.{zip_append, zip_at}
 use Rattle.list_laws.proofs.Truths.{true_is_false}
 
 -- ---- Ports in lists
@@ -279,7 +280,7 @@ module _ (system : System) (plain : HasNoEvents system) (differ : NamesDiffer sy
       (λ instance unit output instance_is unit_is has. inputs_needed instance output (there instance unit output instance_is unit_is has) unit.inputs)
 
   pub count_is : length (needs_of_places (composition_of system)) ≡ length (outputs_of system)
-  count_is = one_each Needs (outputs_of system) (needs_of_places (composition_of system)) sides
+  count_is = AllZip-long Needs (outputs_of system) (needs_of_places (composition_of system)) sides
 
   -- ---- The order
 

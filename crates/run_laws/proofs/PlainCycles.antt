@@ -5,6 +5,7 @@ use Rattle.std.proofs.lemmas.List.{map-append}
 use Rattle.std.proofs.lemmas.List.Elements.{filter-append}
 use Rattle.std.specs.Prelude.{is_none, ◌||◌}
 use Rattle.std.specs.List.{AllByRecursion, flat_map, filter, list_any}
+use Rattle.std.proofs.lemmas.Bool.{or_right, or_cases}
 use Rattle.unit_tree.specs.Names.{Port, input_ports, input_names, output_ports, event_input_names, is_among, are_among, output_at, same_port}
 use Rattle.unit_tree.specs.Orders.{IsIn, IsOrderlyAfter, HasNoCycle, port_of, outputs_of, sources_of, needs_of, needed_by}
 use Rattle.unit_tree.specs.Plain.{presence_name, plain_inputs, plain_need, plain_needs, plain_output, plain_outputs, plain_unit, presence_port, is_event_output}
@@ -22,12 +23,11 @@ use Rattle.unit_tree.specs.declared.unit.Unit.{Unit}
 use Rattle.language_laws.proofs.NameLaws.{Wired, ports_differ, same_port_of, is_wired, ports_need_inputs}
 use Rattle.language_laws.proofs.OrderLaws.{each_in}
 use Rattle.run_laws.proofs.PlaceOrders.{has_in, same_port_is}
-use Rattle.language_laws.proofs.PlainNames.{each_has, has_flat, map_has, flat_has, IsPlain, plain_wire, of_output, of_event}
+use Rattle.language_laws.proofs.PlainNames.{has_flat, map_has, flat_has, IsPlain, plain_wire, of_output, of_event}
 use Rattle.run_laws.proofs.PlainOrders.{plain_of, Declared, declared, output_is, plain_one, ones, twos, becomes, wired, has_source, presence_wire, wire_by}
 use Rattle.run_laws.proofs.PlainOrders.{plain_differ, plain_unit_is, split_by, same_origin, made_stands}
-use Rattle.run_laws.proofs.PortLaws.{or_true, among, each_among, all_among, output_has}
-use Rattle.list_laws.proofs.Members.{Has, Distinct, has_front, has_behind, has_either, has_map, all_has, distinct_append}
-use Rattle.list_laws.proofs.Truths.{or_right}
+use Rattle.run_laws.proofs.PortLaws.{among, each_among, all_among, output_has}
+use Rattle.list_laws.proofs.Members.{Has, Distinct, has_front, has_behind, has_either, has_map, all_has, distinct_append, each_has}
 
 -- ---- Needs
 
@@ -132,7 +132,7 @@ targets wires = map (λ (wire : Wire). wire.to) wires
 pub is_in : (ports : List PortName) (port : PortName) → list_any (same_port port) ports ≡ true → IsIn ports port
 is_in [] port told = absurd (cc)
 is_in (first ∷ ports) port told =
-    elim (or_true (same_port port first) (list_any (same_port port) ports) told) [
+    elim (or_cases (same_port port first) (list_any (same_port port) ports) told) [
       | inl same ↦ inl (sym (same_port_is port first same))
       | inr later ↦ inr (is_in ports port later)
     ]

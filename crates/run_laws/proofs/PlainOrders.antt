@@ -22,11 +22,12 @@ use Rattle.unit_tree.specs.declared.unit.EventOut.{EventOut}
 use Rattle.unit_tree.specs.declared.unit.Output.{Output}
 use Rattle.unit_tree.specs.declared.unit.Unit.{Unit}
 use Rattle.language_laws.proofs.NameLaws.{NamesDiffer, PortsDiffer, ports_differ, same_port_of, found}
-use Rattle.language_laws.proofs.OrderLaws.{each_in}
+use Rattle.language_laws.proofs.OrderLaws.{each_in, in_front}
 use Rattle.run_laws.proofs.PlaceOrders.{in_has, has_in, same_port_is}
-use Rattle.language_laws.proofs.PlainNames.{each_has, has_flat, Mapped, map_has, Flat, flat_has, IsPlain, same_presence, PlainNames, plain_wire}
+use Rattle.language_laws.proofs.PlainNames.{has_flat, Mapped, map_has, Flat, flat_has, IsPlain, same_presence, PlainNames, plain_wire}
 use Rattle.language_laws.proofs.PlainNames.{plain_port_names, of_output, of_event}
-use Rattle.list_laws.proofs.Members.{Has, Distinct, has_front, has_behind, has_either, has_map, all_has}
+use Rattle.list_laws.proofs.Members.{Has, Distinct, has_front, has_behind, has_either, has_map, all_has, each_has}
+use Rattle.list_laws.proofs.Lists.{each_so}
 
 -- ---- Outputs of a system with their declarations
 
@@ -354,13 +355,6 @@ same_ports one other same_instance same_name =
     ap (λ instance. record { instance = instance; port = one.port }) same_instance
     ∙ ap (λ port. record { instance = other.instance; port = port }) same_name
 
-pub all_weaker : (P Q : PortName → Type 0) (ports : List PortName) → ((port : PortName) → P port → Q port) → AllByRecursion P ports → AllByRecursion Q ports
-all_weaker P Q [] weaker all = tt
-all_weaker P Q (port ∷ ports) weaker all = (weaker port all.0, all_weaker P Q ports weaker all.1)
-
-pub in_longer : (ports behind : List PortName) (port : PortName) → IsIn ports port → IsIn (ports ++ behind) port
-in_longer ports behind port stands = has_in (ports ++ behind) port (has_front ports behind port (in_has ports port stands))
-
 pub all_longer : (P : PortName → Type 0) (ports : List PortName) (port : PortName) → AllByRecursion P ports → P port → AllByRecursion P (ports ++ (port ∷ []))
 all_longer P [] port all holds = (holds, tt)
 all_longer P (first ∷ ports) port all holds = (all.0, all_longer P ports port all.1 holds)
@@ -597,8 +591,8 @@ module _ (system : System) (ranged : IsRanged system) (kept : IsWellFormed syste
             | inl earlier ↦ second.1 (has_in (splits before) port earlier)
             | inr there ↦ itself_not there
           ]),
-          all_weaker (IsIn (splits before)) (IsIn (splits before ++ (presence_port port ∷ []))) (needed_by plain port)
-              (in_longer (splits before) (presence_port port ∷ [])) second.2,
+          each_so (IsIn (splits before)) (IsIn (splits before ++ (presence_port port ∷ [])))
+              (in_front (splits before) (presence_port port ∷ [])) (needed_by plain port) second.2,
           subst (λ front. IsOrderlyAfter plain front later) (sym (append_assoc (splits before) (presence_port port ∷ []) (port ∷ []))) rest,
         ),
       )

@@ -1,6 +1,6 @@
 -- Names among others, and the output that a port names.
 use Rattle.std.proofs.Common.{◌≡◌, ℕ, Bool, true, false, cond, List, [], ◌∷◌, map, Option, Some, None, inl, inr, refl, ap, sym, subst, ◌∙◌, ◌⊎◌}
-use Rattle.std.proofs.lemmas.Bool.{and_parts}
+use Rattle.std.proofs.lemmas.Bool.{and_parts, or_right, or_cases}
 use Rattle.std.specs.Prelude.{is_none, ◌||◌}
 use Rattle.std.specs.List.{list_any, find}
 use Rattle.std.specs.Option.{option_and_then}
@@ -14,18 +14,13 @@ use Rattle.unit_tree.specs.declared.unit.Unit.{Unit}
 use Rattle.language_laws.proofs.NameLaws.{same_bytes, bytes_of}
 use Rattle.language_laws.proofs.PlainNames.{has_flat}
 use Rattle.list_laws.proofs.Members.{Has}
-use Rattle.list_laws.proofs.Truths.{or_right}
 
 -- ---- Names among others
-
-pub or_true : (one other : Bool) → (one || other) ≡ true → (one ≡ true) ⊎ (other ≡ true)
-or_true true other is = inl refl
-or_true false other is = inr is
 
 pub among : (names : List (List ℕ)) (name : List ℕ) → is_among names name ≡ true → Has names name
 among [] name is = absurd (cc)
 among (first ∷ names) name is =
-    elim (or_true (bytes_eq name first) (list_any (bytes_eq name) names) is) [
+    elim (or_cases (bytes_eq name first) (list_any (bytes_eq name) names) is) [
       | inl same ↦ inl (sym (same_bytes name first same))
       | inr later ↦
           inr (among names name later)

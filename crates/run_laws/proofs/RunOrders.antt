@@ -8,10 +8,11 @@ use Rattle.unit_tree.specs.Printable.{IsRanged}
 use Rattle.unit_tree.specs.WellFormed.{IsWellFormed}
 use Rattle.unit_tree.specs.declared.system.System.{System}
 use Rattle.language_laws.proofs.NameLaws.{names_differ, is_wired}
-use Rattle.run_laws.proofs.EventLaws.{one_or_two, version_1_without_events, plain_form_1, plain_of_without_events}
+use Rattle.run_laws.proofs.EventLaws.{version_1_without_events, plain_form_1, plain_of_without_events}
 use Rattle.run_laws.proofs.PlaceOrders.{system_is_ordered, has_no_cycle}
 use Rattle.run_laws.proofs.PlainCycles.{plain_is_wired, has_none_of_plain}
 use Rattle.run_laws.proofs.PlainOrders.{plain_of, plain_names_differ, plain_has_no_cycle}
+use Rattle.list_laws.proofs.Truths.{one_or_two}
 
 abbrev pub HasOrder : System → Type 0
 HasOrder system = (order : List ℕ) × IsPlaceOrder (composition_of system) order

@@ -4,6 +4,7 @@ use Rattle.std.proofs.Common.{sym, subst, ◌∙◌, arith}
 use Rattle.std.proofs.lemmas.Bool.Decides.{nat_tests}
 use Rattle.std.specs.Prelude.{◌&&◌}
 use Rattle.std.specs.List.{AllZip}
+use Rattle.std.proofs.lemmas.Slice.Zip.{AllZip-long}
 use Rattle.super_time.specs.declared.point.Point.{Point}
 use Rattle.unit_tree.specs.Compositions.{Composition, AreMembers, run_of}
 use Rattle.unit_tree.specs.Ports.{IsPlaceOrder, IsAssignment, first_some}
@@ -16,7 +17,6 @@ use Rattle.unit_tree.specs.declared.system.System.{System}
 use Rattle.run_laws.proofs.AssignmentLaws.{none_at, one_assignment}
 use Rattle.run_laws.proofs.PositionLaws.{positions_keep, agreed_is_at_most}
 use Rattle.run_laws.proofs.StepLaws.{proposal_is_greatest}
-use Rattle.list_laws.proofs.Pairs.{one_each}
 
 -- ---- What is left of a run, in steps
 
@@ -99,7 +99,7 @@ module _ (run : Composition) (order : List ℕ) (are : AreMembers run) (is_order
       let nearer = next_is_nearer run stand are words within none in
       let kept = (positions_keep run are).next stand.at stand.ports words in
       let assigned =
-      one_assignment run order (after run stand.at stand.ports).states is_order (one_each _ run.members (after run stand.at stand.ports).states kept) in
+      one_assignment run order (after run stand.at stand.ports).states is_order (AllZip-long _ run.members (after run stand.at stand.ports).states kept) in
       let next : Stand = record { at = after run stand.at stand.ports; ports = assigned.ports } in (
         next,
         (ap (λ end. ends_or end (after run stand.at stand.ports)) none, assigned.is_assignment),
@@ -110,7 +110,7 @@ module _ (run : Composition) (order : List ℕ) (are : AreMembers run) (is_order
 
   pub same_stand : (one other : Stand) → HasWords run one.at → IsStand run one → IsStand run other → one.at ≡ other.at → one ≡ other
   same_stand one other words is_one is_other same =
-      let assigned = one_assignment run order one.at.states is_order (one_each _ run.members one.at.states words) in
+      let assigned = one_assignment run order one.at.states is_order (AllZip-long _ run.members one.at.states words) in
       let ports : one.ports ≡ other.ports =
       assigned.is_only one.ports is_one
       ∙ sym (assigned.is_only other.ports (subst (λ (at : Position). IsAssignment run at.states other.ports) (sym same) is_other)) in
@@ -140,7 +140,7 @@ module _ (run : Composition) (order : List ℕ) (are : AreMembers run) (is_order
 
   pub one_rest : (at : Position) → HasWords run at → IsInBounds run at → HasOneRest run at
   one_rest at words within =
-      let assigned = one_assignment run order at.states is_order (one_each _ run.members at.states words) in
+      let assigned = one_assignment run order at.states is_order (AllZip-long _ run.members at.states words) in
       let start : Stand = record { at = at; ports = assigned.ports } in
       let rest = rest_of (suc (left run at)) start (omega arith) words (record { stop = within.stop; zeros = within.zeros }) in
       record {

@@ -5,6 +5,7 @@ use Rattle.std.specs.Prelude.{Ok, Err, not, ◌&&◌, ◌||◌}
 use Rattle.std.specs.List.{list_any}
 use Rattle.std.specs.Str.{bytes_eq}
 use Rattle.std.proofs.lemmas.List.{length-map, length-append, map-append}
+use Rattle.std.proofs.lemmas.Bool.{or_parts}
 use Rattle.fixed_words.specs.Types.{kind_of, is_word_of}
 use Rattle.fixed_words.specs.declared.types.Fault.TheVariants.{Range}
 use Rattle.fixed_words.specs.declared.types.Ty.{Ty}
@@ -26,7 +27,6 @@ use Rattle.unit_tree.specs.declared.unit.Unit.{Unit}
 use Rattle.run_laws.proofs.EffectKeeps.{bound}
 use Rattle.language_laws.proofs.NameLaws.{same_bytes, bytes_of}
 use Rattle.list_laws.proofs.Members.{Has, has_front, has_behind}
-use Rattle.list_laws.proofs.Truths.{or_false}
 
 -- Two environments show the same of some names, and their clocks are the same.
 pub record ShowSame (names : List (List ℕ)) (one other : Environment) : Type 0 where
@@ -138,8 +138,8 @@ and_false false other is kept = absurd (cc)
 -- A name of an expression that uses no other input.
 pub kept_at : (test : List ℕ → Bool) (names : List (List ℕ)) (name : List ℕ) → list_any test names ≡ false → Has names name → test name ≡ false
 kept_at test [] name none has = absurd has
-kept_at test (first ∷ names) name none (inl is) = subst (λ n. test n ≡ false) is (or_false (test first) (list_any test names) none).0
-kept_at test (first ∷ names) name none (inr has) = kept_at test names name (or_false (test first) (list_any test names) none).1 has
+kept_at test (first ∷ names) name none (inl is) = subst (λ n. test n ≡ false) is (or_parts (test first) (list_any test names) none).0
+kept_at test (first ∷ names) name none (inr has) = kept_at test names name (or_parts (test first) (list_any test names) none).1 has
 
 pub any_front : (name : List ℕ) (front behind : List (List ℕ)) → is_among front name ≡ true → is_among (front ++ behind) name ≡ true
 any_front name [] behind is = absurd (cc)

@@ -1,6 +1,7 @@
 -- How a run gets from one row to the next.
 use Rattle.std.proofs.Common.{◌≡◌, ℕ, ◌+◌, true, false, List, [], ◌++◌, length, map, Option, Some, None, inl, inr, refl, sym, ap, subst, ◌∙◌, arith}
 use Rattle.std.specs.List.{count_by}
+use Rattle.std.proofs.lemmas.Slice.Zip.{AllZip-long}
 use Rattle.trace_core.specs.Runs.{Cell, RunState, Stands, IsPhase, arrived, cells_of, cell_of, first_end, phase_or, is_empty_cell, is_ended}
 use Rattle.trace_core.specs.Settling.{IsRedoDue, Moves, Ends, Settled}
 use Rattle.trace_core.specs.declared.phase.Phase.{Phase}
@@ -11,9 +12,8 @@ use Rattle.unit_tree.specs.Compositions.{Composition}
 use Rattle.unit_tree.specs.Successor.{proposed, agreed, trial_end, is_redone, successor, ends}
 use Rattle.unit_tree.specs.Trace.{Stand, AreWordsOf, cells_of_trial, cells_at}
 use Rattle.unit_tree.specs.declared.ending.Ending.{Ending}
-use Rattle.serial_run.specs.Advances.{IsFresh, Moved, EndsThere, Advanced, AreMade, with_cells}
+use Rattle.serial_run.specs.Advances.{IsFresh, CameToNext, EndsThere, Advanced, StepsAreMade, with_cells}
 use Rattle.serial_run.proofs.CellLaws.{wanted_are_steps, cells_ended, cells_redone, cells_tried}
-use Rattle.list_laws.proofs.Pairs.{one_each}
 
 -- ---- The phase of a run that has made no step where it stands
 
@@ -103,7 +103,7 @@ ends_already r ending fresh stands phase =
 
 -- a run at the stand of another, whose cells there are all made, comes from it
 moved_by : (r next : RunState) (phase : Phase) (cells : List Cell) (own : ℕ) → own ≡ r.own + cells_at r.plan.run r.stand
-    → Moves (record r { phase = phase; cells = cells; own = own }) next → Moved r next
+    → Moves (record r { phase = phase; cells = cells; own = own }) next → CameToNext r next
 moved_by r next phase cells own all moves = record {
   goes = moves.goes;
   before = ap (λ (s : RunState). s.before) moves.is;
@@ -153,7 +153,7 @@ ToEnd r next settle.Ended = Advanced r next false
 ToEnd r next settle.Redo = ⊥
 
 as_many : (r : RunState) → Stands r → length r.stand.at.states ≡ length r.plan.run.members
-as_many r stands = one_each (λ member state. AreWordsOf member.component.unit.states state) r.plan.run.members r.stand.at.states stands.words
+as_many r stands = AllZip-long (λ member state. AreWordsOf member.component.unit.states state) r.plan.run.members r.stand.at.states stands.words
 
 -- ---- The trial
 
@@ -191,7 +191,7 @@ from_trial r next cells settle.Redo tried stands (due, is) = record {
       (trial_cells r tried stands);
 }
 
-pub settled_trial : (r now next : RunState) (told : Settle) → IsFresh r → ((ending : Ending) → r.phase ≡ Ended ending → ⊥) → Stands r → AreMade r now
+pub settled_trial : (r now next : RunState) (told : Settle) → IsFresh r → ((ending : Ending) → r.phase ≡ Ended ending → ⊥) → Stands r → StepsAreMade r now
     → Settled now next told → ToRow r next told
 settled_trial r now next told fresh going stands made settled =
     from_trial r next now.cells told (fresh_tried r fresh going) stands (subst (λ one. Settled one next told) made.is settled)
@@ -221,7 +221,7 @@ from_redo r next cells settle.Ended redone stands (inr end) =
     inr (ends_by r next (redo r).phase cells ((redo r).own + count_by is_empty_cell (redo r).cells) (redo_cells r redone stands) end)
 from_redo r next cells settle.Redo redone stands (due, is) = no_second r cells due
 
-pub settled_redo : (r second now next : RunState) (told : Settle) → IsRedone r second → Stands r → AreMade second now → Settled now next told
+pub settled_redo : (r second now next : RunState) (told : Settle) → IsRedone r second → Stands r → StepsAreMade second now → Settled now next told
     → ToEnd r next told
 settled_redo r second now next told redone stands made settled =
     from_redo r next now.cells told (record { going = redone.going; no_fault = redone.no_fault; shorter = redone.shorter }) stands

@@ -17,7 +17,7 @@ use Rattle.unit_tree.specs.Ports.{Ports}
 use Rattle.unit_tree.specs.Successor.{steps_by, trial_end, is_redone}
 use Rattle.unit_tree.specs.Trace.{Stand, steps_there, cells_of_trial, cells_of_redo, cells_at}
 use Rattle.unit_tree.specs.declared.ending.Ending.{Ending}
-use Rattle.serial_run.specs.Advances.{IsAfter, AreMade}
+use Rattle.serial_run.specs.Advances.{IsAfter, StepsAreMade}
 use Rattle.list_laws.proofs.Pairs.{zip_append}
 
 -- ---- Cells in turn
@@ -117,7 +117,7 @@ pub leaves : (r now : RunState) (count : ℕ) → Filling r now count → count 
 leaves r now count f within unwanted = filling_other r now count within f.done f.made f.others f.split f.counted f.each f.is unwanted
 
 all_by : (r now : RunState) (done made others : List Cell) → r.cells ≡ done ++ others → length r.cells ≤ length made → AllZip IsAfter done made
-    → now ≡ filled_to r done made others → AreMade r now
+    → now ≡ filled_to r done made others → StepsAreMade r now
 all_by r now done made [] split counted each is =
     let all : r.cells ≡ done = split ∙ append-nil done in
     let cells : now.cells ≡ made = ap (λ (s : RunState). s.cells) is ∙ append-nil made in
@@ -133,7 +133,7 @@ all_by r now done made (cell ∷ others) split counted each is =
     let long = AllZip-long IsAfter done made each in
     absurd (omega (arith, all, long, counted))
 
-pub all_made : (r now : RunState) (count : ℕ) → Filling r now count → length r.cells ≤ count → AreMade r now
+pub all_made : (r now : RunState) (count : ℕ) → Filling r now count → length r.cells ≤ count → StepsAreMade r now
 all_made r now count f past = all_by r now f.done f.made f.others f.split (omega (arith, f.counted, past)) f.each f.is
 
 filled_full : (cell : Cell) → is_filled cell ≡ true → is_empty_cell cell ≡ false
@@ -152,7 +152,7 @@ all_after_full [] (cell ∷ new) each = absurd each
 all_after_full (was ∷ old) [] each = absurd each
 all_after_full (was ∷ old) (cell ∷ new) each = (after_full was cell each.0, all_after_full old new each.1)
 
-pub cells_full : (r now : RunState) → AreMade r now → AreCellsFull now.cells
+pub cells_full : (r now : RunState) → StepsAreMade r now → AreCellsFull now.cells
 cells_full r now made = all_after_full r.cells now.cells made.each
 
 pub true_or_false : true ≡ false → ⊥

@@ -18,7 +18,7 @@ use Rattle.unit_tree.specs.declared.system.Column.{Column}
 use Rattle.unit_tree.specs.declared.system.System.{System}
 use Rattle.serial_run.specs.Lines.{PutsRow, header_of, lines_of, rows_here}
 use Rattle.serial_run.specs.Reports.{TellsFault}
-use Rattle.serial_run.specs.Sums.{IsWithin, word_shown, row_sum, sum_shown}
+use Rattle.serial_run.specs.Sums.{IsBoundedBy, word_shown, row_sum, sum_shown}
 use Rattle.serial_run.specs.declared.fault.CrewFault.{CrewFault}
 use Rattle.serial_run.specs.declared.tally.Tally.{Tally}
 
@@ -36,8 +36,8 @@ summed_more columns words i d sum word all within is summed =
     let rest = row_sum (drop (i + 1) columns) words in
     omega (arith, ints, summed, more, is)
 
-pub within_more : (i : ℕ) (sum word : ℤ) → IsWithin (i * 2 ^ 63) sum → neg_ℤ (pos (2 ^ 63)) ≤ℤ word → word ≤ℤ pos (2 ^ 63)
-    → IsWithin ((i + 1) * 2 ^ 63) (sum +ℤ word)
+pub within_more : (i : ℕ) (sum word : ℤ) → IsBoundedBy (i * 2 ^ 63) sum → neg_ℤ (pos (2 ^ 63)) ≤ℤ word → word ≤ℤ pos (2 ^ 63)
+    → IsBoundedBy ((i + 1) * 2 ^ 63) (sum +ℤ word)
 within_more i sum word so_far least greatest =
     record { least = omega (arith, ints, so_far.least, least); greatest = omega (arith, ints, so_far.greatest, greatest) }
 

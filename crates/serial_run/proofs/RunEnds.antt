@@ -5,6 +5,7 @@ use Rattle.std.specs.List.{AllByRecursion, cons_option, filter_map}
 use Rattle.std.specs.Prelude.{OnErr}
 use Rattle.std.specs.Io.KnownBytes.{Appends}
 use Rattle.std.proofs.lemmas.List.Elements.{filter_map-append}
+use Rattle.std.proofs.lemmas.Slice.Zip.{AllZip-long}
 use Rattle.cosim_io.specs.Faults.{Rose}
 use Rattle.cosim_io.specs.Pieces.{AppendsPrefix}
 use Rattle.cosim_io.proofs.PieceLemmas.{AppendsPrefix-nil, AppendsPrefix-longer}
@@ -27,7 +28,7 @@ use Rattle.unit_tree.specs.declared.system.System.{System}
 use Rattle.run_laws.proofs.AssignmentLaws.{undefined_faults}
 use Rattle.run_laws.proofs.PositionLaws.{system_has_members}
 use Rattle.run_laws.proofs.RunTraces.{one_trace}
-use Rattle.serial_run.specs.Advances.{Moved, EndsThere, Advanced}
+use Rattle.serial_run.specs.Advances.{CameToNext, EndsThere, Advanced}
 use Rattle.serial_run.specs.Lines.{PutsRow, ShowsWords, header_of, lines_of, rows_here}
 use Rattle.serial_run.specs.Reports.{ReportsTrace, PutsFront, TellsFault}
 use Rattle.serial_run.specs.Sums.{sum_shown}
@@ -39,8 +40,7 @@ use Rattle.serial_run.proofs.BoundLaws.{cells_are_bounded}
 use Rattle.serial_run.proofs.CellLaws.{cells_ended}
 use Rattle.serial_run.proofs.RowLaws.{text_is}
 use Rattle.serial_run.proofs.RunKept.{Given, ArePut, IsAt, Come, Kept, moved_at, cells-push}
-use Rattle.serial_run.proofs.Walks.{Walked, walked_end, last_is, front_along}
-use Rattle.list_laws.proofs.Pairs.{one_each}
+use Rattle.serial_run.proofs.PassedStands.{Walked, walked_end, last_is, front_along}
 
 -- ---- The run is over
 
@@ -259,7 +259,7 @@ row_put_in plan lent stand held held' faults faults' before after result is puts
 pub opened_in : (plan lent : Planned) (r : RunState) → lent ≡ plan → IsOpened lent (first_position lent.run) r → IsOpened plan (first_position plan.run) r
 opened_in plan lent r is opened = subst (λ (p : Planned). IsOpened p (first_position p.run) r) is opened
 
-pub going_on : (old new : RunState) (came : Bool) → came ≡ true → Advanced old new came → Moved old new
+pub going_on : (old new : RunState) (came : Bool) → came ≡ true → Advanced old new came → CameToNext old new
 going_on old new came is advanced = (subst (Advanced old new) is advanced).0
 
 pub ended_by : (old new : RunState) (came : Bool) → came ≡ false → Advanced old new came → Advanced old new false
@@ -275,7 +275,7 @@ words_by : (plan : Planned) (stand : Stand) (row : Row) (fault : Option Ending) 
     → AllByRecursion (HasWord row.words) (columns_of plan.system)
 words_by plan stand row (Some ending) given rows words is_stand fault is = absurd (cc)
 words_by plan stand row None given rows words is_stand fault is =
-    let as_many = one_each (λ member state. AreWordsOf member.component.unit.states state) plan.run.members stand.at.states words in
+    let as_many = AllZip-long (λ member state. AreWordsOf member.component.unit.states state) plan.run.members stand.at.states words in
     let there = (undefined_faults plan.run given.order stand.at.states stand.ports given.ordered as_many is_stand).0 fault in
     subst (λ words. AllByRecursion (HasWord words) (columns_of plan.system)) (row_of_none stand.at.point stand.ports row is)
     (rows stand.at.states stand.ports (as_many ∙ ap (λ (run : Composition). length run.members) given.run)

@@ -20,12 +20,12 @@ use Rattle.unit_tree.specs.WellFormed.{resolution_of}
 use Rattle.unit_tree.specs.declared.system.Column.{Column}
 use Rattle.unit_tree.specs.declared.system.System.{System}
 use Rattle.run_laws.proofs.RunTraces.{goes_to}
-use Rattle.serial_run.specs.Advances.{IsFresh, Moved}
+use Rattle.serial_run.specs.Advances.{IsFresh, CameToNext}
 use Rattle.serial_run.specs.Lines.{IsPut, PutsRow, header_of, lines_of, rows_here}
 use Rattle.serial_run.specs.Sums.{sum_shown}
 use Rattle.serial_run.specs.declared.tally.Tally.{Tally}
 use Rattle.serial_run.proofs.RowLaws.{no_lines}
-use Rattle.serial_run.proofs.Walks.{Walked, walked_first, walked_on}
+use Rattle.serial_run.proofs.PassedStands.{Walked, walked_first, walked_on}
 
 -- what is so of a plan, whatever its run does
 pub record Given (plan : Planned) : Type 0 where
@@ -126,11 +126,11 @@ next_number run here next to_next = ap (λ (at : Position). at.number) (goes_to 
 pub cells-push : (run : Composition) (passed : List Stand) (here : Stand) → cells_of run (passed ++ (here ∷ [])) ≡ cells_of run passed + cells_at run here
 cells-push run passed here = sum_by_push (cells_at run) passed here
 
-moved_plan : (plan : Planned) (old new : RunState) → old.plan ≡ plan → Moved old new → new.plan ≡ plan
+moved_plan : (plan : Planned) (old new : RunState) → old.plan ≡ plan → CameToNext old new → new.plan ≡ plan
 moved_plan plan old new planned moved = ap (λ (s : RunState). s.plan) moved.is ∙ planned
 
 -- a run that came to the next stand is behind one stand more
-pub moved_at : (plan : Planned) (passed : List Stand) (old new : RunState) → Given plan → IsAt plan passed old → Moved old new → Stands new
+pub moved_at : (plan : Planned) (passed : List Stand) (old new : RunState) → Given plan → IsAt plan passed old → CameToNext old new → Stands new
     → IsAt plan (passed ++ (old.stand ∷ [])) new
 moved_at plan passed old new given at moved stands =
     let planned = moved_plan plan old new at.planned moved in
@@ -155,7 +155,7 @@ moved_at plan passed old new given at moved stands =
     }
 
 pub come_next : (plan : Planned) (old new : RunState) (held0 held : Option (List ℕ)) (faults0 faults : ℕ) (tally : Tally) → Given plan
-    → Kept plan old held0 held faults0 faults tally → Moved old new → Stands new → Come plan new held0 held faults0 faults tally
+    → Kept plan old held0 held faults0 faults tally → CameToNext old new → Stands new → Come plan new held0 held faults0 faults tally
 come_next plan old new held0 held faults0 faults tally given kept moved stands = record {
   passed = kept.passed ++ (old.stand ∷ []);
   at = moved_at plan kept.passed old new given kept.at moved stands;
@@ -165,7 +165,7 @@ come_next plan old new held0 held faults0 faults tally given kept moved stands =
 }
 
 -- fewer rows are left
-pub fewer_left : (old new : RunState) → Moved old new → suc old.stand.at.number ≡ new.stand.at.number
+pub fewer_left : (old new : RunState) → CameToNext old new → suc old.stand.at.number ≡ new.stand.at.number
 fewer_left old new moved = next_number old.plan.run old.stand new.stand moved.goes
 
 -- ---- The start

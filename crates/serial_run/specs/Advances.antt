@@ -20,7 +20,7 @@ abbrev pub with_cells : RunState → List Cell → RunState
 with_cells r cells = record r { cells = cells; own = r.own + count_by is_empty_cell r.cells }
 
 -- The run made all steps that were wanted.
-pub record AreMade (old new : RunState) : Type 0 where
+pub record StepsAreMade (old new : RunState) : Type 0 where
   pub each : AllZip IsAfter old.cells new.cells
   pub is : new ≡ with_cells old new.cells
 
@@ -32,7 +32,7 @@ IsFresh r = r ≡ arrived r.plan r.opened r.stand r.before r.found r.own
 
 -- It came to the next stand, and made all cells of the one before by its own steps. The inputs of the row before are those that it
 -- had there.
-pub record Moved (old new : RunState) : Type 0 where
+pub record CameToNext (old new : RunState) : Type 0 where
   pub goes : Goes old.plan.run old.stand new.stand
   pub before : new.before ≡ all_inputs old.plan.run old.stand.ports
   pub is : new ≡ arrived old.plan old.opened new.stand new.before old.found (old.own + cells_at old.plan.run old.stand)
@@ -45,5 +45,5 @@ pub record EndsThere (old new : RunState) : Type 0 where
 
 -- There is a next row where the run came to a stand at which all ports have words.
 abbrev pub Advanced : RunState → RunState → Bool → Type 0
-Advanced old new true = Moved old new × ArePortsKnown new.plan.run new.stand
-Advanced old new false = (Moved old new × (ArePortsKnown new.plan.run new.stand → ⊥)) ⊎ EndsThere old new
+Advanced old new true = CameToNext old new × ArePortsKnown new.plan.run new.stand
+Advanced old new false = (CameToNext old new × (ArePortsKnown new.plan.run new.stand → ⊥)) ⊎ EndsThere old new

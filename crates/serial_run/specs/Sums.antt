@@ -19,6 +19,6 @@ sum_shown columns [] = pos 0
 sum_shown columns (row ∷ rows) = row_sum columns row.words +ℤ sum_shown columns rows
 
 -- The number is at most the bound, with either sign.
-pub record IsWithin (bound : ℕ) (number : ℤ) : Type 0 where
+pub record IsBoundedBy (bound : ℕ) (number : ℤ) : Type 0 where
   pub least : neg_ℤ (pos bound) ≤ℤ number
   pub greatest : number ≤ℤ pos bound

@@ -1,6 +1,6 @@
 //! From one row to the next.
 ghost use Rattle.std.specs.Prelude.{◌≡◌, length};
-ghost use Rattle.serial_run.specs.Advances.{Advanced, AreMade, IsFresh};
+ghost use Rattle.serial_run.specs.Advances.{Advanced, StepsAreMade, IsFresh};
 ghost use Rattle.trace_core.specs.Runs.{Stands};
 
 use trace_core::{Phase, Run, Settle};
@@ -8,7 +8,7 @@ use trace_core::{Phase, Run, Settle};
 /// Makes all steps that the phase wants.
 fn step_all(run: &mut Run, instances: u32)
     requires { instances ≡ length run.old.cells }
-    ensures { AreMade run.old run.new }
+    ensures { StepsAreMade run.old run.new }
 {
     for instance in 0..instances {
         if run.is_wanted(instance) {

@@ -5,7 +5,7 @@ ghost use Rattle.std.specs.Io.KnownBytes.{Appends};
 ghost use Rattle.cosim_io.specs.Pieces.{AppendsPrefix};
 ghost use Rattle.serial_run.specs.Lines.{PutsRow, ShowsWords};
 ghost use Rattle.serial_run.specs.Reports.{TellsFault};
-ghost use Rattle.serial_run.specs.Sums.{IsWithin, word_shown, row_sum};
+ghost use Rattle.serial_run.specs.Sums.{IsBoundedBy, word_shown, row_sum};
 ghost use Rattle.trace_core.specs.Runs.{Stands};
 ghost use Rattle.trace_csv.specs.Columns.{columns_of};
 ghost use Rattle.trace_csv.specs.TraceText.{HasWord, row_line};
@@ -34,7 +34,7 @@ fn row_sum(columns: &[Column], ports: &[i64]) -> i128
     requires words { AllByRecursion (HasWord ports.now) columns.now }
     requires few { length columns.now ≤ 2 ^ 32 }
     ensures sum { result ≡ row_sum columns.now ports.now }
-    ensures bound { IsWithin (2 ^ 95) result }
+    ensures bound { IsBoundedBy (2 ^ 95) result }
 {
     let mut sum = 0;
     for column in columns {

@@ -1,12 +1,12 @@
 ghost use Rattle.std.specs.Prelude.{◌≡◌, ◌<◌, ◌+◌, ◌*◌, ◌^◌, pos, ◌+ℤ◌};
-ghost use Rattle.serial_run.specs.Sums.{IsWithin};
+ghost use Rattle.serial_run.specs.Sums.{IsBoundedBy};
 
 /// How many rows were put, and the sum of the words that they show.
 #[derive(Clone, Copy, Debug)]
 pub(crate) struct Tally {
     pub(crate) rows: u64,
     pub(crate) sum: i128,
-    ghost in_bounds: { IsWithin (rows * 2 ^ 95) sum },
+    ghost in_bounds: { IsBoundedBy (rows * 2 ^ 95) sum },
 }
 
 impl Tally {
@@ -20,7 +20,7 @@ impl Tally {
     /// Counts a row, whose words have this sum.
     pub(crate) fn count(&mut self, sum: i128)
         requires rows { self.old.rows < 100000 }
-        requires bound { IsWithin (2 ^ 95) sum }
+        requires bound { IsBoundedBy (2 ^ 95) sum }
         ensures rows { self.new.rows ≡ self.old.rows + 1 }
         ensures sum { self.new.sum ≡ self.old.sum +ℤ sum }
     {

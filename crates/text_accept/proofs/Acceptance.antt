@@ -5,9 +5,10 @@ use Rattle.std.specs.Prelude.{slice_get, ⊤}
 use Rattle.std.specs.List.{filter_map, find, enumerate_from}
 use Rattle.std.specs.Option.{option_map}
 use Rattle.std.proofs.lemmas.List.{length-map}
+use Rattle.std.proofs.lemmas.Option.{same_Some}
 use Rattle.language_laws.specs.Language.{CyclesAreJudgedOnce}
 use Rattle.unit_tree.specs.Names.{unit_at}
-use Rattle.unit_tree.specs.Orders.{IsIn, HasNoCycle, IsFirstWithoutOrder, outputs_of, declares_output, line_of_output}
+use Rattle.unit_tree.specs.Orders.{HasNoCycle, IsFirstWithoutOrder, declares_output, line_of_output}
 use Rattle.unit_tree.specs.Parts.{Part}
 use Rattle.unit_tree.specs.Sites.{Site, sites_of}
 use Rattle.unit_tree.specs.SourceLines.{ReadsFrom, numbers_of, in_canonical_order}
@@ -27,7 +28,7 @@ use Rattle.unit_text.proofs.KnownForms.{known}
 use Rattle.wire_graph.proofs.CycleLaws.{cycles_are_judged_once as judged_cycles}
 use Rattle.text_accept.specs.Laws.{IsAcceptedOrRefused, EveryTextIsJudgedOnce}
 use Rattle.text_accept.specs.Accepting.{IsAcceptedAs, source_line, BreaksRule, HasCycle, IsRefusedAt}
-use Rattle.list_laws.proofs.Options.{some_same}
+use Rattle.text_accept.proofs.SourceCycles.{first_stands}
 
 -- ---- One system, and one list of lines
 
@@ -93,7 +94,7 @@ refusal_by_found : (rule : Rule) (system : System) (refusal : Refusal) (later : 
 unfolding Within AreLines
 refusal_by_found rule system refusal later [] within behind is = behind is
 refusal_by_found rule system refusal later (at ∷ others) within behind is =
-    let same : at ≡ refusal.at = ap (λ (one : Refusal). one.at) (some_same (record { by = rule.number; at = at }) refusal is) in
+    let same : at ≡ refusal.at = ap (λ (one : Refusal). one.at) (same_Some (record { by = rule.number; at = at }) refusal is) in
     let low = within.0 in
     let high = within.1 in
     (omega (arith, same, low), omega (arith, same, high))
@@ -117,7 +118,7 @@ found_by : (test : ℕ × Site → Bool) (from : ℕ) (site : Site) (all : List 
     → option_map number_at (find test (enumerate_from from (site ∷ all))) ≡ Some item → (from ≤ item) × (item < from + suc (length all))
 found_by test from site all item true holds later is =
     let here : find test (enumerate_from from (site ∷ all)) ≡ Some (from, site) = rw holds refl in
-    let same : from ≡ item = some_same from item (sym (ap (option_map number_at) here) ∙ is) in
+    let same : from ≡ item = same_Some from item (sym (ap (option_map number_at) here) ∙ is) in
     (omega (arith, same), omega (arith, same))
 found_by test from site all item false fails later is =
     let there : find test (enumerate_from from (site ∷ all)) ≡ find test (enumerate_from (from + 1) all) = rw fails refl in
@@ -133,13 +134,6 @@ found_within test from (site ∷ all) item is = found_by test from site all item
 
 -- ---- Each text is judged
 
-first_is_output : (system : System) (port : PortName) → IsFirstWithoutOrder system port → IsIn (outputs_of system) port
-first_is_output system port first = subst (λ outputs. IsIn outputs port) (sym first.cut) (behind first.before)
-  where
-    behind : (before : List PortName) → IsIn (before ++ (port ∷ first.later)) port
-    behind [] = inl refl
-    behind (other ∷ before) = inr (behind before)
-
 pub broken_is_refused : (text : List ℕ) (system : System) (lines : List ℕ) (refusal : Refusal) → ReadsFrom text system lines
     → refusal_of system ≡ Some refusal → (line : ℕ) × IsRefusedAt text line refusal.by
 broken_is_refused text system lines refusal from found =
@@ -150,7 +144,7 @@ broken_is_refused text system lines refusal from found =
 pub cycle_is_refused : (text : List ℕ) (system : System) (lines : List ℕ) (port : PortName) → ReadsFrom text system lines → IsWellFormed system
     → IsFirstWithoutOrder system port → (line : ℕ) × IsRefusedAt text line 15
 cycle_is_refused text system lines port from well first =
-    let declared = has_line system port well (first_is_output system port first) in
+    let declared = has_line system port well (first_stands system port first) in
     let within = found_within (λ at. declares_output port.port (unit_at system port) at.1.scope at.1.line) 1 (sites_of system) declared.0 declared.1 in
     let low = within.0 in
     let high = within.1 in
@@ -226,8 +220,8 @@ none_refused system refusal well found = let none = (well_formed system).0 well 
 two_rules : (text : List ℕ) (line by other rule : ℕ) → BreaksRule text line by → BreaksRule text other rule → (line ≡ other) × (by ≡ rule)
 two_rules text line by other rule a b =
     let same = one_source text a.system b.system a.lines b.lines a.reads b.reads in
-    let one : a.refusal ≡ b.refusal = some_same a.refusal b.refusal (sym a.found ∙ ap refusal_of same.0 ∙ b.found) in (
-      some_same line other (sym a.at ∙ ap (λ lines. source_line lines a.refusal.at) same.1 ∙ ap (λ (r : Refusal). source_line b.lines r.at) one ∙ b.at),
+    let one : a.refusal ≡ b.refusal = same_Some a.refusal b.refusal (sym a.found ∙ ap refusal_of same.0 ∙ b.found) in (
+      same_Some line other (sym a.at ∙ ap (λ lines. source_line lines a.refusal.at) same.1 ∙ ap (λ (r : Refusal). source_line b.lines r.at) one ∙ b.at),
       a.by ∙ ap (λ (r : Refusal). r.by) one ∙ sym b.by,
     )
 
@@ -236,8 +230,8 @@ two_cycles cycles text line by other rule a b =
     let same = one_source text a.system b.system a.lines b.lines a.reads b.reads in
     let port : a.port ≡ b.port = cycles.one_port b.system a.port b.port (subst (λ (s : System). IsFirstWithoutOrder s a.port) same.0 a.first) b.first in
     let item : a.item ≡ b.item =
-    some_same a.item b.item (sym a.declared ∙ ap (λ (s : System). line_of_output s a.port) same.0 ∙ ap (line_of_output b.system) port ∙ b.declared) in (
-      some_same line other (sym a.at ∙ ap (λ lines. source_line lines a.item) same.1 ∙ ap (source_line b.lines) item ∙ b.at),
+    same_Some a.item b.item (sym a.declared ∙ ap (λ (s : System). line_of_output s a.port) same.0 ∙ ap (line_of_output b.system) port ∙ b.declared) in (
+      same_Some line other (sym a.at ∙ ap (λ lines. source_line lines a.item) same.1 ∙ ap (source_line b.lines) item ∙ b.at),
       a.by ∙ sym b.by,
     )
 

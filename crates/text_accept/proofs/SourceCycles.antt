@@ -1,32 +1,28 @@
 -- The first output without an order of the plain form is made of the first one of the system itself.
-use Rattle.std.proofs.Common.{◌≡◌, ℕ, ◌+◌, Bool, true, false, cond, List, [], ◌∷◌, ◌++◌, map, Option, Some, None, ◌⊎◌, inl, inr, refl, ap, sym, subst, ◌∙◌}
+use Rattle.std.proofs.Common.{◌≡◌, ℕ, ◌+◌, Bool, true, false, cond, List, [], ◌∷◌, ◌++◌, ◌⊎◌, inl, inr, refl, ap, sym, subst, ◌∙◌}
 use Rattle.std.proofs.Common.{append_assoc, append-nil}
-use Rattle.std.proofs.lemmas.Grind.{flat_map-append}
 use Rattle.std.specs.Prelude.{◌==◌, ⊤}
-use Rattle.std.specs.List.{AllByRecursion, flat_map}
-use Rattle.std.specs.Option.{option_map}
+use Rattle.std.specs.List.{AllByRecursion}
 use Rattle.unit_tree.specs.Compositions.{composition_of, run_of}
-use Rattle.unit_tree.specs.Names.{Port, output_ports, unit_of_instance, unit_named}
-use Rattle.unit_tree.specs.Orders.{IsIn, IsOrderly, HasNoCycle, HasNoOrder, IsFirstWithoutOrder, port_of, outputs_in, outputs_of}
-use Rattle.unit_tree.specs.Plain.{plain_form, plain_unit, plain_output, plain_outputs, presence_name, presence_port, is_event_output}
+use Rattle.unit_tree.specs.Names.{unit_named}
+use Rattle.unit_tree.specs.Orders.{IsIn, IsOrderly, HasNoCycle, HasNoOrder, IsFirstWithoutOrder, outputs_of}
+use Rattle.unit_tree.specs.Plain.{plain_form, plain_output, plain_outputs, presence_name, presence_port, is_event_output}
 use Rattle.unit_tree.specs.Ports.{IsPlaceOrder}
 use Rattle.unit_tree.specs.Printable.{IsRanged}
 use Rattle.unit_tree.specs.WellFormed.{IsWellFormed}
-use Rattle.unit_tree.specs.declared.system.Instance.{Instance}
 use Rattle.unit_tree.specs.declared.system.PortName.{PortName}
 use Rattle.unit_tree.specs.declared.system.System.{System}
-use Rattle.unit_tree.specs.declared.unit.EventOut.{EventOut}
-use Rattle.unit_tree.specs.declared.unit.Output.{Output}
-use Rattle.unit_tree.specs.declared.unit.Unit.{Unit}
-use Rattle.run_laws.proofs.EventLaws.{one_or_two, plain_form_1, version_1_without_events, plain_of_without_events}
+use Rattle.run_laws.proofs.EventLaws.{plain_form_1, version_1_without_events, plain_of_without_events}
 use Rattle.language_laws.proofs.NameLaws.{names_differ, is_wired}
 use Rattle.run_laws.proofs.PlaceOrders.{has_in, has_no_cycle}
 use Rattle.run_laws.proofs.PlainCycles.{plain_is_wired, has_none_of_plain, is_output, outputs_among, orderly, kept_in, told_in}
-use Rattle.language_laws.proofs.PlainNames.{IsPlain, of_output, of_event}
-use Rattle.run_laws.proofs.PlainOrders.{plain_of, plain_named, plain_names_differ, plain_ports, ones, twos, names_are, both_names, output_name, split_by, split}
-use Rattle.run_laws.proofs.PlainOrders.{splits, in_splits, is_event_is, ordered, plain_name}
+use Rattle.language_laws.proofs.PlainNames.{IsPlain}
+use Rattle.language_laws.proofs.OrderLaws.{in_front}
+use Rattle.run_laws.proofs.PlainOrders.{plain_of, plain_names_differ, split_by, split}
+use Rattle.run_laws.proofs.PlainOrders.{splits, in_splits, ordered, plain_name}
 use Rattle.run_laws.proofs.SplitOutputs.{outputs_split}
 use Rattle.list_laws.proofs.Members.{Has}
+use Rattle.list_laws.proofs.Truths.{one_or_two}
 
 module _ (system : System) (ranged : IsRanged system) (kept : IsWellFormed system) where
   -- ---- Where an output of the plain form comes from
@@ -125,11 +121,6 @@ module _ (system : System) (ranged : IsRanged system) (kept : IsWellFormed syste
         },
       )
     where
-      in_front : (front behind : List PortName) (port : PortName) → IsIn front port → IsIn (front ++ behind) port
-      in_front [] behind port stands = absurd stands
-      in_front (q ∷ front) behind port (inl is) = inl is
-      in_front (q ∷ front) behind port (inr stands) = inr (in_front front behind port stands)
-
       each_of : (ports : List PortName) (port : PortName) → AllByRecursion (λ q. HasNoOrder (plain_of system) q → ⊥) ports → IsIn ports port
           → HasNoOrder (plain_of system) port → ⊥
       each_of [] port all stands = absurd stands
@@ -162,7 +153,7 @@ pub record SourceOutput (system : System) (made : PortName) : Type 0 where
   pub stands : IsIn (outputs_of system) port
   pub makes : IsMadeOf system made port
 
-first_stands : (system : System) (port : PortName) → IsFirstWithoutOrder system port → IsIn (outputs_of system) port
+pub first_stands : (system : System) (port : PortName) → IsFirstWithoutOrder system port → IsIn (outputs_of system) port
 first_stands system port first = subst (λ outputs. IsIn outputs port) (sym first.cut) (behind first.before)
   where
     behind : (before : List PortName) → IsIn (before ++ (port ∷ first.later)) port

@@ -27,7 +27,8 @@ use Rattle.unit_tree.specs.declared.system.Wire.{Wire}
 use Rattle.unit_tree.specs.declared.unit.Unit.{Unit}
 use Rattle.language_laws.proofs.BlockLaws.{all_step_lines}
 use Rattle.text_laws.proofs.PlacedParts.{may_follow, is_shallow, unit_part_may_stand, inside_may_stand, part_may_stand, parts_may_stand, parts_placed, headed}
-use Rattle.text_laws.proofs.SpelledBytes.{all_joined, all_pass}
+use Rattle.text_laws.proofs.SpelledBytes.{all_pass}
+use Rattle.list_laws.proofs.Lists.{all_of_two}
 
 -- ---- Parts behind others
 
@@ -231,18 +232,18 @@ step_line_is_common _ is = refl
 all_common : {A : Type 0} (forms : A → List LineForm) → ((one : A) → list_all is_common (forms one) ≡ true) → (all : List A)
     → list_all is_common (flat_map forms all) ≡ true
 all_common forms common [] = refl
-all_common forms common (one ∷ all) = all_joined is_common (forms one) (flat_map forms all) (common one) (all_common forms common all)
+all_common forms common (one ∷ all) = all_of_two is_common (forms one) (flat_map forms all) (common one) (all_common forms common all)
 
 -- Lines of a part of a unit are common.
 unit_part_is_common : (part : UnitPart) → list_all is_common (unit_part_forms part) ≡ true
 unit_part_is_common (parts.Step lines) =
-    all_joined is_common (flat_map line_forms lines) (form.End ∷ [])
+    all_of_two is_common (flat_map line_forms lines) (form.End ∷ [])
     (all_pass is_step_line is_common step_line_is_common (flat_map line_forms lines) (all_step_lines lines)) refl
 unit_part_is_common _ = refl
 
 -- So are those of a unit.
 unit_is_common : (name : List ℕ) (inside : List UnitPart) → list_all is_common (part_forms (parts.HasUnit name inside)) ≡ true
-unit_is_common name inside = all_joined is_common (flat_map unit_part_forms inside) (form.End ∷ []) (all_common unit_part_forms unit_part_is_common inside) refl
+unit_is_common name inside = all_of_two is_common (flat_map unit_part_forms inside) (form.End ∷ []) (all_common unit_part_forms unit_part_is_common inside) refl
 
 -- Settings are common.
 settings_are_common : (settings : List Setting) → list_all is_common (map form.Setting settings) ≡ true
@@ -251,20 +252,20 @@ settings_are_common (setting ∷ settings) = settings_are_common settings
 
 -- So are the lines of an instance.
 instance_is_common : (instance : Instance) → list_all is_common (part_forms (parts.HasInstance instance)) ≡ true
-instance_is_common instance = all_joined is_common (map form.Setting instance.settings) (form.End ∷ []) (settings_are_common instance.settings) refl
+instance_is_common instance = all_of_two is_common (map form.Setting instance.settings) (form.End ∷ []) (settings_are_common instance.settings) refl
 
 -- Lines of parts of one kind are common where those of each are.
 mapped_are_common : {A : Type 0} (part : A → Part) → ((one : A) → list_all is_common (part_forms (part one)) ≡ true) → (all : List A)
     → list_all is_common (flat_map part_forms (map part all)) ≡ true
 mapped_are_common part common [] = refl
 mapped_are_common part common (one ∷ all) =
-    all_joined is_common (part_forms (part one)) (flat_map part_forms (map part all)) (common one) (mapped_are_common part common all)
+    all_of_two is_common (part_forms (part one)) (flat_map part_forms (map part all)) (common one) (mapped_are_common part common all)
 
 -- Those of two lists in a row are.
 both_are_common : (xs ys : List Part) → list_all is_common (flat_map part_forms xs) ≡ true → list_all is_common (flat_map part_forms ys) ≡ true
     → list_all is_common (flat_map part_forms (xs ++ ys)) ≡ true
 both_are_common xs ys on_xs on_ys = ap (list_all is_common) (flat_map-append part_forms xs ys)
-    ∙ all_joined is_common (flat_map part_forms xs) (flat_map part_forms ys) on_xs on_ys
+    ∙ all_of_two is_common (flat_map part_forms xs) (flat_map part_forms ys) on_xs on_ys
 
 -- Units, instances and wires have common lines alone.
 many_are_common : (units : List Unit) (instances : List Instance) (wires : List Wire)

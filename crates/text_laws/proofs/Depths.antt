@@ -19,20 +19,16 @@ use Rattle.unit_tree.specs.declared.line_form.LineForm.{LineForm}
 use Rattle.unit_tree.specs.declared.line_form.LineForm.TheVariants as form
 use Rattle.unit_tree.proofs.FoldLemmas.{fold-Assign, fold-If, fold-Repeat, fold-Accept}
 use Rattle.language_laws.proofs.OpenBlocks.{blocks_behind}
+use Rattle.list_laws.proofs.Truths.{and_true, and_assoc}
 
 -- ---- Lines in a row
-
--- Three tests in a row.
-and_grouped : (one two three : Bool) → (one && (two && three)) ≡ ((one && two) && three)
-and_grouped true two three = refl
-and_grouped false two three = refl
 
 -- Lines are placed where the first ones are, and the others behind them.
 pub placed_of_two : (before : Before) (xs ys : List LineForm) → are_placed before (xs ++ ys) ≡ (are_placed before xs && are_placed (and_lines before xs) ys)
 placed_of_two before [] ys = refl
 placed_of_two before (x ∷ xs) ys =
     ap (λ rest. may_stand before x && rest) (placed_of_two (and_line before x) xs ys)
-    ∙ and_grouped (may_stand before x) (are_placed (and_line before x) xs) (are_placed (and_lines (and_line before x) xs) ys)
+    ∙ sym (and_assoc (may_stand before x) (are_placed (and_line before x) xs) (are_placed (and_lines (and_line before x) xs) ys))
 
 -- ---- Room
 
@@ -134,11 +130,6 @@ block_placed lines rest before blocks told is behind_them =
 -- An `end` may stand where a block is open.
 end_placed : (block : Block) (blocks : List Block) (after : Before) → after.open_blocks ≡ block ∷ blocks → are_placed after (form.End ∷ []) ≡ true
 end_placed block blocks after is = ap (λ all. (not (at_top all) && true) && true) is
-
--- A test that holds adds nothing.
-pub and_true : (told : Bool) → (told && true) ≡ told
-and_true true = refl
-and_true false = refl
 
 -- The lines of a block with its `end`.
 ended_placed : (lines : List Deep) (before : Before) (block : Block) (blocks : List Block) → IsStep before (block ∷ blocks)

@@ -40,11 +40,11 @@ use Rattle.unit_tree.specs.declared.token.Keyword.TheVariants as word
 use Rattle.unit_tree.specs.declared.token.Symbol.TheVariants as sign
 use Rattle.unit_tree.specs.declared.token.Token.{Token}
 use Rattle.unit_tree.specs.declared.token.Token.TheVariants as token
-use Rattle.language_laws.proofs.BlockLaws.{each_append}
 use Rattle.unit_tree.proofs.FoldLemmas.{fold-Number, fold-Truth, fold-Var, fold-Time, fold-Step, fold-Unary, fold-Binary, fold-Clamp, fold-Choose, fold-Absent}
 use Rattle.unit_tree.proofs.FoldLemmas.{fold-Present}
 use Rattle.text_tokens.specs.Scanning.{keyword_of}
 use Rattle.text_tokens.proofs.TableLemmas.{keyword_of_none}
+use Rattle.list_laws.proofs.Lists.{each_part, each_append}
 
 -- ---- What fits
 
@@ -61,13 +61,6 @@ AreFit tokens = AllByRecursion IsFit tokens
 -- Each of the texts is a name.
 abbrev pub AreNames : List (List ℕ) → Type 0
 AreNames names = AllByRecursion IsName names
-
--- The parts of a list whose elements all keep a claim.
-pub each_part : {A : Type 0} (P : A → Type 0) (xs ys : List A) → AllByRecursion P (xs ++ ys) → AllByRecursion P xs × AllByRecursion P ys
-each_part P [] ys all = (_, all)
-each_part P (x ∷ xs) ys all =
-    let parts = each_part P xs ys all.1 in
-    ((all.0, parts.0), parts.1)
 
 -- Two lists of tokens in a row fit where each does.
 both_fit : (tokens others : List Token) → AreFit tokens → AreFit others → AreFit (tokens ++ others)

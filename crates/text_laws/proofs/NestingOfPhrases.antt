@@ -20,8 +20,8 @@ use Rattle.unit_tree.specs.declared.expr.UnOp.{UnOp}
 use Rattle.unit_tree.specs.declared.token.Token.{Token}
 use Rattle.unit_tree.proofs.FoldLemmas.{fold-Number, fold-Truth, fold-Var, fold-Time, fold-Step, fold-Unary, fold-Binary, fold-Clamp, fold-Choose, fold-Absent}
 use Rattle.unit_tree.proofs.FoldLemmas.{fold-Present}
-use Rattle.language_laws.proofs.PhraseLaws.{right}
-use Rattle.text_laws.proofs.ShortestPhrases.{primary_stands, placed_whole, again}
+use Rattle.language_laws.proofs.PhraseLaws.{right, primary_stands}
+use Rattle.text_laws.proofs.ShortestPhrases.{placed_whole, again}
 use Rattle.list_laws.proofs.Truths.{crossed}
 
 -- ---- Nesting

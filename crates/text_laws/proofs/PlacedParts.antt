@@ -14,8 +14,9 @@ use Rattle.unit_tree.specs.declared.line_form.LineForm.TheVariants as form
 use Rattle.unit_tree.specs.declared.system.Instance.{Instance}
 use Rattle.unit_tree.specs.declared.system.Setting.{Setting}
 use Rattle.unit_tree.specs.declared.system.System.{System}
-use Rattle.text_laws.proofs.Depths.{and_true, placed_of_two, IsStep, lines_placed}
+use Rattle.text_laws.proofs.Depths.{placed_of_two, IsStep, lines_placed}
 use Rattle.language_laws.proofs.OpenBlocks.{blocks_behind, lines_leave, settings_leave, part_leaves}
+use Rattle.list_laws.proofs.Truths.{and_true}
 
 -- ---- Which parts may stand
 

@@ -17,6 +17,7 @@ use Rattle.text_laws.specs.Laws.{CanonicalTextIsReadBack}
 use Rattle.text_laws.proofs.CanonicalBytes.{canonical_lines, none_blank, canonical_codes, canonical_size}
 use Rattle.text_laws.proofs.CanonicalForms.{canonical_is_written}
 use Rattle.text_laws.proofs.CanonicalPlaces.{canonical_is_placed}
+use Rattle.list_laws.proofs.Truths.{one_or_two}
 
 -- Each canonical line has its form.
 abbrev HasItsForm : LineForm → Type 0
@@ -47,10 +48,6 @@ of_version_1 text [] have none = _
 of_version_1 text (some ∷ forms) have none =
     let both = or_parts (is_of_version_2 some) (list_any is_of_version_2 forms) none in
     (record { has_form = have.0; of_version = λ is. absurd (true≢false (sym is ∙ both.0)) }, of_version_1 text forms have.1 both.1)
-
--- There are two versions.
-one_or_two : (version : ℕ) → 1 ≤ version → version ≤ 2 → (version ≡ 1) ⊎ (version ≡ 2)
-one_or_two version least most = grind (arith, least, most)
 
 -- Canonical lines of version 2 begin with its header.
 begins_so : (system : System) → system.version ≡ 2 → AllByRecursion HasItsForm (canonical_forms system)

@@ -195,7 +195,7 @@ text_within text version all have placed =
     omega (arith, one, two, three, four, five)
 
 -- Event ports are of version 2.
-no_event_port : (some : LineForm) → is_of_version_2 some ≡ false → is_event_port some ≡ false
+pub no_event_port : (some : LineForm) → is_of_version_2 some ≡ false → is_event_port some ≡ false
 no_event_port (form.EventInput event) is = absurd (cc)
 no_event_port (form.EventOutput event) is = absurd (cc)
 no_event_port _ is = refl

@@ -1,9 +1,7 @@
 -- A canonical line is never longer than a line that it came from.
 use Rattle.std.proofs.Common.{◌≡◌, ◌≤◌, ℕ, zero, suc, Bool, true, false, ℤ, pos, unsigned_abs, List, [], ◌∷◌, ◌++◌, length, refl, sym, ap, subst, ◌∙◌, arith}
 use Rattle.std.proofs.Common.{◌==◌}
-use Rattle.std.specs.Int.{is_negative}
 use Rattle.std.specs.List.{position_or_len}
-use Rattle.std.proofs.lemmas.Bool.Decides.{nat_tests}
 use Rattle.std.proofs.lemmas.List.{append-nil, length-take}
 use Rattle.fixed_words.specs.Literals.{with_sign}
 use Rattle.fixed_words.specs.declared.types.Literal.{Literal}
@@ -19,12 +17,9 @@ use Rattle.unit_tree.specs.Phrases.{keyword, truth_word}
 use Rattle.unit_tree.specs.declared.line_form.LineForm.{LineForm}
 use Rattle.unit_tree.specs.declared.token.Token.{Token}
 use Rattle.unit_tree.specs.declared.token.Token.TheVariants as token
+use Rattle.list_laws.proofs.Truths.{not_negative}
 
 -- ---- Tails
-
--- No number from 0 up is negative.
-not_negative : (number : ℕ) → is_negative (pos number) ≡ false
-not_negative number = grind (arith, nat_tests)
 
 -- A number from 0 up has no sign.
 pub unsigned_tokens : (digits decimals : ℕ) → literal_tokens (literal.Number (pos digits) decimals) ≡ token.Number digits decimals ∷ []

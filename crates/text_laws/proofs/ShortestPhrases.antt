@@ -1,5 +1,5 @@
 -- The canonical phrase of a tree takes no more bytes than any phrase that has this tree.
-use Rattle.std.proofs.Common.{◌≡◌, ℕ, ◌≤◌, Bool, true, false, cond, ◌&&◌, List, [], ◌∷◌, ◌++◌, refl, ap, subst, ◌∙◌, arith, rules, pos}
+use Rattle.std.proofs.Common.{◌≡◌, ℕ, ◌≤◌, Bool, true, false, cond, ◌&&◌, List, [], ◌∷◌, ◌++◌, refl, ap, subst, ◌∙◌, arith, pos}
 use Rattle.std.proofs.lemmas.Bool.{and_parts}
 use Rattle.std.proofs.lemmas.List.{append_assoc}
 use Rattle.text_laws.proofs.TokenWidths.{is_worded, width, width_bound}
@@ -18,6 +18,7 @@ use Rattle.unit_tree.specs.declared.token.Symbol.TheVariants as sign
 use Rattle.unit_tree.specs.declared.token.Token.{Token}
 use Rattle.unit_tree.proofs.FoldLemmas.{fold-Number, fold-Truth, fold-Var, fold-Time, fold-Step, fold-Unary, fold-Binary, fold-Clamp, fold-Choose, fold-Absent}
 use Rattle.unit_tree.proofs.FoldLemmas.{fold-Present}
+use Rattle.language_laws.proofs.PhraseLaws.{primary_stands, all_in_whole}
 
 -- ---- Tokens that take no more than others
 
@@ -119,14 +120,6 @@ take_three : (first second : Token) {one one_written two two_written three three
 take_three first second on_one on_two on_three = take_between first on_one (take_between second on_two on_three)
 
 -- ---- Phrases in their places
-
--- The weakest level allows every other.
-pub all_in_whole : (level : Level) → allows Whole level ≡ true
-all_in_whole level = search rules
-
--- Every level allows the strongest.
-pub primary_stands : (asked : Level) → allows asked Primary ≡ true
-primary_stands asked = search rules
 
 -- A phrase takes no more than another one.
 abbrev IsNoLonger : Phrase → Phrase → Type 0

@@ -3,7 +3,6 @@ use Rattle.std.proofs.Common.{◌≡◌, ℕ, Bool, true, false, not, ◌&&◌, 
 use Rattle.std.specs.List.{list_all, before_first, position_or_len}
 use Rattle.std.proofs.lemmas.Bool.{and_parts, and_from}
 use Rattle.std.proofs.lemmas.Bool.Decides.{nat_tests}
-use Rattle.std.proofs.lemmas.List.Folds.{list_all-append}
 use Rattle.fixed_words.specs.Digits.{is_digit, pointed, IsNumber}
 use Rattle.unit_tree.specs.Lines.{is_code_byte, code_of, without_return, has_forbidden_byte}
 use Rattle.unit_tree.specs.Tokens.{is_blank, is_letter, is_word_byte, begins_with, keyword_text, symbol_text, IsWord, IsSpelling, Spells}
@@ -13,6 +12,7 @@ use Rattle.unit_tree.specs.declared.token.Symbol.TheVariants as sign
 use Rattle.unit_tree.specs.declared.token.Token.{Token}
 use Rattle.unit_tree.specs.declared.token.Token.TheVariants as token
 use Rattle.text_tokens.proofs.TableLemmas.{keyword_is_word}
+use Rattle.list_laws.proofs.Lists.{all_of_two}
 
 -- What tokens and the blanks between them are made of: the bytes of code but `#`.
 abbrev pub is_spelled_byte : ℕ → Bool
@@ -27,10 +27,6 @@ all_pass one other passes [] all = refl
 all_pass one other passes (x ∷ xs) all =
     let parts = and_parts (one x) (list_all one xs) all in
     and_from (other x) (list_all other xs) (passes x parts.0) (all_pass one other passes xs parts.1)
-
--- Two lists in a row pass where each does.
-pub all_joined : {A : Type 0} (test : A → Bool) (xs ys : List A) → list_all test xs ≡ true → list_all test ys ≡ true → list_all test (xs ++ ys) ≡ true
-all_joined test xs ys front behind = list_all-append test xs ys ∙ and_from (list_all test xs) (list_all test ys) front behind
 
 -- ---- The bytes of tokens
 
@@ -76,7 +72,7 @@ pointed_spelled (digit ∷ others) digits = all_pass is_digit is_spelled_byte di
 number_spelled : (digits decimals : ℕ) (text : List ℕ) → IsNumber digits decimals text → list_all is_spelled_byte text ≡ true
 number_spelled digits decimals text is =
     ap (list_all is_spelled_byte) is.spelled
-    ∙ all_joined is_spelled_byte is.whole (pointed is.fraction) (all_pass is_digit is_spelled_byte digit_spelled is.whole is.is_whole.0)
+    ∙ all_of_two is_spelled_byte is.whole (pointed is.fraction) (all_pass is_digit is_spelled_byte digit_spelled is.whole is.is_whole.0)
     (pointed_spelled is.fraction is.is_fraction.0)
 
 -- A word is made of bytes of words.
@@ -102,8 +98,8 @@ pub spelled_bytes : (tokens : List Token) (line : List ℕ) → Spells tokens li
 spelled_bytes [] line blank = all_pass is_blank is_spelled_byte blank_spelled line blank
 spelled_bytes (first ∷ others) line (rest, begins, more) =
     ap (list_all is_spelled_byte) (begins.cut ∙ append_assoc begins.blanks begins.text rest)
-    ∙ all_joined is_spelled_byte begins.blanks (begins.text ++ rest) (all_pass is_blank is_spelled_byte blank_spelled begins.blanks begins.are_blank)
-    (all_joined is_spelled_byte begins.text rest (token_spelled first begins.text begins.spelling) (spelled_bytes others rest more))
+    ∙ all_of_two is_spelled_byte begins.blanks (begins.text ++ rest) (all_pass is_blank is_spelled_byte blank_spelled begins.blanks begins.are_blank)
+    (all_of_two is_spelled_byte begins.text rest (token_spelled first begins.text begins.spelling) (spelled_bytes others rest more))
 
 -- ---- Lines of such bytes
 

@@ -25,6 +25,7 @@ use Rattle.text_laws.proofs.TokensApart.{can_grow, is_growth, is_point, starts_w
 use Rattle.text_laws.proofs.FitTokens.{IsFit, AreFit, form_fits}
 use Rattle.text_laws.proofs.SpelledBytes.{all_pass, word_bytes, keyword_bytes}
 use Rattle.text_tokens.proofs.TokenLemmas.{symbol_length}
+use Rattle.list_laws.proofs.Truths.{not_true}
 
 -- ---- One token
 
@@ -348,11 +349,6 @@ token_ends (token.Symbol spelled) rest fits before = symbol_longest spelled rest
 before_blank : (some : Token) (rest : List ℕ) → StandsBefore some (32 ∷ rest)
 before_blank some rest = record { apart = λ ends. refl; no_point = λ digits decimals is. refl; no_growth = λ spelled is. refl }
 
--- What is not so is false.
-not_false : (some : Bool) → not some ≡ true → some ≡ false
-not_false true is = absurd (cc)
-not_false false is = refl
-
 -- Where one of two tests holds and not both do, the other does not.
 other_false : (one other : Bool) → (one && other) ≡ false → one ≡ true → other ≡ false
 other_false true other both is = both
@@ -362,7 +358,7 @@ other_false false other both is = absurd (cc)
 before_tokens : (some : Token) (others : List Token) → AreFit others → not (reads_on some others) ≡ true
     → (ends_in_word (token_text some) && begins_with is_word_byte (tokens_text others)) ≡ false → StandsBefore some (tokens_text others)
 before_tokens some others fit apart no_meeting =
-    let alone : reads_on some others ≡ false = not_false (reads_on some others) apart in
+    let alone : reads_on some others ≡ false = not_true (reads_on some others) apart in
     record {
       apart = other_false (ends_in_word (token_text some)) (begins_with is_word_byte (tokens_text others)) no_meeting;
       no_point = λ digits decimals is. tokens_first (λ byte. byte == 46) is_point point_seen others fit ∙ ap (λ t. reads_on t others) (sym is) ∙ alone;

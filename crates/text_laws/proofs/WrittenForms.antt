@@ -25,11 +25,11 @@ use Rattle.unit_tree.specs.declared.token.Keyword.TheVariants as word
 use Rattle.unit_tree.specs.declared.token.Symbol.TheVariants as sign
 use Rattle.unit_tree.specs.declared.token.Token.{Token}
 use Rattle.unit_tree.specs.declared.token.Token.TheVariants as token
-use Rattle.language_laws.proofs.BlockLaws.{each_append}
 use Rattle.unit_tree.proofs.FoldLemmas.{fold-Number, fold-Truth, fold-Var, fold-Time, fold-Step, fold-Unary, fold-Binary, fold-Clamp, fold-Choose, fold-Absent}
 use Rattle.unit_tree.proofs.FoldLemmas.{fold-Present}
-use Rattle.text_laws.proofs.FitTokens.{IsFit, AreFit, AreNames, each_part}
+use Rattle.text_laws.proofs.FitTokens.{IsFit, AreFit, AreNames}
 use Rattle.text_laws.proofs.NestingOfPhrases.{expression_is_written}
+use Rattle.list_laws.proofs.Lists.{each_part, each_append}
 
 -- ---- Tokens
 

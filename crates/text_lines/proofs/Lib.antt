@@ -1,9 +1,9 @@
 pub mod FormsOfLines
-pub mod Fronts
 pub mod InfixOperations
 pub mod LineEnds
 pub mod NextNames
 pub mod PhraseTokens
+pub mod ReadExpressions
 pub mod ReadLines
 pub mod RoundTrip
 pub mod WrittenLines

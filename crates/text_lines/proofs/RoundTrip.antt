@@ -25,7 +25,7 @@ use Rattle.text_lines.specs.Expressions.{infix_at, with_right, climb, read, deep
 use Rattle.text_lines.proofs.InfixOperations.{is_infix, rises, infix_tokens, infix_again, infix_is, infix_at_is, Reads, Takes, allows_is, allows_from}
 use Rattle.text_lines.proofs.InfixOperations.{read_step}
 use Rattle.text_lines.proofs.PhraseTokens.{group_tokens, pair_tokens, clamp_tokens, choice_tokens}
-use Rattle.text_lines.proofs.Fronts.{IsFront, IsSound, read_is, stands_allowed, stands_where, infix_nesting}
+use Rattle.text_lines.proofs.ReadExpressions.{IsFront, IsSound, read_is, stands_allowed, stands_where, infix_nesting}
 
 -- ---- Where reading goes no further
 

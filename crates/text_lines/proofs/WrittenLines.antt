@@ -31,7 +31,7 @@ use Rattle.text_lines.specs.LineReading.{number_literal, literal_of, seconds_of,
 use Rattle.text_lines.specs.LineReading.{param_form, state_form, local_form, input_form, event_input_form, output_form, event_output_form, event_form, max_form}
 use Rattle.text_lines.specs.LineReading.{if_form, accept_form, repeat_form, instance_form, connect_form, stop_form, longest_form, zero_form, rows_form}
 use Rattle.text_lines.specs.LineReading.{sample_form, assign_form, setting_form, keyword_form, name_form, read_form}
-use Rattle.text_lines.proofs.Fronts.{then_holds, if_holds, after_symbol_is, name_at_is, decimals_at_is}
+use Rattle.text_lines.proofs.ReadExpressions.{then_holds, if_holds, after_symbol_is, name_at_is, decimals_at_is}
 use Rattle.text_lines.proofs.WrittenTrees.{written_read}
 
 -- ---- Parts of a line

@@ -11,7 +11,7 @@ use Rattle.text_tokens.specs.Scanning.{Gives, ReadsAs}
 use Rattle.text_tokens.specs.declared.fault.Unread.{Unread}
 use Rattle.text_tokens.specs.declared.fault.Unread.TheVariants as unread
 use Rattle.text_lines.specs.Expressions.{Front, read, whole_tree, read_expression, ExpressionIs, WritesOneTree}
-use Rattle.text_lines.proofs.Fronts.{IsFront, read_is}
+use Rattle.text_lines.proofs.ReadExpressions.{IsFront, read_is}
 use Rattle.text_lines.proofs.RoundTrip.{read_again}
 
 -- What the tokens write is read of them.

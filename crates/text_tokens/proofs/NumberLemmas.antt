@@ -6,22 +6,13 @@ use Rattle.std.proofs.lemmas.Bool.{cond-true, cond-false}
 use Rattle.std.proofs.lemmas.Bool.Decides.{nat_tests}
 use Rattle.unit_tree.specs.Tokens.{number_from}
 use Rattle.text_tokens.specs.Scanning.{bounded_number}
-
-pub number_from_grows : (before : ℕ) (digits : List ℕ) → before ≤ number_from before digits
-number_from_grows before [] = omega arith
-number_from_grows before (digit ∷ digits) =
-    let step = number_from_grows (10 * before + (digit - 48)) digits in
-    omega (arith, step)
-
-pub number_from-append : (before : ℕ) (xs ys : List ℕ) → number_from before (xs ++ ys) ≡ number_from (number_from before xs) ys
-number_from-append before [] ys = refl
-number_from-append before (x ∷ xs) ys = number_from-append (10 * before + (x - 48)) xs ys
+use Rattle.fixed_words.proofs.Numbers.{number_from-ge}
 
 pub bounded_number_past : (before : ℕ) (digits : List ℕ) (now : ℕ) (rest : List ℕ) → number_from now rest ≡ number_from before digits → 2 ^ 63 < now
     → bounded_number before digits ≡ None
 unfolding bounded_number
 bounded_number_past before digits now rest same past =
-    let grows = number_from_grows now rest in
+    let grows = number_from-ge now rest in
     let over : 2 ^ 63 < number_from before digits = omega arith in
     cond-false (nat_le (number_from before digits) (2 ^ 63)) (Some (number_from before digits)) None (grind (arith, nat_tests))
 

@@ -2,7 +2,7 @@
 use Rattle.std.proofs.Common.{◌≡◌, ℕ, suc, zero, ◌^◌, ◌<◌, ◌≤◌, Bool, true, false, not, cond, ◌&&◌, List, [], ◌∷◌, ◌++◌, length, take, drop, refl, ap, sym, ◌∙◌}
 use Rattle.std.proofs.Common.{arith, ◌==◌, nat_lt, Option, Some, None, append_assoc, option_and_then, IsTrue}
 use Rattle.std.specs.List.{list_all, prefix_len}
-use Rattle.std.specs.Option.{option_map}
+use Rattle.std.specs.Option.{option_map, option_or}
 use Rattle.std.proofs.lemmas.Bool.{and_parts, and_from, and_left, and_right, or_parts, or_left, cond-true, cond-false}
 use Rattle.std.proofs.lemmas.Bool.Decides.{nat_tests}
 use Rattle.std.proofs.lemmas.List.{drop_all, take_at, drop_at, take-append-drop, length-append, length-take, length-drop, nil_from_length, append-nil}
@@ -14,11 +14,13 @@ use Rattle.unit_tree.specs.declared.token.Symbol.{Symbol}
 use Rattle.unit_tree.specs.declared.token.Token.{Token}
 use Rattle.unit_tree.specs.declared.token.Token.TheVariants as token
 use Rattle.text_tokens.specs.Scanning.{keyword_of, symbol_of, named, word_token, word_at, bounded_number, fraction_of, number_token, number_at, symbol_token}
-use Rattle.text_tokens.specs.Scanning.{or_else, symbol_at, token_at, with_rest, TokensAre}
+use Rattle.text_tokens.specs.Scanning.{symbol_at, token_at, with_rest, TokensAre}
 use Rattle.text_tokens.proofs.FrontLemmas.{front_passes, front_stops, prefix_len-none, prefix_len-front, prefix_len-some}
-use Rattle.text_tokens.proofs.NumberLemmas.{number_from_grows, number_from-append, bounded_number_within, bounded_number_is}
+use Rattle.text_tokens.proofs.NumberLemmas.{bounded_number_within, bounded_number_is}
 use Rattle.text_tokens.proofs.TableLemmas.{keyword_of-keyword_text, keyword_of_is, keyword_of_none, is_word_text, keyword_is_word, symbol_of-symbol_text}
 use Rattle.text_tokens.proofs.TableLemmas.{symbol_of_is, is_symbol_text, symbol_is_text}
+use Rattle.list_laws.proofs.Truths.{not_true}
+use Rattle.fixed_words.proofs.Numbers.{number_from-append, number_from-ge, pointed-more}
 
 -- ---- what is spelled is read
 
@@ -99,7 +101,7 @@ number_token_again : (whole fraction : List ℕ) (digits : ℕ) → length fract
 unfolding number_token
 number_token_again whole fraction digits short value bounded =
     let both : number_from (number_from 0 whole) fraction ≡ digits = sym (number_from-append 0 whole fraction) ∙ value in
-    let grows = number_from_grows (number_from 0 whole) fraction in
+    let grows = number_from-ge (number_from 0 whole) fraction in
     let first = bounded_number_within 0 whole (omega arith) in
     let second = bounded_number_within (number_from 0 whole) fraction (omega arith) in
     let test : nat_lt 9 (length fraction) ≡ false = grind (arith, nat_tests) in
@@ -141,10 +143,6 @@ number_again digits decimals text rest is stops none =
 token_at-sign : (x : ℕ) (xs : List ℕ) → is_letter x ≡ false → is_digit x ≡ false → token_at (x ∷ xs) ≡ symbol_at (x ∷ xs)
 unfolding token_at
 token_at-sign x xs letter digit = rw (letter, digit) refl
-
-not_true : (x : Bool) → not x ≡ true → x ≡ false
-not_true true e = absurd cc
-not_true false e = refl
 
 -- what is known of a symbol's first byte
 abbrev is_sign : ℕ → Bool
@@ -300,10 +298,6 @@ record FractionIs (bytes digits rest : List ℕ) : Type 0 where
   are_digits : list_all is_digit digits ≡ true
   none : length digits ≡ 0 → begins_with_fraction rest ≡ false
 
-pointed_some : (digits : List ℕ) → 0 < length digits → pointed digits ≡ 46 ∷ digits
-pointed_some [] some = absurd (omega arith)
-pointed_some (x ∷ xs) some = refl
-
 fraction_digits_case : (x : ℕ) (xs : List ℕ) (b : Bool) → x ≡ 46 → (prefix_len is_digit xs == 0) ≡ b
     → let cut : List ℕ × List ℕ = cond b ([], x ∷ xs) (take (prefix_len is_digit xs) xs, drop (prefix_len is_digit xs) xs) in FractionIs (x ∷ xs) cut.0 cut.1
 fraction_digits_case x xs true point e =
@@ -314,7 +308,7 @@ fraction_digits_case x xs true point e =
 fraction_digits_case x xs false point e =
     let n : 0 < prefix_len is_digit xs = grind (arith, nat_tests) in
     let size = length-prefix_len is_digit xs in
-    let text = pointed_some (take (prefix_len is_digit xs) xs) (omega arith) in
+    let text = pointed-more (take (prefix_len is_digit xs) xs) (omega arith) in
     record {
       cut = rw (text, point) (ap (λ (t : List ℕ). 46 ∷ t) (sym (take-append-drop (prefix_len is_digit xs) xs)));
       are_digits =
@@ -466,7 +460,7 @@ symbol_at_second x xs first rest (Some symbol) none read e =
     }
 
 symbol_at_case : (x : ℕ) (xs : List ℕ) (first : Token) (rest : List ℕ) (pair : Option Symbol) → symbol_of (take 2 (x ∷ xs)) ≡ pair
-    → or_else (with_rest (symbol_token pair) (drop 2 (x ∷ xs))) (with_rest (symbol_token (symbol_of (x ∷ []))) xs) ≡ Some (first, rest)
+    → option_or (with_rest (symbol_token pair) (drop 2 (x ∷ xs))) (with_rest (symbol_token (symbol_of (x ∷ []))) xs) ≡ Some (first, rest)
     → Front (x ∷ xs) first rest
 symbol_at_case x xs first rest None read e = symbol_at_second x xs first rest (symbol_of (x ∷ [])) read refl e
 symbol_at_case x xs first rest (Some symbol) read e =

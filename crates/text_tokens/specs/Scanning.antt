@@ -4,6 +4,7 @@ use Rattle.std.specs.Prelude.{option_and_then}
 use Rattle.std.specs.Borrow.{Bor}
 use Rattle.std.specs.List.{prefix_len}
 use Rattle.std.specs.Str.{bytes_eq}
+use Rattle.std.specs.Option.{option_or}
 use Rattle.unit_tree.specs.Tokens.{is_digit, is_letter, is_word_byte, keyword_text, symbol_text, number_from, begins_with, Spells}
 use Rattle.unit_tree.specs.declared.token.Keyword.{Keyword}
 use Rattle.unit_tree.specs.declared.token.Keyword.TheVariants as word
@@ -134,15 +135,10 @@ abbrev pub symbol_token : Option Symbol → Option Token
 symbol_token None = None
 symbol_token (Some symbol) = Some (token.Symbol symbol)
 
--- The first of two readings that gives something.
-abbrev pub or_else : {X : Type 0} → Option X → Option X → Option X
-or_else (Some x) other = Some x
-or_else None other = other
-
 -- The symbol at the front: of two bytes if there is one, and else of one.
 unfoldable pub symbol_at : List ℕ → Option (Token × List ℕ)
 symbol_at bytes =
-    or_else (with_rest (symbol_token (symbol_of (take 2 bytes))) (drop 2 bytes)) (with_rest (symbol_token (symbol_of (take 1 bytes))) (drop 1 bytes))
+    option_or (with_rest (symbol_token (symbol_of (take 2 bytes))) (drop 2 bytes)) (with_rest (symbol_token (symbol_of (take 1 bytes))) (drop 1 bytes))
 
 -- The token at the front of bytes that begin with no blank.
 unfoldable pub token_at : List ℕ → Option (Token × List ℕ)

@@ -32,6 +32,7 @@ use Rattle.unit_tree.specs.Successor.{standings}
 use Rattle.unit_tree.specs.Trace.{Stand}
 use Rattle.unit_tree.specs.declared.ending.Ending.{Ending}
 use Rattle.list_laws.proofs.Members.{at_place}
+use Rattle.list_laws.proofs.Pairs.{zip_there}
 
 -- ---- One seat among those of a phase
 
@@ -129,13 +130,6 @@ given_by false outcome result unit state empty is = ap Some is
 abbrev pub step_made : Result ℕ Fault → List ℤ → Result Moved Fault
 step_made (Ok accepted) state = Ok (record { state = state; accepted = accepted })
 step_made (Err fault) state = Err fault
-
-zip_there : {A B : Type 0} (xs : List A) (ys : List B) (k : ℕ) (x : A) (y : B) → slice_get xs k ≡ Some x → slice_get ys k ≡ Some y
-    → slice_get (zip xs ys) k ≡ Some (x, y)
-zip_there [] ys k x y x_is y_is = absurd (cc)
-zip_there (one ∷ xs) [] k x y x_is y_is = absurd (cc)
-zip_there (one ∷ xs) (other ∷ ys) zero x y x_is y_is = ap (λ z. Some (z, other)) (same_Some one x x_is) ∙ ap (λ z. Some (x, z)) (same_Some other y y_is)
-zip_there (one ∷ xs) (other ∷ ys) (suc k) x y x_is y_is = zip_there xs ys k x y x_is y_is
 
 -- ---- The step of one instance
 

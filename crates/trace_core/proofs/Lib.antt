@@ -12,4 +12,4 @@ pub mod SeatLaws
 pub mod SettleLaws
 pub mod SlotLaws
 pub mod StandLaws
-pub mod VecLaws
+pub mod WrittenVectors

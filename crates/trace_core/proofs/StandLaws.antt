@@ -6,6 +6,7 @@ use Rattle.std.proofs.lemmas.List.{get_or-set_same, get_or-set_other}
 use Rattle.std.proofs.lemmas.Option.{slice_get_within, slice_get-get_or, get_or_from_slice_get}
 use Rattle.std.specs.Prelude.{is_some, is_none, slice_get, slice_set, ◌&&◌, if◌then◌else◌}
 use Rattle.std.specs.List.{count_by}
+use Rattle.std.proofs.lemmas.Slice.Zip.{AllZip-long}
 use Rattle.fixed_words.specs.declared.types.Fault.{Fault}
 use Rattle.trace_core.specs.Runs.{Cell, Empty, Filled, RunState, Stands, IsPhase, IsTrial, AreCellsFull, IsWanted, ArePortsKnown, HoldSteps, arrived, phase_at}
 use Rattle.trace_core.specs.Runs.{with_own, step_in, is_ended, is_filled, cells_now, first_end}
@@ -25,12 +26,11 @@ use Rattle.unit_tree.specs.Successor.{Position, agreed, ends, is_redone, propose
 use Rattle.unit_tree.specs.Trace.{Stand, Goes, IsGoing, IsStand, HasWords, AreWordsOf, steps_there, cells_of_trial, cells_of_redo, cells_at}
 use Rattle.unit_tree.specs.declared.ending.Ending.{Ending}
 use Rattle.run_laws.proofs.RunSteps.{step_is_right}
-use Rattle.list_laws.proofs.Pairs.{one_each}
 
 -- ---- How many cells there may be
 
 pub one_state : (run : Composition) (at : Position) → HasWords run at → length at.states ≡ length run.members
-one_state run at words = one_each (λ member state. AreWordsOf member.component.unit.states state) run.members at.states words
+one_state run at words = AllZip-long (λ member state. AreWordsOf member.component.unit.states state) run.members at.states words
 
 bound_more : (count width cells now later : ℕ) → cells ≤ count * width + now → now ≤ width → cells ≤ suc count * width + later
 bound_more count width cells now later before most = omega arith

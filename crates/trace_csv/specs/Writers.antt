@@ -25,5 +25,5 @@ pub record HasFields {W : Type 0} (contents : W → Option (List ℕ)) (quoting 
   pub text : text_written contents writer ≡ Some (before ++ join_with_byte 44 fields)
 
 -- A writer stands between two rows: all that it has written lies in what is below.
-abbrev pub IsReady : {W : Type 0} → (W → List ℕ) → Writer W → Type 0
-IsReady items writer = HasFields (λ below. Some (items below)) style.Necessary (items (writer_under writer)) writer []
+abbrev pub IsBetweenRows : {W : Type 0} → (W → List ℕ) → Writer W → Type 0
+IsBetweenRows items writer = HasFields (λ below. Some (items below)) style.Necessary (items (writer_under writer)) writer []

@@ -7,7 +7,7 @@ ghost use Rattle.fixed_words.specs.Texts.{text_of};
 ghost use Rattle.fixed_words.specs.Types.{is_word_of, AreDecimals};
 ghost use Rattle.super_time.specs.Seconds.{seconds_text_of};
 ghost use Rattle.trace_csv.specs.TraceText.{field_of, row_fields, row_line, HasWord};
-ghost use Rattle.trace_csv.specs.Writers.{HasFields, IsReady};
+ghost use Rattle.trace_csv.specs.Writers.{HasFields, IsBetweenRows};
 
 use crate::line::{LineWriter, end_line, new_line, put_field};
 use csv::QuoteStyle;
@@ -114,9 +114,9 @@ fn put_row(
 ) -> Result<(), NoMemory>
     requires resolution { resolution ≤ 9 }
     requires words { AllByRecursion (HasWord ports.now) columns.now }
-    requires ready { IsReady (λ v. v.items) line.old }
+    requires ready { IsBetweenRows (λ v. v.items) line.old }
     ensures row { OnOk result ((writer_under line.new).items ≡ (writer_under line.old).items ++ row_line resolution columns.now point ports.now) }
-    ensures ready { OnOk result (IsReady (λ v. v.items) line.new) }
+    ensures ready { OnOk result (IsBetweenRows (λ v. v.items) line.new) }
 {
     put_fields(line, text, resolution, point, columns, ports)?;
     end_line(line)
@@ -127,7 +127,7 @@ fn put_row(
 #[cold]
 #[inline(never)]
 fn begin_anew(alloc: Global, line: &mut LineWriter)
-    ensures ready { IsReady (λ v. v.items) line.new }
+    ensures ready { IsBetweenRows (λ v. v.items) line.new }
     ensures under { (writer_under line.new).items ≡ [] }
 {
     *line = new_line(alloc, QuoteStyle::Necessary);
@@ -139,7 +139,7 @@ fn begin_anew(alloc: Global, line: &mut LineWriter)
 pub struct RowWriter {
     alloc: Global,
     line: LineWriter,
-    ghost ready: { IsReady (λ v. v.items) line },
+    ghost ready: { IsBetweenRows (λ v. v.items) line },
 }
 
 impl RowWriter {

@@ -1,6 +1,6 @@
 -- The columns of a judged system are outputs, and have words where the ports do.
 use Rattle.std.proofs.Common.{◌≡◌, ◌<◌, ℕ, zero, suc, true, ℤ, pos, List, [], ◌∷◌, length, Option, Some, None, refl, ap, sym, subst, ◌∙◌, arith}
-use Rattle.std.proofs.lemmas.Option.{slice_get-map, slice_get_within}
+use Rattle.std.proofs.lemmas.Option.{slice_get-map, slice_get_within, same_Some}
 use Rattle.std.specs.Prelude.{slice_get, is_some, IsSome, slice_index_or, Ok, Err}
 use Rattle.std.specs.List.{AllByRecursion, filter_map, cons_option, list_all}
 use Rattle.std.specs.Option.{option_map, option_and_then}
@@ -26,12 +26,10 @@ use Rattle.unit_tree.specs.declared.system.PortName.{PortName}
 use Rattle.unit_tree.specs.declared.system.System.{System}
 use Rattle.unit_tree.specs.declared.unit.Output.{Output}
 use Rattle.unit_tree.specs.declared.unit.Unit.{Unit}
-use Rattle.language_laws.proofs.PlainNames.{each_has}
 use Rattle.run_laws.proofs.PlainOrders.{named_has}
 use Rattle.run_laws.proofs.SeenLaws.{get_fits}
 use Rattle.trace_plan.proofs.ShownOutputs.{shown_of, unit_limited}
-use Rattle.list_laws.proofs.Members.{has_at, at_place}
-use Rattle.list_laws.proofs.Options.{some_same}
+use Rattle.list_laws.proofs.Members.{has_at, at_place, each_has}
 
 -- ---- Each column by its port
 
@@ -100,7 +98,7 @@ module _ (run : Composition) (states : List (List ℤ)) (ports : Ports) (each_st
       let in_types = slice_get_within (types_of_places run) place ty is in
       let count = types_count run states each_state in
       let at = at_place (outlets run states) place (omega (arith, in_types, count)) in
-      let same : ty ≡ at.0.output.ty = some_same ty at.0.output.ty (sym is ∙ type_is run states place at.0 each_state at.1) in
+      let same : ty ≡ at.0.output.ty = same_Some ty at.0.output.ty (sym is ∙ type_is run states place at.0 each_state at.1) in
       let port_is : slice_get ports place ≡ Some (word_at ports at.0) = ap (λ (p : Ports). slice_get p place) assigned
       ∙ slice_get-map (word_at ports) (outlets run states) place ∙ ap (option_map (word_at ports)) at.1 in
       let word_is = all_words ports place (word_at ports at.0) all port_is in

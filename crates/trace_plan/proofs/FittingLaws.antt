@@ -9,7 +9,7 @@ use Rattle.std.specs.Option.{IfSome}
 use Rattle.std.specs.Str.{bytes_eq}
 use Rattle.fixed_words.specs.Types.{lowest, highest, AreDecimals}
 use Rattle.port_solve.proofs.InputsSet.{left}
-use Rattle.trace_plan.specs.Fitting.{IsUnitNamed, IsFittedFor, AreMade, tells_max}
+use Rattle.trace_plan.specs.Fitting.{IsUnitNamed, IsFittedFor, AreImagesOf, tells_max}
 use Rattle.trace_plan.specs.Keeps.{IsFitted}
 use Rattle.trace_plan.specs.Plans.{has_max}
 use Rattle.trace_plan.specs.declared.fitting.Fitted.{Fitted}
@@ -146,7 +146,7 @@ named_here units name place unit within is later named = record {
 -- ---- Images that were made
 
 pub made_at : (system : System) (made : List Made) (place unit : ℕ) (params : List ℤ) (one : Made) → place < length made → one ≡ get_or made place one
-    → one.unit ≡ unit → one.params.items ≡ params → AreMade system made → IsCompiled system unit params one.image.value
+    → one.unit ≡ unit → one.params.items ≡ params → AreImagesOf system made → IsCompiled system unit params one.image.value
 made_at system [] place unit params one within is same_unit same_params are = absurd (omega (arith, within))
 made_at system (first ∷ made) zero unit params one within is same_unit same_params are =
     let here : IsCompiled system one.unit one.params.items one.image.value =

@@ -5,7 +5,7 @@ use Rattle.std.proofs.lemmas.Nat.{le-div}
 use Rattle.std.specs.Prelude.{is_none, nat_lt, ◌==◌, ◌/◌, min, max, unwrap_or, Ok, Err}
 use Rattle.std.specs.Int.{is_negative}
 use Rattle.std.specs.List.{AllByRecursion, filter_map, cons_option, fold}
-use Rattle.std.specs.Option.{option_map, IfSome}
+use Rattle.std.specs.Option.{IfSome}
 use Rattle.fixed_words.specs.declared.types.Literal.{Literal}
 use Rattle.fixed_words.specs.declared.types.Literal.TheVariants as literal
 use Rattle.super_time.specs.Seconds.{ticks_in, within_run, seconds_of, AreDecimalsOf}
@@ -16,7 +16,7 @@ use Rattle.trace_plan.specs.Lengths.{IsLengthOf, IsReadable}
 use Rattle.trace_plan.specs.declared.numbers.Numbers.{Numbers}
 use Rattle.unit_tree.specs.Compositions.{Member, member_with, members_of, ticks_or, default_zeros, default_rows, run_of}
 use Rattle.unit_tree.specs.Names.{unit_of_instance}
-use Rattle.unit_tree.specs.Plain.{plain_unit, plain_form}
+use Rattle.unit_tree.specs.Plain.{plain_form}
 use Rattle.unit_tree.specs.Printable.{IsRanged, IsLiteralInRange}
 use Rattle.unit_tree.specs.WellFormed.{IsWellFormed, unit_resolution, resolution_of, is_length}
 use Rattle.unit_tree.specs.declared.system.Instance.{Instance}

@@ -2,7 +2,7 @@
 use Rattle.std.proofs.Common.{◌≡◌, ◌≤◌, ◌<◌, ℕ, zero, suc, ◌+◌, ◌*◌, true, false, cond, ℤ, pos, List, [], ◌∷◌, ◌++◌, map, length, Option, Some, None, inl, inr}
 use Rattle.std.proofs.Common.{refl, ap, sym, subst, ◌∙◌, arith}
 use Rattle.std.proofs.lemmas.List.{length-map}
-use Rattle.std.proofs.lemmas.Option.{slice_get_within}
+use Rattle.std.proofs.lemmas.Option.{slice_get_within, same_Some}
 use Rattle.std.specs.Prelude.{slice_get, is_none, ◌==◌}
 use Rattle.std.specs.List.{AllByRecursion, flat_map, find}
 use Rattle.std.specs.Str.{bytes_eq}
@@ -23,18 +23,18 @@ use Rattle.unit_tree.specs.declared.unit.EventOut.{EventOut}
 use Rattle.unit_tree.specs.declared.unit.Output.{Output}
 use Rattle.unit_tree.specs.declared.unit.Param.{Param}
 use Rattle.unit_tree.specs.declared.unit.Unit.{Unit}
-use Rattle.run_laws.proofs.EventLaws.{version_1_without_events, plain_form_1, plain_of_without_events, one_or_two}
+use Rattle.run_laws.proofs.EventLaws.{version_1_without_events, plain_form_1, plain_of_without_events}
 use Rattle.language_laws.proofs.NameLaws.{NamesDiffer, PortsDiffer, ports_differ, names_differ, found}
 use Rattle.run_laws.proofs.PlaceOrders.{has_in}
-use Rattle.language_laws.proofs.PlainNames.{each_has, map_has, of_output, of_event, plain_port_names}
+use Rattle.language_laws.proofs.PlainNames.{map_has, of_output, of_event, plain_port_names}
 use Rattle.run_laws.proofs.PlainOrders.{Declared, declared, output_is, named_has, plain_of, plain_one, ones, twos, plain_ports, becomes, plain_unit_is}
 use Rattle.run_laws.proofs.PlainOrders.{plain_names_differ}
 use Rattle.run_laws.proofs.PortLaws.{output_has}
 use Rattle.trace_plan.proofs.PlacedOutputs.{Placed, placed}
 use Rattle.run_laws.proofs.PlainKept.{alike}
 use Rattle.trace_plan.proofs.SystemLines.{few_instances}
-use Rattle.list_laws.proofs.Members.{Has, Distinct, has_front, has_map}
-use Rattle.list_laws.proofs.Options.{some_same}
+use Rattle.list_laws.proofs.Members.{Has, Distinct, has_front, has_map, each_has}
+use Rattle.list_laws.proofs.Truths.{one_or_two}
 
 -- ---- What an output is in what is run
 
@@ -63,7 +63,7 @@ module _ (system : System) (ranged : IsRanged system) (kept : IsWellFormed syste
   declared_port port output is =
       let d = declared system port (has_in (outputs_of system) port (output_has system port (ap is_none is))) in
       let own = output_is system apart d.instance d.unit d.output d.instance_has d.unit_is d.has in
-      (d, some_same d.output output (sym own ∙ ap (output_at system) d.is ∙ is))
+      (d, same_Some d.output output (sym own ∙ ap (output_at system) d.is ∙ is))
 
   -- ---- Version 1
 
@@ -126,7 +126,7 @@ module _ (system : System) (ranged : IsRanged system) (kept : IsWellFormed syste
       let other = found (λ (p : Port). p.name) (output_ports unit) (of_output first) distinct has_first in
       let same_name : first.name ≡ port.name = said ∙ name in
       let same : of_output first ≡ port =
-      some_same (of_output first) port (sym other ∙ ap (λ wanted. find (λ (p : Port). bytes_eq p.name wanted) (output_ports unit)) same_name ∙ one) in
+      same_Some (of_output first) port (sym other ∙ ap (λ wanted. find (λ (p : Port). bytes_eq p.name wanted) (output_ports unit)) same_name ∙ one) in
       let none : false ≡ true = ap (λ (p : Port). p.is_event) same ∙ event in
       absurd (cc)
 

@@ -5,6 +5,7 @@ use Rattle.std.proofs.lemmas.Grind.{flat_map-append}
 use Rattle.std.proofs.lemmas.List.Sums.{sum_by-append}
 use Rattle.std.specs.Prelude.{is_none, nat_lt, cond, count_by, Bool, true}
 use Rattle.std.specs.List.{AllByRecursion, filter_map, flat_map, enumerate_from}
+use Rattle.std.proofs.lemmas.Bool.{or_parts}
 use Rattle.fixed_words.specs.declared.types.Literal.{Literal}
 use Rattle.unit_tree.specs.Canonical.{optional, unit_parts, canonical_parts, canonical_forms}
 use Rattle.unit_tree.specs.LineForms.{are_alike}
@@ -22,11 +23,11 @@ use Rattle.unit_tree.specs.declared.line_form.LineForm.TheVariants as form
 use Rattle.unit_tree.specs.declared.system.Instance.{Instance}
 use Rattle.unit_tree.specs.declared.system.System.{System}
 use Rattle.unit_tree.specs.declared.unit.Unit.{Unit}
-use Rattle.language_laws.proofs.NameLaws.{all_keep, Hold, instance_head, kept_parts, not_false}
-use Rattle.language_laws.proofs.PlainNames.{each_has, has_flat, unit_line}
+use Rattle.language_laws.proofs.NameLaws.{all_keep, Hold, instance_head, kept_parts}
+use Rattle.language_laws.proofs.PlainNames.{has_flat, unit_line}
 use Rattle.language_laws.proofs.SiteLaws.{line_at, sites_are}
-use Rattle.list_laws.proofs.Members.{Has, has_front, has_behind}
-use Rattle.list_laws.proofs.Truths.{or_false}
+use Rattle.list_laws.proofs.Members.{Has, has_front, has_behind, each_has}
+use Rattle.list_laws.proofs.Truths.{not_false}
 
 -- ---- A rule that looks at the line alone
 
@@ -150,10 +151,10 @@ module _ (system : System) where
     timed = kept_line (mistimes system) kept.1.1.1.1.1.1.1.1.1.1.1.0
 
     pub stop_length : (seconds : Literal) → system.stop ≡ Some seconds → is_length 0 (seconds_of (resolution_of system) seconds) ≡ true
-    stop_length seconds is = not_false system _ (timed (form.Stop seconds) (stop_line seconds is))
+    stop_length seconds is = not_false _ (timed (form.Stop seconds) (stop_line seconds is))
 
     pub longest_length : (seconds : Literal) → system.longest ≡ Some seconds → is_length 1 (seconds_of (resolution_of system) seconds) ≡ true
-    longest_length seconds is = not_false system _ (timed (form.Longest seconds) (longest_line seconds is))
+    longest_length seconds is = not_false _ (timed (form.Longest seconds) (longest_line seconds is))
 
     pub stop_there : is_none system.stop ≡ false
     stop_there = kept_line (lacks_stop system) kept.1.1.1.1.1.1.1.1.1.1.0 (form.Header system.version) (inl refl)
@@ -208,7 +209,7 @@ module _ (system : System) where
     counted earlier (instance ∷ instances) low hold =
         let line : LineForm = form.Instance instance.name instance.unit in
         let here : tally (flat_map becomes (earlier ++ (line ∷ []))) ≤ 64 =
-        below 64 (tally (flat_map becomes (earlier ++ (line ∷ [])))) (or_false _ _ hold.0).0 in
+        below 64 (tally (flat_map becomes (earlier ++ (line ∷ [])))) (or_parts _ _ hold.0).0 in
         let rest = counted (earlier ++ (line ∷ [])) instances here hold.2 in
         omega (arith, rest, next_tally earlier instance)
 
@@ -217,7 +218,7 @@ module _ (system : System) where
     few_from earlier (instance ∷ instances) hold =
         let line : LineForm = form.Instance instance.name instance.unit in
         let here : tally (flat_map becomes (earlier ++ (line ∷ []))) ≤ 64 =
-        below 64 (tally (flat_map becomes (earlier ++ (line ∷ [])))) (or_false _ _ hold.0).0 in
+        below 64 (tally (flat_map becomes (earlier ++ (line ∷ [])))) (or_parts _ _ hold.0).0 in
         let rest = counted (earlier ++ (line ∷ [])) instances here hold.2 in
         omega (arith, rest, next_tally earlier instance)
 

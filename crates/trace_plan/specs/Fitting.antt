@@ -24,8 +24,8 @@ pub record IsFittedFor (system : System) (instance : Instance) (fitted : Fitted)
   pub fits : IsFitted member fitted
 
 -- Each of the images is that of its unit of the system, with its words of the parameters.
-abbrev pub AreMade : System → List Made → Type 0
-AreMade system made = AllByRecursion (λ (one : Made). IsCompiled system one.unit one.params.items one.image.value) made
+abbrev pub AreImagesOf : System → List Made → Type 0
+AreImagesOf system made = AllByRecursion (λ (one : Made). IsCompiled system one.unit one.params.items one.image.value) made
 
 -- The code of what is fitted out tells a greatest step.
 abbrev pub tells_max : Fitted → Bool

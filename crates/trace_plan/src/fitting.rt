@@ -2,7 +2,7 @@
 ghost use Rattle.std.specs.Prelude.{◌≡◌, ◌↔◌, ◌≤◌, length, map, IfOk, OnOk, IfSome, IfNone, None, IsSome, IsTrue};
 ghost use Rattle.std.specs.List.{AllByRecursion, AllZip};
 ghost use Rattle.fixed_words.specs.Types.{lowest, highest, AreDecimals};
-ghost use Rattle.trace_plan.specs.Fitting.{IsUnitNamed, IsFittedFor, AreMade, tells_max};
+ghost use Rattle.trace_plan.specs.Fitting.{IsUnitNamed, IsFittedFor, AreImagesOf, tells_max};
 ghost use Rattle.trace_plan.specs.Keeps.{IsFitted};
 ghost use Rattle.trace_plan.specs.Plans.{places_from};
 ghost use Rattle.unit_exec.specs.Images.{IsCompiled, HasParams, unit_of_plain_form};
@@ -135,7 +135,7 @@ fn same_words(one: &[i64], other: &[i64]) -> bool
 
 /// The image that was made of a unit with these words of its parameters, if there is one.
 fn made_of<'a>(made: &'a [Made], unit: u32, params: &[i64]) -> Option<&'a Arc<Image>>
-    ensures { (checked : System) → AreMade checked made.now → IfSome result (λ image. IsCompiled checked unit params.now image.now.value) }
+    ensures { (checked : System) → AreImagesOf checked made.now → IfSome result (λ image. IsCompiled checked unit params.now image.now.value) }
 {
     for one in made {
         if one.unit == unit && same_words(&one.params, params) {
@@ -155,9 +155,9 @@ fn image_for(
 ) -> Result<Arc<Image>, NoMemory>
     requires there { IsSome (unit_of_plain_form checked.now unit) }
     requires one_each { HasParams checked.now unit params.items }
-    requires made { AreMade checked.now made.old.items }
+    requires made { AreImagesOf checked.now made.old.items }
     ensures image { IfOk result (λ image. IsCompiled checked.now unit params.items image.value) }
-    ensures made { OnOk result (AreMade checked.now made.new.items) }
+    ensures made { OnOk result (AreImagesOf checked.now made.new.items) }
 {
     if let Some(image) = made_of(made, unit, &params) {
         return Arc::clone(image);
@@ -183,9 +183,9 @@ fn fit(
 ) -> Result<Fitted, NoMemory>
     requires resolution { resolution ≡ resolution_of (plain_form checked.now) }
     requires unit { IsUnitNamed (plain_form checked.now).units instance.now.unit number }
-    requires made { AreMade checked.now made.old.items }
+    requires made { AreImagesOf checked.now made.old.items }
     ensures fitted { IfOk result (IsFittedFor (plain_form checked.now) instance.now) }
-    ensures made { OnOk result (AreMade checked.now made.new.items) }
+    ensures made { OnOk result (AreImagesOf checked.now made.new.items) }
 {
     let unit = checked.system().units.get(number as usize).unwrap();
     let params = param_words(alloc, instance.settings.as_slice(), unit.params.as_slice())?;

@@ -6,7 +6,7 @@ use Rattle.fixed_words.specs.declared.types.Fault.{Fault}
 use Rattle.port_solve.specs.Solved.{HaveStates, HaveInputs}
 use Rattle.trace_plan.specs.Plans.{Planned}
 use Rattle.trace_units.specs.Fleets.{Fleet, ForUnit, Steps, with_state}
-use Rattle.trace_units.specs.Members.{RunMembers, states_of, inputs_of}
+use Rattle.trace_units.specs.Members.{RunMembers, states_held, inputs_held}
 use Rattle.trace_units.proofs.FleetLaws.{IsAt, unit_at, as_many, have_states, have_inputs, still_run, states_with, inputs_with, states_stay, inputs_stay}
 use Rattle.trace_units.proofs.FleetLaws.{state_of_changed, state_there, inputs_there}
 use Rattle.code_units.specs.Calls.{greatest_step_by, meaning_of}
@@ -18,7 +18,7 @@ use Rattle.unit_tree.specs.Given.{with_input}
 
 -- What is seen of units of a plan.
 abbrev pub seen_of : Planned → List Running → Fleet
-seen_of plan units = record { plan = plan; states = states_of units; inputs = inputs_of units }
+seen_of plan units = record { plan = plan; states = states_held units; inputs = inputs_held units }
 
 same_seen : (plan : Planned) (states others inputs fed : List (List ℤ)) → states ≡ others → inputs ≡ fed
     → ◌≡◌ {A = Fleet} (record { plan = plan; states = states; inputs = inputs }) (record { plan = plan; states = others; inputs = fed })
@@ -76,14 +76,15 @@ module _ (plan : Planned) (units : List Running) (seen : Fleet) (is : seen_of pl
       pub given_state : (new : Running) (state : List ℤ) → new ≡ record unit { state = state }
           → seen_of plan (set units instance new) ≡ with_state seen instance state
       given_state new state given =
-          same_seen plan (states_of (set units instance new)) (set (states_of units) instance state) (inputs_of (set units instance new)) (inputs_of units)
-          (states_with units instance new ∙ ap (λ (some : Running). set (states_of units) instance some.state) given)
+          same_seen plan (states_held (set units instance new)) (set (states_held units) instance state)
+          (inputs_held (set units instance new)) (inputs_held units)
+          (states_with units instance new ∙ ap (λ (some : Running). set (states_held units) instance some.state) given)
           (inputs_stay plan.run.members units instance unit new at (ap (λ (some : Running). some.inputs) given))
           ∙ ap (λ fleet. with_state fleet instance state) is
 
       pub unit_stays : (new : Running) → new ≡ unit → seen_of plan (set units instance new) ≡ seen
       unit_stays new same =
-          same_seen plan (states_of (set units instance new)) (states_of units) (inputs_of (set units instance new)) (inputs_of units)
+          same_seen plan (states_held (set units instance new)) (states_held units) (inputs_held (set units instance new)) (inputs_held units)
           (states_stay plan.run.members units instance unit new at (ap (λ (some : Running). some.state) same))
           (inputs_stay plan.run.members units instance unit new at (ap (λ (some : Running). some.inputs) same))
           ∙ is
@@ -91,7 +92,7 @@ module _ (plan : Planned) (units : List Running) (seen : Fleet) (is : seen_of pl
       pub step_seen : (time step : ℕ) (result : Result ℕ Fault) (new : Running) → one.Steps unit time step result new
           → Steps seen instance time step result (seen_of plan (set units instance new))
       step_seen time step (Ok accepted) new steps =
-          let same : slice_index_or (states_of (set units instance new)) instance [] ≡ new.state =
+          let same : slice_index_or (states_held (set units instance new)) instance [] ≡ new.state =
           state_of_changed plan.run.members units instance unit new at in (
             subst (λ state. ForUnit seen instance
                 (λ member had inputs. step_of member.component had inputs time step ≡ Ok (record { state = state; accepted = accepted })))
@@ -117,13 +118,13 @@ module _ (plan : Planned) (units : List Running) (seen : Fleet) (is : seen_of pl
 
       -- An input of the unit has another word.
       pub given_word : (new : Running) (number : ℕ) (word : ℤ) → new ≡ record unit { inputs = slice_set unit.inputs number word }
-          → inputs_of (set units instance new) ≡ with_input seen.inputs instance number word
+          → inputs_held (set units instance new) ≡ with_input seen.inputs instance number word
       given_word new number word given =
           inputs_with units instance new
-          ∙ ap (λ (some : Running). set (inputs_of units) instance some.inputs) given
-          ∙ ap (λ words. set (inputs_of units) instance (slice_set words number word)) (sym (inputs_there plan.run.members units instance unit at))
+          ∙ ap (λ (some : Running). set (inputs_held units) instance some.inputs) given
+          ∙ ap (λ words. set (inputs_held units) instance (slice_set words number word)) (sym (inputs_there plan.run.members units instance unit at))
           ∙ ap (λ fleet. with_input fleet.inputs instance number word) is
 
-      pub states_kept : (new : Running) (inputs : List ℤ) → new ≡ record unit { inputs = inputs } → states_of (set units instance new) ≡ seen.states
+      pub states_kept : (new : Running) (inputs : List ℤ) → new ≡ record unit { inputs = inputs } → states_held (set units instance new) ≡ seen.states
       states_kept new inputs given =
           states_stay plan.run.members units instance unit new at (ap (λ (some : Running). some.state) given) ∙ ap (λ fleet. fleet.states) is

@@ -9,7 +9,7 @@ use Rattle.std.specs.List.{AllZip}
 use Rattle.std.specs.Option.{option_map, option_and_then}
 use Rattle.fixed_words.specs.Operations.{Outcome}
 use Rattle.port_solve.specs.Solved.{HaveStates, HaveInputs}
-use Rattle.trace_units.specs.Members.{IsRunOf, RunMembers, states_of, inputs_of}
+use Rattle.trace_units.specs.Members.{IsRunOf, RunMembers, states_held, inputs_held}
 use Rattle.code_units.specs.Calls.{output_by}
 use Rattle.unit_exec.specs.Images.{Compiled, IsImageOf, start_inputs_of}
 use Rattle.unit_exec.specs.Running.{Running, opened}
@@ -32,23 +32,23 @@ state_count component unit runs = runs.words.each_state ∙ ap (λ sizes. sizes.
 -- ---- All units
 
 states_had : (members : List Member) (units : List Running) → AllZip RunsMember members units
-    → AllZip (λ member state. length state ≡ length member.component.unit.states) members (states_of units)
+    → AllZip (λ member state. length state ≡ length member.component.unit.states) members (states_held units)
 states_had [] [] all = tt
 states_had [] (unit ∷ units) all = absurd all
 states_had (member ∷ members) [] all = absurd all
 states_had (member ∷ members) (unit ∷ units) all = (state_count member.component unit all.0, states_had members units all.1)
 
 inputs_had : (members : List Member) (units : List Running) → AllZip RunsMember members units
-    → AllZip (λ member words. length words ≡ length member.component.unit.inputs) members (inputs_of units)
+    → AllZip (λ member words. length words ≡ length member.component.unit.inputs) members (inputs_held units)
 inputs_had [] [] all = tt
 inputs_had [] (unit ∷ units) all = absurd all
 inputs_had (member ∷ members) [] all = absurd all
 inputs_had (member ∷ members) (unit ∷ units) all = (inputs_count member.component unit all.0, inputs_had members units all.1)
 
-pub have_states : (run : Composition) (units : List Running) → RunMembers run units → HaveStates run (states_of units)
+pub have_states : (run : Composition) (units : List Running) → RunMembers run units → HaveStates run (states_held units)
 have_states run units runs = states_had run.members units runs
 
-pub have_inputs : (run : Composition) (units : List Running) → RunMembers run units → HaveInputs run (inputs_of units)
+pub have_inputs : (run : Composition) (units : List Running) → RunMembers run units → HaveInputs run (inputs_held units)
 have_inputs run units runs = inputs_had run.members units runs
 
 pub as_many : (run : Composition) (units : List Running) → RunMembers run units → length units ≡ length run.members
@@ -57,19 +57,19 @@ as_many run units runs = AllZip-long RunsMember run.members units runs
 -- ---- The unit of an instance
 
 state_at : (units : List Running) (instance : ℕ) (unit : Running) → slice_get units instance ≡ Some unit
-    → slice_get (states_of units) instance ≡ Some unit.state
+    → slice_get (states_held units) instance ≡ Some unit.state
 state_at units instance unit is = slice_get-map (λ (u : Running). u.state) units instance ∙ ap (option_map (λ (u : Running). u.state)) is
 
 inputs_at : (units : List Running) (instance : ℕ) (unit : Running) → slice_get units instance ≡ Some unit
-    → slice_get (inputs_of units) instance ≡ Some unit.inputs
+    → slice_get (inputs_held units) instance ≡ Some unit.inputs
 inputs_at units instance unit is = slice_get-map (λ (u : Running). u.inputs) units instance ∙ ap (option_map (λ (u : Running). u.inputs)) is
 
 -- A unit that is read at an instance, with its member.
 pub record IsAt (members : List Member) (units : List Running) (instance : ℕ) (unit : Running) : Type 0 where
   pub member : Member
   pub member_is : slice_get members instance ≡ Some member
-  pub state_is : slice_get (states_of units) instance ≡ Some unit.state
-  pub inputs_are : slice_get (inputs_of units) instance ≡ Some unit.inputs
+  pub state_is : slice_get (states_held units) instance ≡ Some unit.state
+  pub inputs_are : slice_get (inputs_held units) instance ≡ Some unit.inputs
   pub runs : IsRunOf member.component unit
 
 pub unit_at : (members : List Member) (units : List Running) (instance : ℕ) (unit : Running) → AllZip RunsMember members units → instance < length members
@@ -111,10 +111,10 @@ still_run run units instance old new is keeps runs =
     (λ member had. still_one old new member.component keeps (subst (IsRunOf member.component) (sym is) had))
 
 -- Its state changes.
-pub states_with : (units : List Running) (instance : ℕ) (new : Running) → states_of (set units instance new) ≡ set (states_of units) instance new.state
+pub states_with : (units : List Running) (instance : ℕ) (new : Running) → states_held (set units instance new) ≡ set (states_held units) instance new.state
 states_with units instance new = map-set (λ (u : Running). u.state) units instance new
 
-pub inputs_with : (units : List Running) (instance : ℕ) (new : Running) → inputs_of (set units instance new) ≡ set (inputs_of units) instance new.inputs
+pub inputs_with : (units : List Running) (instance : ℕ) (new : Running) → inputs_held (set units instance new) ≡ set (inputs_held units) instance new.inputs
 inputs_with units instance new = map-set (λ (u : Running). u.inputs) units instance new
 
 set_same : {A : Type 0} (xs : List A) (k : ℕ) (x : A) → slice_get xs k ≡ Some x → set xs k x ≡ xs
@@ -123,14 +123,14 @@ set_same (first ∷ xs) zero x is = ap (λ y. y ∷ xs) (sym (same_Some first x 
 set_same (first ∷ xs) (suc k) x is = ap (λ ys. first ∷ ys) (set_same xs k x is)
 
 pub inputs_stay : (members : List Member) (units : List Running) (instance : ℕ) (old new : Running) → IsAt members units instance old
-    → new.inputs ≡ old.inputs → inputs_of (set units instance new) ≡ inputs_of units
+    → new.inputs ≡ old.inputs → inputs_held (set units instance new) ≡ inputs_held units
 inputs_stay members units instance old new at same =
-    inputs_with units instance new ∙ ap (set (inputs_of units) instance) same ∙ set_same (inputs_of units) instance old.inputs at.inputs_are
+    inputs_with units instance new ∙ ap (set (inputs_held units) instance) same ∙ set_same (inputs_held units) instance old.inputs at.inputs_are
 
 pub states_stay : (members : List Member) (units : List Running) (instance : ℕ) (old new : Running) → IsAt members units instance old → new.state ≡ old.state
-    → states_of (set units instance new) ≡ states_of units
+    → states_held (set units instance new) ≡ states_held units
 states_stay members units instance old new at same =
-    states_with units instance new ∙ ap (set (states_of units) instance) same ∙ set_same (states_of units) instance old.state at.state_is
+    states_with units instance new ∙ ap (set (states_held units) instance) same ∙ set_same (states_held units) instance old.state at.state_is
 
 index_or : {A : Type 0} (xs : List A) (k : ℕ) (x default : A) → slice_get xs k ≡ Some x → slice_index_or xs k default ≡ x
 index_or [] k x default is = absurd (cc)
@@ -144,17 +144,18 @@ index_set (first ∷ xs) (suc k) x old default is = index_set xs k x old default
 
 -- The state that an instance has after its unit changed.
 pub state_of_changed : (members : List Member) (units : List Running) (instance : ℕ) (old new : Running) → IsAt members units instance old
-    → slice_index_or (states_of (set units instance new)) instance [] ≡ new.state
+    → slice_index_or (states_held (set units instance new)) instance [] ≡ new.state
 state_of_changed members units instance old new at =
-    ap (λ states. slice_index_or states instance []) (states_with units instance new) ∙ index_set (states_of units) instance new.state old.state [] at.state_is
+    ap (λ states. slice_index_or states instance []) (states_with units instance new)
+    ∙ index_set (states_held units) instance new.state old.state [] at.state_is
 
 pub state_there : (members : List Member) (units : List Running) (instance : ℕ) (unit : Running) → IsAt members units instance unit
-    → slice_index_or (states_of units) instance [] ≡ unit.state
-state_there members units instance unit at = index_or (states_of units) instance unit.state [] at.state_is
+    → slice_index_or (states_held units) instance [] ≡ unit.state
+state_there members units instance unit at = index_or (states_held units) instance unit.state [] at.state_is
 
 pub inputs_there : (members : List Member) (units : List Running) (instance : ℕ) (unit : Running) → IsAt members units instance unit
-    → slice_index_or (inputs_of units) instance [] ≡ unit.inputs
-inputs_there members units instance unit at = index_or (inputs_of units) instance unit.inputs [] at.inputs_are
+    → slice_index_or (inputs_held units) instance [] ≡ unit.inputs
+inputs_there members units instance unit at = index_or (inputs_held units) instance unit.inputs [] at.inputs_are
 
 -- ---- Calls of a unit by its number
 
@@ -165,13 +166,13 @@ module _ (run : Composition) (units : List Running) (instance : ℕ) where
       option_and_then (λ words. option_map (get_of member.component state words) (slice_get member.component.unit.outputs number)) found
 
   abbrev of_state : ℕ → Member → Option (List ℤ) → Option Outcome
-  of_state number member found = option_and_then (λ state. of_words number member state (slice_get (inputs_of units) instance)) found
+  of_state number member found = option_and_then (λ state. of_words number member state (slice_get (inputs_held units) instance)) found
 
   abbrev of_member : ℕ → Option Member → Option Outcome
-  of_member number found = option_and_then (λ member. of_state number member (slice_get (states_of units) instance)) found
+  of_member number found = option_and_then (λ member. of_state number member (slice_get (states_held units) instance)) found
 
   given_is : (number : ℕ) (unit : Running) (at : IsAt run.members units instance unit)
-      → given_by run (states_of units) (inputs_of units) instance number
+      → given_by run (states_held units) (inputs_held units) instance number
       ≡ option_map (get_of at.member.component unit.state unit.inputs) (slice_get at.member.component.unit.outputs number)
   given_is number unit at =
       ap (of_member number) at.member_is ∙ ap (of_state number at.member) at.state_is ∙ ap (of_words number at.member unit.state) at.inputs_are
@@ -179,7 +180,7 @@ module _ (run : Composition) (units : List Running) (instance : ℕ) where
   -- An output that can be asked: its unit has it, and gives what the component does.
   pub record Asks (unit : Running) (number : ℕ) : Type 0 where
     pub within : number < length unit.image.program.outputs
-    pub gives : given_by run (states_of units) (inputs_of units) instance number ≡ output_by unit.image.program unit.state unit.inputs number
+    pub gives : given_by run (states_held units) (inputs_held units) instance number ≡ output_by unit.image.program unit.state unit.inputs number
 
   asks_by : (number : ℕ) (unit : Running) (at : IsAt run.members units instance unit) (found : Option Output)
       → slice_get at.member.component.unit.outputs number ≡ found → IsSome (option_map (get_of at.member.component unit.state unit.inputs) found)
@@ -192,7 +193,8 @@ module _ (run : Composition) (units : List Running) (instance : ℕ) where
         ∙ sym (at.runs.image.computes.get unit.state unit.inputs at.runs.words number output output_is);
   }
 
-  pub asks : (number : ℕ) (unit : Running) → IsAt run.members units instance unit → IsSome (given_by run (states_of units) (inputs_of units) instance number)
+  pub asks : (number : ℕ) (unit : Running) → IsAt run.members units instance unit
+      → IsSome (given_by run (states_held units) (inputs_held units) instance number)
       → Asks unit number
   asks number unit at there = asks_by number unit at (slice_get at.member.component.unit.outputs number) refl (subst IsSome (given_is number unit at) there)
 
@@ -201,7 +203,7 @@ module _ (run : Composition) (units : List Running) (instance : ℕ) where
   instance_by number (Some member) is there = slice_get_within run.members instance member is
 
   -- An output can be asked of an instance that there is alone, and an input set.
-  pub asked_within : (number : ℕ) → IsSome (given_by run (states_of units) (inputs_of units) instance number) → instance < length run.members
+  pub asked_within : (number : ℕ) → IsSome (given_by run (states_held units) (inputs_held units) instance number) → instance < length run.members
   asked_within number there = instance_by number (slice_get run.members instance) refl there
 
   found_within : (number : ℕ) (input : Input) (found : Option Member) → slice_get run.members instance ≡ found
@@ -273,19 +275,19 @@ pub all_run : (run : Composition) (units : List Running) → AllZip Starts run.m
 all_run run units all = starts_run run.members units all
 
 pub all_states : (members : List Member) (units : List Running) → AllZip Starts members units
-    → states_of units ≡ map (λ member. initial member.component) members
+    → states_held units ≡ map (λ member. initial member.component) members
 all_states [] [] all = refl
 all_states [] (unit ∷ units) all = absurd all
 all_states (member ∷ members) [] all = absurd all
 all_states (member ∷ members) (unit ∷ units) all =
     let first : unit.state ≡ initial member.component = ap (λ (u : Running). u.state) all.0.is ∙ all.0.is_image.starts in
-    ap (λ state. state ∷ states_of units) first ∙ ap (λ states. initial member.component ∷ states) (all_states members units all.1)
+    ap (λ state. state ∷ states_held units) first ∙ ap (λ states. initial member.component ∷ states) (all_states members units all.1)
 
 pub all_inputs : (members : List Member) (units : List Running) → AllZip Starts members units
-    → inputs_of units ≡ map (λ member. start_inputs_of member.component.unit) members
+    → inputs_held units ≡ map (λ member. start_inputs_of member.component.unit) members
 all_inputs [] [] all = refl
 all_inputs [] (unit ∷ units) all = absurd all
 all_inputs (member ∷ members) [] all = absurd all
 all_inputs (member ∷ members) (unit ∷ units) all =
     let first : unit.inputs ≡ start_inputs_of member.component.unit = ap (λ (u : Running). u.inputs) all.0.is ∙ all.0.is_image.inputs_start in
-    ap (λ words. words ∷ inputs_of units) first ∙ ap (λ words. start_inputs_of member.component.unit ∷ words) (all_inputs members units all.1)
+    ap (λ words. words ∷ inputs_held units) first ∙ ap (λ words. start_inputs_of member.component.unit ∷ words) (all_inputs members units all.1)

@@ -4,7 +4,7 @@ use Rattle.std.specs.Prelude.{IsSome}
 use Rattle.fixed_words.specs.Operations.{Outcome}
 use Rattle.trace_plan.specs.Plans.{Planned}
 use Rattle.trace_units.specs.Fleets.{Fleet}
-use Rattle.trace_units.specs.Members.{RunMembers, states_of, inputs_of}
+use Rattle.trace_units.specs.Members.{RunMembers, states_held, inputs_held}
 use Rattle.trace_units.proofs.FleetCalls.{seen_of}
 use Rattle.trace_units.proofs.FleetLaws.{Asks, unit_at, asks, asked_within, takes, set_within}
 use Rattle.code_units.specs.Calls.{output_by}
@@ -19,11 +19,11 @@ module _ (run_from : System → Composition) (plan : Planned) (units : List Runn
   abbrev given : Fleet → Option Outcome
   given fleet = given_by (run_from fleet.plan.system) fleet.states fleet.inputs instance number
 
-  given_is : given seen ≡ given_by plan.run (states_of units) (inputs_of units) instance number
-  given_is = ap given (sym is) ∙ ap (λ run. given_by run (states_of units) (inputs_of units) instance number) (sym tied)
+  given_is : given seen ≡ given_by plan.run (states_held units) (inputs_held units) instance number
+  given_is = ap given (sym is) ∙ ap (λ run. given_by run (states_held units) (inputs_held units) instance number) (sym tied)
 
   module _ (there : IsSome (given seen)) where
-    there_at : IsSome (given_by plan.run (states_of units) (inputs_of units) instance number)
+    there_at : IsSome (given_by plan.run (states_held units) (inputs_held units) instance number)
     there_at = subst IsSome given_is there
 
     pub instance_asked : instance < length seen.plan.run.members

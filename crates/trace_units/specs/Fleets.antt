@@ -30,8 +30,7 @@ with_state fleet instance state = record fleet { states = slice_set fleet.states
 -- An instance made its step: it moved to the state that it has now and accepted a length, or met the fault and moved not.
 abbrev pub Steps : Fleet → ℕ → ℕ → ℕ → Result ℕ Fault → Fleet → Type 0
 Steps old instance time step (Ok accepted) new =
-    ForUnit old instance
-    (λ member state inputs. step_of member.component state inputs time step
+    ForUnit old instance (λ member state inputs. step_of member.component state inputs time step
     ≡ Ok (record { state = slice_index_or new.states instance []; accepted = accepted }))
     × (new ≡ with_state old instance (slice_index_or new.states instance []))
 Steps old instance time step (Err fault) new =

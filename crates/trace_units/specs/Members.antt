@@ -18,14 +18,14 @@ pub record IsRunOf (component : Component) (unit : Running) : Type 0 where
 abbrev pub RunMembers : Composition → List Running → Type 0
 RunMembers run units = AllZip (λ member unit. IsRunOf member.component unit) run.members units
 
-abbrev pub states_of : List Running → List (List ℤ)
-states_of units = map (λ unit. unit.state) units
+abbrev pub states_held : List Running → List (List ℤ)
+states_held units = map (λ unit. unit.state) units
 
-abbrev pub inputs_of : List Running → List (List ℤ)
-inputs_of units = map (λ unit. unit.inputs) units
+abbrev pub inputs_held : List Running → List (List ℤ)
+inputs_held units = map (λ unit. unit.inputs) units
 
 abbrev pub fleet : Inside → Fleet
-fleet units = record { plan = units.plan.value; states = states_of units.list.items; inputs = inputs_of units.list.items }
+fleet units = record { plan = units.plan.value; states = states_held units.list.items; inputs = inputs_held units.list.items }
 
 -- The plan is that of what is run, and the units are those of its members.
 pub record AreUnits (units : Inside) : Type 0 where

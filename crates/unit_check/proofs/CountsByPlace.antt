@@ -11,7 +11,7 @@ use Rattle.std.proofs.lemmas.List.Sums.{sum_by-append}
 use Rattle.fixed_words.specs.declared.types.Literal.TheVariants as literal
 use Rattle.unit_check.proofs.WalksOfParts as bridge
 use Rattle.unit_check.proofs.SiteWalks.{heads, sites_on, line_sites, line_sites_on}
-use Rattle.unit_check.proofs.SitePlaces.{all_both, lines_of, lines_in_step}
+use Rattle.unit_check.proofs.SitePlaces.{lines_of, lines_in_step}
 use Rattle.unit_check.proofs.SystemLines.{plain_names, port_lines, step_heads, block, unit_head, instance_head, whole}
 use Rattle.unit_check.proofs.BlockFacts.{none_tell, alone_tell, none_alone, whole_tells}
 use Rattle.unit_check.specs.Counts.{plain_wire_count, exceeds_at}
@@ -31,10 +31,8 @@ use Rattle.unit_tree.specs.declared.system.Wire.{Wire}
 use Rattle.unit_tree.specs.declared.unit.Unit.{Unit}
 use Rattle.language_laws.proofs.BlockLaws.{all_step_lines}
 use Rattle.std.proofs.lemmas.Bool.{and_parts}
-
-or_nothing : (met : Bool) → met ≡ (met || false)
-or_nothing true = refl
-or_nothing false = refl
+use Rattle.list_laws.proofs.Lists.{each_append}
+use Rattle.list_laws.proofs.Truths.{or_nothing}
 
 or_twice : (met : Bool) → met ≡ (met || (met || false))
 or_twice true = refl
@@ -119,13 +117,13 @@ module _ (system : System) where
       → AllByRecursion InUnit (sites scope (earlier ++ heads front) behind) → AllByRecursion InUnit (sites scope earlier (front ++ behind))
   all_on scope earlier front behind one other =
       subst (AllByRecursion InUnit) (sym (sites_on scope earlier front behind))
-      (all_both InUnit (sites scope earlier front) (sites scope (earlier ++ heads front) behind) one other)
+      (each_append InUnit (sites scope earlier front) (sites scope (earlier ++ heads front) behind) one other)
 
   lines_on : (scope : Scope) (earlier front behind : List LineForm) → AllByRecursion InUnit (line_sites scope earlier front)
       → AllByRecursion InUnit (line_sites scope (earlier ++ front) behind) → AllByRecursion InUnit (line_sites scope earlier (front ++ behind))
   lines_on scope earlier front behind one other =
       subst (AllByRecursion InUnit) (sym (line_sites_on scope earlier front behind))
-      (all_both InUnit (line_sites scope earlier front) (line_sites scope (earlier ++ front) behind) one other)
+      (each_append InUnit (line_sites scope earlier front) (line_sites scope (earlier ++ front) behind) one other)
 
   in_step : (unit : Unit) (earlier lines : List LineForm) → AllByRecursion InUnit (line_sites (StepScope unit) earlier lines)
   in_step unit earlier [] = _
@@ -317,7 +315,7 @@ module _ (system : System) where
     step_agrees earlier (Some lines) =
         let inside : List LineForm = flat_map line_forms lines in (
           refl,
-          all_both InUnit (line_sites (StepScope unit) [] inside) (sites scope (earlier ++ (form.Step ∷ [])) (alone form.End ∷ []))
+          each_append InUnit (line_sites (StepScope unit) [] inside) (sites scope (earlier ++ (form.Step ∷ [])) (alone form.End ∷ []))
               (in_step unit [] inside) (refl, _),
         )
 

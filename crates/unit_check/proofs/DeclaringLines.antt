@@ -20,22 +20,22 @@ abbrev pub first_at : (Site → Bool) → ℕ → List Site → Option ℕ
 first_at test number sites = option_map (λ at. at.0) (find (λ at. test at.1) (enumerate_from number sites))
 
 -- What a walk says of that number: it comes to the end where there is none, and stops there.
-abbrev pub Finds : Result ℕ Stop → Option ℕ → Type 0
-Finds (Ok behind) found = found ≡ None
-Finds (Err (stop.At line)) found = found ≡ Some line
-Finds (Err stop.Full) found = ⊤
+abbrev pub TellsFirst : Result ℕ Stop → Option ℕ → Type 0
+TellsFirst (Ok behind) found = found ≡ None
+TellsFirst (Err (stop.At line)) found = found ≡ Some line
+TellsFirst (Err stop.Full) found = ⊤
 
-pub walk_finds : (test : Site → Bool) (number : ℕ) (sites : List Site) → Finds (walk test number sites) (first_at test number sites)
+pub walk_finds : (test : Site → Bool) (number : ℕ) (sites : List Site) → TellsFirst (walk test number sites) (first_at test number sites)
 walk_finds test number [] = refl
 walk_finds test number (site ∷ sites) = step (test site) (nat_eq number 4294967295) refl (walk_finds test (number + 1) sites)
   where
-    step : (met full : Bool) → test site ≡ met → Finds (walk test (number + 1) sites) (first_at test (number + 1) sites)
-        → Finds (onward (if met then Err (stop.At number) else (if full then Err stop.Full else Ok (suc number))) (λ n. walk test n sites))
+    step : (met full : Bool) → test site ≡ met → TellsFirst (walk test (number + 1) sites) (first_at test (number + 1) sites)
+        → TellsFirst (onward (if met then Err (stop.At number) else (if full then Err stop.Full else Ok (suc number))) (λ n. walk test n sites))
         (first_at test number (site ∷ sites))
     step true full is rest = rw is refl
     step false true is rest = tt
     step false false is rest =
-        let here = subst (λ n. Finds (walk test n sites) (first_at test (number + 1) sites)) (add-one number) rest in
+        let here = subst (λ n. TellsFirst (walk test n sites) (first_at test (number + 1) sites)) (add-one number) rest in
         rw is here
 
 -- The line that declares an output in a unit, where there is one.
@@ -47,13 +47,14 @@ declaring name unit = λ scope place line. declares_output name (Some unit) scop
 
 -- In a system whose port has a unit.
 pub line_found : (system : System) (port : PortName) (unit : Unit) → unit_at system port ≡ Some unit
-    → Finds (system_walk (declaring port.port unit) system 1) (line_of_output system port)
+    → TellsFirst (system_walk (declaring port.port unit) system 1) (line_of_output system port)
 line_found system port unit is =
     let met = system_walk (declaring port.port unit) system 1 in
     let along : met ≡ walk (test_at (declaring port.port unit)) 1 (sites_of system) = system_goes (declaring port.port unit) system 1 in
-    let found : Finds met (line_in system port.port (Some unit)) =
-    subst (λ result. Finds result (line_in system port.port (Some unit))) (sym along) (walk_finds (test_at (declaring port.port unit)) 1 (sites_of system)) in
-    subst (Finds met) (ap (line_in system port.port) (sym is)) found
+    let found : TellsFirst met (line_in system port.port (Some unit)) =
+    subst (λ result. TellsFirst result (line_in system port.port (Some unit))) (sym along)
+    (walk_finds (test_at (declaring port.port unit)) 1 (sites_of system)) in
+    subst (TellsFirst met) (ap (line_in system port.port) (sym is)) found
 
 none_first : (name : List ℕ) (number : ℕ) (sites : List Site) → first_at (λ site. declares_output name None site.scope site.line) number sites ≡ None
 none_first name number [] = refl
@@ -67,11 +68,11 @@ none_found system port is = ap (line_in system port.port) is ∙ none_first port
 pub none_at_end : (system : System) (port : PortName) (unit : Unit) (met : Result ℕ Stop) (behind : ℕ) → Some unit ≡ unit_at system port
     → met ≡ system_walk (declaring port.port unit) system 1 → met ≡ Ok behind → None ≡ line_of_output system port
 none_at_end system port unit met behind at walked ended =
-    let found = subst (λ result. Finds result (line_of_output system port)) (sym walked ∙ ended) (line_found system port unit (sym at)) in
+    let found = subst (λ result. TellsFirst result (line_of_output system port)) (sym walked ∙ ended) (line_found system port unit (sym at)) in
     sym found
 
 pub some_at_stop : (system : System) (port : PortName) (unit : Unit) (met : Result ℕ Stop) (line : ℕ) → Some unit ≡ unit_at system port
     → met ≡ system_walk (declaring port.port unit) system 1 → met ≡ Err (stop.At line) → Some line ≡ line_of_output system port
 some_at_stop system port unit met line at walked stopped =
-    let found = subst (λ result. Finds result (line_of_output system port)) (sym walked ∙ stopped) (line_found system port unit (sym at)) in
+    let found = subst (λ result. TellsFirst result (line_of_output system port)) (sym walked ∙ stopped) (line_found system port unit (sym at)) in
     sym found

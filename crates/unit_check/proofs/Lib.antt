@@ -9,8 +9,8 @@ pub mod PlainMeasures
 pub mod PlainWires
 pub mod PortPuts
 pub mod RangedNumbers
+pub mod RepeatsByPlace
 pub mod RulesInTurn
-pub mod SaidAgain
 pub mod SitePlaces
 pub mod SiteWalks
 pub mod SystemLines

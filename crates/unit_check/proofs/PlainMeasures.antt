@@ -17,10 +17,7 @@ use Rattle.unit_tree.specs.declared.system.System.{System}
 use Rattle.unit_tree.specs.declared.system.Wire.{Wire}
 use Rattle.unit_tree.specs.declared.unit.Unit.{Unit}
 use Rattle.language_laws.proofs.PlainLemmas.{plain_depth, plain_cost, plain_line_cost}
-
-or_nothing : (met : Bool) → (met || false) ≡ met
-or_nothing true = refl
-or_nothing false = refl
+use Rattle.list_laws.proofs.Truths.{or_nothing}
 
 -- ---- Depth
 
@@ -31,7 +28,7 @@ deep_is : (value : Expr) → nat_lt 32 (depth_of value) ≡ is_deeper value
 deep_is value = not_within (depth_of value) 32
 
 one_is : (value : Expr) → (nat_lt 32 (depth_of value) || false) ≡ is_deeper value
-one_is value = or_nothing (nat_lt 32 (depth_of value)) ∙ deep_is value
+one_is value = sym (or_nothing (nat_lt 32 (depth_of value))) ∙ deep_is value
 
 plain_is : (value : Expr) → (nat_lt 32 (depth_of (plain_expression value)) || false) ≡ is_deeper value
 plain_is value = ap (λ depth. nat_lt 32 depth || false) (plain_depth value) ∙ one_is value
@@ -95,7 +92,7 @@ pub steps_are : (lines : List Line) → nat_lt 100000 (min (sum (map line_cost l
 steps_are lines = capped (sum (map line_cost lines))
 
 plain_dear : (value : Expr) → (nat_lt 100000 (expression_call_cost (plain_expression value)) || false) ≡ is_dearer value
-plain_dear value = or_nothing (nat_lt 100000 (expression_call_cost (plain_expression value))) ∙ ap (λ cost. nat_lt 100000 (cost + 1)) (plain_cost value)
+plain_dear value = sym (or_nothing (nat_lt 100000 (expression_call_cost (plain_expression value)))) ∙ ap (λ cost. nat_lt 100000 (cost + 1)) (plain_cost value)
 
 two_dear : (one other : Expr)
     → (nat_lt 100000 (expression_call_cost (plain_expression one)) || (nat_lt 100000 (expression_call_cost (plain_expression other)) || false))
@@ -114,7 +111,7 @@ same_costs lines = ap sum (same_list lines)
 
 step_is : (step : Option (List Line)) → (nat_lt 100000 (step_cost (option_map (map plain_line) step)) || false) ≡ nat_lt 100000 (step_cost step)
 step_is None = refl
-step_is (Some lines) = or_nothing (nat_lt 100000 (step_call_cost (map plain_line lines))) ∙ ap (λ cost. nat_lt 100000 (cost + 1)) (same_costs lines)
+step_is (Some lines) = sym (or_nothing (nat_lt 100000 (step_call_cost (map plain_line lines)))) ∙ ap (λ cost. nat_lt 100000 (cost + 1)) (same_costs lines)
 
 none_dear : (lines : List LineForm) → list_any (λ line. false) lines ≡ false
 none_dear [] = refl

@@ -3,11 +3,13 @@ use Rattle.std.proofs.Common.{◌≡◌, ℕ, Bool, true, false, ◌&&◌, List,
 use mathlib.Core.Bool.{cond}
 use Rattle.std.specs.Borrow.{Bor}
 use Rattle.std.specs.Map.{lookup, KeepsOthers}
-use Rattle.std.specs.Cmp.Lexicographic.{bytes_decides, nat_list_eq_equiv}
+use Rattle.std.specs.Cmp.Lexicographic.{bytes_decides}
 use Rattle.unit_tree.specs.Names.{same_port}
 use Rattle.unit_tree.specs.declared.system.PortName.{PortName}
 use Rattle.std.proofs.lemmas.Bool.{and_parts}
-use Rattle.list_laws.specs.Options.{the_first}
+use Rattle.std.specs.Option.{option_or}
+use Rattle.list_laws.proofs.Options.{or_none}
+use Rattle.language_laws.proofs.NameLaws.{same_port_symm}
 
 abbrev pub Key : Type 0
 Key = Bor (List ℕ) × Bor (List ℕ)
@@ -24,9 +26,6 @@ both_is one other first second is =
     let parts = and_parts (bytes_eq one first) (bytes_eq other second) is in
     ((bytes_decides one first).0 parts.0, (bytes_decides other second).0 parts.1)
 
-pub turned : (one other : PortName) → same_port one other ≡ same_port other one
-turned one other = rw (nat_list_eq_equiv.symm one.instance other.instance, nat_list_eq_equiv.symm one.port other.port) refl
-
 -- Keys of a port are the same key.
 is_key_test : (port : PortName) (x y : Key) → names_port port x ≡ true → names_port port y ≡ same_key x y
 is_key_test port x y is =
@@ -39,7 +38,7 @@ are_apart port other apart key is =
     let names = both_is port.instance port.port key.0.now key.1.now is in
     ap (λ i. bytes_eq other.instance i && bytes_eq other.port key.1.now) (sym names.0)
     ∙ ap (λ p. bytes_eq other.instance port.instance && bytes_eq other.port p) (sym names.1)
-    ∙ turned other port ∙ apart
+    ∙ same_port_symm other port ∙ apart
 
 same_test : (port other : PortName) → same_port port other ≡ true → names_port port ≡ names_port other
 same_test port other is =
@@ -61,12 +60,8 @@ put port other value old new here keeps = step (same_port port other) refl
     step true is = ap (λ test. lookup test new) (sym (same_test port other is)) ∙ here
     step false is = others_stay port other old new keeps is
 
-or_none : {A : Type 0} (one : Option A) → the_first one None ≡ one
-or_none None = refl
-or_none (Some x) = refl
-
 pub newly : (asked stored : Bool) (old new : Option ℕ) (value : ℕ) → asked ≡ stored → (asked ≡ true → old ≡ None) → new ≡ cond stored (Some value) old
-    → new ≡ the_first old (cond asked (Some value) None)
+    → new ≡ option_or old (cond asked (Some value) None)
 newly true true old new value same none put = rw (none refl) put
 newly false false old new value same none put = put ∙ sym (or_none old)
 newly true false old new value same none put = absurd (cc)

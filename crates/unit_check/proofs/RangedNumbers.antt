@@ -30,13 +30,9 @@ use Rattle.unit_tree.specs.declared.unit.Unit.{Unit}
 use Rattle.language_laws.proofs.BlockLaws.{canonical_are, parts_behind, unit_part}
 use Rattle.language_laws.proofs.PartLaws.{grouped_ten}
 use Rattle.language_laws.proofs.SiteLaws as site_laws
-use Rattle.list_laws.proofs.Lists.{of_mapped, of_flat}
+use Rattle.list_laws.proofs.Lists.{of_mapped, of_flat, each_part}
 
 -- ---- Lists
-
-all_parts : {A : Type 0} (P : A → Type 0) (front behind : List A) → AllByRecursion P (front ++ behind) → AllByRecursion P front × AllByRecursion P behind
-all_parts P [] behind all = (_, all)
-all_parts P (x ∷ front) behind all = let rest = all_parts P front behind all.1 in ((all.0, rest.0), rest.1)
 
 abbrev OfSome : {A : Type 0} → (A → Type 0) → Option A → Type 0
 OfSome P None = ⊤
@@ -69,7 +65,7 @@ unit_in : (unit : Unit) → AllByRecursion IsInRange (part_forms (parts.HasUnit 
 unit_in unit all =
     let r : List UnitPart = optional parts.Resolution unit.resolution in
     let p : List UnitPart = map parts.HasParam unit.params in
-    let inside = (all_parts IsInRange (flat_map unit_part_forms (unit_parts unit)) (form.End ∷ []) all.1).0 in
+    let inside = (each_part IsInRange (flat_map unit_part_forms (unit_parts unit)) (form.End ∷ []) all.1).0 in
     let behind : List UnitPart =
     map parts.HasState unit.states
     ++ (map parts.HasLocal unit.locals
@@ -83,14 +79,14 @@ unit_in unit all =
     subst (AllByRecursion IsInRange)
     (ap (flat_map unit_part_forms) is ∙ flat_map-append unit_part_forms r (p ++ behind)
     ∙ ap (λ rest. flat_map unit_part_forms r ++ rest) (flat_map-append unit_part_forms p behind)) inside in
-    let first = all_parts IsInRange (flat_map unit_part_forms r) (flat_map unit_part_forms p ++ flat_map unit_part_forms behind) parted in
-    let second = all_parts IsInRange (flat_map unit_part_forms p) (flat_map unit_part_forms behind) first.1 in
+    let first = each_part IsInRange (flat_map unit_part_forms r) (flat_map unit_part_forms p ++ flat_map unit_part_forms behind) parted in
+    let second = each_part IsInRange (flat_map unit_part_forms p) (flat_map unit_part_forms behind) first.1 in
     record { params = params_in unit.params second.0; resolution = resolution_in unit.resolution first.0 }
 
 units_from : (units : List Unit) → AllByRecursion IsInRange (flat_map part_forms (map unit_part units)) → AllByRecursion UnitInRange units
 units_from [] all = _
 units_from (unit ∷ units) all =
-    let here = all_parts IsInRange (part_forms (unit_part unit)) (flat_map part_forms (map unit_part units)) all in
+    let here = each_part IsInRange (part_forms (unit_part unit)) (flat_map part_forms (map unit_part units)) all in
     (unit_in unit here.0, units_from units here.1)
 
 pub units_in_range : (system : System) → IsRanged system → AllByRecursion UnitInRange system.units
@@ -99,7 +95,7 @@ units_in_range system ranged =
     let parted =
     subst (AllByRecursion IsInRange)
     (ap (flat_map part_forms) (canonical_are system) ∙ flat_map-append part_forms (map unit_part system.units) behind) ranged.numbers.1 in
-    units_from system.units (all_parts IsInRange (flat_map part_forms (map unit_part system.units)) (flat_map part_forms behind) parted).0
+    units_from system.units (each_part IsInRange (flat_map part_forms (map unit_part system.units)) (flat_map part_forms behind) parted).0
 
 pub unit_in_range : (units : List Unit) (name : List ℕ) → AllByRecursion UnitInRange units → OfSome UnitInRange (unit_named units name)
 unit_in_range [] name all = _

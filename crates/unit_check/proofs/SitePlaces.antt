@@ -13,11 +13,7 @@ use Rattle.unit_tree.specs.declared.line_form.LineForm.TheVariants as form
 use Rattle.unit_tree.specs.declared.system.Instance.{Instance}
 use Rattle.unit_tree.specs.declared.system.System.{System}
 use Rattle.unit_tree.specs.declared.unit.Unit.{Unit}
-use Rattle.list_laws.proofs.Lists.{each_so}
-
-pub all_both : {A : Type 0} (P : A → Type 0) (front behind : List A) → AllByRecursion P front → AllByRecursion P behind → AllByRecursion P (front ++ behind)
-all_both P [] behind one other = other
-all_both P (x ∷ front) behind one other = (one.0, all_both P front behind one.1 other)
+use Rattle.list_laws.proofs.Lists.{each_so, each_append}
 
 pub all_each : {A : Type 0} (P : A → Type 0) → ((x : A) → P x) → (xs : List A) → AllByRecursion P xs
 all_each P holds [] = _
@@ -51,10 +47,11 @@ module _ (P : Site → Type 0) where
       let resolution : List Headed = map alone (optional form.Resolution unit.resolution) in
       let names : List Headed = map alone (plain_names unit ++ port_lines unit) in
       let greatest : List Headed = map alone (optional form.Max unit.max) in
-      all_both Block (resolution ++ names) ((greatest ++ step_heads unit unit.step) ++ (alone form.End ∷ []))
-      (all_both Block resolution names (inside_alone (optional form.Resolution unit.resolution)) (inside_alone (plain_names unit ++ port_lines unit)))
-      (all_both Block (greatest ++ step_heads unit unit.step) (alone form.End ∷ [])
-      (all_both Block greatest (step_heads unit unit.step) (inside_alone (optional form.Max unit.max)) (in_step unit.step refl)) (inside_alone (form.End ∷ [])))
+      each_append Block (resolution ++ names) ((greatest ++ step_heads unit unit.step) ++ (alone form.End ∷ []))
+      (each_append Block resolution names (inside_alone (optional form.Resolution unit.resolution)) (inside_alone (plain_names unit ++ port_lines unit)))
+      (each_append Block (greatest ++ step_heads unit unit.step) (alone form.End ∷ [])
+      (each_append Block greatest (step_heads unit unit.step) (inside_alone (optional form.Max unit.max)) (in_step unit.step refl))
+      (inside_alone (form.End ∷ [])))
     where
       in_step : (step : Option (List Line)) → unit.step ≡ step → Inside (step_heads unit step)
       in_step None is = _
@@ -62,17 +59,17 @@ module _ (P : Site → Type 0) where
 
   pub inside_instance : (instance : Instance) → Inside (instance_block instance)
   inside_instance instance =
-      all_both Block (map alone (map form.Setting instance.settings)) (alone form.End ∷ []) (inside_alone (map form.Setting instance.settings))
+      each_append Block (map alone (map form.Setting instance.settings)) (alone form.End ∷ []) (inside_alone (map form.Setting instance.settings))
       (inside_alone (form.End ∷ []))
 
   pub inside_system : (system : System) → ((unit : Unit) → AllByRecursion P (sites (UnitScope unit) [] (block unit)))
       → ((instance : Instance) → AllByRecursion P (sites (InstanceScope instance) [] (instance_block instance))) → Inside (whole system)
   inside_system system in_unit in_instance =
-      all_both Block ((header system ++ ((units system ++ instances system) ++ wires system)) ++ limits system) (samples system)
-      (all_both Block (header system ++ ((units system ++ instances system) ++ wires system)) (limits system)
-      (all_both Block (header system) ((units system ++ instances system) ++ wires system) (inside_alone (form.Header system.version ∷ []))
-      (all_both Block (units system ++ instances system) (wires system)
-      (all_both Block (units system) (instances system) (all_map Block unit_head in_unit system.units)
+      each_append Block ((header system ++ ((units system ++ instances system) ++ wires system)) ++ limits system) (samples system)
+      (each_append Block (header system ++ ((units system ++ instances system) ++ wires system)) (limits system)
+      (each_append Block (header system) ((units system ++ instances system) ++ wires system) (inside_alone (form.Header system.version ∷ []))
+      (each_append Block (units system ++ instances system) (wires system)
+      (each_append Block (units system) (instances system) (all_map Block unit_head in_unit system.units)
       (all_map Block instance_head in_instance system.instances))
       (inside_alone (map form.Connect system.wires))))
       in_limits)
@@ -84,9 +81,9 @@ module _ (P : Site → Type 0) where
           let l : List Headed = map alone (optional form.Longest system.longest) in
           let z : List Headed = map alone (optional form.Zero system.zero) in
           let r : List Headed = map alone (optional form.Rows system.rows) in
-          all_both Block (s ++ l ++ z) r
-          (all_both Block (s ++ l) z
-          (all_both Block s l (inside_alone (optional form.Stop system.stop)) (inside_alone (optional form.Longest system.longest)))
+          each_append Block (s ++ l ++ z) r
+          (each_append Block (s ++ l) z
+          (each_append Block s l (inside_alone (optional form.Stop system.stop)) (inside_alone (optional form.Longest system.longest)))
           (inside_alone (optional form.Zero system.zero)))
           (inside_alone (optional form.Rows system.rows))
 
@@ -103,33 +100,33 @@ lines_of system (UnitScope unit) = heads (block unit)
 lines_of system (StepScope unit) = lines_in_step unit.step
 lines_of system (InstanceScope instance) = heads (instance_block instance)
 
-pub record Stands (system : System) (site : Site) : Type 0 where
+pub record StandsInBlock (system : System) (site : Site) : Type 0 where
   pub rest : List LineForm
   pub cut : lines_of system site.scope ≡ site.earlier ++ (site.line ∷ rest)
 
 module _ (system : System) where
   each_stands : (scope : Scope) (earlier : List LineForm) (headed : List Headed) → lines_of system scope ≡ earlier ++ heads headed
-      → Inside (Stands system) headed → AllByRecursion (Stands system) (sites scope earlier headed)
+      → Inside (StandsInBlock system) headed → AllByRecursion (StandsInBlock system) (sites scope earlier headed)
   each_stands scope earlier [] cut inside = _
   each_stands scope earlier (first ∷ others) cut inside = (
     record { rest = heads others; cut = cut },
-    all_both (Stands system) first.block (sites scope (earlier ++ (first.head ∷ [])) others) inside.0
+    each_append (StandsInBlock system) first.block (sites scope (earlier ++ (first.head ∷ [])) others) inside.0
         (each_stands scope (earlier ++ (first.head ∷ [])) others (cut ∙ sym (append_assoc earlier (first.head ∷ []) (heads others))) inside.1),
   )
 
-  in_instance : (instance : Instance) → AllByRecursion (Stands system) (sites (InstanceScope instance) [] (instance_block instance))
-  in_instance instance = each_stands (InstanceScope instance) [] (instance_block instance) refl (inside_instance (Stands system) instance)
+  in_instance : (instance : Instance) → AllByRecursion (StandsInBlock system) (sites (InstanceScope instance) [] (instance_block instance))
+  in_instance instance = each_stands (InstanceScope instance) [] (instance_block instance) refl (inside_instance (StandsInBlock system) instance)
 
   in_step : (unit : Unit) (lines : List Line) → unit.step ≡ Some lines
-      → AllByRecursion (Stands system) (line_sites (StepScope unit) [] (flat_map line_forms lines))
+      → AllByRecursion (StandsInBlock system) (line_sites (StepScope unit) [] (flat_map line_forms lines))
   in_step unit lines is =
       let all : List LineForm = flat_map line_forms lines in
-      each_stands (StepScope unit) [] (map alone all) (ap lines_in_step is ∙ sym (heads_alone all)) (inside_alone (Stands system) all)
+      each_stands (StepScope unit) [] (map alone all) (ap lines_in_step is ∙ sym (heads_alone all)) (inside_alone (StandsInBlock system) all)
 
-  in_unit : (unit : Unit) → AllByRecursion (Stands system) (sites (UnitScope unit) [] (block unit))
-  in_unit unit = each_stands (UnitScope unit) [] (block unit) refl (inside_unit (Stands system) unit (in_step unit))
+  in_unit : (unit : Unit) → AllByRecursion (StandsInBlock system) (sites (UnitScope unit) [] (block unit))
+  in_unit unit = each_stands (UnitScope unit) [] (block unit) refl (inside_unit (StandsInBlock system) unit (in_step unit))
 
-  pub all_stand : AllByRecursion (Stands system) (sites_of system)
+  pub all_stand : AllByRecursion (StandsInBlock system) (sites_of system)
   all_stand =
-      subst (AllByRecursion (Stands system)) (sym (sites_are system))
-      (each_stands TopScope [] (whole system) refl (inside_system (Stands system) system in_unit in_instance))
+      subst (AllByRecursion (StandsInBlock system)) (sym (sites_are system))
+      (each_stands TopScope [] (whole system) refl (inside_system (StandsInBlock system) system in_unit in_instance))

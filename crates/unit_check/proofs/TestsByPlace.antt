@@ -1,13 +1,13 @@
 -- Each rule's test by the place of a line is the one of the definitions, at every line of a system in range.
 use Rattle.std.proofs.Common.{◌≡◌, true, ◌||◌, List, [], ◌∷◌, ◌++◌, refl, ap, sym, ◌∙◌, subst, append_assoc}
 use Rattle.std.specs.List.{AllByRecursion}
-use Rattle.unit_check.proofs.SaidAgain.{redeclares_is, connects_is, repeats_is}
+use Rattle.unit_check.proofs.RepeatsByPlace.{redeclares_is, connects_is, repeats_is}
 use Rattle.unit_check.proofs.BreakingLines.{says, broken_same}
 use Rattle.unit_check.proofs.WalksOfParts.{system_goes}
 use Rattle.unit_check.proofs.CountsByPlace.{InUnit, unit_agrees, exceeds_is}
 use Rattle.unit_check.proofs.PlainMeasures.{depth_is, cost_is}
 use Rattle.unit_check.proofs.RangedNumbers.{UnitInRange, units_in_range, literal_is, times_are, lines_in_range}
-use Rattle.unit_check.proofs.SitePlaces.{all_both, all_two, Inside, inside_system, inside_instance, Stands, all_stand}
+use Rattle.unit_check.proofs.SitePlaces.{all_two, Inside, inside_system, inside_instance, StandsInBlock, all_stand}
 use Rattle.unit_check.proofs.SystemLines.{instance_block, whole, sites_are}
 use Rattle.unit_check.specs.Rules.{Says, breaks_of, defined, test_of}
 use Rattle.unit_check.specs.Walks.{test_at, system_walk}
@@ -22,7 +22,7 @@ use Rattle.unit_tree.specs.declared.line_form.LineForm.{LineForm}
 use Rattle.unit_tree.specs.declared.system.Instance.{Instance}
 use Rattle.unit_tree.specs.declared.system.System.{System}
 use Rattle.language_laws.proofs.BlockLaws.{stands_behind}
-use Rattle.list_laws.proofs.Lists.{each_so as all_leads}
+use Rattle.list_laws.proofs.Lists.{each_so as all_leads, each_append}
 
 -- ---- What is known of every line
 
@@ -43,7 +43,7 @@ module _ (system : System) where
   outside earlier [] inside = _
   outside earlier (first ∷ others) inside = (
     _,
-    all_both (InUnit system) first.block (sites TopScope (earlier ++ (first.head ∷ [])) others) inside.0
+    each_append (InUnit system) first.block (sites TopScope (earlier ++ (first.head ∷ [])) others) inside.0
         (outside (earlier ++ (first.head ∷ [])) others inside.1),
   )
 
@@ -52,7 +52,7 @@ module _ (system : System) where
   in_instance instance earlier [] inside = _
   in_instance instance earlier (first ∷ others) inside = (
     _,
-    all_both (InUnit system) first.block (sites (InstanceScope instance) (earlier ++ (first.head ∷ [])) others) inside.0
+    each_append (InUnit system) first.block (sites (InstanceScope instance) (earlier ++ (first.head ∷ [])) others) inside.0
         (in_instance instance (earlier ++ (first.head ∷ [])) others inside.1),
   )
 
@@ -65,16 +65,16 @@ module _ (system : System) where
 
 -- A line with what is known of it.
 record Known (system : System) (site : Site) : Type 0 where
-  stands : Stands system site
+  stands : StandsInBlock system site
   held : Held site
   ranged : IsInRange site.line
   in_unit : InUnit system site
 
 all_known : (system : System) → IsRanged system → AllByRecursion (Known system) (sites_of system)
 all_known system ranged =
-    let Both : Site → Type 0 = λ site. Stands system site × Held site in
+    let Both : Site → Type 0 = λ site. StandsInBlock system site × Held site in
     let Rest : Site → Type 0 = λ site. IsInRange site.line × InUnit system site in
-    let both = all_two (Stands system) Held Both (λ site one other. (one, other)) (sites_of system) (all_stand system) (all_held system) in
+    let both = all_two (StandsInBlock system) Held Both (λ site one other. (one, other)) (sites_of system) (all_stand system) (all_held system) in
     let rest =
     all_two (λ site. IsInRange site.line) (InUnit system) Rest (λ site one other. (one, other)) (sites_of system) (lines_in_range system ranged)
     (all_in_units system) in

@@ -5,7 +5,6 @@ use Rattle.std.specs.Str.{bytes_eq}
 use Rattle.indexmap.specs.IndexMap.{IndexMap, get_by}
 use Rattle.unit_check.specs.Places.{first_port}
 use Rattle.unit_tree.specs.declared.system.PortName.{PortName}
-use Rattle.list_laws.specs.Options.{the_first}
 
 -- What a table finds by the names of a port.
 abbrev pub found_port : {S : Type 0} → IndexMap (Bor (List ℕ) × Bor (List ℕ)) ℕ S → PortName → Option ℕ

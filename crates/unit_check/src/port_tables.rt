@@ -1,6 +1,6 @@
 //! Tables of ports.
 ghost use Rattle.std.specs.Prelude.{◌≡◌, IfOk, Some, None, cond, map};
-ghost use Rattle.list_laws.specs.Options.{the_first};
+ghost use Rattle.std.specs.Option.{option_or};
 ghost use Rattle.unit_check.specs.PortTables.{found_port, FindsPorts};
 ghost use Rattle.unit_tree.specs.Names.{same_port};
 ghost use Rattle.unit_tree.specs.declared.system.PortName.{PortName};
@@ -28,7 +28,7 @@ fn note_port<'a>(
     place: usize,
 ) -> Result<(), NoMemory>
     ensures { IfOk result (λ _. (q : PortName) →
-        found_port places.new q ≡ the_first (found_port places.old q) (cond (same_port q port.now) (Some place) None)) }
+        found_port places.new q ≡ option_or (found_port places.old q) (cond (same_port q port.now) (Some place) None)) }
 {
     if find_port(places, port).is_none() {
         places.insert((port.instance.as_slice(), port.port.as_slice()), place)?;

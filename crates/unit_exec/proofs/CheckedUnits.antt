@@ -8,13 +8,14 @@ use Rattle.unit_tree.specs.Printable.{IsRanged}
 use Rattle.unit_tree.specs.WellFormed.{IsWellFormed}
 use Rattle.unit_tree.specs.declared.system.System.{System}
 use Rattle.unit_tree.specs.declared.unit.Unit.{Unit}
-use Rattle.run_laws.proofs.EventLaws.{version_1_without_events, plain_form_1, one_or_two}
+use Rattle.run_laws.proofs.EventLaws.{version_1_without_events, plain_form_1}
 use Rattle.unit_exec.specs.Laws.{CheckedUnitsAreCompilable}
 use Rattle.unit_exec.proofs.CompilableUnits.{compilable}
 use Rattle.language_laws.proofs.Declarations.{OfOutput, Declares, declares}
 use Rattle.language_laws.proofs.FirstVersion.{unit_stays}
 use Rattle.unit_exec.proofs.NamesOfUnits.{passes_at, output_has}
 use Rattle.language_laws.proofs.UnitSites.{Passes, unit_passes}
+use Rattle.list_laws.proofs.Truths.{one_or_two}
 
 pub record MappedAt {A B : Type 0} (f : A → B) (xs : List A) (number : ℕ) (told : B) : Type 0 where
   pub one : A

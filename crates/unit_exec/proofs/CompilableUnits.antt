@@ -4,7 +4,7 @@ use Rattle.std.proofs.Common.{arith}
 use Rattle.std.specs.Prelude.{◌||◌, not, nat_lt, is_none}
 use Rattle.std.specs.List.{AllByRecursion, flat_map}
 use Rattle.std.specs.Option.{option_map, IfSome}
-use Rattle.std.proofs.lemmas.Bool.{and_parts}
+use Rattle.std.proofs.lemmas.Bool.{and_parts, and_from, or_parts}
 use Rattle.std.proofs.lemmas.Bool.Decides.{nat_tests}
 use Rattle.std.proofs.lemmas.Grind.{flat_map-append}
 use Rattle.fixed_words.specs.Types.{kind_of, AreDecimals}
@@ -14,7 +14,6 @@ use Rattle.code_units.specs.Scopes.{scope_of}
 use Rattle.code_units.specs.StepLines.{is_right_in}
 use Rattle.code_units.specs.UnitPrograms.{IsCallable, IsRunnable, IsCompilable}
 use Rattle.code_units.specs.declared.scope.Scope.{Scope}
-use Rattle.code_units.proofs.FitPieces.{both, le_test}
 use Rattle.code_units.proofs.NamesInSlots.{variables_are}
 use Rattle.unit_tree.specs.Canonical.{optional}
 use Rattle.unit_tree.specs.Components.{variables_of}
@@ -50,12 +49,9 @@ use Rattle.unit_exec.proofs.NamesOfUnits.{event_out_has}
 use Rattle.unit_exec.proofs.TargetsOfUnits.{target_right}
 use Rattle.language_laws.proofs.UnitSites.{Passes}
 use Rattle.list_laws.proofs.Members.{Has, has_either, all_has}
-use Rattle.list_laws.proofs.Truths.{or_false, lt_not_told, not_false}
+use Rattle.list_laws.proofs.Truths.{lt_not_told, not_false, le_asked}
 
 -- ---- Tests
-
-abbrev not_broken : (one other : Bool) → (one || other) ≡ false → (one ≡ false) × (other ≡ false)
-not_broken one other is = or_false one other is
 
 each_among : (names used : List (List ℕ)) → are_among names used ≡ true → (name : List ℕ) → Has used name → is_among names name ≡ true
 each_among names [] all name has = absurd has
@@ -106,8 +102,8 @@ module _ (system : System) (unit : Unit) (declared : Declares (Passes system) un
       let code =
       kinded scope (kinds_in unit) Use Event (name_kind system unit declared params each_word)
       (presence_kind system unit declared params each_word) value kind is uses in
-      both _ _ code.agrees
-      (both _ _ (plain_ranged value ∙ ranged) (le_test (depth_of (plain_expression value)) 32 (lt_not_told 32 (depth_of (plain_expression value)) low)))
+      and_from _ _ code.agrees
+      (and_from _ _ (plain_ranged value ∙ ranged) (le_asked (depth_of (plain_expression value)) 32 (lt_not_told 32 (depth_of (plain_expression value)) low)))
 
   callable : (value : Expr) (kind : Kind) → kind_of_expression value (kinds_in unit) ≡ Some kind → Keeps value → is_ranged value ≡ true
       → nat_lt 32 (depth_of (plain_expression value)) ≡ false → nat_lt 100000 (expression_call_cost (plain_expression value)) ≡ false
@@ -131,27 +127,27 @@ module _ (system : System) (unit : Unit) (declared : Declares (Passes system) un
   output_runs : (output : Output) → PassesAt (form.Output output) → Runs (plain_output unit output)
   output_runs output passes =
       let at = passes.1 in
-      let names = not_broken (not (keeps_to (output_uses unit) output.value)) _ at.named in
-      let wrong = not_broken (not (has_kind (Some (kind_of output.ty)) output.value (kinds_in unit))) _ at.kinded in
+      let names = or_parts (not (keeps_to (output_uses unit) output.value)) _ at.named in
+      let wrong = or_parts (not (has_kind (Some (kind_of output.ty)) output.value (kinds_in unit))) _ at.kinded in
       let there = kind_there (kind_of_expression output.value (kinds_in unit)) (Some (kind_of output.ty)) (not_false _ wrong.0) in record {
         callable =
-            callable output.value there.one there.is (shared_keeps output.value (not_false _ names.0)) at.in_range.1 (not_broken _ _ at.low).0
-            (not_broken _ _ at.cheap).0;
+            callable output.value there.one there.is (shared_keeps output.value (not_false _ names.0)) at.in_range.1 (or_parts _ _ at.low).0
+            (or_parts _ _ at.cheap).0;
         typed = at.in_range.0;
       }
 
   event_runs : (event : EventOut) → PassesAt (form.EventOutput event) → (output : Output) → Has (plain_outputs unit event) output → Runs output
   event_runs event passes output has =
       let at = passes.1 in
-      let names = not_broken (not (keeps_to (output_uses unit) event.value)) _ at.named in
+      let names = or_parts (not (keeps_to (output_uses unit) event.value)) _ at.named in
       let uses = shared_keeps event.value (not_false _ names.0) in
       let word : Expr = word_expression_of event.ty event.value in
-      let wrong = not_broken (not (has_kind (Some (kind_of event.ty)) word (kinds_in unit))) _ at.kinded in
+      let wrong = or_parts (not (has_kind (Some (kind_of event.ty)) word (kinds_in unit))) _ at.kinded in
       let there = kind_there (kind_of_expression word (kinds_in unit)) (Some (kind_of event.ty)) (not_false _ wrong.0) in
-      let low_one = not_broken _ _ at.low in
-      let low_two = not_broken _ _ low_one.1 in
-      let cheap_one = not_broken _ _ at.cheap in
-      let cheap_two = not_broken _ _ cheap_one.1 in
+      let low_one = or_parts _ _ at.low in
+      let low_two = or_parts _ _ low_one.1 in
+      let cheap_one = or_parts _ _ at.cheap in
+      let cheap_two = or_parts _ _ cheap_one.1 in
       let presence_uses : Keeps (presence_of event.value) =
       record {
         names_used = λ name h. uses.names_used name (presence_names event.value name h);
@@ -226,19 +222,19 @@ module _ (system : System) (unit : Unit) (declared : Declares (Passes system) un
   form_right : (line : LineForm) → AtStep line → FormRight scope line
   form_right (form.Assign target value) at =
       let passes = at.1 in
-      let names = not_broken (is_none (type_in unit target)) _ passes.named in
-      let kind = not_false _ (not_broken _ _ passes.kinded).0 in (
-        step_right value (kinds_in unit target) (not_false _ names.1) kind passes.in_range.1 (not_broken _ _ passes.low).0,
+      let names = or_parts (is_none (type_in unit target)) _ passes.named in
+      let kind = not_false _ (or_parts _ _ passes.kinded).0 in (
+        step_right value (kinds_in unit target) (not_false _ names.1) kind passes.in_range.1 (or_parts _ _ passes.low).0,
         target_right system unit declared params each_word target names.0 passes.writable,
       )
   form_right (form.If cond) at =
       let passes = at.1 in
-      step_right cond (Some kinds.Bool) (not_false _ passes.named) (not_false _ (not_broken _ _ passes.kinded).0) passes.in_range.1
-      (not_broken _ _ passes.low).0
+      step_right cond (Some kinds.Bool) (not_false _ passes.named) (not_false _ (or_parts _ _ passes.kinded).0) passes.in_range.1
+      (or_parts _ _ passes.low).0
   form_right (form.Accept value) at =
       let passes = at.1 in
-      step_right value (Some kinds.Int) (not_false _ passes.named) (not_false _ (not_broken _ _ passes.kinded).0) passes.in_range.1
-      (not_broken _ _ passes.low).0
+      step_right value (Some kinds.Int) (not_false _ passes.named) (not_false _ (or_parts _ _ passes.kinded).0) passes.in_range.1
+      (or_parts _ _ passes.low).0
   form_right (form.Repeat count) at = at.1.in_range.0
   form_right (form.Header version) at = tt
   form_right (form.Unit name) at = tt
@@ -287,8 +283,8 @@ module _ (system : System) (unit : Unit) (declared : Declares (Passes system) un
   max_runs earlier None rest hold = (tt, record { earlier = earlier; hold = hold })
   max_runs earlier (Some value) rest hold =
       let at = hold.0 in
-      let there = kind_there (kind_of_expression value (kinds_in unit)) (Some kinds.Int) (not_false _ (not_broken _ _ at.kinded).0) in (
-        callable value there.one there.is (max_keeps value (not_false _ at.named)) at.in_range.1 (not_broken _ _ at.low).0 (not_broken _ _ at.cheap).0,
+      let there = kind_there (kind_of_expression value (kinds_in unit)) (Some kinds.Int) (not_false _ (or_parts _ _ at.kinded).0) in (
+        callable value there.one there.is (max_keeps value (not_false _ at.named)) at.in_range.1 (or_parts _ _ at.low).0 (or_parts _ _ at.cheap).0,
         record { earlier = earlier ++ (form.Max value ∷ []); hold = hold.2 },
       )
 
@@ -297,7 +293,7 @@ module _ (system : System) (unit : Unit) (declared : Declares (Passes system) un
       → IfSome (option_map (map plain_line) given) (λ lines. IsRunnable scope lines)
   step_runs earlier None is hold = tt
   step_runs earlier (Some lines) is hold =
-      let cheap = (not_broken _ _ hold.0.cheap).0 in
+      let cheap = (or_parts _ _ hold.0.cheap).0 in
       record {
         right = lines_right scope lines (forms_right [] (flat_map line_forms lines) hold.1);
         cheap = lt_not_told 100000 (step_call_cost (map plain_line lines)) (ap (λ (s : Option (List Line)). nat_lt 100000 (step_cost s)) (sym is) ∙ cheap);

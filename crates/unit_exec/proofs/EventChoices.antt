@@ -3,13 +3,12 @@
 use Rattle.std.proofs.Common.{◌≡◌, ℕ, zero, suc, Bool, true, false, ℤ, pos, List, [], ◌++◌, Some, inl, inr, refl, sym, ap, ◌∙◌, subst}
 use Rattle.std.specs.Prelude.{◌&&◌}
 use Rattle.std.specs.Option.{option_and_then}
-use Rattle.std.proofs.lemmas.Bool.{and_parts}
+use Rattle.std.proofs.lemmas.Bool.{and_parts, and_from}
 use Rattle.fixed_words.specs.Types.{AreDecimals}
 use Rattle.fixed_words.specs.declared.types.Kind.{Kind}
 use Rattle.fixed_words.specs.declared.types.Kind.TheVariants as kinds
 use Rattle.fixed_words.specs.declared.types.Ty.{Ty}
 use Rattle.fixed_words.specs.declared.types.Ty.TheVariants as types
-use Rattle.code_units.proofs.FitPieces.{both, le_test}
 use Rattle.unit_tree.specs.Kinds.{same_kind, where_holds, KindsOfNames, kind_of_expression}
 use Rattle.unit_tree.specs.Names.{node_names, names_in, node_events, events_asked_in}
 use Rattle.unit_tree.specs.Plain.{plain_expression, with_choices, presence_of, zero_of, word_expression_of}
@@ -29,6 +28,7 @@ use Rattle.language_laws.proofs.PlainLemmas.{same, choices-Number, choices-Truth
 use Rattle.language_laws.proofs.PlainLemmas.{choices-Clamp, choices-Choose, choices-Absent, choices-Present}
 use Rattle.unit_exec.proofs.KindsOfRuns.{step_of}
 use Rattle.list_laws.proofs.Members.{Has, has_front, has_behind, has_either}
+use Rattle.list_laws.proofs.Truths.{le_asked}
 
 -- An expression that is one choice by itself.
 abbrev IsOther : Expr → Type 0
@@ -149,13 +149,13 @@ module _ (gap : Expr) (change : Expr → Expr) (of_gap : is_ranged gap ≡ true)
       let first = and_parts (is_ranged c) (is_ranged a && is_ranged b) whole in
       let rest = and_parts (is_ranged a) (is_ranged b) first.1 in
       ap is_ranged (choices-Choose gap change c a b) ∙ fold-Choose Bool node_is_ranged c (with_choices gap change a) (with_choices gap change b)
-      ∙ both _ _ first.0 (both _ _ (one rest.0) (two rest.1)))
+      ∙ and_from _ _ first.0 (and_from _ _ (one rest.0) (two rest.1)))
 
 zero_ranged : (ty : Ty) → AreDecimals ty → is_ranged (zero_of ty) ≡ true
 zero_ranged types.Bool are = fold-Truth Bool node_is_ranged false
 zero_ranged (types.Fixed zero) are = fold-Unary Bool node_is_ranged (of.ToFix 0) (expr.Number (pos 0) 0)
-    ∙ both _ _ refl (fold-Number Bool node_is_ranged (pos 0) 0)
-zero_ranged (types.Fixed (suc n)) are = fold-Number Bool node_is_ranged (pos 0) (suc n) ∙ le_test (suc n) 9 are
+    ∙ and_from _ _ refl (fold-Number Bool node_is_ranged (pos 0) 0)
+zero_ranged (types.Fixed (suc n)) are = fold-Number Bool node_is_ranged (pos 0) (suc n) ∙ le_asked (suc n) 9 are
 zero_ranged types.Int8 are = fold-Number Bool node_is_ranged (pos 0) 0
 zero_ranged types.UInt8 are = fold-Number Bool node_is_ranged (pos 0) 0
 zero_ranged types.Int16 are = fold-Number Bool node_is_ranged (pos 0) 0

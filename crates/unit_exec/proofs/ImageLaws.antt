@@ -10,6 +10,7 @@ use Rattle.code_units.specs.Scopes.{scope_of}
 use Rattle.code_units.specs.UnitPrograms.{output_code, limit_code, program_of, IsCompilable}
 use Rattle.code_units.proofs.FitUnits.{made_of_pieces}
 use Rattle.code_units.proofs.UnitsCompute.{units_compute}
+use Rattle.code_units.proofs.NamesInSlots.{param_variables}
 use Rattle.unit_exec.specs.Images.{IsImageOf, HasStarts, HasParams}
 use Rattle.unit_exec.proofs.CheckedUnits.{checked_units}
 use Rattle.code_pieces.proofs.WholePrograms.{piece_programs_have_facts_lem}
@@ -23,20 +24,21 @@ use Rattle.unit_tree.specs.declared.unit.Input.{Input}
 use Rattle.unit_tree.specs.declared.unit.State.{State}
 use Rattle.unit_tree.specs.declared.unit.Unit.{Unit}
 use Rattle.unit_vm.specs.Checking.{IsValid, IsNoCode}
-use Rattle.unit_vm.specs.Programs.{words_of}
+use Rattle.unit_vm.specs.Programs.{program_words}
 use Rattle.unit_vm.specs.declared.program.Program.{Program}
 use Rattle.unit_vm.proofs.RunEndings.{code_is_one_lem}
 
-pub found_there : (program : Program) (words : List ℤ) (found : Option Program) → IsValid program → words ≡ words_of program → IfNone found (IsNoCode words)
+pub found_there : (program : Program) (words : List ℤ) (found : Option Program) → IsValid program → words ≡ program_words program
+    → IfNone found (IsNoCode words)
     → IsSome found
 found_there program words None valid is none = absurd (none valid.0 (record { program = program; written = is; valid = valid.1 }))
 found_there program words (Some code) valid is none = refl
 
-pub found_is : (program : Program) (words : List ℤ) (found : Option Program) (code : Program) → IsValid program → words ≡ words_of program
-    → IfSome found (λ one. IsValid one × (words ≡ words_of one)) → found ≡ Some code → code ≡ program
+pub found_is : (program : Program) (words : List ℤ) (found : Option Program) (code : Program) → IsValid program → words ≡ program_words program
+    → IfSome found (λ one. IsValid one × (words ≡ program_words one)) → found ≡ Some code → code ≡ program
 found_is program words found code valid is some at =
-    let told : IsValid code × (words ≡ words_of code) = let g : IfSome (Some code) (λ one. IsValid one × (words ≡ words_of one)) =
-    subst (λ o. IfSome o (λ one. IsValid one × (words ≡ words_of one))) at some in
+    let told : IsValid code × (words ≡ program_words code) = let g : IfSome (Some code) (λ one. IsValid one × (words ≡ program_words one)) =
+    subst (λ o. IfSome o (λ one. IsValid one × (words ≡ program_words one))) at some in
     g in
     (code_is_one_lem code program told.0.0 valid.0 told.0.1 valid.1 (sym told.1 ∙ is)).program
 
@@ -52,30 +54,29 @@ of_mapped : {A : Type 0} (of : A → Variable) (xs : List A) → AllByRecursion 
 of_mapped of [] all = tt
 of_mapped of (x ∷ xs) all = (all.0, of_mapped of xs all.1)
 
-abbrev params_of : Unit → List Variable
-params_of unit = map (λ param. variable param.name param.ty) unit.params
+abbrev state_variables : Unit → List Variable
+state_variables unit = map (λ state. variable state.name state.ty) unit.states
 
-abbrev states_of : Unit → List Variable
-states_of unit = map (λ state. variable state.name state.ty) unit.states
+abbrev input_variables : Unit → List Variable
+input_variables unit = map (λ input. variable input.name input.ty) unit.inputs
 
-abbrev inputs_of : Unit → List Variable
-inputs_of unit = map (λ input. variable input.name input.ty) unit.inputs
-
-abbrev locals_of : Unit → List Variable
-locals_of unit = map (λ local. variable local.name local.ty) unit.locals
+abbrev local_variables : Unit → List Variable
+local_variables unit = map (λ local. variable local.name local.ty) unit.locals
 
 pub states_typed : (unit : Unit) → AllByRecursion (λ one. AreDecimals one.ty) (variables_of unit)
     → AllByRecursion (λ (state : State). AreDecimals state.ty) unit.states
 states_typed unit all =
-    let front = (typed_parts ((params_of unit ++ states_of unit) ++ inputs_of unit) (locals_of unit) all).0 in
-    let states = (typed_parts (params_of unit) (states_of unit) (typed_parts (params_of unit ++ states_of unit) (inputs_of unit) front).0).1 in
+    let front = (typed_parts ((param_variables unit.params ++ state_variables unit) ++ input_variables unit) (local_variables unit) all).0 in
+    let states = (typed_parts (param_variables unit.params) (state_variables unit)
+    (typed_parts (param_variables unit.params ++ state_variables unit) (input_variables unit) front).0).1 in
     of_mapped (λ (state : State). variable state.name state.ty) unit.states states
 
 pub inputs_typed : (unit : Unit) → AllByRecursion (λ one. AreDecimals one.ty) (variables_of unit)
     → AllByRecursion (λ (input : Input). AreDecimals input.ty) unit.inputs
 inputs_typed unit all =
-    let front = (typed_parts ((params_of unit ++ states_of unit) ++ inputs_of unit) (locals_of unit) all).0 in
-    of_mapped (λ (input : Input). variable input.name input.ty) unit.inputs (typed_parts (params_of unit ++ states_of unit) (inputs_of unit) front).1
+    let front = (typed_parts ((param_variables unit.params ++ state_variables unit) ++ input_variables unit) (local_variables unit) all).0 in
+    of_mapped (λ (input : Input). variable input.name input.ty) unit.inputs
+    (typed_parts (param_variables unit.params ++ state_variables unit) (input_variables unit) front).1
 
 some_kept : {A B : Type 0} (f : A → B) (given : Option A) → is_some (option_map f given) ≡ is_some given
 some_kept f None = refl

@@ -2,14 +2,13 @@
 use Rattle.std.proofs.Common.{◌≡◌, ℕ, Bool, true, false, List, [], ◌++◌, Option, Some, None, inl, refl, sym, ap, ◌∙◌, subst, eq-eqb}
 use Rattle.std.specs.Prelude.{◌&&◌}
 use Rattle.std.specs.Option.{option_and_then}
-use Rattle.std.proofs.lemmas.Bool.{and_parts}
+use Rattle.std.proofs.lemmas.Bool.{and_parts, and_from}
 use Rattle.fixed_words.specs.declared.types.Kind.{Kind}
 use Rattle.fixed_words.specs.declared.types.Kind.TheVariants as kinds
 use Rattle.code_units.specs.Expressions.{Coded, Coding, name_code, unary_kind_of, binary_kind_of, unary_joined, binary_joined, clamp_joined, choice_joined}
 use Rattle.code_units.specs.Expressions.{node_code, code_of}
 use Rattle.code_units.specs.Scopes.{named}
 use Rattle.code_units.specs.declared.scope.Scope.{Scope}
-use Rattle.code_units.proofs.FitPieces.{both}
 use Rattle.code_units.proofs.ExpressionsMean.{same_kind_is}
 use Rattle.unit_tree.specs.Kinds.{same_kind, is_number, where_holds, unary_kind, binary_kind, KindsOfNames, kind_of_expression}
 use Rattle.unit_tree.specs.Names.{node_names, names_in, node_events, events_asked_in}
@@ -146,7 +145,10 @@ module _ (scope : Scope) (names : KindsOfNames) (Usable Event : List ℕ → Typ
       by_code (expr.Binary op a b) (expr.Binary op (plain_expression a) (plain_expression b))
       (λ s. binary_joined op (code_of (plain_expression a) s) (code_of (plain_expression b) s)) kind (plain-Binary op a b)
       (fold-Binary Coding node_code op (plain_expression a) (plain_expression b))
-      (record { agrees = both _ _ one.agrees two.agrees; kind_is = ap (binary_kind_of op) one.kind_is ∙ binary_told op told.one other.one kind other.gives })
+      (record {
+        agrees = and_from _ _ one.agrees two.agrees;
+        kind_is = ap (binary_kind_of op) one.kind_is ∙ binary_told op told.one other.one kind other.gives;
+      })
 
   -- Three parts: what each uses, of all that they use.
   three : (a b c : Expr) (all_names all_events : List (List ℕ)) → all_names ≡ (names_in a ++ names_in b) ++ names_in c
@@ -198,7 +200,7 @@ module _ (scope : Scope) (names : KindsOfNames) (Usable Event : List ℕ → Typ
       by_code (expr.Clamp a b c) (expr.Clamp (plain_expression a) (plain_expression b) (plain_expression c))
       (λ s. clamp_joined (code_of (plain_expression a) s) (code_of (plain_expression b) s) (code_of (plain_expression c) s)) kind (plain-Clamp a b c)
       (fold-Clamp Coding node_code (plain_expression a) (plain_expression b) (plain_expression c))
-      (record { agrees = both _ _ x.agrees (both _ _ y.agrees z.agrees); kind_is = x.kind_is ∙ (where_told _ told.one kind high.gives).1 })
+      (record { agrees = and_from _ _ x.agrees (and_from _ _ y.agrees z.agrees); kind_is = x.kind_is ∙ (where_told _ told.one kind high.gives).1 })
 
   choice_kinded : (c a b : Expr) → Kinded c → Kinded a → Kinded b → Kinded (expr.Choose c a b)
   choice_kinded c a b last one two kind is uses =
@@ -226,7 +228,7 @@ module _ (scope : Scope) (names : KindsOfNames) (Usable Event : List ℕ → Typ
       by_code (expr.Choose c a b) (expr.Choose (plain_expression c) (plain_expression a) (plain_expression b))
       (λ s. choice_joined (code_of (plain_expression c) s) (code_of (plain_expression a) s) (code_of (plain_expression b) s)) kind (plain-Choose c a b)
       (fold-Choose Coding node_code (plain_expression c) (plain_expression a) (plain_expression b))
-      (record { agrees = both _ _ x.agrees (both _ _ y.agrees (both _ _ z.agrees alike)); kind_is = y.kind_is ∙ holds.1 })
+      (record { agrees = and_from _ _ x.agrees (and_from _ _ y.agrees (and_from _ _ z.agrees alike)); kind_is = y.kind_is ∙ holds.1 })
 
   abbrev Proved : Type 0
   Proved = (e : Expr) × Kinded e

@@ -136,14 +136,14 @@ module _ (system : System) (unit : Unit) (declared : Declares (Passes system) un
   abbrev pub input_variable : Input → Variable
   input_variable input = variable input.name input.ty
 
-  abbrev pub states_of : List Variable
-  states_of = map (λ (state : State). variable state.name state.ty) unit.states
+  abbrev pub state_variables : List Variable
+  state_variables = map (λ (state : State). variable state.name state.ty) unit.states
 
-  abbrev pub locals_of : List Variable
-  locals_of = map (λ (local : Local). variable local.name local.ty) unit.locals
+  abbrev pub local_variables : List Variable
+  local_variables = map (λ (local : Local). variable local.name local.ty) unit.locals
 
-  abbrev pub inputs_of : List Variable
-  inputs_of = map (λ (input : Input). variable input.name input.ty) run.inputs
+  abbrev pub input_variables : List Variable
+  input_variables = map (λ (input : Input). variable input.name input.ty) run.inputs
 
   -- What is declared stands among all that is.
   abbrev P : List Declared
@@ -217,7 +217,7 @@ module _ (system : System) (unit : Unit) (declared : Declares (Passes system) un
     pub has : Has unit.events_in event
     pub is : presence_variable event ≡ w
 
-  pub from_inputs : (w : Variable) → Has inputs_of w → Comes w ⊎ Tells w
+  pub from_inputs : (w : Variable) → Has input_variables w → Comes w ⊎ Tells w
   from_inputs w has =
       let input = map_has input_variable run.inputs w has in
       elim (has_either unit.inputs (flat_map plain_inputs unit.events_in) input.one input.has) [
@@ -236,10 +236,10 @@ module _ (system : System) (unit : Unit) (declared : Declares (Passes system) un
   from_run w has = elim (has_either (param_variables unit.params) (slot_variables run) w has) [
     | inl here ↦ let one = map_has (λ (param : Param). variable param.name param.ty) unit.params w here in
         inl (record { one = OfParam one.one; has = param_has one.one one.has; is = one.is })
-    | inr behind ↦ elim (has_either states_of (inputs_of ++ locals_of) w behind) [
+    | inr behind ↦ elim (has_either state_variables (input_variables ++ local_variables) w behind) [
       | inl here ↦ let one = map_has (λ (state : State). variable state.name state.ty) unit.states w here in
           inl (record { one = OfState one.one; has = state_has one.one one.has; is = one.is })
-      | inr later ↦ elim (has_either inputs_of locals_of w later) [
+      | inr later ↦ elim (has_either input_variables local_variables w later) [
         | inl here ↦ from_inputs w here
         | inr here ↦ let one = map_has (λ (local : Local). variable local.name local.ty) unit.locals w here in
             inl (record { one = OfLocal one.one; has = local_has one.one one.has; is = one.is })
@@ -266,8 +266,8 @@ module _ (system : System) (unit : Unit) (declared : Declares (Passes system) un
             record { one = OfEventOut one.one; has = event_out_has one.one one.has; is = ap port_variable one.is ∙ port.is }
       ]
 
-  abbrev plain_inputs_of : List Variable
-  plain_inputs_of = map (λ (input : Input). variable input.name input.ty) unit.inputs
+  abbrev plain_input_variables : List Variable
+  plain_input_variables = map (λ (input : Input). variable input.name input.ty) unit.inputs
 
   abbrev events_of : List Variable
   events_of = map (λ (event : EventIn). variable event.name event.ty) unit.events_in
@@ -278,13 +278,13 @@ module _ (system : System) (unit : Unit) (declared : Declares (Passes system) un
     | inl front ↦ elim (has_either (variables_of unit) events_of w front) [
       | inr here ↦ let one = map_has (λ (event : EventIn). variable event.name event.ty) unit.events_in w here in
           record { one = OfEventIn one.one; has = event_has one.one one.has; is = one.is }
-      | inl a ↦ elim (has_either ((param_variables unit.params ++ states_of) ++ plain_inputs_of) locals_of w a) [
+      | inl a ↦ elim (has_either ((param_variables unit.params ++ state_variables) ++ plain_input_variables) local_variables w a) [
         | inr here ↦ let one = map_has (λ (local : Local). variable local.name local.ty) unit.locals w here in
             record { one = OfLocal one.one; has = local_has one.one one.has; is = one.is }
-        | inl b ↦ elim (has_either (param_variables unit.params ++ states_of) plain_inputs_of w b) [
+        | inl b ↦ elim (has_either (param_variables unit.params ++ state_variables) plain_input_variables w b) [
           | inr here ↦ let one = map_has (λ (input : Input). variable input.name input.ty) unit.inputs w here in
               record { one = OfInput one.one; has = input_has one.one one.has; is = one.is }
-          | inl c ↦ elim (has_either (param_variables unit.params) states_of w c) [
+          | inl c ↦ elim (has_either (param_variables unit.params) state_variables w c) [
             | inl here ↦ let one = map_has (λ (param : Param). variable param.name param.ty) unit.params w here in
                 record { one = OfParam one.one; has = param_has one.one one.has; is = one.is }
             | inr here ↦ let one = map_has (λ (state : State). variable state.name state.ty) unit.states w here in
@@ -303,16 +303,17 @@ module _ (system : System) (unit : Unit) (declared : Declares (Passes system) un
     pub among_declared : Has (declared_in unit) (variable_of one)
     pub among_run : Has run_variables (variable_of one)
 
-  in_declared_a : (w : Variable) → Has (param_variables unit.params ++ states_of) w → Has (declared_in unit) w
+  in_declared_a : (w : Variable) → Has (param_variables unit.params ++ state_variables) w → Has (declared_in unit) w
   in_declared_a w has =
       has_front (variables_of unit ++ events_of) (map port_variable (output_ports unit)) w
       (has_front (variables_of unit) events_of w
-      (has_front ((param_variables unit.params ++ states_of) ++ plain_inputs_of) locals_of w
-      (has_front (param_variables unit.params ++ states_of) plain_inputs_of w has)))
+      (has_front ((param_variables unit.params ++ state_variables) ++ plain_input_variables) local_variables w
+      (has_front (param_variables unit.params ++ state_variables) plain_input_variables w has)))
 
-  in_run_inputs : (w : Variable) → Has inputs_of w → Has run_variables w
+  in_run_inputs : (w : Variable) → Has input_variables w → Has run_variables w
   in_run_inputs w has =
-      has_behind (param_variables unit.params) (slot_variables run) w (has_behind states_of (inputs_of ++ locals_of) w (has_front inputs_of locals_of w has))
+      has_behind (param_variables unit.params) (slot_variables run) w
+      (has_behind state_variables (input_variables ++ local_variables) w (has_front input_variables local_variables w has))
 
   use_param : (param : Param) → Has unit.params param → Usable param.name
   use_param param has =
@@ -320,7 +321,8 @@ module _ (system : System) (unit : Unit) (declared : Declares (Passes system) un
         one = OfParam param;
         has = param_has param has;
         named_so = refl;
-        among_declared = in_declared_a (variable param.name param.ty) (has_front (param_variables unit.params) states_of (variable param.name param.ty) here);
+        among_declared = in_declared_a (variable param.name param.ty)
+            (has_front (param_variables unit.params) state_variables (variable param.name param.ty) here);
         among_run = has_front (param_variables unit.params) (slot_variables run) (variable param.name param.ty) here;
       }
 
@@ -331,8 +333,8 @@ module _ (system : System) (unit : Unit) (declared : Declares (Passes system) un
         one = OfState state;
         has = state_has state has;
         named_so = refl;
-        among_declared = in_declared_a w (has_behind (param_variables unit.params) states_of w here);
-        among_run = has_behind (param_variables unit.params) (slot_variables run) w (has_front states_of (inputs_of ++ locals_of) w here);
+        among_declared = in_declared_a w (has_behind (param_variables unit.params) state_variables w here);
+        among_run = has_behind (param_variables unit.params) (slot_variables run) w (has_front state_variables (input_variables ++ local_variables) w here);
       }
 
   use_local : (local : Local) → Has unit.locals local → Usable local.name
@@ -344,10 +346,11 @@ module _ (system : System) (unit : Unit) (declared : Declares (Passes system) un
         named_so = refl;
         among_declared =
             has_front (variables_of unit ++ events_of) (map port_variable (output_ports unit)) w
-            (has_front (variables_of unit) events_of w (has_behind ((param_variables unit.params ++ states_of) ++ plain_inputs_of) locals_of w here));
+            (has_front (variables_of unit) events_of w
+            (has_behind ((param_variables unit.params ++ state_variables) ++ plain_input_variables) local_variables w here));
         among_run =
             has_behind (param_variables unit.params) (slot_variables run) w
-            (has_behind states_of (inputs_of ++ locals_of) w (has_behind inputs_of locals_of w here));
+            (has_behind state_variables (input_variables ++ local_variables) w (has_behind input_variables local_variables w here));
       }
 
   use_input : (input : Input) → Has unit.inputs input → Usable input.name
@@ -360,8 +363,8 @@ module _ (system : System) (unit : Unit) (declared : Declares (Passes system) un
         among_declared =
             has_front (variables_of unit ++ events_of) (map port_variable (output_ports unit)) w
             (has_front (variables_of unit) events_of w
-            (has_front ((param_variables unit.params ++ states_of) ++ plain_inputs_of) locals_of w
-            (has_behind (param_variables unit.params ++ states_of) plain_inputs_of w here)));
+            (has_front ((param_variables unit.params ++ state_variables) ++ plain_input_variables) local_variables w
+            (has_behind (param_variables unit.params ++ state_variables) plain_input_variables w here)));
         among_run = in_run_inputs w (has_map input_variable run.inputs input (has_front unit.inputs (flat_map plain_inputs unit.events_in) input has));
       }
 

@@ -8,7 +8,6 @@ use Rattle.std.specs.Prelude.{IsSome, Option, None}
 use Rattle.code_units.specs.Calls.{output_by}
 use Rattle.unit_exec.specs.Showing.{Shows, ShowsBy, ShowStates}
 use Rattle.unit_vm.proofs.FusedLists.{each_more}
-use Rattle.unit_vm.proofs.LevelMeasure.{exists_at}
 use Rattle.unit_vm.specs.declared.program.Program.{Program}
 use Rattle.fixed_words.specs.Types.{is_word_of}
 use Rattle.fixed_words.specs.declared.types.Fault.TheVariants as fault
@@ -19,6 +18,7 @@ use Rattle.unit_vm.specs.Machine.{Work, State, Course, Ends, Faults, goes_on, lo
 use Rattle.unit_vm.specs.declared.instruction.Instruction.{Instruction}
 use Rattle.unit_vm.specs.declared.instruction.Instruction.TheVariants.{Load, Give}
 use Rattle.unit_vm.specs.declared.program.Sizes.{Sizes}
+use Rattle.list_laws.proofs.Members.{at_place}
 
 tested : (fitting : Bool) (work : Work) (word : ℤ) (next : State → Course)
     → word_given (then_goes (if fitting then Ends work (Some word) else Faults fault.Range) next) ≡ Some (if fitting then Ok word else Err fault.Range)
@@ -52,7 +52,7 @@ shows sizes slot ty state rest word each is =
 module _ (program : Program) (state inputs : List ℤ) (output : ℕ) (shown : ℕ × Ty) (there : output < length program.outputs)
     (each : length state ≡ program.sizes.states) (shows_state : Shows program output shown) where
   found : (part : List Instruction) × (slice_get program.outputs output ≡ Some part)
-  found = exists_at program.outputs output there
+  found = at_place program.outputs output there
 
   by : ShowsBy found.0 program.sizes.states shown
   by = shows_state found.0 found.1
@@ -67,7 +67,7 @@ module _ (program : Program) (state inputs : List ℤ) (output : ℕ) (shown : �
       ∙ shows program.sizes shown.0 shown.1 state rest word each is
 
 pub has_output : (program : Program) (output : ℕ) → output < length program.outputs → IsSome (slice_get program.outputs output)
-has_output program output there = let one = exists_at program.outputs output there in subst IsSome (sym one.1) refl
+has_output program output there = let one = at_place program.outputs output there in subst IsSome (sym one.1) refl
 
 -- The first outputs of which this is noted do.
 pub record ShowSoFar (program : Program) (count : ℕ) (all : List (Option (ℕ × Ty))) : Type 0 where

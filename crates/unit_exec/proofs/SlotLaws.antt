@@ -15,7 +15,7 @@ use Rattle.code_units.proofs.UnitsCompute.{zeroed, zeros_count}
 use Rattle.unit_exec.specs.Running.{overwritten}
 use Rattle.unit_vm.specs.Frames.{Held, Leaves}
 use Rattle.unit_vm.specs.Instructions.{slots_of}
-use Rattle.unit_vm.specs.Machine.{Course, Ends, Faults, Goes, Stuck, after, opening, step_length, with_locals_zero, run_part, run_of}
+use Rattle.unit_vm.specs.Machine.{Course, Ends, Faults, Goes, Stuck, after, opening, length_in_slots, with_locals_zero, run_part, run_of}
 use Rattle.unit_vm.specs.Loops.{cost_of}
 use Rattle.unit_vm.specs.Programs.{part_at}
 use Rattle.unit_vm.specs.declared.instruction.Instruction.{Instruction}
@@ -136,13 +136,13 @@ same_part sizes (Some code) one other same = ap (after code (cost_of code)) same
 same_opening : (sizes : Sizes) (front kept other last : List ℤ) (time step : ℤ) → length front ≡ sizes.states + sizes.inputs → length kept ≡ sizes.locals
     → length other ≡ sizes.locals → opening sizes (front ++ (kept ++ (time ∷ step ∷ []))) ≡ opening sizes (front ++ (other ++ (time ∷ step ∷ [])))
 same_opening sizes front kept other last time step one two three =
-    let last_is = λ (xs : List ℤ). ap step_length (sym (append_assoc front xs (time ∷ step ∷ []))) ∙ step_is (front ++ xs) time step in
+    let last_is = λ (xs : List ℤ). ap length_in_slots (sym (append_assoc front xs (time ∷ step ∷ []))) ∙ step_is (front ++ xs) time step in
     ap
     (λ xs. record {
       place = 0;
       counters = [];
       work =
-          record { stack = []; slots = xs; accepted = unsigned_abs (step_length (front ++ (kept ++ (time ∷ step ∷ [])))) };
+          record { stack = []; slots = xs; accepted = unsigned_abs (length_in_slots (front ++ (kept ++ (time ∷ step ∷ [])))) };
     })
     (zeroed sizes front kept (time ∷ step ∷ []) one two ∙ sym (zeroed sizes front other (time ∷ step ∷ []) one three))
     ∙ ap

@@ -7,11 +7,11 @@ use Rattle.std.specs.Option.{option_map, option_or}
 use Rattle.std.specs.Str.{bytes_eq}
 use Rattle.std.proofs.lemmas.List.{length-map}
 use Rattle.std.proofs.lemmas.List.Folds.{find-append}
+use Rattle.std.proofs.lemmas.Bool.{and_from, or_right, or_left}
 use Rattle.code_units.specs.Scopes.{constants, slots_from, slot_variables, sizes_of, scope_of, named}
 use Rattle.code_units.specs.StepLines.{may_store, target_coded}
 use Rattle.code_units.specs.declared.scope.Named.{Named}
 use Rattle.code_units.specs.declared.scope.NamePlace.TheVariants.{Constant, Slot}
-use Rattle.code_units.proofs.FitPieces.{both, le_test, lt_test}
 use Rattle.code_units.proofs.ScopeLaws.{slots_behind}
 use Rattle.unit_tree.specs.Components.{variable}
 use Rattle.unit_tree.specs.Names.{is_among, param_names, input_names, output_names, declared_in, type_in, Port, input_ports, output_ports}
@@ -34,20 +34,20 @@ use Rattle.language_laws.proofs.Declarations.{Declared, OfParam, OfState, OfLoca
 use Rattle.unit_exec.proofs.NamesOfUnits.{plain_name, from_declared}
 use Rattle.language_laws.proofs.UnitSites.{Passes}
 use Rattle.list_laws.proofs.Members.{Has, has_front, has_behind, has_either, has_map}
-use Rattle.list_laws.proofs.Truths.{true_is_false, or_right}
+use Rattle.list_laws.proofs.Truths.{true_is_false, le_asked, lt_asked}
 use Rattle.run_laws.proofs.PortLaws.{has_among}
 
 -- What is found in a list stands there.
-pub record Stands (xs : List Variable) (name : List ℕ) (one : Variable) : Type 0 where
+pub record IsFoundIn (xs : List Variable) (name : List ℕ) (one : Variable) : Type 0 where
   pub has : Has xs one
   pub named_so : one.name ≡ name
 
-find_stands : (xs : List Variable) (name : List ℕ) (one : Variable) → find (λ (x : Variable). bytes_eq x.name name) xs ≡ Some one → Stands xs name one
+find_stands : (xs : List Variable) (name : List ℕ) (one : Variable) → find (λ (x : Variable). bytes_eq x.name name) xs ≡ Some one → IsFoundIn xs name one
 find_stands [] name one is = absurd (cc)
 find_stands (x ∷ xs) name one is = by_test (bytes_eq x.name name) refl is (λ later. find_stands xs name one later)
   where
     by_test : (told : Bool) → bytes_eq x.name name ≡ told → cond told (Some x) (find (λ (y : Variable). bytes_eq y.name name) xs) ≡ Some one
-        → (find (λ (y : Variable). bytes_eq y.name name) xs ≡ Some one → Stands xs name one) → Stands (x ∷ xs) name one
+        → (find (λ (y : Variable). bytes_eq y.name name) xs ≡ Some one → IsFoundIn xs name one) → IsFoundIn (x ∷ xs) name one
     by_test true same here later = let alike : x ≡ one = cc in
         record { has = inl alike; named_so = ap (λ (v : Variable). v.name) (sym alike) ∙ same_bytes x.name name same }
     by_test false other here later = let rest = later here in record { has = inr rest.has; named_so = rest.named_so }
@@ -125,10 +125,6 @@ slots_maybe slot (x ∷ xs) name = by_test (bytes_eq x.name name) refl (slots_ma
         | inr rest ↦ later.1 y rest is
       ],
     )
-
-or_left : (one other : Bool) → one ≡ true → (one || other) ≡ true
-or_left true other is = refl
-or_left false other is = absurd (cc)
 
 module _ (system : System) (unit : Unit) (declared : Declares (Passes system) unit) (params : List ℤ) (each_word : length params ≡ length unit.params) where
   abbrev run : Unit
@@ -288,13 +284,14 @@ module _ (system : System) (unit : Unit) (declared : Declares (Passes system) un
       ap (λ (g : Option Named). (target_coded sizes g).is_right) is ∙ ap (may_store sizes) place ∙ stored
 
   state_slot : (slot : ℕ) → slot < length unit.states → is_stored sizes slot ≡ true
-  state_slot slot within = or_left (nat_lt slot (length unit.states)) _ (lt_test slot (length unit.states) within)
+  state_slot slot within = or_left (nat_lt slot (length unit.states)) _ (lt_asked slot (length unit.states) within)
 
   local_slot : (slot : ℕ) → length unit.states + length run.inputs ≤ slot → slot < length unit.states + length run.inputs + length unit.locals
       → is_stored sizes slot ≡ true
   local_slot slot low high =
       or_right (nat_lt slot (length unit.states)) _
-      (both _ _ (le_test (length unit.states + length run.inputs) slot low) (lt_test slot (length unit.states + length run.inputs + length unit.locals) high))
+      (and_from _ _ (le_asked (length unit.states + length run.inputs) slot low)
+      (lt_asked slot (length unit.states + length run.inputs + length unit.locals) high))
 
   none_behind : {A : Type 0} (given other : Option A) → given ≡ None → option_or given other ≡ other
   none_behind given other is = ap (λ g. option_or g other) is

@@ -21,7 +21,7 @@ abbrev pub opened : Compiled → Running
 opened image = record { image = image; state = image.start; inputs = image.start_inputs }
 
 -- A frame is made for the image, and there is one word for each state and each input.
-pub record IsReady (image : Compiled) (frame : Held) (words fed : List ℤ) : Type 0 where
+pub record HasFrameFor (image : Compiled) (frame : Held) (words fed : List ℤ) : Type 0 where
   pub made : HasFacts image.program frame.facts
   pub each_state : length words ≡ image.program.sizes.states
   pub each_input : length fed ≡ image.program.sizes.inputs

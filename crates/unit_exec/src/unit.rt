@@ -23,13 +23,13 @@ pub struct Unit {
 }
 
 impl Model for Unit {
-    ghost use Rattle.unit_exec.specs.Running.{Running, IsReady};
+    ghost use Rattle.unit_exec.specs.Running.{Running, HasFrameFor};
 
     ghost Value = { Running };
 
     ghost view = { λ u. record { image = u.image.value; state = u.state.items; inputs = u.inputs.items } };
 
-    ghost invariant = { λ u. IsReady u.image.value u.frame u.state.items u.inputs.items };
+    ghost invariant = { λ u. HasFrameFor u.image.value u.frame u.state.items u.inputs.items };
 }
 
 impl Unit {

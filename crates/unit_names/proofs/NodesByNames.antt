@@ -11,7 +11,7 @@ use Rattle.unit_tree.specs.declared.expr.Expr.TheOpen.{Expr-F}
 use Rattle.unit_tree.specs.declared.expr.Expr.TheViews.{roll-Expr}
 use Rattle.unit_tree.specs.declared.unit.Unit.{Unit}
 use Rattle.unit_names.specs.Uses.{node_keeps, nodes_keep, node_has, nodes_have, is_other_input}
-use Rattle.list_laws.proofs.Truths.{crossed}
+use Rattle.list_laws.proofs.Truths.{crossed, and_true, and_assoc, or_nothing}
 
 -- ---- Some name passes a test
 
@@ -29,16 +29,12 @@ module _ (test : List ℕ → Bool) where
       → (one || other) ≡ list_any test (front ++ behind)
   has_two one other front behind is also = ap (λ b. b || other) is ∙ ap (λ b. list_any test front || b) also ∙ sym (list_any-append test front behind)
 
-  or_false : (b : Bool) → b ≡ (b || false)
-  or_false true = refl
-  or_false false = refl
-
   has_layer : (y : Expr-F HasProved)
       → node_has test (map-Expr Expr Bool (nodes_have test) (map-Expr HasProved Expr has_bare y))
       ≡ list_any test (node_names (map-Expr Expr (List (List ℕ)) names_in (map-Expr HasProved Expr has_bare y)))
   has_layer (Expr-F.Number number decimals) = refl
   has_layer (Expr-F.Truth told) = refl
-  has_layer (Expr-F.Var name) = or_false (test name)
+  has_layer (Expr-F.Var name) = or_nothing (test name)
   has_layer Expr-F.Time = refl
   has_layer Expr-F.Step = refl
   has_layer (Expr-F.Unary op arg) = arg.1
@@ -48,7 +44,7 @@ module _ (test : List ℕ → Bool) where
   has_layer (Expr-F.Choose cond chosen other) =
       has_two _ _ (names_in cond.0 ++ names_in chosen.0) (names_in other.0) (has_two _ _ (names_in cond.0) (names_in chosen.0) cond.1 chosen.1) other.1
   has_layer Expr-F.Absent = refl
-  has_layer (Expr-F.Present name) = or_false (test name)
+  has_layer (Expr-F.Present name) = or_nothing (test name)
 
   has_node : (y : Expr-F HasProved) → Has (roll-Expr (map-Expr HasProved Expr has_bare y))
   has_node y = fold-roll-Expr Bool (node_has test) (map-Expr HasProved Expr has_bare y) ∙ has_layer y
@@ -61,10 +57,6 @@ pub nodes_have_names : (unit : Unit) (needs : List (List ℕ)) (value : Expr) �
 nodes_have_names unit needs value = has_names (is_other_input unit needs) value
 
 -- ---- All keep to what may be used
-
-and_true : (b : Bool) → (b && true) ≡ b
-and_true true = refl
-and_true false = refl
 
 -- Three tests of two parts, by part or by test.
 regroup : (a b c d e f : Bool) → ((a && (b && c)) && (d && (e && f))) ≡ ((a && d) && ((b && e) && (c && f)))
@@ -86,10 +78,6 @@ allowed_two allowed one other =
     ap (λ b. b && (allowed.step || not (one.step || other.step))) (or_not allowed.time one.time other.time)
     ∙ ap (λ b. ((allowed.time || not one.time) && (allowed.time || not other.time)) && b) (or_not allowed.step one.step other.step)
     ∙ crossed (allowed.time || not one.time) (allowed.time || not other.time) (allowed.step || not one.step) (allowed.step || not other.step)
-
-and_assoc : (a b c : Bool) → (a && b && c) ≡ (a && (b && c))
-and_assoc true b c = refl
-and_assoc false b c = refl
 
 module _ (uses : Uses) where
   -- What an expression's names, its `present` and its clocks have to keep.

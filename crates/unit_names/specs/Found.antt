@@ -9,7 +9,6 @@ use Rattle.unit_names.specs.declared.tables.Declared.{Declared}
 use Rattle.unit_names.specs.declared.tables.Entry.{Entry}
 use Rattle.unit_tree.specs.Names.{Port}
 use Rattle.unit_tree.specs.declared.unit.Unit.{Unit}
-use Rattle.list_laws.specs.Options.{the_first}
 
 -- The first place of a name in a list, from 0.
 abbrev pub first_place : List (List ℕ) → List ℕ → Option ℕ
@@ -52,8 +51,8 @@ abbrev pub found_in : {V S : Type 0} → IndexMap (Bor (List ℕ)) V S → List 
 found_in table name = get_by (λ key. bytes_eq name key.now) table
 
 -- The table finds each name's first declaration among these.
-abbrev pub Finds : {S : Type 0} → List Named → IndexMap (Bor (List ℕ)) Declared S → Type 0
-Finds all table = (name : List ℕ) → found_in table name ≡ declared_among all name
+abbrev pub FindsDeclared : {S : Type 0} → List Named → IndexMap (Bor (List ℕ)) Declared S → Type 0
+FindsDeclared all table = (name : List ℕ) → found_in table name ≡ declared_among all name
 
 -- The table finds each name's first place in a list.
 abbrev pub FindsPlaces : {S : Type 0} → List (List ℕ) → IndexMap (Bor (List ℕ)) ℕ S → Type 0

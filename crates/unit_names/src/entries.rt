@@ -1,7 +1,7 @@
 //! A unit's declarations in the lists of which its tables are made.
 ghost use Rattle.std.specs.Prelude.{◌≡◌, ◌++◌, OnOk, IfOk, map};
 ghost use Rattle.unit_names.specs.Entries.{named, event, params_named, locals_named, events_in_named, lines_named, types_named, shared_named, all_inputs_named, all_outputs_named};
-ghost use Rattle.unit_names.specs.Found.{as_named, Finds};
+ghost use Rattle.unit_names.specs.Found.{as_named, FindsDeclared};
 
 use crate::tables::{Entry, Table, table_of};
 use fixed_words::{NoMemory, Ty};
@@ -129,7 +129,7 @@ fn put_all<'a, D: Declaration>(
 
 /// The table of all that a unit declares, in canonical order of its lines.
 pub(crate) fn lines_table<'a>(alloc: Global, unit: &'a Unit) -> Result<Table<'a>, NoMemory>
-    ensures { IfOk result (Finds (lines_named unit.now)) }
+    ensures { IfOk result (FindsDeclared (lines_named unit.now)) }
 {
     let mut entries = Vec::new(alloc);
     put_all(&mut entries, unit.params.as_slice())?;
@@ -144,7 +144,7 @@ pub(crate) fn lines_table<'a>(alloc: Global, unit: &'a Unit) -> Result<Table<'a>
 
 /// The table of all that a unit declares, in the order in which a name's type is looked for.
 pub(crate) fn types_table<'a>(alloc: Global, unit: &'a Unit) -> Result<Table<'a>, NoMemory>
-    ensures { IfOk result (Finds (types_named unit.now)) }
+    ensures { IfOk result (FindsDeclared (types_named unit.now)) }
 {
     let mut entries = Vec::new(alloc);
     put_all(&mut entries, unit.params.as_slice())?;
@@ -159,7 +159,7 @@ pub(crate) fn types_table<'a>(alloc: Global, unit: &'a Unit) -> Result<Table<'a>
 
 /// The table of what every expression of a unit may name.
 pub(crate) fn shared_table<'a>(alloc: Global, unit: &'a Unit) -> Result<Table<'a>, NoMemory>
-    ensures { IfOk result (Finds (shared_named unit.now)) }
+    ensures { IfOk result (FindsDeclared (shared_named unit.now)) }
 {
     let mut entries = Vec::new(alloc);
     put_all(&mut entries, unit.params.as_slice())?;
@@ -171,7 +171,7 @@ pub(crate) fn shared_table<'a>(alloc: Global, unit: &'a Unit) -> Result<Table<'a
 
 /// The table of a unit's inputs, event inputs after the plain ones.
 pub(crate) fn inputs_table<'a>(alloc: Global, unit: &'a Unit) -> Result<Table<'a>, NoMemory>
-    ensures { IfOk result (Finds (all_inputs_named unit.now)) }
+    ensures { IfOk result (FindsDeclared (all_inputs_named unit.now)) }
 {
     let mut entries = Vec::new(alloc);
     put_all(&mut entries, unit.inputs.as_slice())?;
@@ -181,7 +181,7 @@ pub(crate) fn inputs_table<'a>(alloc: Global, unit: &'a Unit) -> Result<Table<'a
 
 /// The table of a unit's outputs, event outputs after the plain ones.
 pub(crate) fn outputs_table<'a>(alloc: Global, unit: &'a Unit) -> Result<Table<'a>, NoMemory>
-    ensures { IfOk result (Finds (all_outputs_named unit.now)) }
+    ensures { IfOk result (FindsDeclared (all_outputs_named unit.now)) }
 {
     let mut entries = Vec::new(alloc);
     put_all(&mut entries, unit.outputs.as_slice())?;
@@ -191,7 +191,7 @@ pub(crate) fn outputs_table<'a>(alloc: Global, unit: &'a Unit) -> Result<Table<'
 
 /// The table of a unit's parameters.
 pub(crate) fn params_table<'a>(alloc: Global, unit: &'a Unit) -> Result<Table<'a>, NoMemory>
-    ensures { IfOk result (Finds (params_named unit.now.params)) }
+    ensures { IfOk result (FindsDeclared (params_named unit.now.params)) }
 {
     let mut entries = Vec::new(alloc);
     put_all(&mut entries, unit.params.as_slice())?;
@@ -200,7 +200,7 @@ pub(crate) fn params_table<'a>(alloc: Global, unit: &'a Unit) -> Result<Table<'a
 
 /// The table of a unit's locals.
 pub(crate) fn locals_table<'a>(alloc: Global, unit: &'a Unit) -> Result<Table<'a>, NoMemory>
-    ensures { IfOk result (Finds (locals_named unit.now.locals)) }
+    ensures { IfOk result (FindsDeclared (locals_named unit.now.locals)) }
 {
     let mut entries = Vec::new(alloc);
     put_all(&mut entries, unit.locals.as_slice())?;
@@ -209,7 +209,7 @@ pub(crate) fn locals_table<'a>(alloc: Global, unit: &'a Unit) -> Result<Table<'a
 
 /// The table of a unit's event inputs.
 pub(crate) fn events_table<'a>(alloc: Global, unit: &'a Unit) -> Result<Table<'a>, NoMemory>
-    ensures { IfOk result (Finds (events_in_named unit.now.events_in)) }
+    ensures { IfOk result (FindsDeclared (events_in_named unit.now.events_in)) }
 {
     let mut entries = Vec::new(alloc);
     put_all(&mut entries, unit.events_in.as_slice())?;

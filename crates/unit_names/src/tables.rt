@@ -1,7 +1,7 @@
 //! Tables of names: the first declaration of each name, found without going through a list.
 ghost use Rattle.std.specs.Prelude.{◌≡◌, ℕ, List, Some, None, IfOk, map, bytes_eq, if◌then◌else◌};
-ghost use Rattle.list_laws.specs.Options.{the_first};
-ghost use Rattle.unit_names.specs.Found.{as_named, found_in, Finds};
+ghost use Rattle.std.specs.Option.{option_or};
+ghost use Rattle.unit_names.specs.Found.{as_named, found_in, FindsDeclared};
 
 use fixed_words::{NoMemory, Ty};
 use indexmap::IndexMap;
@@ -44,7 +44,7 @@ pub(crate) fn note<'a, V: Drop>(
     value: V,
 ) -> Result<(), NoMemory>
     ensures { IfOk result (λ _. (q : List ℕ) →
-        found_in table.new q ≡ the_first (found_in table.old q) (if bytes_eq q name.now then Some value else None)) }
+        found_in table.new q ≡ option_or (found_in table.old q) (if bytes_eq q name.now then Some value else None)) }
 {
     if table.get(name).is_none() {
         table.insert(name, value)?;
@@ -54,7 +54,7 @@ pub(crate) fn note<'a, V: Drop>(
 
 /// The table of some declarations.
 pub(crate) fn table_of<'a>(alloc: Global, entries: &[Entry<'a>]) -> Result<Table<'a>, NoMemory>
-    ensures { IfOk result (Finds (map as_named entries.now)) }
+    ensures { IfOk result (FindsDeclared (map as_named entries.now)) }
 {
     let mut table = IndexMap::new(alloc);
     for (place, entry) in entries.iter().enumerate() {

@@ -3,7 +3,7 @@ ghost use Rattle.std.specs.Prelude.{◌≡◌, ◌++◌, IfOk, map};
 ghost use Rattle.std.specs.Option.{option_map};
 ghost use Rattle.unit_tree.specs.Names.{is_among, are_among, param_names, input_names, output_names, input_ports, output_ports, event_input_names, shared_names, type_in, param_named};
 ghost use Rattle.unit_names.specs.Entries.{lines_named, types_named, shared_named, locals_named, events_in_named, params_named, all_inputs_named, all_outputs_named};
-ghost use Rattle.unit_names.specs.Found.{first_place, declared_names, port_among, Finds};
+ghost use Rattle.unit_names.specs.Found.{first_place, declared_names, port_among, FindsDeclared};
 
 use crate::entries::{
     events_table, inputs_table, lines_table, locals_table, outputs_table, params_table,
@@ -25,9 +25,9 @@ struct Declarations<'a> {
 
 fn declarations_of<'a>(alloc: Global, unit: &'a Unit) -> Result<Declarations<'a>, NoMemory>
     ensures { IfOk result (λ all.
-        Finds (lines_named unit.now) all.lines
-        × Finds (types_named unit.now) all.types
-        × Finds (params_named unit.now.params) all.params) }
+        FindsDeclared (lines_named unit.now) all.lines
+        × FindsDeclared (types_named unit.now) all.types
+        × FindsDeclared (params_named unit.now.params) all.params) }
 {
     let lines = lines_table(alloc, unit)?;
     let types = types_table(alloc, unit)?;
@@ -49,9 +49,9 @@ struct Usable<'a> {
 
 fn usable_of<'a>(alloc: Global, unit: &'a Unit) -> Result<Usable<'a>, NoMemory>
     ensures { IfOk result (λ all.
-        Finds (shared_named unit.now) all.shared
-        × Finds (locals_named unit.now.locals) all.locals
-        × Finds (events_in_named unit.now.events_in) all.events) }
+        FindsDeclared (shared_named unit.now) all.shared
+        × FindsDeclared (locals_named unit.now.locals) all.locals
+        × FindsDeclared (events_in_named unit.now.events_in) all.events) }
 {
     let shared = shared_table(alloc, unit)?;
     let locals = locals_table(alloc, unit)?;
@@ -72,12 +72,12 @@ struct NameTables<'a> {
 
 fn name_tables_of<'a>(alloc: Global, unit: &'a Unit) -> Result<NameTables<'a>, NoMemory>
     ensures { IfOk result (λ all.
-        Finds (lines_named unit.now) all.declared.lines
-        × Finds (types_named unit.now) all.declared.types
-        × Finds (params_named unit.now.params) all.declared.params
-        × Finds (shared_named unit.now) all.usable.shared
-        × Finds (locals_named unit.now.locals) all.usable.locals
-        × Finds (events_in_named unit.now.events_in) all.usable.events) }
+        FindsDeclared (lines_named unit.now) all.declared.lines
+        × FindsDeclared (types_named unit.now) all.declared.types
+        × FindsDeclared (params_named unit.now.params) all.declared.params
+        × FindsDeclared (shared_named unit.now) all.usable.shared
+        × FindsDeclared (locals_named unit.now.locals) all.usable.locals
+        × FindsDeclared (events_in_named unit.now.events_in) all.usable.events) }
 {
     let declared = declarations_of(alloc, unit)?;
     let usable = usable_of(alloc, unit)?;
@@ -93,8 +93,8 @@ struct Ports<'a> {
 
 fn ports_of<'a>(alloc: Global, unit: &'a Unit) -> Result<Ports<'a>, NoMemory>
     ensures { IfOk result (λ all.
-        Finds (all_inputs_named unit.now) all.inputs
-        × Finds (all_outputs_named unit.now) all.outputs) }
+        FindsDeclared (all_inputs_named unit.now) all.inputs
+        × FindsDeclared (all_outputs_named unit.now) all.outputs) }
 {
     let inputs = inputs_table(alloc, unit)?;
     let outputs = outputs_table(alloc, unit)?;
@@ -124,7 +124,7 @@ impl<'a> Model for UnitNames<'a> {
     ghost use Rattle.unit_tree.specs.contracts.line.Line as line;
     ghost use Rattle.unit_tree.specs.declared.unit.Unit.{Unit};
     ghost use Rattle.unit_names.specs.Entries.{lines_named, types_named, shared_named, locals_named, events_in_named, params_named, all_inputs_named, all_outputs_named};
-    ghost use Rattle.unit_names.specs.Found.{Finds};
+    ghost use Rattle.unit_names.specs.Found.{FindsDeclared};
 
     ghost Value = { Unit };
 
@@ -133,14 +133,14 @@ impl<'a> Model for UnitNames<'a> {
     ghost view = { λ tables. tables.unit.now };
 
     ghost invariant = { λ tables.
-        Finds (lines_named tables.unit.now) tables.names.declared.lines
-        × Finds (types_named tables.unit.now) tables.names.declared.types
-        × Finds (params_named tables.unit.now.params) tables.names.declared.params
-        × Finds (shared_named tables.unit.now) tables.names.usable.shared
-        × Finds (locals_named tables.unit.now.locals) tables.names.usable.locals
-        × Finds (events_in_named tables.unit.now.events_in) tables.names.usable.events
-        × Finds (all_inputs_named tables.unit.now) tables.ports.inputs
-        × Finds (all_outputs_named tables.unit.now) tables.ports.outputs };
+        FindsDeclared (lines_named tables.unit.now) tables.names.declared.lines
+        × FindsDeclared (types_named tables.unit.now) tables.names.declared.types
+        × FindsDeclared (params_named tables.unit.now.params) tables.names.declared.params
+        × FindsDeclared (shared_named tables.unit.now) tables.names.usable.shared
+        × FindsDeclared (locals_named tables.unit.now.locals) tables.names.usable.locals
+        × FindsDeclared (events_in_named tables.unit.now.events_in) tables.names.usable.events
+        × FindsDeclared (all_inputs_named tables.unit.now) tables.ports.inputs
+        × FindsDeclared (all_outputs_named tables.unit.now) tables.ports.outputs };
 }
 
 impl<'a> UnitNames<'a> {

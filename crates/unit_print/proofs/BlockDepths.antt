@@ -8,7 +8,8 @@ use Rattle.unit_tree.specs.declared.expr.Expr.{Expr}
 use Rattle.unit_tree.specs.declared.line.Line as line
 use Rattle.unit_tree.specs.declared.line.Line.{Line}
 use Rattle.unit_tree.proofs.FoldLemmas.{fold-If, fold-Repeat}
-use Rattle.unit_print.proofs.NestingLaws.{max_within, one_more, and_true}
+use Rattle.unit_print.proofs.NestingLaws.{max_within, one_more}
+use Rattle.list_laws.proofs.Truths.{and_true}
 
 -- A greatest depth from some depth on.
 deepest_from : (from limit : ℕ) (lines : List Line)

@@ -16,7 +16,7 @@ use Rattle.unit_tree.specs.declared.token.Token.TheVariants as token
 use Rattle.unit_tree.specs.declared.token.Token.{Token}
 use Rattle.unit_tree.proofs.FoldLemmas.{fold-If, fold-Repeat}
 use Rattle.unit_print.specs.Growing.{with_token, with_tokens, with_lines, with_step_lines, others_tokens}
-use Rattle.unit_print.proofs.Growth.{lines_append, joined_are, names_are}
+use Rattle.unit_print.proofs.GrowingTexts.{lines_append, joined_are, names_are}
 
 pub if_done : (whole : Line) (cond : Expr) (then_lines body : List Line) (else_lines : Option (List Line)) (old one two three all : List ℕ)
     → whole ≡ line.If cond then_lines else_lines → body ≡ then_lines

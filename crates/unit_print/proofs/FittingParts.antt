@@ -17,23 +17,11 @@ use Rattle.unit_tree.specs.declared.system.Instance.{Instance}
 use Rattle.unit_tree.specs.declared.system.System.{System}
 use Rattle.unit_tree.specs.declared.unit.Unit.{Unit}
 use Rattle.unit_tree.proofs.FoldLemmas.{fold-If, fold-Repeat}
-use Rattle.unit_print.proofs.NestingLaws.{and_true}
 use Rattle.unit_print.specs.Fitting.{is_name, expression_fits, line_fits, instance_fits, unit_parts_fit, parts_fit}
+use Rattle.list_laws.proofs.Truths.{and_true, and_assoc}
+use Rattle.list_laws.proofs.Lists.{flat_all, mapped_all}
 
 -- ---- Lists
-
--- A test of a list of lists in a row.
-flat_all : {A B : Type 0} (test : B → Bool) (f : A → List B) (xs : List A) → list_all test (flat_map f xs) ≡ list_all (λ x. list_all test (f x)) xs
-flat_all test f [] = refl
-flat_all test f (x ∷ xs) = list_all-append test (f x) (flat_map f xs) ∙ ap (λ rest. list_all test (f x) && rest) (flat_all test f xs)
-
--- The same where each item makes a part.
-mapped_all : {A B C : Type 0} (test : C → Bool) (forms : B → List C) (part : A → B) (xs : List A)
-    → list_all test (flat_map forms (map part xs)) ≡ list_all (λ x. list_all test (forms (part x))) xs
-mapped_all test forms part [] = refl
-mapped_all test forms part (x ∷ xs) =
-    list_all-append test (forms (part x)) (flat_map forms (map part xs)) ∙ ap (λ rest. list_all test (forms (part x)) && rest)
-    (mapped_all test forms part xs)
 
 -- And where each part is one line.
 mapped_one : {A B C : Type 0} (test : C → Bool) (forms : B → List C) (part : A → B) (line : A → C) → ((x : A) → forms (part x) ≡ line x ∷ [])
@@ -122,10 +110,6 @@ step_fits version lines =
     ∙ block_fits version (flat_map line_forms lines) _ (flat_all (line_fits version) line_forms lines)
 
 -- ---- Units
-
-and_assoc : (one two three : Bool) → ((one && two) && three) ≡ (one && (two && three))
-and_assoc true two three = refl
-and_assoc false two three = refl
 
 -- A header, and what stands behind it.
 behind_header : (range second told rest : Bool) → told ≡ rest → ((range && (not second || second)) && told) ≡ (range && rest)

@@ -1,8 +1,8 @@
-pub mod Growth
+pub mod GrowingTexts
 pub mod Blocks
 pub mod BlockDepths
 pub mod FittingParts
-pub mod NamesTold
+pub mod LineTests
 pub mod NestingLaws
-pub mod Nodes
+pub mod NodeTexts
 pub mod PrintableLaws

@@ -1,5 +1,5 @@
 -- How deep one node of an expression is nested, by a limit.
-use Rattle.std.proofs.Common.{◌≡◌, ◌≤◌, ℕ, ◌+◌, suc, max, Bool, true, false, ◌&&◌, refl, sym, ap, ◌∙◌, arith}
+use Rattle.std.proofs.Common.{◌≡◌, ◌≤◌, ℕ, ◌+◌, suc, max, true, false, ◌&&◌, refl, sym, ap, ◌∙◌, arith}
 use Rattle.std.specs.Prelude.{nat_le, nat_lt, IsTrue, IsFalse}
 use Rattle.std.proofs.lemmas.Bool.Decides.{nat_tests}
 use Rattle.unit_tree.specs.Canonical.{canonical_phrase, node_phrase, placed}
@@ -11,13 +11,9 @@ use Rattle.unit_tree.specs.declared.expr.Expr as expr
 use Rattle.unit_tree.specs.declared.expr.Expr.{Expr}
 use Rattle.unit_tree.proofs.FoldLemmas.{fold-Binary, fold-Clamp, fold-Choose}
 use Rattle.unit_print.specs.Calls.{is_call}
-use Rattle.unit_print.proofs.Nodes.{in_a_call}
+use Rattle.text_laws.proofs.ShortestPhrases.{placed_whole}
 
 -- ---- Limits
-
-pub and_true : (one : Bool) → (one && true) ≡ one
-and_true true = refl
-and_true false = refl
 
 pub none_above : (count : ℕ) → count ≤ 0 → nat_lt 0 count ≡ false
 none_above count is = grind (arith, nat_tests)
@@ -71,11 +67,11 @@ call_levels : (op : BinOp) (left right : Phrase) → IsTrue (is_call op)
     → nesting (phrase.Binary op (placed (left_level (binary_level op)) left) (placed (right_level (binary_level op)) right)) ≡ suc (max
     (nesting left) (nesting right))
 call_levels by.Min left right is =
-    ap (λ (p : Phrase). suc (max (nesting p) (nesting (placed Whole right)))) (in_a_call left)
-    ∙ ap (λ (p : Phrase). suc (max (nesting left) (nesting p))) (in_a_call right)
+    ap (λ (p : Phrase). suc (max (nesting p) (nesting (placed Whole right)))) (placed_whole left)
+    ∙ ap (λ (p : Phrase). suc (max (nesting left) (nesting p))) (placed_whole right)
 call_levels by.Max left right is =
-    ap (λ (p : Phrase). suc (max (nesting p) (nesting (placed Whole right)))) (in_a_call left)
-    ∙ ap (λ (p : Phrase). suc (max (nesting left) (nesting p))) (in_a_call right)
+    ap (λ (p : Phrase). suc (max (nesting p) (nesting (placed Whole right)))) (placed_whole left)
+    ∙ ap (λ (p : Phrase). suc (max (nesting left) (nesting p))) (placed_whole right)
 call_levels by.Add left right is = absurd cc
 call_levels by.Sub left right is = absurd cc
 call_levels by.Mul left right is = absurd cc

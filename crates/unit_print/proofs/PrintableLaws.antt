@@ -3,11 +3,11 @@ use Rattle.std.proofs.Common.{◌≡◌, ◌≤◌, ◌+◌, ◌↔◌, ℕ, suc
 use Rattle.std.proofs.Common.{◌∷◌, ◌++◌, length, IsTrue, refl, sym, ap, subst, ◌∙◌, arith, append_assoc}
 use Rattle.std.specs.Prelude.{not, nat_le, nat_lt, ◌&&◌, ◌||◌, ◌==◌}
 use Rattle.std.specs.List.{AllByRecursion, list_all, list_any, flat_map}
-use Rattle.std.proofs.lemmas.Bool.{and_parts, and_from}
+use Rattle.std.proofs.lemmas.Bool.{and_parts, and_from, or_parts}
 use Rattle.std.proofs.lemmas.Bool.Decides.{nat_tests}
 use Rattle.std.proofs.lemmas.List.Folds.{list_all-append}
 use Rattle.list_laws.proofs.Lists.{each_so}
-use Rattle.list_laws.proofs.Truths.{or_false, le_told}
+use Rattle.list_laws.proofs.Truths.{le_told, le_asked, or_nothing}
 use Rattle.unit_tree.specs.Canonical.{canonical_forms, canonical_text, line_text, form_tokens}
 use Rattle.unit_tree.specs.LineForms.{tail_of, is_of_version_2, tail_speaks_of_events}
 use Rattle.unit_tree.specs.Names.{expression_on}
@@ -18,8 +18,9 @@ use Rattle.unit_tree.specs.declared.line_form.LineForm.TheVariants as form
 use Rattle.unit_tree.specs.declared.system.System.{System}
 use Rattle.text_laws.proofs.SpelledBytes.{is_spelled_byte, spelled_bytes, spelled_no_end}
 use Rattle.text_laws.proofs.TokenTexts.{line_is_spelled}
+use Rattle.text_laws.proofs.ReadIsPrintable.{no_event_port}
 use Rattle.unit_print.specs.Fitting.{is_name, counts_fit, tail_fits, begins_in_version_2, line_fits, are_short}
-use Rattle.unit_print.proofs.NamesTold.{tail_told, tail_asked, names_told, names_asked, counts_told, counts_asked, le_asked}
+use Rattle.unit_print.proofs.LineTests.{tail_told, tail_asked, names_told, names_asked, counts_told, counts_asked}
 
 -- ---- One line
 
@@ -33,10 +34,6 @@ pub record Fits (version : ℕ) (some : LineForm) : Type 0 where
 -- A line is of version 2 by how it begins or by its expression.
 by_parts : (some : LineForm) → is_of_version_2 some ≡ (begins_in_version_2 some || tail_speaks_of_events (tail_of some))
 by_parts (form.Header version) = or_nothing (version == 2)
-  where
-    or_nothing : (told : Bool) → told ≡ (told || false)
-    or_nothing true = refl
-    or_nothing false = refl
 by_parts _ = refl
 
 both_of_version : (begins speaks second : Bool) → (not begins || second) ≡ true → (not speaks || second) ≡ true → (not (begins || speaks) || second) ≡ true
@@ -106,16 +103,11 @@ none_second : (lines : List LineForm) → AllByRecursion (Fits 1) lines → list
 none_second [] all = refl
 none_second (first ∷ others) all = rw (not_second (is_of_version_2 first) all.0.of_version) (none_second others all.1)
 
-no_event : (some : LineForm) → is_of_version_2 some ≡ false → is_event_port some ≡ false
-no_event (form.EventInput event) is = absurd (cc)
-no_event (form.EventOutput event) is = absurd (cc)
-no_event _ is = refl
-
 no_events : (lines : List LineForm) → list_any is_of_version_2 lines ≡ false → list_any is_event_port lines ≡ false
 no_events [] is = refl
 no_events (first ∷ others) is =
-    let parts = or_false (is_of_version_2 first) (list_any is_of_version_2 others) is in
-    rw (no_event first parts.0) (no_events others parts.1)
+    let parts = or_parts (is_of_version_2 first) (list_any is_of_version_2 others) is in
+    rw (no_event_port first parts.0) (no_events others parts.1)
 
 -- The lines of a printable system fit.
 lines_fit : (version : ℕ) (lines : List LineForm) → (1 ≤ version) × (version ≤ 2) → (version ≡ 1 → list_any is_of_version_2 lines ≡ false)
@@ -125,8 +117,8 @@ lines_fit : (version : ℕ) (lines : List LineForm) → (1 ≤ version) × (vers
 lines_fit version [] range second names ranged writable = _
 lines_fit version (first ∷ others) range second names ranged writable =
     let parts = and_parts _ _ writable in
-    let here : version ≡ 1 → is_of_version_2 first ≡ false = λ one. (or_false (is_of_version_2 first) (list_any is_of_version_2 others) (second one)).0 in
-    let later : version ≡ 1 → list_any is_of_version_2 others ≡ false = λ one. (or_false (is_of_version_2 first) (list_any is_of_version_2 others)
+    let here : version ≡ 1 → is_of_version_2 first ≡ false = λ one. (or_parts (is_of_version_2 first) (list_any is_of_version_2 others) (second one)).0 in
+    let later : version ≡ 1 → list_any is_of_version_2 others ≡ false = λ one. (or_parts (is_of_version_2 first) (list_any is_of_version_2 others)
     (second one)).1 in (
       record { names = names.0; in_range = ranged.0; writable = parts.0; of_version = suits version (is_of_version_2 first) (version == 2) refl range here },
       lines_fit version others range later names.1 ranged.1 parts.1,

@@ -52,7 +52,7 @@ fn operation(text: &mut Vec<u8>, op: BinOp) -> Result<(), NoMemory>
 
 /// Puts an expression where the grammar asks for a level: in parentheses exactly where its own is weaker.
 #[cycle(expression)]
-#[tactic(auto, using(crate::proofs::Growth::tokens_append))]
+#[tactic(auto, using(crate::proofs::GrowingTexts::tokens_append))]
 fn put_placed(text: &mut Vec<u8>, asked: Level, expr: &Expr) -> Result<(), NoMemory>
     ensures { OnOk result (text.new.items ≡ with_tokens text.old.items (phrase_tokens (placed (grammar_level asked) (canonical_phrase expr.now)))) }
 {
@@ -64,7 +64,7 @@ fn put_placed(text: &mut Vec<u8>, asked: Level, expr: &Expr) -> Result<(), NoMem
 }
 
 #[cycle(expression)]
-#[tactic(auto, using(crate::proofs::Growth::tokens_append))]
+#[tactic(auto, using(crate::proofs::GrowingTexts::tokens_append))]
 fn put_in_parens(text: &mut Vec<u8>, expr: &Expr) -> Result<(), NoMemory>
     ensures { OnOk result (text.new.items ≡ with_tokens text.old.items (in_parens (expression_tokens expr.now))) }
 {
@@ -74,7 +74,7 @@ fn put_in_parens(text: &mut Vec<u8>, expr: &Expr) -> Result<(), NoMemory>
 }
 
 #[cycle(expression)]
-#[tactic(auto, using(crate::proofs::Growth::tokens_append))]
+#[tactic(auto, using(crate::proofs::GrowingTexts::tokens_append))]
 fn unary(text: &mut Vec<u8>, op: UnOp, arg: &Expr) -> Result<(), NoMemory>
     ensures { OnOk result (text.new.items ≡ with_tokens text.old.items (phrase_tokens (phrase.Unary op (placed (operand_level (unary_level op)) (canonical_phrase arg.now))))) }
 {
@@ -133,7 +133,7 @@ fn present(text: &mut Vec<u8>, event: &[u8]) -> Result<(), NoMemory>
 
 /// Puts an expression as it is written with no needless parentheses.
 #[cycle(expression)]
-#[tactic(auto, using(crate::proofs::Growth::tokens_append, crate::proofs::Growth::infix_tokens, crate::proofs::Growth::call_tokens))]
+#[tactic(auto, using(crate::proofs::GrowingTexts::tokens_append, crate::proofs::GrowingTexts::infix_tokens, crate::proofs::GrowingTexts::call_tokens))]
 pub(crate) fn expression(text: &mut Vec<u8>, expr: &Expr) -> Result<(), NoMemory>
     ensures { OnOk result (text.new.items ≡ with_tokens text.old.items (expression_tokens expr.now)) }
 {

@@ -79,7 +79,7 @@ fn other_names(text: &mut Vec<u8>, names: &[Name]) -> Result<(), NoMemory>
 }
 
 /// Puts `needs u, v`; nothing where nothing is needed.
-#[tactic(auto, using(crate::proofs::Growth::names_are))]
+#[tactic(auto, using(crate::proofs::GrowingTexts::names_are))]
 fn needed(text: &mut Vec<u8>, names: &[Name]) -> Result<(), NoMemory>
     ensures { OnOk result (text.new.items ≡ with_tokens text.old.items (needs_tokens names.now)) }
 {
@@ -102,7 +102,7 @@ fn end_line(text: &mut Vec<u8>) -> Result<(), NoMemory>
 }
 
 /// `param p : T = L`
-#[tactic(auto, using(crate::proofs::Growth::tokens_append))]
+#[tactic(auto, using(crate::proofs::GrowingTexts::tokens_append))]
 pub(crate) fn param(text: &mut Vec<u8>, param: &Param) -> Result<(), NoMemory>
     ensures { OnOk result (text.new.items ≡ with_lines text.old.items (form.Param param.now ∷ [])) }
 {
@@ -113,7 +113,7 @@ pub(crate) fn param(text: &mut Vec<u8>, param: &Param) -> Result<(), NoMemory>
 }
 
 /// `state s : T = L`
-#[tactic(auto, using(crate::proofs::Growth::tokens_append))]
+#[tactic(auto, using(crate::proofs::GrowingTexts::tokens_append))]
 pub(crate) fn state(text: &mut Vec<u8>, state: &State) -> Result<(), NoMemory>
     ensures { OnOk result (text.new.items ≡ with_lines text.old.items (form.State state.now ∷ [])) }
 {
@@ -124,7 +124,7 @@ pub(crate) fn state(text: &mut Vec<u8>, state: &State) -> Result<(), NoMemory>
 }
 
 /// `local x : T`
-#[tactic(auto, using(crate::proofs::Growth::tokens_append))]
+#[tactic(auto, using(crate::proofs::GrowingTexts::tokens_append))]
 pub(crate) fn local(text: &mut Vec<u8>, local: &Local) -> Result<(), NoMemory>
     ensures { OnOk result (text.new.items ≡ with_lines text.old.items (form.Local local.now ∷ [])) }
 {
@@ -133,7 +133,7 @@ pub(crate) fn local(text: &mut Vec<u8>, local: &Local) -> Result<(), NoMemory>
 }
 
 /// `input u : T = L`
-#[tactic(auto, using(crate::proofs::Growth::tokens_append))]
+#[tactic(auto, using(crate::proofs::GrowingTexts::tokens_append))]
 pub(crate) fn input(text: &mut Vec<u8>, input: &Input) -> Result<(), NoMemory>
     ensures { OnOk result (text.new.items ≡ with_lines text.old.items (form.Input input.now ∷ [])) }
 {
@@ -144,7 +144,7 @@ pub(crate) fn input(text: &mut Vec<u8>, input: &Input) -> Result<(), NoMemory>
 }
 
 /// `event input u : T`
-#[tactic(auto, using(crate::proofs::Growth::tokens_append))]
+#[tactic(auto, using(crate::proofs::GrowingTexts::tokens_append))]
 pub(crate) fn event_input(text: &mut Vec<u8>, event: &EventIn) -> Result<(), NoMemory>
     ensures { OnOk result (text.new.items ≡ with_lines text.old.items (form.EventInput event.now ∷ [])) }
 {
@@ -154,7 +154,7 @@ pub(crate) fn event_input(text: &mut Vec<u8>, event: &EventIn) -> Result<(), NoM
 }
 
 /// `output y : T needs u, v = e`
-#[tactic(auto, using(crate::proofs::Growth::tokens_append))]
+#[tactic(auto, using(crate::proofs::GrowingTexts::tokens_append))]
 pub(crate) fn output(text: &mut Vec<u8>, output: &Output) -> Result<(), NoMemory>
     ensures { OnOk result (text.new.items ≡ with_lines text.old.items (form.Output output.now ∷ [])) }
 {
@@ -166,7 +166,7 @@ pub(crate) fn output(text: &mut Vec<u8>, output: &Output) -> Result<(), NoMemory
 }
 
 /// `event output y : T needs u, v = e`
-#[tactic(auto, using(crate::proofs::Growth::tokens_append))]
+#[tactic(auto, using(crate::proofs::GrowingTexts::tokens_append))]
 pub(crate) fn event_output(text: &mut Vec<u8>, event: &EventOut) -> Result<(), NoMemory>
     ensures { OnOk result (text.new.items ≡ with_lines text.old.items (form.EventOutput event.now ∷ [])) }
 {
@@ -179,7 +179,7 @@ pub(crate) fn event_output(text: &mut Vec<u8>, event: &EventOut) -> Result<(), N
 }
 
 /// `max e`
-#[tactic(auto, using(crate::proofs::Growth::tokens_append))]
+#[tactic(auto, using(crate::proofs::GrowingTexts::tokens_append))]
 pub(crate) fn max(text: &mut Vec<u8>, value: &Expr) -> Result<(), NoMemory>
     ensures { OnOk result (text.new.items ≡ with_lines text.old.items (form.Max value.now ∷ [])) }
 {
@@ -189,7 +189,7 @@ pub(crate) fn max(text: &mut Vec<u8>, value: &Expr) -> Result<(), NoMemory>
 }
 
 /// `accept e`
-#[tactic(auto, using(crate::proofs::Growth::tokens_append))]
+#[tactic(auto, using(crate::proofs::GrowingTexts::tokens_append))]
 pub(crate) fn accept(text: &mut Vec<u8>, value: &Expr) -> Result<(), NoMemory>
     ensures { OnOk result (text.new.items ≡ with_lines text.old.items (form.Accept value.now ∷ [])) }
 {
@@ -199,7 +199,7 @@ pub(crate) fn accept(text: &mut Vec<u8>, value: &Expr) -> Result<(), NoMemory>
 }
 
 /// `if e`
-#[tactic(auto, using(crate::proofs::Growth::tokens_append))]
+#[tactic(auto, using(crate::proofs::GrowingTexts::tokens_append))]
 pub(crate) fn head_of_if(text: &mut Vec<u8>, value: &Expr) -> Result<(), NoMemory>
     ensures { OnOk result (text.new.items ≡ with_lines text.old.items (form.If value.now ∷ [])) }
 {
@@ -209,7 +209,7 @@ pub(crate) fn head_of_if(text: &mut Vec<u8>, value: &Expr) -> Result<(), NoMemor
 }
 
 /// `step`
-#[tactic(auto, using(crate::proofs::Growth::tokens_append))]
+#[tactic(auto, using(crate::proofs::GrowingTexts::tokens_append))]
 pub(crate) fn step(text: &mut Vec<u8>) -> Result<(), NoMemory>
     ensures { OnOk result (text.new.items ≡ with_lines text.old.items (form.Step ∷ [])) }
 {
@@ -218,7 +218,7 @@ pub(crate) fn step(text: &mut Vec<u8>) -> Result<(), NoMemory>
 }
 
 /// `end`
-#[tactic(auto, using(crate::proofs::Growth::tokens_append))]
+#[tactic(auto, using(crate::proofs::GrowingTexts::tokens_append))]
 pub(crate) fn end(text: &mut Vec<u8>) -> Result<(), NoMemory>
     ensures { OnOk result (text.new.items ≡ with_lines text.old.items (form.End ∷ [])) }
 {
@@ -227,7 +227,7 @@ pub(crate) fn end(text: &mut Vec<u8>) -> Result<(), NoMemory>
 }
 
 /// `else`
-#[tactic(auto, using(crate::proofs::Growth::tokens_append))]
+#[tactic(auto, using(crate::proofs::GrowingTexts::tokens_append))]
 pub(crate) fn head_of_else(text: &mut Vec<u8>) -> Result<(), NoMemory>
     ensures { OnOk result (text.new.items ≡ with_lines text.old.items (form.Else ∷ [])) }
 {
@@ -236,7 +236,7 @@ pub(crate) fn head_of_else(text: &mut Vec<u8>) -> Result<(), NoMemory>
 }
 
 /// `cosim V`
-#[tactic(auto, using(crate::proofs::Growth::tokens_append))]
+#[tactic(auto, using(crate::proofs::GrowingTexts::tokens_append))]
 pub(crate) fn header(text: &mut Vec<u8>, version: u8) -> Result<(), NoMemory>
     ensures { OnOk result (text.new.items ≡ with_lines text.old.items (form.Header version ∷ [])) }
 {
@@ -246,7 +246,7 @@ pub(crate) fn header(text: &mut Vec<u8>, version: u8) -> Result<(), NoMemory>
 }
 
 /// `resolution E`
-#[tactic(auto, using(crate::proofs::Growth::tokens_append))]
+#[tactic(auto, using(crate::proofs::GrowingTexts::tokens_append))]
 pub(crate) fn resolution(text: &mut Vec<u8>, decimals: u8) -> Result<(), NoMemory>
     ensures { OnOk result (text.new.items ≡ with_lines text.old.items (form.Resolution decimals ∷ [])) }
 {
@@ -256,7 +256,7 @@ pub(crate) fn resolution(text: &mut Vec<u8>, decimals: u8) -> Result<(), NoMemor
 }
 
 /// `repeat K`
-#[tactic(auto, using(crate::proofs::Growth::tokens_append))]
+#[tactic(auto, using(crate::proofs::GrowingTexts::tokens_append))]
 pub(crate) fn repeat(text: &mut Vec<u8>, count: u32) -> Result<(), NoMemory>
     ensures { OnOk result (text.new.items ≡ with_lines text.old.items (form.Repeat count ∷ [])) }
 {
@@ -266,7 +266,7 @@ pub(crate) fn repeat(text: &mut Vec<u8>, count: u32) -> Result<(), NoMemory>
 }
 
 /// `zero Z`
-#[tactic(auto, using(crate::proofs::Growth::tokens_append))]
+#[tactic(auto, using(crate::proofs::GrowingTexts::tokens_append))]
 pub(crate) fn zero(text: &mut Vec<u8>, count: u32) -> Result<(), NoMemory>
     ensures { OnOk result (text.new.items ≡ with_lines text.old.items (form.Zero count ∷ [])) }
 {
@@ -276,7 +276,7 @@ pub(crate) fn zero(text: &mut Vec<u8>, count: u32) -> Result<(), NoMemory>
 }
 
 /// `rows R`
-#[tactic(auto, using(crate::proofs::Growth::tokens_append))]
+#[tactic(auto, using(crate::proofs::GrowingTexts::tokens_append))]
 pub(crate) fn rows(text: &mut Vec<u8>, count: u32) -> Result<(), NoMemory>
     ensures { OnOk result (text.new.items ≡ with_lines text.old.items (form.Rows count ∷ [])) }
 {
@@ -286,7 +286,7 @@ pub(crate) fn rows(text: &mut Vec<u8>, count: u32) -> Result<(), NoMemory>
 }
 
 /// `unit A`
-#[tactic(auto, using(crate::proofs::Growth::tokens_append))]
+#[tactic(auto, using(crate::proofs::GrowingTexts::tokens_append))]
 pub(crate) fn unit_head(text: &mut Vec<u8>, unit: &Name) -> Result<(), NoMemory>
     ensures { OnOk result (text.new.items ≡ with_lines text.old.items (form.Unit unit.now ∷ [])) }
 {
@@ -296,7 +296,7 @@ pub(crate) fn unit_head(text: &mut Vec<u8>, unit: &Name) -> Result<(), NoMemory>
 }
 
 /// `x := e`
-#[tactic(auto, using(crate::proofs::Growth::tokens_append))]
+#[tactic(auto, using(crate::proofs::GrowingTexts::tokens_append))]
 pub(crate) fn assign(text: &mut Vec<u8>, target: &Name, value: &Expr) -> Result<(), NoMemory>
     ensures { OnOk result (text.new.items ≡ with_lines text.old.items (form.Assign target.now value.now ∷ [])) }
 {
@@ -307,7 +307,7 @@ pub(crate) fn assign(text: &mut Vec<u8>, target: &Name, value: &Expr) -> Result<
 }
 
 /// `instance a : A`
-#[tactic(auto, using(crate::proofs::Growth::tokens_append))]
+#[tactic(auto, using(crate::proofs::GrowingTexts::tokens_append))]
 pub(crate) fn instance_head(
     text: &mut Vec<u8>,
     instance: &Name,
@@ -323,7 +323,7 @@ pub(crate) fn instance_head(
 }
 
 /// `p = L`
-#[tactic(auto, using(crate::proofs::Growth::tokens_append))]
+#[tactic(auto, using(crate::proofs::GrowingTexts::tokens_append))]
 pub(crate) fn setting(text: &mut Vec<u8>, setting: &Setting) -> Result<(), NoMemory>
     ensures { OnOk result (text.new.items ≡ with_lines text.old.items (form.Setting setting.now ∷ [])) }
 {
@@ -334,7 +334,7 @@ pub(crate) fn setting(text: &mut Vec<u8>, setting: &Setting) -> Result<(), NoMem
 }
 
 /// `connect a.y -> b.u`
-#[tactic(auto, using(crate::proofs::Growth::tokens_append))]
+#[tactic(auto, using(crate::proofs::GrowingTexts::tokens_append))]
 pub(crate) fn connect(text: &mut Vec<u8>, wire: &Wire) -> Result<(), NoMemory>
     ensures { OnOk result (text.new.items ≡ with_lines text.old.items (form.Connect wire.now ∷ [])) }
 {
@@ -346,7 +346,7 @@ pub(crate) fn connect(text: &mut Vec<u8>, wire: &Wire) -> Result<(), NoMemory>
 }
 
 /// `stop S`
-#[tactic(auto, using(crate::proofs::Growth::tokens_append))]
+#[tactic(auto, using(crate::proofs::GrowingTexts::tokens_append))]
 pub(crate) fn stop(text: &mut Vec<u8>, seconds: Literal) -> Result<(), NoMemory>
     ensures { OnOk result (text.new.items ≡ with_lines text.old.items (form.Stop seconds ∷ [])) }
 {
@@ -356,7 +356,7 @@ pub(crate) fn stop(text: &mut Vec<u8>, seconds: Literal) -> Result<(), NoMemory>
 }
 
 /// `longest S`
-#[tactic(auto, using(crate::proofs::Growth::tokens_append))]
+#[tactic(auto, using(crate::proofs::GrowingTexts::tokens_append))]
 pub(crate) fn longest(text: &mut Vec<u8>, seconds: Literal) -> Result<(), NoMemory>
     ensures { OnOk result (text.new.items ≡ with_lines text.old.items (form.Longest seconds ∷ [])) }
 {
@@ -366,7 +366,7 @@ pub(crate) fn longest(text: &mut Vec<u8>, seconds: Literal) -> Result<(), NoMemo
 }
 
 /// `sample a.y`
-#[tactic(auto, using(crate::proofs::Growth::tokens_append))]
+#[tactic(auto, using(crate::proofs::GrowingTexts::tokens_append))]
 pub(crate) fn sample(text: &mut Vec<u8>, port: &PortName) -> Result<(), NoMemory>
     ensures { OnOk result (text.new.items ≡ with_lines text.old.items (form.Sample port.now ∷ [])) }
 {

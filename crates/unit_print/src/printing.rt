@@ -98,7 +98,7 @@ fn put_max(text: &mut Vec<u8>, given: &Option<Expr>) -> Result<(), NoMemory>
     }
 }
 
-#[tactic(auto, using(crate::proofs::Growth::lines_append, crate::proofs::Growth::step_lines_are))]
+#[tactic(auto, using(crate::proofs::GrowingTexts::lines_append, crate::proofs::GrowingTexts::step_lines_are))]
 fn put_step(text: &mut Vec<u8>, given: &Option<List<Line>>) -> Result<(), NoMemory>
     ensures { OnOk result (text.new.items ≡ with_unit_parts text.old.items (optional parts.Step given.now)) }
 {
@@ -113,7 +113,7 @@ fn put_step(text: &mut Vec<u8>, given: &Option<List<Line>>) -> Result<(), NoMemo
 }
 
 /// Puts the ports of a unit, which come last among its lists.
-#[tactic(auto, using(crate::proofs::Growth::unit_parts_append))]
+#[tactic(auto, using(crate::proofs::GrowingTexts::unit_parts_append))]
 fn ports(text: &mut Vec<u8>, unit: &Unit) -> Result<(), NoMemory>
     ensures { OnOk result (text.new.items ≡ with_unit_parts (with_unit_parts (with_unit_parts (with_unit_parts text.old.items
         (map parts.HasInput unit.now.inputs)) (map parts.HasEventIn unit.now.events_in)) (map parts.HasOutput unit.now.outputs)) (map parts.HasEventOut unit.now.events_out)) }
@@ -125,7 +125,7 @@ fn ports(text: &mut Vec<u8>, unit: &Unit) -> Result<(), NoMemory>
 }
 
 /// Puts what stands in a unit.
-#[tactic(auto, using(crate::proofs::Growth::unit_is))]
+#[tactic(auto, using(crate::proofs::GrowingTexts::unit_is))]
 fn unit_body(text: &mut Vec<u8>, unit: &Unit) -> Result<(), NoMemory>
     ensures { OnOk result (text.new.items ≡ with_unit_parts text.old.items (unit_parts unit.now)) }
 {
@@ -138,7 +138,7 @@ fn unit_body(text: &mut Vec<u8>, unit: &Unit) -> Result<(), NoMemory>
     put_step(text, &unit.step)
 }
 
-#[tactic(auto, using(crate::proofs::Growth::lines_append, crate::proofs::Growth::unit_parts_are))]
+#[tactic(auto, using(crate::proofs::GrowingTexts::lines_append, crate::proofs::GrowingTexts::unit_parts_are))]
 fn put_unit(text: &mut Vec<u8>, unit: &Unit) -> Result<(), NoMemory>
     ensures { OnOk result (text.new.items ≡ with_lines text.old.items (part_forms (parts.HasUnit unit.now.name (unit_parts unit.now)))) }
 {
@@ -165,7 +165,7 @@ fn settings(text: &mut Vec<u8>, all: &[Setting]) -> Result<(), NoMemory>
     Ok(())
 }
 
-#[tactic(auto, using(crate::proofs::Growth::lines_append, crate::proofs::Growth::settings_are))]
+#[tactic(auto, using(crate::proofs::GrowingTexts::lines_append, crate::proofs::GrowingTexts::settings_are))]
 fn put_instance(text: &mut Vec<u8>, instance: &Instance) -> Result<(), NoMemory>
     ensures { OnOk result (text.new.items ≡ with_lines text.old.items (part_forms (parts.HasInstance instance.now))) }
 {
@@ -249,7 +249,7 @@ fn limits(text: &mut Vec<u8>, system: &System) -> Result<(), NoMemory>
 }
 
 /// Puts the canonical text of a system in an empty text.
-#[tactic(auto, using(crate::proofs::Growth::system_is))]
+#[tactic(auto, using(crate::proofs::GrowingTexts::system_is))]
 fn whole_system(text: &mut Vec<u8>, system: &System) -> Result<(), NoMemory>
     requires { text.old.items ≡ [] }
     ensures { OnOk result (text.new.items ≡ canonical_text system.now) }

@@ -10,7 +10,7 @@ use unit_tree::Line;
 
 /// Puts a line of a step, with the lines of its block.
 #[cycle(step)]
-#[tactic(auto, using(crate::proofs::Growth::lines_append, crate::proofs::Growth::joined_are))]
+#[tactic(auto, using(crate::proofs::GrowingTexts::lines_append, crate::proofs::GrowingTexts::joined_are))]
 fn step_line(text: &mut Vec<u8>, line: &Line) -> Result<(), NoMemory>
     ensures { OnOk result (text.new.items ≡ with_lines text.old.items (line_forms line.now)) }
 {
@@ -38,7 +38,7 @@ fn step_line(text: &mut Vec<u8>, line: &Line) -> Result<(), NoMemory>
 
 /// Puts `else` and the lines of its block.
 #[cycle(step)]
-#[tactic(auto, using(crate::proofs::Growth::joined_are))]
+#[tactic(auto, using(crate::proofs::GrowingTexts::joined_are))]
 fn otherwise(text: &mut Vec<u8>, lines: &[Line]) -> Result<(), NoMemory>
     ensures { OnOk result (text.new.items ≡ with_lines text.old.items (form.Else ∷ joined (map line_forms lines.now))) }
 {

@@ -20,7 +20,7 @@ fn begins_with_word_byte(bytes: &[u8]) -> bool
     }
 }
 
-#[tactic(auto, using(crate::proofs::Growth::ends_by_last))]
+#[tactic(auto, using(crate::proofs::GrowingTexts::ends_by_last))]
 fn ends_in_word(text: &[u8]) -> bool
     ensures { result ≡ ends_in_word text.now }
 {
@@ -124,7 +124,7 @@ fn space(text: &mut Vec<u8>) -> Result<(), NoMemory>
 }
 
 /// Puts a number by all its digits and how many of them stand behind the point.
-#[tactic(auto, using(crate::proofs::Growth::number_behind), unfolding(crate::specs::Growing::with_token))]
+#[tactic(auto, using(crate::proofs::GrowingTexts::number_behind), unfolding(crate::specs::Growing::with_token))]
 pub(crate) fn number(text: &mut Vec<u8>, number: u64, decimals: u8) -> Result<(), NoMemory>
     ensures { OnOk result (text.new.items ≡ with_token text.old.items (token.Number number decimals)) }
 {

@@ -22,9 +22,9 @@ use Rattle.text_lines.specs.Seen.{IsClean}
 use Rattle.unit_text.specs.Nesting.{Nested, headed_by, and_form, nested_forms}
 use Rattle.unit_text.proofs.NestingLaws.{before_next, same_parts, whole_forms, parts_close}
 use Rattle.text_laws.proofs.RefusalSteps.{unbroken, IsUnbroken, AreUnbroken, IsLeast, first_broken, no_break}
-use Rattle.unit_text.proofs.Walks.{FormsAreKnown, Decided, first_line, version_known, FormIn, form_in, same_forms, AreBlank, NestTo, are_short, blank_more}
-use Rattle.unit_text.proofs.Walks.{nest_blank, header_begins, line_nests, BreaksLeast, bytes_break, length_breaks, formless_breaks, place_breaks}
-use Rattle.unit_text.proofs.Walks.{first_place_breaks, headless_breaks, blank_unbroken, is_written, blank_have_none, one_in}
+use Rattle.unit_text.proofs.TextWalks.{FormsAreKnown, Decided, first_line, version_known, FormIn, form_in, same_forms, AreBlank, NestTo, are_short, blank_more}
+use Rattle.unit_text.proofs.TextWalks.{nest_blank, header_begins, line_nests, BreaksLeast, bytes_break, length_breaks, formless_breaks, place_breaks}
+use Rattle.unit_text.proofs.TextWalks.{first_place_breaks, headless_breaks, blank_unbroken, is_written, blank_have_none, one_in}
 use Rattle.text_laws.proofs.SpelledBytes.{none_forbidden}
 use Rattle.unit_tree.specs.Texts.{BeginsVersion2}
 use Rattle.text_laws.proofs.ReadIsPrintable.{none_written}
@@ -306,7 +306,7 @@ record Says (text : List (List ℕ)) (version : ℕ) (all : List Part) : Type 0 
   short : are_short text ≡ true
 
 -- A line that is not blank, among those of such a text.
-record Stands (text before : List (List ℕ)) (line : List ℕ) (version : ℕ) (all : List Part) : Type 0 where
+record StandsInText (text before : List (List ℕ)) (line : List ℕ) (version : ℕ) (all : List Part) : Type 0 where
   front : List LineForm
   some : LineForm
   others : List LineForm
@@ -315,7 +315,7 @@ record Stands (text before : List (List ℕ)) (line : List ℕ) (version : ℕ) 
   has : HasFormIn text some line
 
 stands_at : (text before : List (List ℕ)) (line : List ℕ) (later : List (List ℕ)) (version : ℕ) (all : List Part) → Says text version all
-    → text ≡ before ++ (line ∷ later) → is_blank_line line ≡ false → Stands text before line version all
+    → text ≡ before ++ (line ∷ later) → is_blank_line line ≡ false → StandsInText text before line version all
 stands_at text before line later version all says cut here =
     let lines = ap (filter is_written) cut ∙ filter-append is_written before (line ∷ later)
     ∙ ap (λ told. filter is_written before ++ cond (not told) (line ∷ filter is_written later) (filter is_written later)) here in
@@ -323,11 +323,12 @@ stands_at text before line later version all says cut here =
     (subst (AllZip (HasFormIn text) (text_forms version all)) lines says.forms))
   where
     by_back : (front back : List LineForm) → text_forms version all ≡ front ++ back → HaveForms text front before
-        → AllZip (HasFormIn text) back (line ∷ filter is_written later) → Stands text before line version all
+        → AllZip (HasFormIn text) back (line ∷ filter is_written later) → StandsInText text before line version all
     by_back front [] is have on_back = absurd on_back
     by_back front (some ∷ others) is have on_back = record { front = front; some = some; others = others; cut = is; have = have; has = on_back.0 }
 
-    by_cut : ZipCut (HasFormIn text) (text_forms version all) (filter is_written before) (line ∷ filter is_written later) → Stands text before line version all
+    by_cut : ZipCut (HasFormIn text) (text_forms version all) (filter is_written before) (line ∷ filter is_written later)
+        → StandsInText text before line version all
     by_cut found = by_back found.front found.back found.cut found.on_front found.on_back
 
 line_keeps : FormsAreKnown → (text before : List (List ℕ)) (line : List ℕ) (later : List (List ℕ)) (version : ℕ) (all : List Part) → Says text version all
@@ -344,7 +345,7 @@ line_keeps known text before line later version all says cut = elim (cases_Bool 
         → some ≡ form.Header version
     first_is_header front some others is none = let whole = is ∙ ap (λ all_front. all_front ++ (some ∷ others)) none in cc
 
-    by_form : Stands text before line version all → IsUnbroken text before line
+    by_form : StandsInText text before line version all → IsUnbroken text before line
     by_form at = unbroken text before line (none_forbidden at.has.has_form.tokens line at.has.has_form.spelled) short
         (λ none. none.1 at.some at.has)
         (λ off.

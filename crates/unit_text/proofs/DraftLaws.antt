@@ -447,9 +447,8 @@ refused_in_step : (nested : Nested) (some : LineForm) → has_rival (before_next
     → holds_form (blocks_of nested.block) some ≡ false → with_form (draft_of nested) some ≡ None → Goes nested some
 refused_in_step nested some is held none =
     by_rival nested some (has_rival (before_next nested) some) is
-    (none ∙ ap
-    (λ told. cond (told && (not (has_rival (before_next nested) some) && has_room (blocks_of nested.block) some)) (Some (draft_of (and_form nested some))) None)
-    (sym held))
+    (none ∙ ap (λ told. cond (told && (not (has_rival (before_next nested) some) && has_room (blocks_of nested.block) some))
+    (Some (draft_of (and_form nested some))) None) (sym held))
 
 step_goes : (version : ℕ) (all : List Part) (name : List ℕ) (inside : List UnitPart) (lines : List Line) (around : List Around)
     → (unit_of name inside).step ≡ None → (some : LineForm) → Goes (at_step version all name inside lines around) some

@@ -1,6 +1,5 @@
 -- What is answered of a line that has no form, and of one that is noted.
-use Rattle.std.proofs.Common.{◌≡◌, ℕ, List, Result, Ok, Err, inl, inr, refl}
-use Rattle.std.specs.Result.{OnOk, result_and}
+use Rattle.std.proofs.Common.{◌≡◌, ℕ, List, Err, inl, inr, refl}
 use Rattle.unit_tree.specs.declared.line_form.LineForm.{LineForm}
 use Rattle.text_tokens.specs.Scanning.{ReadsAs}
 use Rattle.text_tokens.specs.declared.fault.Unread.{Unread}
@@ -12,9 +11,3 @@ pub formless_answer : (draft : Draft) (line : List ℕ) (number : ℕ) (why : Un
     → ReadsAs {X = LineForm} (Err why) (FormIn draft.system.version line) → AnswersAt number (LineGives draft line) (Err (fault_at why number 4))
 formless_answer draft line number unread.NoForm is none = (refl, inr (inl (refl, is, none)))
 formless_answer draft line number unread.NoMemory is none = tt
-
--- what is kept of a value for which something was done, and that this was done
-pub and_kept : {T X E : Type 0} (done : Result T E) (value kept : X) {Done : Type 0} → OnOk done Done → Ok kept ≡ result_and done (Ok value)
-    → (kept ≡ value) × Done
-and_kept (Ok _) value kept is_done is = (cc (is), is_done)
-and_kept (Err why) value kept is_done is = absurd (cc (is))

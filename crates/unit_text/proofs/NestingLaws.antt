@@ -453,11 +453,9 @@ ended_adds lines block others =
     ap (λ forms. around_forms others ++ forms)
     (flat_map-append line_forms block.before (headed block.head lines ∷ [])
     ∙ ap (λ forms. flat_map line_forms block.before ++ forms) (append-nil (line_forms (headed block.head lines)) ∙ headed_forms block.head lines))
-    ∙ sym (
-    append_assoc (around_forms (block ∷ others)) (flat_map line_forms lines) (form.End ∷ [])
+    ∙ sym (append_assoc (around_forms (block ∷ others)) (flat_map line_forms lines) (form.End ∷ [])
     ∙ append_assoc (around_forms others ++ flat_map line_forms block.before) (head_forms block.head) ending
-    ∙ append_assoc (around_forms others) (flat_map line_forms block.before) (head_forms block.head ++ ending)
-    )
+    ∙ append_assoc (around_forms others) (flat_map line_forms block.before) (head_forms block.head ++ ending))
 
 step_ends : (version : ℕ) (all : List Part) (unit : List ℕ) (inside : List UnitPart) (lines : List Line) (around : List Around)
     → Adds (in_step_at version all unit inside (record { lines = lines; around = around })) form.End

@@ -547,12 +547,12 @@ step_holds version all name inside inner rest along =
     record { long = omega (arith, same, long); enough = omega (arith, same, long, length-drop 1 (drop (text_size all) rest)) }
 
 -- The lines of a step that ends are those behind the parts, and this one.
-step_length : (version : ℕ) (all : List Part) (name : List ℕ) (inside : List UnitPart) (inner : Inner) (some : LineForm) (number : ℕ) (rest : List ℕ)
+step_lines_count : (version : ℕ) (all : List Part) (name : List ℕ) (inside : List UnitPart) (inner : Inner) (some : LineForm) (number : ℕ) (rest : List ℕ)
     → GoesAlong (holding version all (InStep name inside inner)) rest
     → nested_forms (holding version all (InUnit name (inside ++ (parts.Step inner.lines ∷ []))))
     ≡ nested_forms (holding version all (InStep name inside inner)) ++ (some ∷ [])
     → length (behind_parts inside (drop (text_size all) rest) ++ (number ∷ [])) ≡ length (unit_part_forms (parts.Step inner.lines))
-step_length version all name inside inner some number rest along grows =
+step_lines_count version all name inside inner some number rest along grows =
     let part = parts.Step inner.lines in
     let behind = drop (text_size all) rest in
     let before = text_forms version all in
@@ -592,7 +592,7 @@ step_more_by version all name inside inner some (Some next) grows header number 
     sym (step_goes_on version all name inside next header number rest along.enough (step_holds version all name inside inner rest along))
 step_more_by version all name inside inner some None grows header number rest along =
     sym (unit_part_ends version all name inside (parts.Step inner.lines) header number rest along.enough (step_holds version all name inside inner rest along)
-    (step_length version all name inside inner some number rest along grows))
+    (step_lines_count version all name inside inner some number rest along grows))
 
 -- A line in a step is collected.
 step_more : (version : ℕ) (all : List Part) (name : List ℕ) (inside : List UnitPart) (inner : Inner) (some : LineForm)

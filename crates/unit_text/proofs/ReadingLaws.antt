@@ -9,6 +9,7 @@ use Rattle.std.proofs.lemmas.Bool.{and_parts, true≢false}
 use Rattle.std.proofs.lemmas.Bool.Decides.{nat_tests}
 use Rattle.std.proofs.lemmas.List.{append-nil, map-append}
 use Rattle.std.proofs.lemmas.List.Elements.{filter-append}
+use Rattle.std.proofs.lemmas.Option.{same_Some}
 use Rattle.unit_tree.specs.Blocks.{no_lines, may_stand, are_placed}
 use Rattle.unit_tree.specs.LineForms.{HasForm, is_of_version_2}
 use Rattle.unit_tree.specs.Lines.{lines_of, without_return, source_lines, size_of, is_blank_line}
@@ -40,9 +41,8 @@ use Rattle.unit_text.proofs.DraftLaws.{draft_of, open_of, draft_goes}
 use Rattle.unit_text.proofs.NumberLaws.{numbers_of, numbers_begin, numbers_more, lengths_more, numbers_end, marks_more}
 use Rattle.unit_text.proofs.NestingLaws.{is_held, before_next, blocks_are, blocks_around, whole_forms}
 use Rattle.text_laws.proofs.RefusalSteps.{AreUnbroken}
-use Rattle.unit_text.proofs.Walks.{FormsAreKnown, FirstLine, first_is, begins_so, AreBlank, NestTo, BreaksLeast, blank_more, nest_blank, header_begins}
-use Rattle.unit_text.proofs.Walks.{line_nests, bytes_break, length_breaks, formless_breaks, place_breaks, first_place_breaks, headless_breaks}
-use Rattle.list_laws.proofs.Options.{some_same}
+use Rattle.unit_text.proofs.TextWalks.{FormsAreKnown, FirstLine, first_is, begins_so, AreBlank, NestTo, BreaksLeast, blank_more, nest_blank, header_begins}
+use Rattle.unit_text.proofs.TextWalks.{line_nests, bytes_break, length_breaks, formless_breaks, place_breaks, first_place_breaks, headless_breaks}
 use Rattle.language_laws.proofs.SourceLaws.{version_is}
 
 -- ---- Cutting lines
@@ -337,7 +337,7 @@ with_own own draft = (draft, own)
 with_next : (found : Option Draft) (own : Option Group) (next : Draft) (group : Option Group) → option_map (with_own own) found ≡ Some (next, group)
     → (found ≡ Some next) × (group ≡ own)
 with_next (Some draft) own next group is =
-    let same : (draft, own) ≡ (next, group) = some_same (draft, own) (next, group) is in
+    let same : (draft, own) ≡ (next, group) = same_Some (draft, own) (next, group) is in
     (ap (λ (pair : Draft × Option Group). Some (pair.0)) same, sym (ap (λ (pair : Draft × Option Group). pair.1) same))
 with_next None own next group is = absurd (cc)
 
@@ -394,7 +394,7 @@ reached_next known text rest line behind header number draft next marks group so
         let held = is_held so_far.nested some may in
         let numbered = numbers_written so_far.before source is.written in
         reached (and_form so_far.nested some) (line_nests known lines so_far.before source so_far.nested some so_far.nests is.clean has may)
-        (some_same next (draft_of (and_form so_far.nested some)) same)
+        (same_Some next (draft_of (and_form so_far.nested some)) same)
         (marks_more (bare_numbers header) marks group (number + 1)
         ∙ ap (λ numbers. with_group numbers group (number + 1)) so_far.numbers_are
         ∙ ap (λ own. with_group (numbers_of so_far.nested numbers_before) own (number + 1)) group_is
@@ -482,7 +482,7 @@ whole_parts nested system is = by_block nested.block is
   where
     by_block : (block : Open) → whole_by (system_of nested.version nested.parts) (open_of block) ≡ Some system
         → (blocks_of block ≡ []) × (system_of nested.version nested.parts ≡ system)
-    by_block AtTop is = (refl, some_same (system_of nested.version nested.parts) system is)
+    by_block AtTop is = (refl, same_Some (system_of nested.version nested.parts) system is)
     by_block (InUnit name inside) is = absurd (cc)
     by_block (InStep name inside inner) is = absurd (cc)
     by_block (InInstance instance) is = absurd (cc)

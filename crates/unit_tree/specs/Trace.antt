@@ -127,8 +127,7 @@ abbrev pub cells_at : Composition → Stand → ℕ
 cells_at run stand =
     if is_some (first_some (port_fault run stand.at.states stand.ports ∷ stop_end run stand.at ∷ row_end run stand.at ∷ max_end run stand.at stand.ports ∷ []))
     then 0
-    else cells_of_trial run stand
-    + (if is_none (trial_end run stand.at stand.ports) && is_redone run stand.at stand.ports then cells_of_redo run stand else 0)
+    else cells_of_trial run stand + (if is_none (trial_end run stand.at stand.ports) && is_redone run stand.at stand.ports then cells_of_redo run stand else 0)
 
 -- The cells of a trace.
 abbrev pub cells_of : Composition → List Stand → ℕ

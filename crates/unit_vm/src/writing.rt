@@ -1,7 +1,7 @@
 ghost use Rattle.std.specs.Prelude.{◌≡◌, ℕ, ◌+◌, ◌*◌, ◌≤◌, ◌++◌, length, slice_get, Some, IfOk, OnOk};
 ghost use Rattle.unit_vm.specs.declared.instruction.Instruction.{Instruction};
 ghost use Rattle.unit_vm.specs.Instructions.{number_of, operation_of, argument_of, written};
-ghost use Rattle.unit_vm.specs.Programs.{joined, code_of_limit, places_from, place_behind, table_of, words_of, IsShort, AreShort};
+ghost use Rattle.unit_vm.specs.Programs.{joined, code_of_limit, places_from, place_behind, table_of, program_words, IsShort, AreShort};
 
 use crate::instruction::Instruction;
 use crate::program::Program;
@@ -169,7 +169,7 @@ impl Program {
     /// The words that write the program.
     pub fn words(&self, alloc: Global) -> Result<List<i64>, NoMemory>
         requires { IsShort self.now }
-        ensures { IfOk result (λ words. words ≡ words_of self.now) }
+        ensures { IfOk result (λ words. words ≡ program_words self.now) }
     {
         let mut words = table(alloc, self)?;
         push_parts(&mut words, self.outputs.as_slice())?;

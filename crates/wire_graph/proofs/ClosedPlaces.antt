@@ -9,8 +9,9 @@ use Rattle.unit_tree.specs.Ports.{IsAmong, IsOrderedAfter, needs_of_places, need
 use Rattle.unit_tree.specs.declared.system.PortName.{PortName}
 use Rattle.unit_tree.specs.declared.system.System.{System}
 use Rattle.language_laws.proofs.NameLaws.{NamesDiffer, Wired}
-use Rattle.wire_graph.proofs.SortingLaws.{among_either, all_weaker}
 use Rattle.run_laws.proofs.PlaceOrders.{ordered, orderly, among_ports, port_at, at_is, among_places, ports_at, place_back, places, count_is}
+use Rattle.run_laws.proofs.EquationLaws.{among_either}
+use Rattle.list_laws.proofs.Lists.{each_so}
 
 -- An output all of whose needs are among the places is among them itself.
 abbrev pub AreClosed : Composition → List ℕ → Type 0
@@ -23,7 +24,7 @@ within run order before (first ∷ other) closed came is place stands =
     by here (λ at. within run order (before ++ (first ∷ [])) other closed (λ p among. either at p (among_either before first p among)) is.3 place) stands
   where
     here : IsAmong order first
-    here = closed first is.0 (all_weaker (IsAmong before) (IsAmong order) (needs_at run first) came is.2)
+    here = closed first is.0 (each_so (IsAmong before) (IsAmong order) came (needs_at run first) is.2)
 
     either : IsAmong order first → (p : ℕ) → IsAmong before p ⊎ (first ≡ p) → IsAmong order p
     either at p (inl earlier) = came p earlier

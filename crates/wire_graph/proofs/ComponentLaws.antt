@@ -13,13 +13,12 @@ use Rattle.unit_tree.specs.declared.unit.EventOut.{EventOut}
 use Rattle.unit_tree.specs.declared.unit.Input.{Input}
 use Rattle.unit_tree.specs.declared.unit.Output.{Output}
 use Rattle.unit_tree.specs.declared.unit.Unit.{Unit}
-use Rattle.language_laws.proofs.PlainNames.{each_has}
 use Rattle.run_laws.proofs.PlainOrders.{named_has}
 use Rattle.wire_graph.specs.Origins.{HaveDecimals, input_of, member_of}
 use Rattle.wire_graph.specs.Wiring.{Named, named_of, named_with, components_in, port_named, output_ports_of, outputs_named}
 use Rattle.wire_graph.specs.declared.components.Component.{Component}
 use Rattle.wire_graph.proofs.RoutingLaws.{IsWiredAs}
-use Rattle.list_laws.proofs.Members.{Has}
+use Rattle.list_laws.proofs.Members.{Has, each_has}
 
 module _ (system : System) where
   abbrev component_of : Instance → Option Named

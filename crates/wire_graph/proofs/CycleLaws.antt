@@ -3,18 +3,18 @@ use Rattle.std.proofs.Common.{◌≡◌, ℕ, zero, suc, ◌+◌, ◌<◌, ◌�
 use Rattle.std.proofs.Common.{append-nil, append_assoc}
 use Rattle.std.specs.Prelude.{◌||◌}
 use Rattle.std.specs.List.{AllByRecursion, list_any}
+use Rattle.std.proofs.lemmas.Bool.{or_right, or_cases}
 use Rattle.language_laws.specs.Language.{CyclesAreJudgedOnce}
 use Rattle.unit_tree.specs.Names.{same_port}
 use Rattle.unit_tree.specs.Orders.{IsIn, IsOrderlyAfter, IsOrderly, HasNoCycle, HasNoOrder, IsFirstWithoutOrder, outputs_of, needed_by}
 use Rattle.unit_tree.specs.declared.system.PortName.{PortName}
 use Rattle.unit_tree.specs.declared.system.System.{System}
 use Rattle.language_laws.proofs.NameLaws.{same_port_of}
-use Rattle.language_laws.proofs.OrderLaws.{each_in}
+use Rattle.language_laws.proofs.OrderLaws.{each_in, in_front}
 use Rattle.run_laws.proofs.PlaceOrders.{has_in, same_port_is}
-use Rattle.run_laws.proofs.PlainOrders.{in_longer}
-use Rattle.run_laws.proofs.PortLaws.{or_true}
 use Rattle.list_laws.proofs.Members.{has_behind}
-use Rattle.list_laws.proofs.Truths.{or_right}
+use Rattle.list_laws.proofs.Truths.{true_is_false}
+use Rattle.list_laws.proofs.Lists.{each_so}
 
 -- ---- Whether a port is among some
 
@@ -24,7 +24,7 @@ stands ports port = list_any (same_port port) ports
 is_in : (ports : List PortName) (port : PortName) → stands ports port ≡ true → IsIn ports port
 is_in [] port told = absurd (cc)
 is_in (first ∷ ports) port told =
-    elim (or_true (same_port port first) (stands ports port) told) [
+    elim (or_cases (same_port port first) (stands ports port) told) [
       | inl same ↦ inl (sym (same_port_is port first same))
       | inr later ↦ inr (is_in ports port later)
     ]
@@ -33,10 +33,6 @@ told_in : (ports : List PortName) (port : PortName) → IsIn ports port → stan
 told_in [] port here = absurd here
 told_in (first ∷ ports) port (inl is) = ap (λ told. told || stands ports port) (same_port_of port first (sym is))
 told_in (first ∷ ports) port (inr later) = or_right (same_port port first) (stands ports port) (told_in ports port later)
-
-true_is_false : {A : Type 0} (told : Bool) → told ≡ true → told ≡ false → A
-true_is_false true is isnt = absurd (cc)
-true_is_false false is isnt = absurd (cc)
 
 not_in : (ports : List PortName) (port : PortName) → stands ports port ≡ false → IsIn ports port → ⊥
 not_in ports port isnt here = true_is_false (stands ports port) (told_in ports port here) isnt
@@ -58,7 +54,7 @@ left order [] = 0
 left order (port ∷ ports) = cond (stands order port) (left order ports) (1 + left order ports)
 
 with_last : (order : List PortName) (last port : PortName) → stands order port ≡ true → stands (order ++ (last ∷ [])) port ≡ true
-with_last order last port told = told_in (order ++ (last ∷ [])) port (in_longer order (last ∷ []) port (is_in order port told))
+with_last order last port told = told_in (order ++ (last ∷ [])) port (in_front order (last ∷ []) port (is_in order port told))
 
 last_stands : (order : List PortName) (last : PortName) → stands (order ++ (last ∷ [])) last ≡ true
 last_stands order last = told_in (order ++ (last ∷ [])) last (has_in (order ++ (last ∷ [])) last (has_behind order (last ∷ []) last (inl refl)))
@@ -106,10 +102,6 @@ none_left order (first ∷ ports) none port (inr later) = none_left order ports 
 
 -- ---- A closed orderly list
 
-all_in : (P Q : PortName → Type 0) (ports : List PortName) → ((port : PortName) → P port → Q port) → AllByRecursion P ports → AllByRecursion Q ports
-all_in P Q [] leads all = tt
-all_in P Q (first ∷ ports) leads all = (leads first all.0, all_in P Q ports leads all.1)
-
 in_either : (front : List PortName) (last port : PortName) → IsIn (front ++ (last ∷ [])) port → IsIn front port ⊎ (last ≡ port)
 in_either [] last port (inl is) = inr is
 in_either [] last port (inr none) = absurd none
@@ -130,10 +122,10 @@ module _ (system : System) where
       → IsOrderlyAfter system before other → (port : PortName) → IsIn other port → IsIn order port
   within order before [] closed came orderly port none = absurd none
   within order before (first ∷ other) closed came orderly port (inl is) =
-      subst (IsIn order) is (closed first orderly.0 (all_in (IsIn before) (IsIn order) (needed_by system first) came orderly.2))
+      subst (IsIn order) is (closed first orderly.0 (each_so (IsIn before) (IsIn order) came (needed_by system first) orderly.2))
   within order before (first ∷ other) closed came orderly port (inr later) =
       within order (before ++ (first ∷ [])) other closed
-      (λ p. within_by order before first p (closed first orderly.0 (all_in (IsIn before) (IsIn order) (needed_by system first) came orderly.2)) came)
+      (λ p. within_by order before first p (closed first orderly.0 (each_so (IsIn before) (IsIn order) came (needed_by system first) orderly.2)) came)
       orderly.3 port later
 
   longer : (before order : List PortName) (last : PortName) → IsOrderlyAfter system before order → IsIn (outputs_of system) last
@@ -211,7 +203,7 @@ module _ (system : System) where
     later = later;
     cut = cut;
     has_no_order = λ other is_orderly here. outside (within order [] other closed (λ p none. absurd none) is_orderly port here);
-    is_first = all_in (IsIn order) (λ other. HasNoOrder system other → ⊥) before (λ p here none. none order orderly here) inside;
+    is_first = each_so (IsIn order) (λ other. HasNoOrder system other → ⊥) (λ p here none. none order orderly here) before inside;
   }
 
   all_more : (order before : List PortName) (port : PortName) → AllByRecursion (IsIn order) before → IsIn order port

@@ -13,10 +13,10 @@ use Rattle.unit_tree.specs.declared.system.System.{System}
 use Rattle.unit_tree.specs.declared.unit.EventIn.{EventIn}
 use Rattle.unit_tree.specs.declared.unit.Input.{Input}
 use Rattle.unit_tree.specs.declared.unit.Unit.{Unit}
-use Rattle.language_laws.proofs.PlainNames.{each_has, has_flat}
+use Rattle.language_laws.proofs.PlainNames.{has_flat}
 use Rattle.run_laws.proofs.PlainOrders.{plain_of}
 use Rattle.wire_graph.specs.Origins.{HaveDecimals}
-use Rattle.list_laws.proofs.Members.{Has, has_front, has_behind, has_map, all_has}
+use Rattle.list_laws.proofs.Members.{Has, has_front, has_behind, has_map, all_has, each_has}
 
 -- ---- The lines of inputs
 

@@ -3,6 +3,7 @@ use Rattle.std.proofs.Common.{◌≡◌, ℕ, zero, suc, ◌+◌, ◌<◌, ◌==
 use Rattle.std.proofs.Common.{sym, subst, ◌∙◌, arith}
 use Rattle.std.specs.Prelude.{not, slice_get}
 use Rattle.std.specs.List.{AllByRecursion, position_from}
+use Rattle.std.proofs.lemmas.Option.{same_Some}
 use Rattle.unit_tree.specs.Compositions.{Composition, composition_of, run_of}
 use Rattle.unit_tree.specs.Orders.{outputs_of}
 use Rattle.unit_tree.specs.Plain.{plain_form}
@@ -12,7 +13,7 @@ use Rattle.unit_tree.specs.Routes.{IsRoutedAfter, IsOrderOf, routes_of}
 use Rattle.unit_tree.specs.WellFormed.{IsWellFormed}
 use Rattle.unit_tree.specs.declared.order.Routes.{Routes}
 use Rattle.unit_tree.specs.declared.system.System.{System}
-use Rattle.run_laws.proofs.EventLaws.{one_or_two, plain_form_1, plain_form_without_events}
+use Rattle.run_laws.proofs.EventLaws.{plain_form_1, plain_form_without_events}
 use Rattle.language_laws.proofs.NameLaws.{NamesDiffer, Wired, names_differ, is_wired}
 use Rattle.run_laws.proofs.PlainCycles.{plain_is_wired}
 use Rattle.run_laws.proofs.PlainOrders.{plain_of, plain_names_differ}
@@ -23,9 +24,9 @@ use Rattle.wire_graph.specs.declared.fault.OrderFault.TheVariants.{Loop, NoMemor
 use Rattle.wire_graph.proofs.ClosedPlaces.{AreClosed, first_left}
 use Rattle.wire_graph.proofs.FaultLaws.{port_numbered}
 use Rattle.wire_graph.proofs.RoutePlaces.{ordered_along}
-use Rattle.list_laws.proofs.Options.{some_same}
 use Rattle.run_laws.proofs.PlaceOrders.{port_at, at_is, count_is}
 use Rattle.unit_tree.proofs.RouteLaws.{count_is as route_count, needs_is as route_needs}
+use Rattle.list_laws.proofs.Truths.{one_or_two, true_is_false}
 
 -- ---- What is left
 
@@ -44,12 +45,12 @@ pub record IsFirstLeft (placed : List Bool) (k : ℕ) : Type 0 where
 left_at : (placed : List Bool) (from found k : ℕ) → position_from not from placed ≡ Some found → found ≡ from + k → IsFirstLeft placed k
 left_at [] from found k is at = absurd (cc)
 left_at (false ∷ placed) from found zero is at = record { within = omega arith; left = refl; others = λ j none. absurd (omega (arith, none)) }
-left_at (false ∷ placed) from found (suc k) is at = absurd (omega (arith, at, some_same from found is))
+left_at (false ∷ placed) from found (suc k) is at = absurd (omega (arith, at, same_Some from found is))
 left_at (true ∷ placed) from found zero is at = absurd (before (from + 1) placed found is (omega (arith, at)))
   where
     before : (later : ℕ) (rest : List Bool) (some : ℕ) → position_from not later rest ≡ Some some → some < later → ⊥
     before later [] some is below = cc
-    before later (false ∷ rest) some is below = omega (arith, below, some_same later some is)
+    before later (false ∷ rest) some is below = omega (arith, below, same_Some later some is)
     before later (true ∷ rest) some is below = before (later + 1) rest some is (omega (arith, below))
 left_at (true ∷ placed) from found (suc k) is at =
     let later = left_at placed (from + 1) found k is (omega (arith, at)) in
@@ -119,10 +120,6 @@ right_fault system routes places placed place (Loop instance output) ranged kept
           (ordered_along run [] places (subst (λ (all : Routes). IsRoutedAfter all [] places) routes_are sorted.routed))
           (are_closed run routes places placed routes_are sorted closed)
           within
-          (λ stands. apart (get_or placed place false) (sorted.among place stands) left.left)
+          (λ stands. true_is_false (get_or placed place false) (sorted.among place stands) left.left)
           (λ other below. sorted.marked other (left.others other below)),
     )
-  where
-    apart : (told : Bool) → told ≡ true → told ≡ false → ⊥
-    apart true is isnt = cc
-    apart false is isnt = cc

@@ -4,8 +4,6 @@ use Rattle.std.specs.Prelude.{slice_get, not, unwrap_or, ◌&&◌}
 use Rattle.std.specs.List.{position_from, position_or_len, filter_map, cons_option}
 use Rattle.std.specs.Borrow.{Bor}
 use Rattle.std.specs.Option.{option_map, option_and_then, option_copied}
-use Rattle.std.specs.Str.{bytes_eq}
-use Rattle.std.specs.Cmp.Lexicographic.{nat_list_eq_equiv}
 use Rattle.unit_tree.specs.Compositions.{source_from}
 use Rattle.unit_tree.specs.Names.{same_port}
 use Rattle.unit_tree.specs.Orders.{source_if}
@@ -15,6 +13,7 @@ use Rattle.unit_tree.specs.declared.system.Wire.{Wire}
 use Rattle.unit_tree.specs.declared.unit.Input.{Input}
 use Rattle.wire_graph.specs.Origins.{source_behind}
 use Rattle.wire_graph.specs.Wiring.{targets_of}
+use Rattle.language_laws.proofs.NameLaws.{same_port_symm}
 
 pub position_map : {A B : Type 0} (p : B → Bool) (f : A → B) (from : ℕ) (xs : List A) → position_from (λ x. p (f x)) from xs ≡ position_from p from (map f xs)
 position_map p f from [] = refl
@@ -37,11 +36,6 @@ place_or_count p xs found count is count_is =
     let zero_is : 0 + length xs ≡ length xs = omega arith in
     let same : 0 + position_or_len p xs ≡ position_or_len p xs = omega arith in
     ap (λ n. unwrap_or found n) (count_is ∙ sym zero_is) ∙ ap (λ given. unwrap_or given (0 + length xs)) is ∙ place_from p 0 xs ∙ same
-
-same_port_symm : (one other : PortName) → same_port one other ≡ same_port other one
-same_port_symm one other =
-    ap (λ told. told && bytes_eq one.port other.port) (nat_list_eq_equiv.symm one.instance other.instance)
-    ∙ ap (λ told. bytes_eq other.instance one.instance && told) (nat_list_eq_equiv.symm one.port other.port)
 
 -- The first connection to an input, found by its number.
 abbrev from_of : Wire → PortName

@@ -14,27 +14,10 @@ use Rattle.unit_tree.specs.declared.order.Route.{Route}
 use Rattle.unit_tree.specs.declared.order.Routes.{Routes}
 use Rattle.wire_graph.specs.Sorting.{IsSorting, Grows, IsTried, IsClosed, not_yet, left_of}
 use Rattle.list_laws.proofs.Truths.{true_is_false}
+use Rattle.list_laws.proofs.Lists.{each_so}
+use Rattle.run_laws.proofs.EquationLaws.{among_front, among_last, among_either}
 
 -- ---- Places among others
-
-pub among_front : (places behind : List ℕ) (place : ℕ) → IsAmong places place → IsAmong (places ++ behind) place
-among_front [] behind place stands = absurd stands
-among_front (first ∷ places) behind place (inl is) = inl is
-among_front (first ∷ places) behind place (inr later) = inr (among_front places behind place later)
-
-pub among_last : (places : List ℕ) (place : ℕ) → IsAmong (places ++ (place ∷ [])) place
-among_last [] place = inl refl
-among_last (first ∷ places) place = inr (among_last places place)
-
-pub among_either : (places : List ℕ) (last place : ℕ) → IsAmong (places ++ (last ∷ [])) place → IsAmong places place ⊎ (last ≡ place)
-among_either [] last place (inl is) = inr is
-among_either [] last place (inr none) = absurd none
-among_either (first ∷ places) last place (inl is) = inl (inl is)
-among_either (first ∷ places) last place (inr later) = elim (among_either places last place later) [ inl stands ↦ inl (inr stands) | inr is ↦ inr is ]
-
-pub all_weaker : (P Q : ℕ → Type 0) (places : List ℕ) → ((place : ℕ) → P place → Q place) → AllByRecursion P places → AllByRecursion Q places
-all_weaker P Q [] weaker all = tt
-all_weaker P Q (first ∷ places) weaker all = (weaker first all.0, all_weaker P Q places weaker all.1)
 
 -- ---- Growing
 
@@ -151,7 +134,7 @@ tried_further routes old new newer place tried grows = λ within needs. grows.ho
 
 pub tried_from : (routes : Routes) (old new newer : List ℕ) (place : ℕ) → IsTried routes new newer place → Grows old new → IsTried routes old newer place
 tried_from routes old new newer place tried grows =
-    λ within needs. tried within (all_weaker (IsAmong old) (IsAmong new) (needs_on routes place) grows.holds needs)
+    λ within needs. tried within (each_so (IsAmong old) (IsAmong new) grows.holds (needs_on routes place) needs)
 
 -- What was tried without growth can't grow.
 pub closed : (routes : Routes) (old new : List ℕ) → Grows old new → length new ≡ length old → ((place : ℕ) → IsTried routes old new place) → IsClosed routes new

@@ -21,15 +21,15 @@ use Rattle.wire_graph.specs.declared.origins.OriginTables.{OriginTables}
 use Rattle.wire_graph.specs.declared.origins.WiredInput.{WiredInput}
 
 -- A table has for each port its first place among some.
-abbrev pub Finds : {S : Type 0} → List PortName → IndexMap (Bor (List ℕ) × Bor (List ℕ)) ℕ S → Type 0
-Finds ports table = (key : Bor (List ℕ) × Bor (List ℕ))
+abbrev pub FindsPortPlaces : {S : Type 0} → List PortName → IndexMap (Bor (List ℕ) × Bor (List ℕ)) ℕ S → Type 0
+FindsPortPlaces ports table = (key : Bor (List ℕ) × Bor (List ℕ))
     → get_by (λ other. same_port (port_with key) (port_with other)) table ≡ position_from (same_port (port_with key)) 0 ports
 
 -- The tables of a system: the places of its outputs, and the connections by the inputs that they lead to.
 pub record AreTables (system : System) (tables : OriginTables) : Type 0 where
-  pub places : Finds (outputs_of system) tables.places
+  pub places : FindsPortPlaces (outputs_of system) tables.places
   pub count : tables.count ≡ length (outputs_of system)
-  pub targets : Finds (targets_of system.wires) tables.targets
+  pub targets : FindsPortPlaces (targets_of system.wires) tables.targets
 
 -- The types of inputs have decimals that the language allows.
 abbrev pub HaveDecimals : List Input → Type 0

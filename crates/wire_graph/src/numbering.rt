@@ -1,7 +1,7 @@
 ghost use Rattle.std.specs.Prelude.{◌≡◌, ℕ, IfOk, OnOk, Some, None, if◌then◌else◌};
 ghost use Rattle.std.specs.List.{position_from};
 ghost use Rattle.indexmap.specs.IndexMap.{get};
-ghost use Rattle.list_laws.specs.Options.{the_first};
+ghost use Rattle.std.specs.Option.{option_or};
 
 use fixed_words::NoMemory;
 use indexmap::IndexMap;
@@ -14,7 +14,7 @@ fn note<K: Eq + Hash + Copy + Drop>(
     key: K,
     place: usize,
 ) -> Result<(), NoMemory>
-    ensures { OnOk result ((asked : K) → get K.eq table.new asked ≡ the_first (get K.eq table.old asked) (if K.eq asked key then Some place else None)) }
+    ensures { OnOk result ((asked : K) → get K.eq table.new asked ≡ option_or (get K.eq table.old asked) (if K.eq asked key then Some place else None)) }
 {
     if table.get(&key).is_some() {
         return Ok(());

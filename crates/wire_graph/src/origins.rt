@@ -8,7 +8,7 @@ ghost use Rattle.unit_tree.specs.Compositions.{place_of, source_from};
 ghost use Rattle.unit_tree.specs.Names.{same_port};
 ghost use Rattle.unit_tree.specs.Orders.{outputs_of, sources_of};
 ghost use Rattle.wire_graph.specs.Wiring.{port_with, port_named, targets_of, named_of};
-ghost use Rattle.wire_graph.specs.Origins.{Finds, AreTables, HaveDecimals, source_behind, origin_of, wired_input, input_of, member_behind, member_of};
+ghost use Rattle.wire_graph.specs.Origins.{FindsPortPlaces, AreTables, HaveDecimals, source_behind, origin_of, wired_input, input_of, member_behind, member_of};
 
 use crate::components::{Component, PortKey};
 use crate::numbering::numbered;
@@ -61,7 +61,7 @@ pub(crate) fn table_of<'a>(
     alloc: Global,
     ports: &[PortKey<'a>],
 ) -> Result<IndexMap<PortKey<'a>, usize>, NoMemory>
-    ensures { IfOk result (Finds (map port_with ports.now)) }
+    ensures { IfOk result (FindsPortPlaces (map port_with ports.now)) }
 {
     let table = numbered(alloc, ports)?;
     Ok(table)

@@ -180,17 +180,11 @@ divided = record {
 
 abbrev pub follows : List Part
 follows =
-    parts.HasUnit (codes "S") (
-    state_of (codes "n") 1
-    ∷ output_of (codes "y") [] n
-    ∷ parts.Step (line.Assign (codes "n") (expr.Binary by.Min (sum n (number 2)) (number 4)) ∷ [])
-    ∷ [])
-    ∷ parts.HasUnit (codes "D") (
-    input_of (codes "u")
-    ∷ state_of (codes "v") 0
-    ∷ output_of (codes "y") [] (expr.Var (codes "v"))
-    ∷ parts.Step (line.Assign (codes "v") (expr.Binary by.Div (number 12) (expr.Binary by.Sub (number 5) (expr.Var (codes "u")))) ∷ [])
-    ∷ [])
+    parts.HasUnit (codes "S")
+    (state_of (codes "n") 1 ∷ output_of (codes "y") [] n ∷ parts.Step (line.Assign (codes "n") (expr.Binary by.Min (sum n (number 2)) (number 4)) ∷ []) ∷ [])
+    ∷ parts.HasUnit (codes "D")
+    (input_of (codes "u") ∷ state_of (codes "v") 0 ∷ output_of (codes "y") [] (expr.Var (codes "v"))
+    ∷ parts.Step (line.Assign (codes "v") (expr.Binary by.Div (number 12) (expr.Binary by.Sub (number 5) (expr.Var (codes "u")))) ∷ []) ∷ [])
     ∷ instance (codes "s") (codes "S") []
     ∷ instance (codes "d") (codes "D") []
     ∷ connect (codes "s") (codes "y") (codes "d") (codes "u")

@@ -1,5 +1,5 @@
 use Rattle.std.proofs.Common.{◌≡◌, refl, subst, List, ℕ}
-use Rattle.cosim_app.specs.Commands.{words_of, HaveNoForm}
+use Rattle.cosim_app.specs.Commands.{words_of_command, HaveNoForm}
 use Rattle.cosim_app.specs.Headline.{streams}
 use Rattle.cosim_app.specs.Judgement.{TellsNote}
 use Rattle.cosim_app.specs.Notes.{usage_note, read_fault_note, write_fault_note, no_memory_note}
@@ -28,7 +28,7 @@ returns-in_default g c =
 
 pub returns-in-Answered : goal.returns-in-Answered
 returns-in-Answered g c =
-    let is : bytes_of c.args.words.now ≡ words_of c.in-Some.command = c.in-Some.ensures in
+    let is : bytes_of c.args.words.now ≡ words_of_command c.in-Some.command = c.in-Some.ensures in
     let told =
     subst (λ (note : List ℕ). TellsNote (g.N.Sink.held c.args.notes.now) (g.N.Sink.held c.tell-in-Answered.new.notes) (g.N.Sink.faults c.args.notes.now)
     (g.N.Sink.faults c.tell-in-Answered.new.notes) note c.in-Answered.status c.tell-in-Answered.result) c.deref.ensures.value c.tell-in-Answered.ensures.told in
@@ -50,7 +50,7 @@ returns-in-Answered g c =
 
 pub returns-in-ReadFault : goal.returns-in-ReadFault
 returns-in-ReadFault g c =
-    let is : bytes_of c.args.words.now ≡ words_of c.in-Some.command = c.in-Some.ensures in
+    let is : bytes_of c.args.words.now ≡ words_of_command c.in-Some.command = c.in-Some.ensures in
     record {
       headline =
           promises_told (bytes_of c.args.words.now)
@@ -70,7 +70,7 @@ returns-in-ReadFault g c =
 
 pub returns-in-WriteFault : goal.returns-in-WriteFault
 returns-in-WriteFault g c =
-    let is : bytes_of c.args.words.now ≡ words_of c.in-Some.command = c.in-Some.ensures in
+    let is : bytes_of c.args.words.now ≡ words_of_command c.in-Some.command = c.in-Some.ensures in
     record {
       headline =
           promises_told (bytes_of c.args.words.now)
@@ -90,7 +90,7 @@ returns-in-WriteFault g c =
 
 pub returns-in-NoMemory : goal.returns-in-NoMemory
 returns-in-NoMemory g c =
-    let is : bytes_of c.args.words.now ≡ words_of c.in-Some.command = c.in-Some.ensures in
+    let is : bytes_of c.args.words.now ≡ words_of_command c.in-Some.command = c.in-Some.ensures in
     record {
       headline =
           promises_told (bytes_of c.args.words.now)

@@ -1,4 +1,4 @@
-use Rattle.front_cell.proofs.Forward.{reader_forward}
+use Rattle.front_cell.proofs.StoresAndReads.{reader_forward}
 use Rattle.front_cell.proofs.laws.reader_never_goes_back.Goals as goal
 
 pub returns : goal.returns

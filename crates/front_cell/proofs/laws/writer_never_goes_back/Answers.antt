@@ -1,4 +1,4 @@
-use Rattle.front_cell.proofs.Forward.{writer_forward}
+use Rattle.front_cell.proofs.StoresAndReads.{writer_forward}
 use Rattle.front_cell.proofs.laws.writer_never_goes_back.Goals as goal
 
 pub returns : goal.returns

@@ -1,7 +1,7 @@
 use Rattle.std.proofs.Common.{◌≡◌, ◌+◌, ◌*◌, ◌^◌, ◌+ℤ◌, drop, to_z, of_z, sym, ap, subst, ◌∙◌, arith}
 use Rattle.std.specs.Int.{w128}
 use Rattle.std.proofs.lemmas.Int.{ints, to_z-of_z}
-use Rattle.serial_run.specs.Sums.{IsWithin, row_sum}
+use Rattle.serial_run.specs.Sums.{IsBoundedBy, row_sum}
 use Rattle.serial_run.proofs.RowLaws.{summed_more, within_more}
 use Rattle.serial_run.proofs.rows.row_sum.Goals as goal
 
@@ -18,7 +18,8 @@ loop-column-preserved c =
           ∙ summed_more c.args.columns.now c.args.ports.now l.column-index _ l.sum c.word_shown.result
           (row_sum c.args.columns.now c.args.ports.now) c.loop-column-test.true c.word_shown.ensures
           (ap (λ s. s +ℤ row_sum (drop l.column-index c.args.columns.now) c.args.ports.now) (sym l.sum-is) ∙ l.invariant.summed);
-      within = subst (IsWithin ((l.column-index + 1) * 2 ^ 63)) (sym total)
-          (within_more l.column-index l.sum c.word_shown.result (subst (IsWithin (l.column-index * 2 ^ 63)) l.sum-is l.invariant.within) (omega (arith, ints))
+      within = subst (IsBoundedBy ((l.column-index + 1) * 2 ^ 63)) (sym total)
+          (within_more l.column-index l.sum c.word_shown.result
+          (subst (IsBoundedBy (l.column-index * 2 ^ 63)) l.sum-is l.invariant.within) (omega (arith, ints))
           (omega (arith, ints)));
     }

@@ -1,9 +1,9 @@
 use Rattle.std.proofs.Common.{◌≡◌, ◌*◌, ◌^◌, ◌+ℤ◌, drop}
-use Rattle.serial_run.specs.Sums.{IsWithin, row_sum}
+use Rattle.serial_run.specs.Sums.{IsBoundedBy, row_sum}
 use Rattle.serial_run.proofs.rows.row_sum.Given as goal
 
 abbrev pub invariant-loop-column : goal.invariant-loop-column
 invariant-loop-column l = record {
   summed : l.sum +ℤ row_sum (drop l.column-index l.columns) l.ports ≡ row_sum l.columns l.ports;
-  within : IsWithin (l.column-index * 2 ^ 63) l.sum;
+  within : IsBoundedBy (l.column-index * 2 ^ 63) l.sum;
 }

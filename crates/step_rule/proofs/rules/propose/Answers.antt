@@ -1,6 +1,6 @@
 use Rattle.std.proofs.Common.{◌≡◌, ◌-◌, ◌+◌, sym, ◌∙◌, ap, drop}
 use Rattle.unit_tree.specs.Negotiation.{least_of}
-use Rattle.step_rule.proofs.Leasts.{least_of_two, least_next}
+use Rattle.step_rule.proofs.LeastLaws.{least_of_two, least_next}
 use Rattle.step_rule.proofs.rules.propose.Goals as goal
 
 pub loop-limit-init : goal.loop-limit-init

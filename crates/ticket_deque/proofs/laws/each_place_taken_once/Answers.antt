@@ -1,4 +1,4 @@
-use Rattle.ticket_deque.proofs.Onces as onces
+use Rattle.ticket_deque.proofs.OnceLaws as onces
 use Rattle.ticket_deque.proofs.laws.each_place_taken_once.Goals as goal
 
 pub returns : goal.returns

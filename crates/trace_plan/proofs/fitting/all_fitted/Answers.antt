@@ -1,6 +1,6 @@
 use Rattle.std.proofs.Common.{◌≡◌, ◌∙◌, None, ap, sym, subst}
 use Rattle.std.specs.List.{AllZip}
-use Rattle.trace_plan.specs.Fitting.{AreMade}
+use Rattle.trace_plan.specs.Fitting.{AreImagesOf}
 use Rattle.trace_plan.specs.Keeps.{IsFitted}
 use Rattle.unit_tree.specs.Names.{unit_named}
 use Rattle.unit_tree.specs.Plain.{plain_form}
@@ -27,12 +27,12 @@ loop-instance-preserved c =
         front = one_more system instances place instance c.loop-instance.all.items c.loop-instance-test.true c.instance-item.is front w.in_ok-fit.field-0
             w.in_ok-fit.ensures.fitted w.push.new.self.items c.match-number_of.all.items w.in_ok-push.ensures.items
             (ap (λ all. all.items) w.all-is);
-        made = subst (λ some. AreMade c.args.checked.now some.items) (sym w.made-is) w.in_ok-fit.ensures.made;
+        made = subst (λ some. AreImagesOf c.args.checked.now some.items) (sym w.made-is) w.in_ok-fit.ensures.made;
       }
       | in_default w ↦ record {
         front = left_out system instances place instance c.loop-instance.all.items c.loop-instance-test.true c.instance-item.is front
             (none w.in_default.ensures.none) c.match-number_of.all.items (ap (λ all. all.items) w.all-is);
-        made = subst (λ some. AreMade c.args.checked.now some.items) (sym w.made-is) c.loop-instance.invariant.made;
+        made = subst (λ some. AreImagesOf c.args.checked.now some.items) (sym w.made-is) c.loop-instance.invariant.made;
       }
     ]
 

@@ -1,4 +1,4 @@
-use Rattle.trace_plan.specs.Fitting.{AreMade}
+use Rattle.trace_plan.specs.Fitting.{AreImagesOf}
 use Rattle.trace_plan.proofs.FittingLaws.{IsFront}
 use Rattle.unit_tree.specs.Plain.{plain_form}
 use Rattle.trace_plan.proofs.fitting.all_fitted.Given as goal
@@ -6,5 +6,5 @@ use Rattle.trace_plan.proofs.fitting.all_fitted.Given as goal
 abbrev pub invariant-loop-instance : goal.invariant-loop-instance
 invariant-loop-instance l = record {
   front : IsFront (plain_form l.checked) l.instance-items l.instance-index l.all.items;
-  made : AreMade l.checked l.made.items;
+  made : AreImagesOf l.checked l.made.items;
 }

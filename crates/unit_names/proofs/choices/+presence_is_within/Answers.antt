@@ -16,6 +16,5 @@ returns-in-Some t c =
     c.presence_is_within-in-Some.ensures
     ∙ ap (λ v. nat_le (depth_of (with_choices (expr.Truth false) (λ other. expr.Truth true) v)) less) c.get-in-Some-2.ensures in
     let one_less : less + 1 ≡ c.args.depth = grind (arith) in
-    choice_is_within (expr.Truth false)
-    (λ other. expr.Truth true) c.args.expr.now c.in-Choose.cond c.in-Choose.yes c.in-Choose.no _ _ _ _ _ _ c.in-Choose.is one_less c.all_hold.ensures one two
-    three
+    choice_is_within (expr.Truth false) (λ other. expr.Truth true) c.args.expr.now c.in-Choose.cond c.in-Choose.yes c.in-Choose.no _ _ _ _ _ _
+    c.in-Choose.is one_less c.all_hold.ensures one two three

@@ -1,6 +1,6 @@
 use Rattle.std.proofs.Common.{◌≡◌, false, sym, ◌∙◌}
 use Rattle.unit_print.specs.Calls.{is_call}
-use Rattle.unit_print.proofs.Nodes.{call_done, infix_done, clamp_done, choose_done}
+use Rattle.unit_print.proofs.NodeTexts.{call_done, infix_done, clamp_done, choose_done}
 use Rattle.unit_print.proofs.expressions.+expression.Goals as goal
 use Rattle.list_laws.proofs.Options.{on_ok}
 

@@ -4,9 +4,9 @@ use Rattle.unit_text.specs.Drafts.{bare_draft}
 use Rattle.unit_text.specs.Numbering.{marks_of}
 use Rattle.unit_text.specs.Reading.{LineGives, WholeGives, AnswersAt}
 use Rattle.unit_text.proofs.KnownForms.{known}
-use Rattle.unit_text.proofs.LineAnswers.{and_kept}
 use Rattle.unit_text.proofs.ReadingLaws.{Reached, reached_first, reached_next, header_error, line_error, whole_answer}
 use Rattle.unit_text.proofs.reading.read_lines.Goals as goal
+use Rattle.list_laws.proofs.Options.{and_kept}
 
 pub returns-in_err-version : goal.returns-in_err-version
 returns-in_err-version c =

@@ -3,9 +3,10 @@ use Rattle.std.specs.List.{list_all}
 use Rattle.wire_graph.specs.Sorting.{IsSorting}
 use Rattle.unit_tree.specs.Ports.{IsAmong}
 use Rattle.unit_tree.specs.Routes.{needs_on}
-use Rattle.wire_graph.proofs.SortingLaws.{put, grows_by, among_last, ready_is, not_ready}
+use Rattle.wire_graph.proofs.SortingLaws.{put, grows_by, ready_is, not_ready}
 use Rattle.wire_graph.specs.Sorting.{Grows}
 use Rattle.wire_graph.proofs.sorting.Sorting.try_place.Goals as goal
+use Rattle.run_laws.proofs.EquationLaws.{among_last}
 
 pub returns-clause-kept : goal.returns-clause-kept
 returns-clause-kept c =

@@ -19,6 +19,7 @@ use Rattle.unit_tree.specs.declared.line_form.LineForm.{LineForm}
 use Rattle.unit_tree.specs.declared.line_form.LineForm.TheVariants as form
 use Rattle.unit_tree.specs.declared.system.System.{System}
 use Rattle.unit_tree.specs.declared.unit.Unit.{Unit}
+use Rattle.list_laws.proofs.Truths.{or_nothing}
 
 never : {A : Type 0} (test : A → Bool) (place from : ℕ) (things : List A) → place ≤ from → is_before place (position_from test from things) ≡ false
 never test place from [] later = refl
@@ -49,10 +50,6 @@ said_again asked test lines earlier rest all tells cut =
     ap (λ things. is_before (length before) (position_from test 0 things)) parted
     ∙ ap (λ n. is_before n (position_from test 0 (before ++ filter_map asked rest))) zero_more
     ∙ said_from test 0 before (filter_map asked rest)
-
-or_nothing : (said : Bool) → said ≡ (said || false)
-or_nothing true = refl
-or_nothing false = refl
 
 -- Names that a unit declares.
 module _ (unit : Unit) (earlier rest : List LineForm) where

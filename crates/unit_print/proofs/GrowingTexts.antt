@@ -4,6 +4,7 @@ use Rattle.std.proofs.Common.{zero, ◌<◌, ◌^◌, ◌+◌, take, drop, repli
 use Rattle.std.specs.Prelude.{IsTrue, IsFalse, slice_get, map, ◌&&◌, ◌||◌}
 use Rattle.std.specs.List.{last_or, flat_map, list_all}
 use Rattle.std.proofs.lemmas.List.{append-nil, length-append, length-replicate}
+use Rattle.std.proofs.lemmas.Bool.{or_right}
 use Rattle.fixed_words.specs.Digits.{pointed}
 use Rattle.fixed_words.specs.Texts.{fixed_text, padded}
 use Rattle.fixed_words.proofs.Numbers.{decimal_is, zeros_before}
@@ -27,6 +28,7 @@ use Rattle.unit_tree.specs.declared.token.Token.{Token}
 use Rattle.unit_tree.specs.declared.token.Token.TheVariants as token
 use Rattle.unit_print.specs.Growing.{with_token, with_tokens, with_lines, with_unit_parts, with_parts, with_step_lines, with_settings, others_tokens}
 use Rattle.unit_print.specs.Calls.{is_call}
+use Rattle.list_laws.proofs.Truths.{and_first}
 
 -- ---- The last byte
 
@@ -42,20 +44,12 @@ ends_by_last (x ∷ xs) last is =
 
 -- ---- Numbers
 
-first_holds : (one other : Bool) → IsTrue (one && other) → IsTrue one
-first_holds true other both = refl
-first_holds false other both = both
-
-or_holds : (one other : Bool) → IsTrue other → IsTrue (one || other)
-or_holds true other holds = refl
-or_holds false other holds = holds
-
 begins_in_word : (place : ℕ) (digits rest : List ℕ) → 0 < place → 0 < length digits → IsTrue (list_all is_digit digits)
     → begins_with is_word_byte (take place digits ++ rest) ≡ true
 begins_in_word zero digits rest far long all = absurd (omega arith)
 begins_in_word (suc place) [] rest far long all = absurd (omega arith)
 begins_in_word (suc place) (digit ∷ digits) rest far long all =
-    or_holds (is_letter digit) (is_digit digit) (first_holds (is_digit digit) (list_all is_digit digits) all)
+    or_right (is_letter digit) (is_digit digit) (and_first (is_digit digit) (list_all is_digit digits) all)
 
 number_begins : (decimals all : ℕ) → all < 2 ^ 64 → begins_with is_word_byte (fixed_text decimals all) ≡ true
 number_begins decimals all fits =

@@ -1,8 +1,8 @@
 -- Each instruction of a piece may stand in a part for any use.
-use Rattle.std.proofs.Common.{◌≡◌, ℕ, ◌+◌, ◌≤◌, Bool, true, false, ◌&&◌, List, [], ◌∷◌, ◌++◌, length, refl, sym, ◌∙◌, arith}
-use Rattle.std.proofs.lemmas.Bool.Decides.{nat_tests}
+use Rattle.std.proofs.Common.{◌≡◌, ℕ, ◌+◌, ◌≤◌, ◌&&◌, List, [], ◌∷◌, ◌++◌, length, refl, sym, ◌∙◌, arith}
 use Rattle.std.proofs.lemmas.List.Elements.{All-nil, All-cons, All-append}
 use Rattle.std.specs.Prelude.{nat_le, IsTrue}
+use Rattle.std.proofs.lemmas.Bool.{and_from}
 use Rattle.unit_vm.specs.declared.instruction.Instruction.{Instruction}
 use Rattle.unit_vm.specs.declared.instruction.Instruction.TheVariants.{Jump, JumpFalse, Loop, Next, Give, Limit, Done}
 use Rattle.unit_vm.specs.declared.instruction.Flow.TheVariants as flow
@@ -13,6 +13,7 @@ use Rattle.unit_vm.specs.Instructions.{flow_of, is_argued, fits_role}
 use Rattle.unit_vm.specs.Judged.{AreAllowed}
 use Rattle.code_pieces.specs.Pieces.{Piece, Nothing, One, Then, Choice, When, Turns, flat}
 use Rattle.code_pieces.proofs.PieceShapes.{Made}
+use Rattle.list_laws.proofs.Truths.{le_asked}
 
 -- What ends no run fits every use.
 fits : (use_of : Role) (i : Instruction) → (flow_of i ≡ flow.End → ⊥) → IsTrue (fits_role use_of i)
@@ -28,13 +29,6 @@ fits role.Step (Give ty) h = absurd (h refl)
 fits role.Step Limit h = absurd (h refl)
 fits role.Step Done h = absurd (h refl)
 fits role.Step _ h = refl
-
-le_true : (a b : ℕ) → a ≤ b → IsTrue (nat_le a b)
-le_true a b h = grind (arith, nat_tests)
-
-both_true : (a b : Bool) → IsTrue a → IsTrue b → IsTrue (a && b)
-both_true true b g h = h
-both_true false b g h = absurd (cc)
 
 module _ (sizes : Sizes) (use_of : Role) where
   none : AreAllowed sizes use_of []
@@ -66,9 +60,9 @@ module _ (sizes : Sizes) (use_of : Role) where
   allowed (Choice first second) m =
       let skips = length (flat first) + 2 in
       let over = length (flat second) + 1 in
-      allowed_more (JumpFalse skips) _ (le_true 1 skips (omega arith)) (fits use_of (JumpFalse skips) (λ e. apart skips e))
+      allowed_more (JumpFalse skips) _ (le_asked 1 skips (omega arith)) (fits use_of (JumpFalse skips) (λ e. apart skips e))
       (allowed_both (flat first) (Jump over ∷ flat second) (allowed first m.0)
-      (allowed_more (Jump over) (flat second) (le_true 1 over (omega arith)) (fits use_of (Jump over) (λ e. apart_too over e)) (allowed second m.1)))
+      (allowed_more (Jump over) (flat second) (le_asked 1 over (omega arith)) (fits use_of (Jump over) (λ e. apart_too over e)) (allowed second m.1)))
     where
       apart : (d : ℕ) → flow.Branch d ≡ flow.End → ⊥
       apart d e = cc
@@ -77,12 +71,12 @@ module _ (sizes : Sizes) (use_of : Role) where
       apart_too d e = cc
   allowed (When body) m =
       let over = length (flat body) + 1 in
-      allowed_more (JumpFalse over) (flat body) (le_true 1 over (omega arith)) (fits use_of (JumpFalse over) (λ e. apart over e)) (allowed body m)
+      allowed_more (JumpFalse over) (flat body) (le_asked 1 over (omega arith)) (fits use_of (JumpFalse over) (λ e. apart over e)) (allowed body m)
     where
       apart : (d : ℕ) → flow.Branch d ≡ flow.End → ⊥
       apart d e = cc
   allowed (Turns count body) m =
-      allowed_more (Loop count) _ (both_true (nat_le 1 count) (nat_le count 1000) (le_true 1 count m.0) (le_true count 1000 m.1))
+      allowed_more (Loop count) _ (and_from (nat_le 1 count) (nat_le count 1000) (le_asked 1 count m.0) (le_asked count 1000 m.1))
       (fits use_of (Loop count) (λ e. apart e))
       (allowed_both (flat body) (Next (length (flat body)) ∷ []) (allowed body m.2)
       (allowed_end (Next (length (flat body))) refl (fits use_of (Next (length (flat body))) (λ e. apart_too (length (flat body)) e))))

@@ -5,7 +5,7 @@ use Rattle.std.specs.Prelude.{IfSome, option_and_then}
 use Rattle.std.proofs.lemmas.Bool.{and_parts, and_from, eqb-true}
 use Rattle.std.proofs.lemmas.Slice.Eq.{bytes_eq-Decides}
 use Rattle.unit_tree.specs.Phrases as phrase
-use Rattle.unit_tree.specs.Phrases.{Phrase, Level, Whole, Or, And, Not, Comparison, Sum, Product, Negation, Primary, level_of, unary_level, binary_level}
+use Rattle.unit_tree.specs.Phrases.{Phrase, Level, Whole, Not, Primary, level_of, unary_level, binary_level}
 use Rattle.unit_tree.specs.Phrases.{binary_nesting, operand_level, left_level, right_level, allows, stands, nesting, numbers_fit, tree_of, phrase_tokens}
 use Rattle.unit_tree.specs.Phrases.{unary_tokens, binary_tokens, call_of_two, operation, in_parens, keyword, symbol, whole}
 use Rattle.unit_tree.specs.Tokens.{symbol_text}
@@ -27,8 +27,9 @@ use Rattle.text_tokens.proofs.TableLemmas.{symbol_of-symbol_text}
 use Rattle.text_lines.specs.Expressions.{Reader, Front, same_symbol, after_symbol, after_then, after_else, name_at, decimals_at, grouped_at, call_at, fix_at}
 use Rattle.text_lines.specs.Expressions.{prefix_at, pair_at, clamp_at, choice_at, present_at, keyword_operand, symbol_operand, operand_at, infix_at, with_right}
 use Rattle.text_lines.specs.Expressions.{climb, within, read}
-use Rattle.text_lines.proofs.InfixOperations.{is_infix, infix_tokens, infix_at_is, Takes, allows_from, strongest}
+use Rattle.text_lines.proofs.InfixOperations.{is_infix, infix_tokens, infix_at_is, Takes}
 use Rattle.text_lines.proofs.PhraseTokens.{group_tokens, pair_tokens, clamp_tokens, choice_tokens}
+use Rattle.language_laws.proofs.PhraseLaws.{primary_stands}
 
 -- ---- Single tokens
 
@@ -81,10 +82,6 @@ decimals_at_is (token.Number digits decimals ∷ rest) =
 decimals_at_is (_ ∷ rest) = tt
 
 -- ---- Where expressions stand
-
--- The strongest level is allowed everywhere.
-pub primary_stands : (asked : Level) → allows asked Primary ≡ true
-primary_stands asked = allows_from asked Primary (strongest asked)
 
 -- An expression stands where the grammar asks for no stronger level than its own.
 pub stands_allowed : (asked : Level) (inner : Phrase) → stands asked inner ≡ true → allows asked (level_of inner) ≡ true

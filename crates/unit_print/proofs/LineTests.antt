@@ -1,12 +1,11 @@
 -- The tests of names, numbers and tails say what the rules ask.
-use Rattle.std.proofs.Common.{◌≡◌, ◌≤◌, ◌<◌, ℕ, Bool, true, false, List, [], ◌∷◌, length, refl, ap, ◌∙◌, arith}
+use Rattle.std.proofs.Common.{◌≡◌, ◌≤◌, ◌<◌, ℕ, Bool, true, false, List, [], ◌∷◌, length, refl, ap, ◌∙◌}
 use Rattle.std.specs.Prelude.{not, nat_le, nat_lt, ◌&&◌, ◌||◌, ◌==◌}
 use Rattle.std.specs.List.{AllByRecursion, list_all, list_any}
 use Rattle.std.specs.Str.{bytes_eq}
 use Rattle.std.proofs.lemmas.Bool.{and_parts, and_from}
-use Rattle.std.proofs.lemmas.Bool.Decides.{nat_tests}
 use Rattle.std.proofs.lemmas.Slice.Eq.{bytes_eq-Decides}
-use Rattle.list_laws.proofs.Truths.{le_told, true_is_false}
+use Rattle.list_laws.proofs.Truths.{le_told, true_is_false, le_asked, lt_told, lt_asked, not_true}
 use Rattle.fixed_words.specs.Types.{AreDecimals}
 use Rattle.fixed_words.specs.declared.types.Literal.TheVariants as literal
 use Rattle.fixed_words.specs.declared.types.Ty.{Ty}
@@ -22,19 +21,6 @@ use Rattle.unit_tree.specs.declared.token.Keyword.TheVariants as word
 use Rattle.unit_print.specs.Fitting.{is_word, is_reserved, reserved_words, is_name, are_decimals, expression_fits, counts_fit, tail_fits}
 
 -- ---- Tests
-
-pub le_asked : (a b : ℕ) → a ≤ b → nat_le a b ≡ true
-le_asked a b is = grind (arith, nat_tests)
-
-lt_told : (a b : ℕ) → nat_lt a b ≡ true → a < b
-lt_told a b is = grind (arith, nat_tests)
-
-lt_asked : (a b : ℕ) → a < b → nat_lt a b ≡ true
-lt_asked a b is = grind (arith, nat_tests)
-
-not_true : (one : Bool) → not one ≡ true → one ≡ false
-not_true false is = refl
-not_true true is = absurd (cc)
 
 -- ---- Names
 

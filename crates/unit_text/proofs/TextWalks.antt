@@ -21,6 +21,7 @@ use Rattle.unit_text.specs.Nesting.{Nested, headed_by, and_form, nested_forms}
 use Rattle.unit_text.proofs.NestingLaws.{before_next, is_held, adds}
 use Rattle.text_laws.proofs.RefusalSteps.{IsUnbroken, AreUnbroken, IsLeast, unbroken, least}
 use Rattle.text_laws.proofs.ReadIsPrintable.{none_written}
+use Rattle.list_laws.proofs.Pairs.{zip_append}
 
 abbrev pub is_written : List ℕ → Bool
 is_written line = not (is_blank_line line)
@@ -214,19 +215,12 @@ pub same_forms : FormsAreKnown → (text lines : List (List ℕ)) (forms others 
     → forms ≡ others
 same_forms known text lines forms others = zip_same (HasFormIn text) (one_in known text) forms others (filter is_written lines)
 
-zip_more : {A B : Type 0} (R : A → B → Type 0) (xs more : List A) (ys others : List B) → AllZip R xs ys → AllZip R more others
-    → AllZip R (xs ++ more) (ys ++ others)
-zip_more R [] more [] others all rest = rest
-zip_more R [] more (y ∷ ys) others all rest = absurd all
-zip_more R (x ∷ xs) more [] others all rest = absurd all
-zip_more R (x ∷ xs) more (y ∷ ys) others all rest = (all.0, zip_more R xs more ys others all.1 rest)
-
 pub forms_more : (text before : List (List ℕ)) (line : List ℕ) (forms : List LineForm) (some : LineForm) → HaveForms text forms before
     → HasFormIn text some line → HaveForms text (forms ++ (some ∷ [])) (before ++ (line ∷ []))
 forms_more text before line forms some have has =
     let here : filter is_written (line ∷ []) ≡ line ∷ [] = rw (written line some has.has_form) refl in
     subst (AllZip (HasFormIn text) (forms ++ (some ∷ []))) (sym (filter-append is_written before (line ∷ [])))
-    (zip_more (HasFormIn text) forms (some ∷ []) (filter is_written before) (filter is_written (line ∷ [])) have
+    (zip_append (HasFormIn text) forms (some ∷ []) (filter is_written before) (filter is_written (line ∷ [])) have
     (subst (AllZip (HasFormIn text) (some ∷ [])) (sym here) (has, tt)))
 
 pub forms_blank : (text before : List (List ℕ)) (line : List ℕ) (forms : List LineForm) → HaveForms text forms before → is_blank_line line ≡ true

@@ -5,6 +5,7 @@ use Rattle.std.specs.List.{flat_map}
 use Rattle.std.specs.Io.KnownBytes.{Appends}
 use Rattle.std.proofs.lemmas.List.Elements.{filter_map-append}
 use Rattle.std.proofs.lemmas.Grind.{flat_map-append}
+use Rattle.std.proofs.lemmas.Slice.Zip.{AllZip-long}
 use Rattle.cosim_io.specs.Pieces.{AppendsPrefix}
 use Rattle.cosim_io.proofs.PieceLemmas.{AppendsPrefix-after, AppendsPrefix-longer}
 use Rattle.unit_tree.specs.Compositions.{Composition}
@@ -13,7 +14,6 @@ use Rattle.unit_tree.specs.Successor.{Position, goes, ends, first_position, succ
 use Rattle.unit_tree.specs.Trace.{Stand, IsStand, Goes, Follows, IsTrace, Row, row_at, rows_of, last_point, HasWords, AreWordsOf}
 use Rattle.unit_tree.specs.declared.ending.Ending.{Ending}
 use Rattle.run_laws.proofs.AssignmentLaws.{one_assignment}
-use Rattle.list_laws.proofs.Pairs.{one_each}
 
 -- ---- Where a trace is passed
 
@@ -31,7 +31,7 @@ Walked run passed here = (stands : List Stand) (ending : Ending) → IsTrace run
 one_stand : (run : Composition) (order : List ℕ) (one other : Stand) → IsPlaceOrder run order → HasWords run one.at → IsStand run one → IsStand run other
     → other.at ≡ one.at → other ≡ one
 one_stand run order one other ordered words is_one is_other same =
-    let as_many = one_each (λ member state. AreWordsOf member.component.unit.states state) run.members one.at.states words in
+    let as_many = AllZip-long (λ member state. AreWordsOf member.component.unit.states state) run.members one.at.states words in
     let only = one_assignment run order one.at.states ordered as_many in
     let assigned : IsAssignment run one.at.states other.ports = subst (λ (at : Position). IsAssignment run at.states other.ports) same is_other in
     ap (λ at. record { at = at; ports = other.ports }) same

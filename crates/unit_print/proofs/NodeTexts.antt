@@ -1,9 +1,9 @@
 -- What one node of an expression puts behind a text.
-use Rattle.std.proofs.Common.{◌≡◌, ℕ, true, List, ◌∷◌, ◌++◌, refl, sym, ap, ◌∙◌}
+use Rattle.std.proofs.Common.{◌≡◌, ℕ, List, ◌∷◌, ◌++◌, refl, sym, ap, ◌∙◌}
 use Rattle.std.specs.Prelude.{IsTrue, IsFalse}
 use Rattle.unit_tree.specs.Canonical.{canonical_phrase, node_phrase, placed, expression_tokens}
 use Rattle.unit_tree.specs.Phrases as phrase
-use Rattle.unit_tree.specs.Phrases.{Phrase, Level, Whole, Or, And, Not, Comparison, Sum, Product, Negation, Primary, allows, level_of, phrase_tokens}
+use Rattle.unit_tree.specs.Phrases.{Phrase, Level, Whole, Or, And, phrase_tokens}
 use Rattle.unit_tree.specs.Phrases.{call_of_two, operation, keyword, symbol, left_level, right_level, binary_level, in_parens}
 use Rattle.unit_tree.specs.declared.expr.BinOp.{BinOp}
 use Rattle.unit_tree.specs.declared.expr.BinOp.TheVariants as by
@@ -15,29 +15,18 @@ use Rattle.unit_tree.specs.declared.token.Token.{Token}
 use Rattle.unit_tree.proofs.FoldLemmas.{fold-Binary, fold-Clamp, fold-Choose}
 use Rattle.unit_print.specs.Growing.{with_token, with_tokens}
 use Rattle.unit_print.specs.Calls.{is_call}
-use Rattle.unit_print.proofs.Growth.{tokens_append, infix_tokens}
-
-whole_allows : (level : Level) → allows Whole level ≡ true
-whole_allows Whole = refl
-whole_allows Or = refl
-whole_allows And = refl
-whole_allows Not = refl
-whole_allows Comparison = refl
-whole_allows Sum = refl
-whole_allows Product = refl
-whole_allows Negation = refl
-whole_allows Primary = refl
-
-pub in_a_call : (inner : Phrase) → placed Whole inner ≡ inner
-in_a_call inner = rw (whole_allows (level_of inner)) refl
+use Rattle.unit_print.proofs.GrowingTexts.{tokens_append, infix_tokens}
+use Rattle.text_laws.proofs.ShortestPhrases.{placed_whole}
 
 call_phrase : (op : BinOp) (left right : Phrase) → IsTrue (is_call op)
     → phrase_tokens (phrase.Binary op (placed (left_level (binary_level op)) left) (placed (right_level (binary_level op)) right))
     ≡ call_of_two (operation op) (phrase_tokens left) (phrase_tokens right)
-call_phrase by.Min left right is = ap (λ (p : Phrase). call_of_two (operation by.Min) (phrase_tokens p) (phrase_tokens (placed Whole right))) (in_a_call left)
-    ∙ ap (λ (p : Phrase). call_of_two (operation by.Min) (phrase_tokens left) (phrase_tokens p)) (in_a_call right)
-call_phrase by.Max left right is = ap (λ (p : Phrase). call_of_two (operation by.Max) (phrase_tokens p) (phrase_tokens (placed Whole right))) (in_a_call left)
-    ∙ ap (λ (p : Phrase). call_of_two (operation by.Max) (phrase_tokens left) (phrase_tokens p)) (in_a_call right)
+call_phrase by.Min left right is =
+    ap (λ (p : Phrase). call_of_two (operation by.Min) (phrase_tokens p) (phrase_tokens (placed Whole right))) (placed_whole left)
+    ∙ ap (λ (p : Phrase). call_of_two (operation by.Min) (phrase_tokens left) (phrase_tokens p)) (placed_whole right)
+call_phrase by.Max left right is =
+    ap (λ (p : Phrase). call_of_two (operation by.Max) (phrase_tokens p) (phrase_tokens (placed Whole right))) (placed_whole left)
+    ∙ ap (λ (p : Phrase). call_of_two (operation by.Max) (phrase_tokens left) (phrase_tokens p)) (placed_whole right)
 call_phrase by.Add left right is = absurd cc
 call_phrase by.Sub left right is = absurd cc
 call_phrase by.Mul left right is = absurd cc
