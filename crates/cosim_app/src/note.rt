@@ -67,14 +67,14 @@ fn instance_name(system: &System, instance: u32) -> &[u8]
 
 /// The name of the output that an output of the unit's plain form is made of: behind the plain outputs stand two for each
 /// event output.
-fn name_in(unit: &Unit, output: usize) -> &[u8]
-    ensures { result.now ≡ name_in unit.now (output_read (unit_shape unit.now) output) }
+fn name_in(unit: &Unit, number: usize) -> &[u8]
+    ensures { result.now ≡ name_in unit.now (output_read (unit_shape unit.now) number) }
 {
-    let plain = unit.outputs.len();
-    if output < plain {
-        return unit.outputs[output].name.as_slice();
+    let (plain, events) = (unit.outputs.as_slice(), unit.events_out.as_slice());
+    if number < plain.len() {
+        return plain[number].name.as_slice();
     }
-    match unit.events_out.get((output - plain) / 2) {
+    match events.get((number - plain.len()) / 2) {
         Some(event) => event.name.as_slice(),
         None => &[],
     }

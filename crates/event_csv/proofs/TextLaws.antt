@@ -1,6 +1,6 @@
 -- The text of a trace of what is run of a system is that of the system's own trace.
 use Rattle.std.proofs.Common.{◌≡◌, ℕ, zero, suc, ◌+◌, ◌-◌, Bool, true, false, cond, ℤ, pos, List, [], ◌∷◌, ◌++◌, map, length, Option, Some, None, refl, ap}
-use Rattle.std.proofs.Common.{sym, subst, ◌∙◌}
+use Rattle.std.proofs.Common.{sym, subst, ◌∙◌, arith}
 use Rattle.std.specs.Prelude.{⊤, ◌&&◌, codes, is_none, slice_get, slice_index_or, if◌then◌else◌, unwrap_or}
 use Rattle.std.specs.Fmt.{decimal}
 use Rattle.std.specs.List.{AllByRecursion, cons_option, filter_map, find, flat_map, position_or_len}
@@ -80,6 +80,9 @@ read_at (true ∷ shape) (tells ∷ word ∷ words) zero false fits is = absurd 
 read_at (true ∷ shape) (tells ∷ word ∷ words) (suc place) true fits is = read_at shape words place true fits is
 read_at (true ∷ shape) (tells ∷ word ∷ words) (suc place) false fits is = read_at shape words place false fits is
 
+one_less : (place : ℕ) → suc place - 1 ≡ place
+one_less place = omega arith
+
 -- The text of a signal that two words tell.
 text_by : (ty : Ty) (absent : Bool) (word : ℤ) → cond absent [] (text_of ty word) ≡ signal_text ty (cond absent Absent (Occurs word))
 text_by ty true word = refl
@@ -152,6 +155,8 @@ module _ (system : System) (ranged : IsRanged system) (kept : IsWellFormed syste
   field_at port output words true is event_is =
       ap (λ place. cond (int_eq (slice_index_or words (place - 1) (pos 0)) (pos 0)) [] (text_of output.ty (slice_index_or words place (pos 0))))
       (sym (place_kept system ranged kept port) ∙ place_of_event system ranged kept port (there port output is) (told_is port output is ∙ event_is))
+      ∙ ap (λ before. cond (int_eq (slice_index_or words before (pos 0)) (pos 0)) []
+      (text_of output.ty (slice_index_or words (suc (plain_place told (place_of system port))) (pos 0)))) (one_less (plain_place told (place_of system port)))
       ∙ text_by output.ty (int_eq (slice_index_or words (plain_place told (place_of system port)) (pos 0)) (pos 0))
       (slice_index_or words (suc (plain_place told (place_of system port))) (pos 0))
 
