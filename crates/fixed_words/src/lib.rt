@@ -26,12 +26,12 @@ mod types;
 pub use boxed::Boxed;
 pub use laws::{quotients_are_floors, texts_are_read_back, texts_spell_one_literal};
 pub use list::List;
-pub use literals::{literal_word, read_literal};
+pub use literals::{literal_word, read_literal, signed_word};
 pub use operations::{
     abs, add, div, fix_div, fix_mul, mul, neg, rem, scale_down, scale_up, sub, ten_to_the,
 };
 pub use text::{magnitude_text, word_text};
-pub use types::{Fault, Kind, Literal, LiteralFault, Ty, fits};
+pub use types::{Fault, Kind, Literal, LiteralFault, Ty, fits, range};
 
 /// Want of memory, as an error.
 pub type NoMemory = std::alloc::AllocError;

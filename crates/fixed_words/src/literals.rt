@@ -23,7 +23,7 @@ fn read_truth(text: &[u8]) -> Option<bool>
 }
 
 /// The number with or without a sign as a word, if it fits 64 bits.
-fn signed_word(negative: bool, digits: u64) -> Option<i64>
+pub fn signed_word(negative: bool, digits: u64) -> Option<i64>
     ensures { result
         ≡ (if is_word_of Int64 (with_sign negative digits) then Some (with_sign negative digits) else None) }
 {

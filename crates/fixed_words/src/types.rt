@@ -77,7 +77,7 @@ pub enum LiteralFault {
 }
 
 /// The lowest and the highest word of a type.
-fn range(ty: Ty) -> (i64, i64)
+pub fn range(ty: Ty) -> (i64, i64)
     ensures low { result.0 ≡ lowest ty }
     ensures high { result.1 ≡ highest ty }
 {

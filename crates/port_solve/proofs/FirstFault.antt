@@ -70,7 +70,7 @@ module _ (run : Composition) (states : List (List ℤ)) (right : Ports) where
       → fault_at right outlet ≡ option_map (UnitFault outlet.instance (place.Output outlet.number)) fault
   fault_of at outlet fault there is =
       ap (option_map (UnitFault outlet.instance (place.Output outlet.number)))
-      (sym (ap (option_and_then (λ o. option_and_then result_err (given_at right o))) there) ∙ is)
+      (sym (ap (λ found. option_and_then result_err (option_and_then (given_at right) found)) there) ∙ is)
 
 none_first : (all : List (Option Ending)) → ((k : ℕ) (told : Option Ending) → slice_get all k ≡ Some told → told ≡ None) → first_some all ≡ None
 none_first [] each = refl

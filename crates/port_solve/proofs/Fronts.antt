@@ -12,9 +12,9 @@ use Rattle.std.proofs.lemmas.Slice.Zip.{AllZip-long}
 use Rattle.fixed_words.specs.Operations.{Outcome}
 use Rattle.fixed_words.specs.Types.{lowest, highest, is_between, is_word_of}
 use Rattle.fixed_words.specs.declared.types.Ty.{Ty}
-use Rattle.port_solve.specs.Solved.{HaveStates, HaveInputs, word_in, ports_told}
+use Rattle.port_solve.specs.Solved.{HaveStates, HaveInputs, word_in, ports_told, with_words, all_with}
 use Rattle.port_solve.specs.Sound.{types_of_places, Suits, IsSoundMember, IsSound, IsWordOf}
-use Rattle.port_solve.specs.Steps.{with_words, all_with, set_from, asked, word_asked, fault_asked, FitsFeeds, fault_there}
+use Rattle.port_solve.specs.Steps.{set_from, asked, word_asked, fault_asked, FitsFeeds, fault_there}
 use Rattle.unit_tree.specs.Components.{start_word, get_of}
 use Rattle.unit_tree.specs.Compositions.{InputSource, Start, AtPlace, Member, Composition}
 use Rattle.unit_tree.specs.Given.{input_numbered, given_by, IsInputWord}
@@ -376,8 +376,7 @@ module _ (run : Composition) (states : List (List ℤ)) (sound : IsSound run) (h
 
     -- So is its fault.
     pub fault_is : fault_asked run states inputs known route ≡ fault_there run states right place
-    fault_is =
-        ap (option_and_then result_err) asked_is ∙ sym (ap (option_and_then (λ o. option_and_then result_err (given_at right o))) at.is)
+    fault_is = ap (option_and_then result_err) (asked_is ∙ sym (ap (option_and_then (given_at right)) at.is))
 
     fits_by : (word : ℤ) → word_at right outlet ≡ Some word → AllByRecursion (λ at. IsInputWord run at.instance at.input word) route.feeds
     fits_by word is =

@@ -2,8 +2,7 @@
 use Rattle.std.proofs.Common.{◌≡◌, ◌∙◌, ℕ, zero, suc, ◌+◌, ◌<◌, Bool, true, false, ℤ, List, [], ◌∷◌, length, get_or, drop, set, Some, None, refl, ap, sym}
 use Rattle.std.proofs.Common.{subst, add-one, drop-cons, arith}
 use Rattle.std.specs.List.{AllByRecursion}
-use Rattle.port_solve.specs.Solved.{port_told, ports_told}
-use Rattle.port_solve.specs.Steps.{with_words, all_with}
+use Rattle.port_solve.specs.Solved.{port_told, ports_told, with_words, all_with}
 use Rattle.unit_tree.specs.Given.{with_input}
 use Rattle.unit_tree.specs.declared.order.InputAt.{InputAt}
 use Rattle.unit_tree.specs.declared.order.StartWord.{StartWord}

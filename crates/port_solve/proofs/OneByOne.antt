@@ -4,9 +4,9 @@ use Rattle.std.proofs.lemmas.Bool.Decides.{eqb_tells}
 use Rattle.std.specs.Prelude.{slice_get, IfSome}
 use Rattle.std.specs.List.{AllByRecursion}
 use Rattle.std.specs.Option.{option_and_then}
-use Rattle.port_solve.specs.Solved.{HaveStates, HaveInputs, HaveTheirWords, HasItsWord, word_in, ports_told, given_there}
+use Rattle.port_solve.specs.Solved.{HaveStates, HaveInputs, HaveTheirWords, HasItsWord, word_in, ports_told, given_there, with_words, all_with}
 use Rattle.port_solve.specs.Sound.{IsSound, IsWordOf}
-use Rattle.port_solve.specs.Steps.{with_words, all_with, asked}
+use Rattle.port_solve.specs.Steps.{asked}
 use Rattle.unit_tree.specs.Compositions.{InputSource, Start, AtPlace, Composition}
 use Rattle.unit_tree.specs.Given.{IsInputWord}
 use Rattle.unit_tree.specs.Ports.{Ports, IsAmong, given_at, needs_at}

@@ -3,9 +3,9 @@ use Rattle.std.proofs.Common.{◌≡◌, ◌∙◌, ℕ, ◌+◌, ◌<◌, ◌�
 use Rattle.std.proofs.lemmas.List.{take_more, take_all}
 use Rattle.std.specs.Prelude.{slice_get, IsSome}
 use Rattle.fixed_words.specs.declared.types.Fault.{Fault}
-use Rattle.port_solve.specs.Solved.{HaveStates, HaveInputs, HaveTheirWords, ports_told}
+use Rattle.port_solve.specs.Solved.{HaveStates, HaveInputs, HaveTheirWords, ports_told, with_words}
 use Rattle.port_solve.specs.Sound.{IsSound}
-use Rattle.port_solve.specs.Steps.{with_words, set_from, word_asked, fault_asked, FitsFeeds, fault_there, noted, IsFirst}
+use Rattle.port_solve.specs.Steps.{set_from, word_asked, fault_asked, FitsFeeds, fault_there, noted, IsFirst}
 use Rattle.port_solve.specs.declared.outputs.Faulted.{Faulted}
 use Rattle.unit_tree.specs.Compositions.{Composition}
 use Rattle.unit_tree.specs.Given.{given_by}

@@ -2,9 +2,9 @@
 use Rattle.std.proofs.Common.{◌≡◌, ◌∙◌, ℕ, ◌<◌, Bool, true, ℤ, List, [], ◌∷◌, ◌++◌, length, Some, None, Err, inl, inr, refl, ap, sym, subst, arith}
 use Rattle.std.specs.Prelude.{slice_get, is_some, IfSome}
 use Rattle.std.specs.List.{AllByRecursion, list_all}
-use Rattle.port_solve.specs.Solved.{HaveStates, HaveInputs, HaveTheirWords, HasItsWord, ports_told, ending_told}
+use Rattle.port_solve.specs.Solved.{HaveStates, HaveInputs, HaveTheirWords, HasItsWord, ports_told, ending_told, with_words}
 use Rattle.port_solve.specs.Sound.{IsSound}
-use Rattle.port_solve.specs.Steps.{with_words, IsFirst}
+use Rattle.port_solve.specs.Steps.{IsFirst}
 use Rattle.port_solve.specs.declared.outputs.Faulted.{Faulted}
 use Rattle.port_solve.specs.declared.solving.PortFault.{PortFault}
 use Rattle.unit_tree.specs.Compositions.{InputSource, Start, AtPlace, Composition}

@@ -5,8 +5,7 @@ use Rattle.std.proofs.lemmas.List.{get_or-set_same, get_or-set_other, length-set
 use Rattle.std.proofs.lemmas.Option.{slice_get_within, get_or_from_slice_get}
 use Rattle.std.specs.Prelude.{slice_get}
 use Rattle.std.specs.Option.{option_and_then}
-use Rattle.port_solve.specs.Solved.{HaveInputs, word_in}
-use Rattle.port_solve.specs.Steps.{with_words}
+use Rattle.port_solve.specs.Solved.{HaveInputs, word_in, with_words}
 use Rattle.unit_tree.specs.Compositions.{InputSource, Member, Composition}
 use Rattle.unit_tree.specs.Given.{with_input}
 use Rattle.unit_tree.specs.declared.order.InputAt.{InputAt}

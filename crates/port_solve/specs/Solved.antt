@@ -1,17 +1,20 @@
--- Solved ports: what is asked of components whose ports are to be solved, and what is told of the answer.
-use Rattle.std.specs.Prelude.{◌≡◌, ℕ, Bool, ℤ, pos, List, [], map, length, zip, slice_get, slice_index_or, if◌then◌else◌, Option, Some, None, IfSome, Result}
+-- Solved ports: what is asked of components whose ports are to be solved, which of their inputs are set, and what is told of the
+-- answer.
+use Rattle.std.specs.Prelude.{◌≡◌, ℕ, Bool, ℤ, pos, List, [], ◌∷◌, map, length, zip, slice_get, slice_index_or, if◌then◌else◌, Option, Some, None, IfSome, Result}
 use Rattle.std.specs.Prelude.{Ok, Err}
 use Rattle.std.specs.List.{AllByRecursion, AllZip}
 use Rattle.std.specs.Option.{option_and_then}
 use Rattle.fixed_words.specs.Operations.{Outcome}
 use Rattle.port_solve.specs.declared.solving.PortFault.{PortFault}
 use Rattle.unit_tree.specs.Compositions.{InputSource, Composition}
+use Rattle.unit_tree.specs.Given.{with_input}
 use Rattle.unit_tree.specs.Ports.{Ports, input_word, given_at, outlets}
 use Rattle.unit_tree.specs.Routes.{inputs_of}
 use Rattle.unit_tree.specs.declared.ending.Ending.{Ending}
 use Rattle.unit_tree.specs.declared.ending.Ending.TheVariants.{UnitFault}
 use Rattle.unit_tree.specs.declared.ending.Place.TheVariants as place
 use Rattle.unit_tree.specs.declared.order.InputAt.{InputAt}
+use Rattle.unit_tree.specs.declared.order.StartWord.{StartWord}
 
 -- ---- The components
 
@@ -34,6 +37,17 @@ HasItsWord ports inputs (at, source) = IfSome (input_word ports source) (λ word
 -- Each input whose word is defined has it.
 abbrev pub HaveTheirWords : Composition → Ports → List (List ℤ) → Type 0
 HaveTheirWords run ports inputs = AllByRecursion (HasItsWord ports inputs) (inputs_of run)
+
+-- ---- Inputs that are set
+
+-- The words of inputs, with some of them set one after the other. The others stay.
+abbrev pub with_words : List (List ℤ) → List StartWord → List (List ℤ)
+with_words inputs [] = inputs
+with_words inputs (first ∷ others) = with_words (with_input inputs first.at.instance first.at.input first.word) others
+
+-- One word for each of some inputs.
+abbrev pub all_with : ℤ → List InputAt → List StartWord
+all_with word feeds = map (λ at. record { at = at; word = word }) feeds
 
 -- ---- The answer
 

@@ -1,28 +1,20 @@
 -- How ports are solved, one output after the other: what is asked of an output, and which inputs are set from it.
-use Rattle.std.specs.Prelude.{◌≡◌, ℕ, ◌<◌, nat_lt, Bool, false, ℤ, List, [], ◌∷◌, map, slice_get, slice_index_or, if◌then◌else◌, Option, Some, None, IfSome}
+use Rattle.std.specs.Prelude.{◌≡◌, ℕ, ◌<◌, nat_lt, Bool, false, ℤ, List, [], slice_index_or, if◌then◌else◌, Option, Some, None, IfSome}
 use Rattle.std.specs.List.{AllByRecursion, list_all}
 use Rattle.std.specs.Option.{option_and_then}
 use Rattle.std.specs.Result.{result_ok, result_err}
 use Rattle.fixed_words.specs.Operations.{Outcome}
 use Rattle.fixed_words.specs.declared.types.Fault.{Fault}
+use Rattle.port_solve.specs.Solved.{all_with, given_there}
 use Rattle.port_solve.specs.declared.outputs.Faulted.{Faulted}
 use Rattle.unit_tree.specs.Compositions.{Composition}
-use Rattle.unit_tree.specs.Given.{given_by, with_input, IsInputWord}
-use Rattle.unit_tree.specs.Ports.{Ports, IsAmong, given_at, outlets}
+use Rattle.unit_tree.specs.Given.{given_by, IsInputWord}
+use Rattle.unit_tree.specs.Ports.{Ports, IsAmong}
 use Rattle.unit_tree.specs.declared.order.InputAt.{InputAt}
 use Rattle.unit_tree.specs.declared.order.Route.{Route}
 use Rattle.unit_tree.specs.declared.order.StartWord.{StartWord}
 
 -- ---- Inputs
-
--- The words of inputs, with some of them set one after the other.
-abbrev pub with_words : List (List ℤ) → List StartWord → List (List ℤ)
-with_words inputs [] = inputs
-with_words inputs (first ∷ others) = with_words (with_input inputs first.at.instance first.at.input first.word) others
-
--- One word for each of some inputs.
-abbrev pub all_with : ℤ → List InputAt → List StartWord
-all_with word feeds = map (λ at. record { at = at; word = word }) feeds
 
 -- What is set from an output: its word, where it has one, for each input that it feeds.
 abbrev pub set_from : Option ℤ → List InputAt → List StartWord
@@ -51,8 +43,7 @@ FitsFeeds run feeds word = IfSome word (λ w. AllByRecursion (λ at. IsInputWord
 
 -- The fault of the output at a place, where all that it needs are known.
 abbrev pub fault_there : Composition → List (List ℤ) → Ports → ℕ → Option Fault
-fault_there run states ports place =
-    option_and_then (λ outlet. option_and_then result_err (given_at ports outlet)) (slice_get (outlets run states) place)
+fault_there run states ports place = option_and_then result_err (given_there run states ports place)
 
 -- The first fault by place, with one more where there is one.
 abbrev pub noted : Option Faulted → ℕ → Option Fault → Option Faulted

@@ -1,6 +1,6 @@
 ghost use Rattle.std.specs.Prelude.{◌≡◌};
 ghost use Rattle.std.specs.List.{AllByRecursion};
-ghost use Rattle.port_solve.specs.Steps.{with_words, all_with};
+ghost use Rattle.port_solve.specs.Solved.{with_words, all_with};
 ghost use Rattle.unit_tree.specs.Compositions.{run_of};
 ghost use Rattle.unit_tree.specs.Given.{IsInputWord};
 

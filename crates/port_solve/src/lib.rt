@@ -9,7 +9,7 @@
 //!
 //! The layer above uses these. What ports are right, and which fault is a run's, stands in `unit_tree`: `Ports` (port
 //! assignment), `Routes` (ports by numbers) and `Given` (calls of components by numbers). `specs/Solved.antt` says what is
-//! asked of the components, and how the answer is told; `specs/Sound.antt` what is known of the connections of a judged
+//! asked of the components, which of their inputs are set, and how the answer is told; `specs/Sound.antt` what is known of the connections of a judged
 //! system; `specs/Steps.antt`, which need not be believed, how it is gone about.
 #![tactic(auto)]
 

@@ -1,6 +1,6 @@
 //! Ports one by one, for who has words of some outputs from elsewhere.
-ghost use Rattle.std.specs.Prelude.{◌≡◌, ◌<◌, ℤ, List, [], length, slice_set, Some};
-ghost use Rattle.port_solve.specs.Solved.{HaveStates, HaveInputs, HaveTheirWords, ports_told, given_there};
+ghost use Rattle.std.specs.Prelude.{◌≡◌, ◌<◌, ℤ, List, [], length, slice_get, slice_set, Some, IfSome};
+ghost use Rattle.port_solve.specs.Solved.{HaveStates, HaveInputs, HaveTheirWords, with_words, all_with, ports_told, given_there};
 ghost use Rattle.port_solve.specs.Sound.{IsWordOf};
 ghost use Rattle.unit_tree.specs.Compositions.{run_of};
 ghost use Rattle.unit_tree.specs.Ports.{Ports};
@@ -11,12 +11,13 @@ use crate::outputs::outcome;
 use fixed_words::Fault;
 use unit_tree::{Checked, Gets, Order};
 
-/// Sets each input that nothing is connected to, to its start word. Inputs then have their words as far as none of an output is
-/// known.
+/// Sets each input that nothing is connected to, to its start word, and no other. Inputs then have their words as far as none of
+/// an output is known.
 pub fn set_starts<G: Gets>(order: &Order, checked: &Checked, gets: &mut G)
     requires order { IsOrderOf (run_of checked.now) order.now }
     requires system { G.system gets.old ≡ checked.now }
     requires inputs { HaveInputs (run_of checked.now) (G.inputs gets.old) }
+    ensures set { G.inputs gets.new ≡ with_words (G.inputs gets.old) order.now.routes.starts }
     ensures words { HaveTheirWords (run_of checked.now) [] (G.inputs gets.new) }
     ensures inputs { HaveInputs (run_of checked.now) (G.inputs gets.new) }
     ensures states { G.states gets.new ≡ G.states gets.old }
@@ -58,14 +59,15 @@ pub fn ask<G: Gets>(
     )
 }
 
-/// Takes in a word of the output at a place: the inputs that it feeds are set to it. Where inputs had the words of some ports, they
-/// have those of the ports with this word more.
+/// Takes in a word of the output at a place: the inputs that it feeds are set to it, and no other. Where inputs had the words of
+/// some ports, they have those of the ports with this word more.
 pub fn feed<G: Gets>(order: &Order, checked: &Checked, gets: &mut G, place: u32, word: i64)
     requires order { IsOrderOf (run_of checked.now) order.now }
     requires system { G.system gets.old ≡ checked.now }
     requires inputs { HaveInputs (run_of checked.now) (G.inputs gets.old) }
     requires place { place < length order.now.routes.outputs }
     requires word { IsWordOf (run_of checked.now) place word }
+    ensures set { IfSome (slice_get order.now.routes.outputs place) (λ route. G.inputs gets.new ≡ with_words (G.inputs gets.old) (all_with word route.feeds)) }
     ensures words { (ports : Ports) → HaveTheirWords (run_of checked.now) ports (G.inputs gets.old) → HaveTheirWords (run_of checked.now) (slice_set ports place (Some word)) (G.inputs gets.new) }
     ensures inputs { HaveInputs (run_of checked.now) (G.inputs gets.new) }
     ensures states { G.states gets.new ≡ G.states gets.old }

@@ -1,7 +1,7 @@
 ghost use Rattle.std.specs.Prelude.{◌≡◌, ◌<◌, false, length, slice_index_or, slice_set, IsSome};
 ghost use Rattle.std.specs.List.{list_all};
-ghost use Rattle.port_solve.specs.Solved.{ports_told};
-ghost use Rattle.port_solve.specs.Steps.{with_words, set_from, asked, word_asked, fault_asked, FitsFeeds, noted};
+ghost use Rattle.port_solve.specs.Solved.{ports_told, with_words};
+ghost use Rattle.port_solve.specs.Steps.{set_from, asked, word_asked, fault_asked, FitsFeeds, noted};
 ghost use Rattle.unit_tree.specs.Compositions.{run_of};
 ghost use Rattle.unit_tree.specs.Given.{given_by};
 

@@ -5,11 +5,11 @@ use Rattle.super_time.specs.declared.point.Point.{Point}
 use Rattle.unit_tree.specs.Compositions.{Composition, AreMembers}
 use Rattle.unit_tree.specs.Ports.{IsPlaceOrder}
 use Rattle.unit_tree.specs.Successor.{Position}
-use Rattle.unit_tree.specs.Trace.{Stand, IsStand, Goes, Follows, GoesOnFrom, IsTrace, Row, row_at, rows_of, IsRest, HasWords}
+use Rattle.unit_tree.specs.Trace.{Stand, IsStand, Goes, Follows, GoesOnFrom, IsTrace, Row, row_at, rows_of, last_point, IsRest, IsPositionOf, HasWords}
 use Rattle.unit_tree.specs.declared.ending.Ending.{Ending}
 use Rattle.run_laws.proofs.PositionLaws.{positions_keep}
 use Rattle.run_laws.proofs.RunTraces.{goes_to, goes_keeps, same_rests}
-use Rattle.run_laws.specs.RestLaws.{IsTail}
+use Rattle.run_laws.specs.RestLaws.{IsTail, EndsWithRest}
 
 -- ---- Tails
 
@@ -50,18 +50,25 @@ words_at run (first ∷ before) here later ending are trace =
 
 -- ---- The rest behind a cut
 
-module _ (run : Composition) (order : List ℕ) (are : AreMembers run) (is_order : IsPlaceOrder run order) where
-  pub rest_ends_trace : (at : Position) (stands before : List Stand) (here : Stand) (later : List Stand) (rows : List Row) (last : Point) (ending end : Ending)
-      → IsTrace run stands ending → stands ≡ before ++ (here ∷ later) → here.at ≡ at → IsRest run at rows last end
-      → (rows_of run stands ≡ rows_of run before ++ rows) × (end ≡ ending)
-  rest_ends_trace at stands before here later rows last ending end trace split is rest =
-      let cut : IsTrace run (before ++ (here ∷ later)) ending = subst (λ (xs : List Stand). IsTrace run xs ending) split trace in
-      let words = words_at run before here later ending are cut in
-      let goes_on = (tail run before here later ending cut).goes_on in
-      let same =
-      same_rests run order are is_order here.at (here ∷ later) rest.stands ending end words goes_on
-      (subst (λ (p : Position). GoesOnFrom run p rest.stands end) (sym is) rest.goes_on) in (
-        ap (rows_of run) split ∙ filter_map-append (row_at run) before (here ∷ later) ∙ ap (λ xs. rows_of run before ++ rows_of run xs) same.0
-            ∙ ap (λ xs. rows_of run before ++ xs) (sym rest.rows_are),
-        sym same.1,
-      )
+-- What stands before a stand doesn't move the last point.
+last_behind : (before : List Stand) (here : Stand) (later : List Stand) → last_point (before ++ (here ∷ later)) ≡ last_point (here ∷ later)
+last_behind [] here later = refl
+last_behind (stand ∷ []) here later = refl
+last_behind (stand ∷ (next ∷ before)) here later = last_behind (next ∷ before) here later
+
+pub rest_ends_trace : (run : Composition) (order : List ℕ) (number : ℕ) (at : Position) (rows : List Row) (last : Point) (end : Ending) → AreMembers run
+    → IsPlaceOrder run order → (of : IsPositionOf run number at) → IsRest run at rows last end
+    → EndsWithRest run of.before (of.before ++ (of.here ∷ of.later)) of.ending rows last end
+rest_ends_trace run order number at rows last end are is_order of rest =
+    let words = words_at run of.before of.here of.later of.ending are of.trace in
+    let goes_on = (tail run of.before of.here of.later of.ending of.trace).goes_on in
+    let same =
+    same_rests run order are is_order of.here.at (of.here ∷ of.later) rest.stands of.ending end words goes_on
+    (subst (λ (p : Position). GoesOnFrom run p rest.stands end) of.is rest.goes_on) in
+    record {
+      rows_are =
+          filter_map-append (row_at run) of.before (of.here ∷ of.later)
+          ∙ ap (λ xs. rows_of run of.before ++ xs) (ap (rows_of run) same.0 ∙ sym rest.rows_are);
+      last_is = last_behind of.before of.here of.later ∙ ap last_point same.0 ∙ sym rest.last_is;
+      ending_is = same.1;
+    }

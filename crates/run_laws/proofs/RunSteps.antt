@@ -4,9 +4,9 @@ use Rattle.std.proofs.lemmas.Bool.Decides.{nat_tests}
 use Rattle.std.specs.List.{AllByRecursion}
 use Rattle.unit_tree.specs.Compositions.{Composition, AreMembers}
 use Rattle.unit_tree.specs.Ports.{first_some}
-use Rattle.run_laws.specs.RunLaws.{IsInBounds, IsInRows, IsRightStep, HasRightStands}
+use Rattle.run_laws.specs.RunLaws.{IsRightStep, HasRightStands}
 use Rattle.unit_tree.specs.Successor.{Position, first_position, after, goes, ends_at, ends_or, row_end}
-use Rattle.unit_tree.specs.Trace.{Stand, Goes, Follows, IsTrace, HasWords}
+use Rattle.unit_tree.specs.Trace.{Stand, Goes, Follows, IsTrace, HasWords, IsInBounds, IsInRows}
 use Rattle.unit_tree.specs.declared.ending.Ending.{Ending}
 use Rattle.run_laws.proofs.AssignmentLaws.{none_at}
 use Rattle.run_laws.proofs.PositionLaws.{positions_keep}

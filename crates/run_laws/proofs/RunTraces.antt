@@ -9,9 +9,9 @@ use Rattle.super_time.specs.declared.point.Point.{Point}
 use Rattle.unit_tree.specs.Compositions.{Composition, AreMembers, run_of}
 use Rattle.unit_tree.specs.Ports.{IsPlaceOrder, IsAssignment, first_some}
 use Rattle.run_laws.specs.RestLaws.{HasOneRest}
-use Rattle.run_laws.specs.RunLaws.{IsInBounds, HasOneTrace, HasOneTraceOf}
+use Rattle.run_laws.specs.RunLaws.{HasOneTrace, HasOneTraceOf}
 use Rattle.unit_tree.specs.Successor.{Position, when, first_position, limits, agreed, ends_at, ends_or, after, goes, zero_end}
-use Rattle.unit_tree.specs.Trace.{Stand, IsStand, Goes, Follows, GoesOnFrom, HasWords, rows_of, last_point, cells_of}
+use Rattle.unit_tree.specs.Trace.{Stand, IsStand, Goes, Follows, GoesOnFrom, HasWords, rows_of, last_point, cells_of, IsInBounds}
 use Rattle.unit_tree.specs.declared.ending.Ending.{Ending}
 use Rattle.unit_tree.specs.declared.system.System.{System}
 use Rattle.run_laws.proofs.AssignmentLaws.{none_at, one_assignment}

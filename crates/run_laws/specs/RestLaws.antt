@@ -2,9 +2,8 @@
 use Rattle.std.specs.Prelude.{◌≡◌, ℕ, List, ◌∷◌, ◌++◌, length}
 use Rattle.unit_tree.specs.Compositions.{Composition, AreMembers}
 use Rattle.unit_tree.specs.Ports.{IsPlaceOrder}
-use Rattle.run_laws.specs.RunLaws.{IsInBounds}
 use Rattle.unit_tree.specs.Successor.{Position}
-use Rattle.unit_tree.specs.Trace.{Stand, GoesOnFrom, IsTrace, Row, rows_of, IsRest, HasWords}
+use Rattle.unit_tree.specs.Trace.{Stand, GoesOnFrom, IsTrace, Row, rows_of, last_point, IsRest, IsPositionOf, HasWords, IsInBounds}
 use Rattle.unit_tree.specs.declared.ending.Ending.{Ending}
 use Rattle.super_time.specs.declared.point.Point.{Point}
 
@@ -28,10 +27,16 @@ abbrev pub PositionsHaveOneRest : Type 0
 PositionsHaveOneRest = (run : Composition) (order : List ℕ) (at : Position) → AreMembers run → IsPlaceOrder run order → HasWords run at → IsInBounds run at
     → HasOneRest run at
 
--- The rows of a trace are those before a position of it, and those of this position's rest, with which it ends.
+-- A trace ends with the rest of a position of it: its rows are those of the stands before the position, and behind them the rows
+-- of the rest; its last point and its end are those of the rest.
+pub record EndsWithRest (run : Composition) (before : List Stand) (stands : List Stand) (ending : Ending) (rows : List Row) (last : Point) (end : Ending)
+    : Type 0 where
+  pub rows_are : rows_of run stands ≡ rows_of run before ++ rows
+  pub last_is : last_point stands ≡ last
+  pub ending_is : ending ≡ end
+
 abbrev pub RestsEndTraces : Type 0
 RestsEndTraces =
-    (run : Composition) (order : List ℕ) (at : Position) (stands before : List Stand) (here : Stand) (later : List Stand) (rows : List Row) (last : Point)
-    (ending end : Ending)
-    → AreMembers run → IsPlaceOrder run order → IsTrace run stands ending → stands ≡ before ++ (here ∷ later) → here.at ≡ at → IsRest run at rows last end
-    → (rows_of run stands ≡ rows_of run before ++ rows) × (end ≡ ending)
+    (run : Composition) (order : List ℕ) (number : ℕ) (at : Position) (rows : List Row) (last : Point) (end : Ending) → AreMembers run
+    → IsPlaceOrder run order → (of : IsPositionOf run number at) → IsRest run at rows last end
+    → EndsWithRest run of.before (of.before ++ (of.here ∷ of.later)) of.ending rows last end

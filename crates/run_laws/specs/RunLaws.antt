@@ -1,5 +1,5 @@
 -- Laws of runs.
-use Rattle.std.specs.Prelude.{⊤, ◌≡◌, ◌↔◌, ℕ, ◌<◌, ◌≤◌, ◌-◌, true, false, ℤ, List, [], ◌∷◌, length, is_some, Some, None, Ok}
+use Rattle.std.specs.Prelude.{⊤, ◌≡◌, ◌↔◌, ℕ, ◌≤◌, ◌-◌, true, false, ℤ, List, [], ◌∷◌, length, is_some, Some, None, Ok}
 use Rattle.std.specs.List.{AllByRecursion, list_all}
 use Rattle.fixed_words.specs.Types.{is_word_of}
 use Rattle.super_time.specs.LocalTime.{local_step}
@@ -14,7 +14,7 @@ use Rattle.unit_tree.specs.Ports.{Ports, IsAmong, IsAssignment, IsPlaceOrder, po
 use Rattle.unit_tree.specs.Printable.{IsRanged}
 use Rattle.unit_tree.specs.Successor.{Position, goes, ends, first_position, after, agreed, proposed, is_redone, stop_end, row_end, max_end, trial_end, redo_end}
 use Rattle.unit_tree.specs.Successor.{redo_end_by, zero_end, successor}
-use Rattle.unit_tree.specs.Trace.{Stand, Goes, IsGoing, IsTrace, Row, IsTraceOf, HasCells, AreWordsOf, HasWords}
+use Rattle.unit_tree.specs.Trace.{Stand, Goes, IsGoing, IsTrace, Row, IsTraceOf, HasCells, AreWordsOf, HasWords, IsInBounds, IsInRows}
 use Rattle.unit_tree.specs.WellFormed.{IsWellFormed, uses_other_input}
 use Rattle.unit_tree.specs.declared.ending.Ending.{Ending}
 use Rattle.unit_tree.specs.declared.system.System.{System}
@@ -110,15 +110,6 @@ pub record PositionsKeepWords (run : Composition) : Type 0 where
 
 abbrev pub RunsKeepWords : Type 0
 RunsKeepWords = (run : Composition) → AreMembers run → PositionsKeepWords run
-
--- A position is within the stop and the zero budget of the run.
-pub record IsInBounds (run : Composition) (at : Position) : Type 0 where
-  pub stop : at.point.t ≤ run.stop
-  pub zeros : at.point.n ≤ run.zero_budget
-
--- A position is within the row budget of the run.
-abbrev pub IsInRows : Composition → Position → Type 0
-IsInRows run at = at.number < run.row_budget
 
 -- A step that a run makes leads to the position after the agreed step, and keeps words, with them the bounds on time, and the
 -- one on rows.

@@ -78,7 +78,7 @@ pub fn positions_have_one_rest()
     ensures { PositionsHaveOneRest }
 {}
 
-/// A law: a trace ends with the rest of each of its positions, with the same end.
+/// A law: a trace ends with the rest of each of its positions: with its rows, its last point and its end.
 pub fn rests_end_traces()
     ensures { RestsEndTraces }
 {}

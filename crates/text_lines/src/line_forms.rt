@@ -1,8 +1,5 @@
 //! Reading of the form of a line.
 ghost use Rattle.std.specs.Prelude.{◌≡◌, [], ◌∷◌, ◌++◌, Some, None, if◌then◌else◌};
-ghost use Rattle.fixed_words.specs.Literals.{with_sign};
-ghost use Rattle.fixed_words.specs.Types.{is_word_of};
-ghost use Rattle.fixed_words.specs.declared.types.Ty.TheVariants.{Int64};
 ghost use Rattle.text_tokens.specs.Scanning.{Gives, GivesFront, ReadsAs};
 ghost use Rattle.unit_tree.specs.declared.token.Symbol.TheVariants as sign;
 ghost use Rattle.unit_tree.specs.declared.token.Token.TheVariants as token;
@@ -11,7 +8,7 @@ ghost use Rattle.text_lines.specs.LineReading.{FormIs, LineHas, count_at, unsign
 
 use crate::expressions::{after_symbol, decimals_at, name_at, whole_expression};
 use crate::lines::code;
-use fixed_words::{List, Literal, Ty};
+use fixed_words::{List, Literal, Ty, signed_word};
 use std::alloc::Global;
 use text_tokens::{Unread, tokens};
 use unit_tree::{
@@ -184,14 +181,6 @@ fn needs_at(alloc: Global, tokens: &[Token]) -> Result<(List<Name>, &[Token]), U
         [Token::Keyword(Keyword::Needs), rest @ ..] => next_names(alloc, List::new(alloc), rest),
         _ => Ok((List::new(alloc), tokens)),
     }
-}
-
-/// The number with or without a sign as a word, if it fits 64 bits.
-fn signed_word(negative: bool, digits: u64) -> Option<i64>
-    ensures { result ≡ (if is_word_of Int64 (with_sign negative digits) then Some (with_sign negative digits) else None) }
-{
-    let number = i128::from(digits);
-    i64::try_from(if negative { -number } else { number }).ok()
 }
 
 /// The literal of a number with or without a sign, where its word fits 64 bits.

@@ -1,12 +1,12 @@
 ghost use Rattle.std.specs.Prelude.{◌≡◌, ◌≤◌, ◌<◌, ◌+◌, ◌-◌, ◌*◌, ◌^◌, ◌∷◌, length, take, drop, IfOk};
 ghost use Rattle.std.specs.List.{prefix_len};
-ghost use Rattle.unit_tree.specs.Tokens.{is_blank, is_letter, is_digit, is_word_byte, keyword_text, symbol_text, number_from, begins_with};
+ghost use Rattle.unit_tree.specs.Tokens.{is_blank, is_digit, is_word_byte, keyword_text, symbol_text, number_from};
 ghost use Rattle.text_tokens.specs.Scanning.{Gives, GivesFront, ReadsAs, keywords_from, symbols_from, keywords_like, symbols_like, keyword_of, symbol_of, word_token, word_at, bounded_number, fraction_of, number_token, number_at, symbol_at, token_at, TokensAre};
 
 use crate::fault::Unread;
 use fixed_words::List;
 use std::alloc::Global;
-use unit_tree::{Keyword, Symbol, Token, is_word_byte};
+use unit_tree::{Keyword, Symbol, Token, begins_with_word_byte, is_letter, is_word_byte};
 
 /// The most bytes that a name may have.
 const LONGEST_NAME: usize = 32;
@@ -124,12 +124,6 @@ fn is_digit(byte: u8) -> bool
     byte.is_ascii_digit()
 }
 
-fn is_letter(byte: u8) -> bool
-    ensures { result ≡ is_letter byte }
-{
-    byte.is_ascii_alphabetic() || byte == b'_'
-}
-
 /// How many blanks come first.
 fn blanks_length(bytes: &[u8]) -> usize
     ensures length { result ≡ prefix_len is_blank bytes.now }
@@ -220,15 +214,6 @@ fn number_token(whole: &[u8], fraction: &[u8]) -> Result<Token, Unread>
     let digits = bounded_number(before, fraction)?;
     let decimals = fraction.len() as u8;
     Ok(Token::Number { digits, decimals })
-}
-
-fn begins_with_word_byte(bytes: &[u8]) -> bool
-    ensures { result ≡ begins_with is_word_byte bytes.now }
-{
-    match bytes {
-        [] => false,
-        [first, ..] => is_word_byte(*first),
-    }
 }
 
 #[tactic(auto, unfolding(crate::specs::Scanning::number_at))]

@@ -21,11 +21,10 @@ use Rattle.trace_core.proofs.StandLaws.{stands_opened, stands_moved, stands_redo
 use Rattle.trace_units.specs.Fleets.{Fleet}
 use Rattle.trace_plan.specs.Plans.{IsBounded}
 use Rattle.unit_tree.specs.Compositions.{Composition, AreMembers, run_of}
-use Rattle.run_laws.specs.RunLaws.{IsInBounds, IsInRows}
 use Rattle.unit_tree.specs.Negotiation.{all_inputs}
 use Rattle.unit_tree.specs.Ports.{IsPlaceOrder, port_fault}
 use Rattle.unit_tree.specs.Successor.{Position, agreed, goes}
-use Rattle.unit_tree.specs.Trace.{Stand, Goes, IsStand, HasWords}
+use Rattle.unit_tree.specs.Trace.{Stand, Goes, IsStand, HasWords, IsInBounds, IsInRows}
 use Rattle.unit_tree.specs.declared.ending.Ending.{Ending}
 
 -- The run at its next point.

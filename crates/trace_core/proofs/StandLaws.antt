@@ -21,9 +21,8 @@ use Rattle.unit_tree.specs.Components.{Moved}
 use Rattle.unit_tree.specs.Compositions.{Composition, AreMembers, run_of}
 use Rattle.unit_tree.specs.Negotiation.{all_inputs}
 use Rattle.unit_tree.specs.Ports.{IsPlaceOrder}
-use Rattle.run_laws.specs.RunLaws.{IsInBounds, IsInRows}
 use Rattle.unit_tree.specs.Successor.{Position, agreed, ends, is_redone, proposed, steps_by, successor, trial_end}
-use Rattle.unit_tree.specs.Trace.{Stand, Goes, IsGoing, IsStand, HasWords, AreWordsOf, steps_there, cells_of_trial, cells_of_redo, cells_at}
+use Rattle.unit_tree.specs.Trace.{Stand, Goes, IsGoing, IsStand, HasWords, AreWordsOf, steps_there, cells_of_trial, cells_of_redo, cells_at, IsInBounds, IsInRows}
 use Rattle.unit_tree.specs.declared.ending.Ending.{Ending}
 use Rattle.run_laws.proofs.RunSteps.{step_is_right}
 

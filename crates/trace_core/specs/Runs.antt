@@ -15,9 +15,8 @@ use Rattle.unit_tree.specs.Components.{Moved}
 use Rattle.unit_tree.specs.Compositions.{Member, Composition, AreMembers, run_of}
 use Rattle.unit_tree.specs.Negotiation.{is_held, all_inputs, step_at}
 use Rattle.unit_tree.specs.Ports.{IsPlaceOrder, first_some, port_fault}
-use Rattle.run_laws.specs.RunLaws.{IsInBounds, IsInRows}
 use Rattle.unit_tree.specs.Successor.{Position, standings, ends, proposed, agreed, is_redone, stop_end, row_end, max_end, trial_end, successor}
-use Rattle.unit_tree.specs.Trace.{Stand, IsStand, IsGoing, Reaches, Row, HasWords, cells_of_trial, cells_at}
+use Rattle.unit_tree.specs.Trace.{Stand, IsStand, IsGoing, Reaches, Row, HasWords, cells_of_trial, cells_at, IsInBounds, IsInRows}
 use Rattle.unit_tree.specs.declared.ending.Ending.{Ending}
 
 -- The step of an instance in a phase: the instance is held in it, the step is not there yet, or it is, with what it gave.

@@ -6,10 +6,9 @@ ghost use Rattle.trace_core.specs.Arriving.{position_with};
 ghost use Rattle.trace_core.specs.Settling.{Settled};
 ghost use Rattle.trace_core.specs.declared.phase.Settle.TheVariants as settled;
 ghost use Rattle.unit_tree.specs.Compositions.{AreMembers, run_of};
-ghost use Rattle.run_laws.specs.RunLaws.{IsInBounds, IsInRows};
 ghost use Rattle.unit_tree.specs.Negotiation.{all_inputs};
 ghost use Rattle.unit_tree.specs.Successor.{first_position};
-ghost use Rattle.unit_tree.specs.Trace.{row_at, HasWords};
+ghost use Rattle.unit_tree.specs.Trace.{row_at, HasWords, IsInBounds, IsInRows};
 
 use crate::course::{Course, course_of};
 use crate::opening::{seats_of, states_of};

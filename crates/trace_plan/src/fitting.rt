@@ -15,11 +15,11 @@ ghost use Rattle.unit_tree.specs.WellFormed.{resolution_of};
 ghost use Rattle.unit_tree.specs.declared.unit.Param.{Param};
 
 use crate::numbers::{factor, resolution};
-use fixed_words::{Literal, NoMemory, Ty, literal_word};
+use fixed_words::{Literal, NoMemory, range};
 use std::alloc::{AllocError, Global};
 use std::sync::Arc;
 use unit_exec::{Image, compile};
-use unit_tree::{Checked, Input, Instance, Param, Setting, Unit};
+use unit_tree::{Checked, Input, Instance, Param, Setting, Unit, start_word};
 
 /// What an instance needs to run: its image, how many ticks of the system one of its local ticks is, and the lowest and the
 /// highest words of its inputs' types.
@@ -31,30 +31,13 @@ pub(crate) struct Fitted {
     pub(crate) high: Vec<i64>,
 }
 
-/// The lowest and the highest word of a type.
-fn ends_of(ty: Ty) -> (i64, i64)
-    ensures low { result.0 ≡ lowest ty }
-    ensures high { result.1 ≡ highest ty }
-{
-    match ty {
-        Ty::Int8 => (-128, 127),
-        Ty::UInt8 => (0, 255),
-        Ty::Int16 => (-32_768, 32_767),
-        Ty::UInt16 => (0, 65_535),
-        Ty::Int32 => (-2_147_483_648, 2_147_483_647),
-        Ty::UInt32 => (0, 4_294_967_295),
-        Ty::Bool => (0, 1),
-        Ty::Int64 | Ty::Fixed(_) => (i64::MIN, i64::MAX),
-    }
-}
-
 /// The lowest words of the types of inputs.
 fn lowest_words(alloc: Global, inputs: &[Input]) -> Result<Vec<i64>, NoMemory>
     ensures { IfOk result (λ words. words.items ≡ map (λ input. lowest input.ty) inputs.now) }
 {
     let mut words = Vec::with_capacity(alloc, inputs.len())?;
     for input in inputs {
-        words.push(ends_of(input.ty).0)?;
+        words.push(range(input.ty).0)?;
     }
     Ok(words)
 }
@@ -65,7 +48,7 @@ fn highest_words(alloc: Global, inputs: &[Input]) -> Result<Vec<i64>, NoMemory>
 {
     let mut words = Vec::with_capacity(alloc, inputs.len())?;
     for input in inputs {
-        words.push(ends_of(input.ty).1)?;
+        words.push(range(input.ty).1)?;
     }
     Ok(words)
 }
@@ -80,17 +63,6 @@ fn literal_set(settings: &[Setting], param: &Param) -> Literal
         }
     }
     param.start
-}
-
-/// The word that a literal stands for; 0 where it has none.
-fn start_word(ty: Ty, literal: Literal) -> i64
-    requires { AreDecimals ty }
-    ensures { result ≡ start_word ty literal }
-{
-    match literal_word(ty, literal) {
-        Ok(word) => word,
-        Err(_) => 0,
-    }
 }
 
 /// The words of parameters, with what an instance sets.

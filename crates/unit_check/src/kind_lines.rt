@@ -3,7 +3,7 @@ ghost use Rattle.std.specs.Prelude.{◌≡◌};
 ghost use Rattle.unit_check.specs.Ranges.{has_few_decimals, word_read, setting_type, literal_read, is_of_wrong_kind_at, is_out_of_range_at};
 ghost use Rattle.unit_check.specs.Walks.{scope_of, form_of};
 ghost use Rattle.unit_tree.specs.Kinds.{line_is_kinded};
-ghost use Rattle.unit_tree.specs.LineForms.{speaks_of_events, tail_of, tail_speaks_of_events};
+ghost use Rattle.unit_tree.specs.LineForms.{tail_of, tail_speaks_of_events};
 ghost use Rattle.unit_tree.specs.Names.{kinds_in};
 ghost use Rattle.unit_tree.specs.declared.line_form.LineForm.TheVariants as form;
 ghost use Rattle.unit_tree.specs.Sites.{UnitScope, StepScope};
@@ -12,7 +12,7 @@ ghost use Rattle.unit_tree.specs.WellFormed.{mistakes_kind, on_literal, is_misfo
 use crate::walk::{FormRef, ScopeRef};
 use fixed_words::{Kind, Literal, LiteralFault, Ty, literal_word};
 use unit_names::{SystemNames, UnitNames};
-use unit_tree::{Expr, Instance, Setting};
+use unit_tree::{Instance, Setting, speaks_of_events};
 
 // ---- Kinds
 
@@ -46,28 +46,6 @@ fn mistakes_kind(scope: ScopeRef<'_, '_>, line: FormRef<'_>) -> bool
     match scope {
         ScopeRef::Unit(unit) => mistakes_in_unit(unit, line),
         ScopeRef::Step(unit) => mistakes_in_step(unit, line),
-        _ => false,
-    }
-}
-
-/// Whether `absent` or `present` stands in an expression.
-fn speaks_of_events(expr: &Expr) -> bool
-    ensures { result ≡ speaks_of_events expr.now }
-{
-    match expr {
-        Expr::Absent | Expr::Present(_) => true,
-        Expr::Unary { op: _, arg } => speaks_of_events(arg.get()),
-        Expr::Binary { op: _, left, right } => {
-            speaks_of_events(left.get()) || speaks_of_events(right.get())
-        }
-        Expr::Clamp { value, low, high } => {
-            speaks_of_events(value.get())
-                || (speaks_of_events(low.get()) || speaks_of_events(high.get()))
-        }
-        Expr::Choose { cond, yes, no } => {
-            speaks_of_events(cond.get())
-                || (speaks_of_events(yes.get()) || speaks_of_events(no.get()))
-        }
         _ => false,
     }
 }

@@ -11,10 +11,10 @@ ghost use Rattle.unit_tree.specs.declared.unit.State.{State};
 ghost use Rattle.unit_vm.specs.declared.program.Program.{Program};
 
 use code_units::program;
-use fixed_words::{List, Literal, NoMemory, Ty, literal_word};
+use fixed_words::{List, NoMemory, Ty};
 use std::alloc::Global;
 use std::marker::Model;
-use unit_tree::{Checked, Input, State, Unit};
+use unit_tree::{Checked, Input, State, Unit, start_word};
 use unit_vm::{Code, Instruction, Program};
 
 /// A unit with words of its parameters, as code, and the words with which its states and inputs begin.
@@ -88,17 +88,6 @@ impl Image {
             return self.first_shown;
         }
         *self.shown.get(output as usize)?
-    }
-}
-
-/// The word that is declared by a literal; 0 where it has none.
-fn start_word(ty: Ty, literal: Literal) -> i64
-    requires { AreDecimals ty }
-    ensures { result ≡ start_word ty literal }
-{
-    match literal_word(ty, literal) {
-        Ok(word) => word,
-        Err(_) => 0,
     }
 }
 

@@ -224,17 +224,10 @@ fn samples_fit(samples: &[PortName]) -> bool
     samples.iter().all(|port| sample_fits(port))
 }
 
-fn stop_fits(given: Option<Literal>) -> bool
-    ensures { result ≡ parts_fit 1 (optional parts.Stop given) }
-{
-    match given {
-        None => true,
-        Some(seconds) => seconds_fit(seconds),
-    }
-}
-
-fn longest_fits(given: Option<Literal>) -> bool
-    ensures { result ≡ parts_fit 1 (optional parts.Longest given) }
+/// Whether the `stop` or the `longest` of a system may be written.
+fn perhaps_seconds_fit(given: Option<Literal>) -> bool
+    ensures stop { result ≡ parts_fit 1 (optional parts.Stop given) }
+    ensures longest { result ≡ parts_fit 1 (optional parts.Longest given) }
 {
     match given {
         None => true,
@@ -278,8 +271,8 @@ fn limits_fit(system: &System) -> bool
         && parts_fit 1 (optional parts.Zero system.now.zero)
         && parts_fit 1 (optional parts.Rows system.now.rows)) }
 {
-    stop_fits(system.stop)
-        && longest_fits(system.longest)
+    perhaps_seconds_fit(system.stop)
+        && perhaps_seconds_fit(system.longest)
         && zero_fits(system.zero)
         && rows_fit(system.rows)
 }

@@ -3,7 +3,6 @@ ghost use Rattle.std.specs.Prelude.{◌≡◌, nat_le};
 ghost use Rattle.std.specs.List.{list_all};
 ghost use Rattle.unit_tree.specs.Canonical.{canonical_phrase, placed};
 ghost use Rattle.unit_tree.specs.Levels.{grammar_level};
-ghost use Rattle.unit_tree.specs.LineForms.{speaks_of_events};
 ghost use Rattle.unit_tree.specs.Names.{names_in};
 ghost use Rattle.unit_tree.specs.Phrases.{nesting};
 ghost use Rattle.unit_tree.specs.Printable.{is_unsigned};
@@ -13,7 +12,7 @@ ghost use Rattle.unit_print.specs.Fitting.{is_name, expression_fits};
 use crate::levels::{is_call, level_of, operand_level};
 use crate::names::is_name;
 use unit_tree::levels::{Level, allows, binary_level, left_level, right_level};
-use unit_tree::{Expr, UnOp};
+use unit_tree::{Expr, UnOp, speaks_of_events};
 
 /// The most levels that an expression is nested deep.
 const DEEPEST: u32 = 64;
@@ -81,30 +80,6 @@ fn is_unsigned(expr: &Expr) -> bool
             is_unsigned(cond.get()) && is_unsigned(yes.get()) && is_unsigned(no.get())
         }
         _ => true,
-    }
-}
-
-/// Whether `absent` or `present` stands in an expression.
-fn speaks_of_events(expr: &Expr) -> bool
-    ensures { result ≡ speaks_of_events expr.now }
-{
-    match expr {
-        Expr::Absent | Expr::Present(_) => true,
-        Expr::Unary { op: _, arg } => speaks_of_events(arg.get()),
-        Expr::Binary { op: _, left, right } => {
-            speaks_of_events(left.get()) || speaks_of_events(right.get())
-        }
-        Expr::Clamp { value, low, high } => {
-            speaks_of_events(value.get())
-                || speaks_of_events(low.get())
-                || speaks_of_events(high.get())
-        }
-        Expr::Choose { cond, yes, no } => {
-            speaks_of_events(cond.get())
-                || speaks_of_events(yes.get())
-                || speaks_of_events(no.get())
-        }
-        _ => false,
     }
 }
 

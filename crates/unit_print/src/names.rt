@@ -1,19 +1,13 @@
 //! Names: words that are not reserved.
 ghost use Rattle.std.specs.Prelude.{◌≡◌, ◌&&◌, nat_lt, length};
 ghost use Rattle.std.specs.List.{list_all};
-ghost use Rattle.unit_tree.specs.Tokens.{is_letter, is_word_byte};
+ghost use Rattle.unit_tree.specs.Tokens.{is_word_byte};
 ghost use Rattle.unit_print.specs.Fitting.{is_word, reserved_words, is_reserved, is_name};
 
-use unit_tree::{Keyword, is_word_byte};
+use unit_tree::{Keyword, is_letter, is_word_byte};
 
 /// The most bytes of a word.
 const LONGEST_WORD: usize = 32;
-
-fn is_letter(byte: u8) -> bool
-    ensures { result ≡ is_letter byte }
-{
-    byte.is_ascii_alphabetic() || byte == b'_'
-}
 
 fn are_word_bytes(bytes: &[u8]) -> bool
     ensures { result ≡ list_all is_word_byte bytes.now }

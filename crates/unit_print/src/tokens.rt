@@ -3,22 +3,12 @@ ghost use Rattle.std.specs.Prelude.{◌≡◌, ◌++◌, ◌<◌, ◌≤◌, ◌
 ghost use Rattle.fixed_words.specs.Texts.{fixed_text, padded, pointed_before};
 ghost use Rattle.unit_tree.specs.Canonical.{ends_in_word, spaced};
 ghost use Rattle.unit_tree.specs.Phrases.{keyword, symbol, whole};
-ghost use Rattle.unit_tree.specs.Tokens.{is_word_byte, begins_with};
 ghost use Rattle.unit_tree.specs.declared.token.Token.TheVariants as token;
 ghost use Rattle.unit_print.specs.Growing.{with_token};
 
 use fixed_words::NoMemory;
 use itoa::Buffer;
-use unit_tree::{Keyword, Symbol, is_word_byte};
-
-fn begins_with_word_byte(bytes: &[u8]) -> bool
-    ensures { result ≡ begins_with is_word_byte bytes.now }
-{
-    match bytes {
-        [] => false,
-        [first, ..] => is_word_byte(*first),
-    }
-}
+use unit_tree::{Keyword, Symbol, begins_with_word_byte, is_word_byte};
 
 #[tactic(auto, using(crate::proofs::GrowingTexts::ends_by_last))]
 fn ends_in_word(text: &[u8]) -> bool

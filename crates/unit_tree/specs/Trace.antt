@@ -1,5 +1,5 @@
 -- The trace of a system: the one list of positions from the start, each the successor of the one before.
-use Rattle.std.specs.Prelude.{◌≡◌, ℕ, zero, suc, ◌+◌, true, ◌&&◌, is_some, is_none, ℤ, List, [], ◌∷◌, ◌++◌, length, if◌then◌else◌, Option, Some, None, Result}
+use Rattle.std.specs.Prelude.{◌≡◌, ℕ, zero, suc, ◌<◌, ◌≤◌, ◌+◌, true, ◌&&◌, is_some, is_none, ℤ, List, [], ◌∷◌, ◌++◌, length, if◌then◌else◌, Option, Some, None, Result}
 use Rattle.std.specs.List.{AllZip, count_by, filter_map, sum_by}
 use Rattle.fixed_words.specs.Types.{is_word_of}
 use Rattle.fixed_words.specs.declared.types.Fault.{Fault}
@@ -140,7 +140,7 @@ pub record HasCells (system : System) (count : ℕ) : Type 0 where
   pub trace : IsTrace (run_of system) stands ending
   pub is : count ≡ cells_of (run_of system) stands
 
--- ---- States
+-- ---- What positions keep
 
 -- The words are one for each state of a member, each of its type.
 abbrev pub AreWordsOf : List State → List ℤ → Type 0
@@ -149,3 +149,12 @@ AreWordsOf states words = AllZip (λ state word. is_word_of state.ty word ≡ tr
 -- A position keeps one state for each member, each with its words.
 abbrev pub HasWords : Composition → Position → Type 0
 HasWords run at = AllZip (λ member state. AreWordsOf member.component.unit.states state) run.members at.states
+
+-- A position is within the stop and the zero budget of the run.
+pub record IsInBounds (run : Composition) (at : Position) : Type 0 where
+  pub stop : at.point.t ≤ run.stop
+  pub zeros : at.point.n ≤ run.zero_budget
+
+-- A position is within the row budget of the run.
+abbrev pub IsInRows : Composition → Position → Type 0
+IsInRows run at = at.number < run.row_budget

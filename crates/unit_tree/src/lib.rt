@@ -42,12 +42,12 @@ pub use expr::{BinOp, Expr, UnOp};
 use fixed_words::List;
 pub use gets::Gets;
 pub use line::Line;
-pub use line_form::LineForm;
+pub use line_form::{LineForm, speaks_of_events};
 pub use order::{InputAt, Order, Route, Routes, StartWord};
 pub use super_time::Point;
 pub use system::{Column, Instance, PortName, Setting, System, Wire};
-pub use token::{Keyword, Symbol, Token, is_word_byte};
-pub use unit::{EventIn, EventOut, Input, Local, Output, Param, State, Unit};
+pub use token::{Keyword, Symbol, Token, begins_with_word_byte, is_letter, is_word_byte};
+pub use unit::{EventIn, EventOut, Input, Local, Output, Param, State, Unit, start_word};
 
 /// A name as its bytes: a word of at most 32 bytes that is not reserved.
 pub type Name = List<u8>;

@@ -1,3 +1,6 @@
+ghost use Rattle.std.specs.Prelude.{◌≡◌};
+ghost use Rattle.unit_tree.specs.LineForms.{speaks_of_events};
+
 use crate::{
     EventIn, EventOut, Expr, Input, Local, Name, Output, Param, PortName, Setting, State, Wire,
 };
@@ -59,4 +62,28 @@ pub enum LineForm {
     Rows(u32),
     /// `sample a.y`
     Sample(PortName),
+}
+
+/// Whether `absent` or `present` stands in an expression.
+pub fn speaks_of_events(expr: &Expr) -> bool
+    ensures { result ≡ speaks_of_events expr.now }
+{
+    match expr {
+        Expr::Absent | Expr::Present(_) => true,
+        Expr::Unary { arg, .. } => speaks_of_events(arg.get()),
+        Expr::Binary { left, right, .. } => {
+            speaks_of_events(left.get()) || speaks_of_events(right.get())
+        }
+        Expr::Clamp { value, low, high } => {
+            speaks_of_events(value.get())
+                || speaks_of_events(low.get())
+                || speaks_of_events(high.get())
+        }
+        Expr::Choose { cond, yes, no } => {
+            speaks_of_events(cond.get())
+                || speaks_of_events(yes.get())
+                || speaks_of_events(no.get())
+        }
+        _ => false,
+    }
 }

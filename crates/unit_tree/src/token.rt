@@ -1,5 +1,5 @@
 ghost use Rattle.std.specs.Prelude.{◌≡◌};
-ghost use Rattle.unit_tree.specs.Tokens.{is_word_byte, keyword_text, symbol_text};
+ghost use Rattle.unit_tree.specs.Tokens.{is_letter, is_word_byte, begins_with, keyword_text, symbol_text};
 
 use crate::Name;
 
@@ -160,11 +160,28 @@ impl Symbol {
     }
 }
 
+/// Whether a byte may begin a word: a letter or `_`.
+pub fn is_letter(byte: u8) -> bool
+    ensures { result ≡ is_letter byte }
+{
+    byte.is_ascii_alphabetic() || byte == b'_'
+}
+
 /// Whether a byte may stand in a word: a letter, a digit or `_`.
 pub fn is_word_byte(byte: u8) -> bool
     ensures { result ≡ is_word_byte byte }
 {
     byte.is_ascii_alphanumeric() || byte == b'_'
+}
+
+/// Whether the first of some bytes may stand in a word.
+pub fn begins_with_word_byte(bytes: &[u8]) -> bool
+    ensures { result ≡ begins_with is_word_byte bytes.now }
+{
+    match bytes {
+        [] => false,
+        [first, ..] => is_word_byte(*first),
+    }
 }
 
 /// A token of a line.

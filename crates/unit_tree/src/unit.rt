@@ -1,5 +1,9 @@
+ghost use Rattle.std.specs.Prelude.{◌≡◌};
+ghost use Rattle.fixed_words.specs.Types.{AreDecimals};
+ghost use Rattle.unit_tree.specs.Components.{start_word};
+
 use crate::{Expr, Line, Name};
-use fixed_words::{List, Literal, Ty};
+use fixed_words::{List, Literal, Ty, literal_word};
 
 /// A constant of a unit, which each instance may set anew.
 #[derive(Debug, Drop)]
@@ -79,4 +83,15 @@ pub struct Unit {
     pub max: Option<Expr>,
     /// What a step does; none keeps the state and accepts every step.
     pub step: Option<List<Line>>,
+}
+
+/// The word that a literal stands for at a type, with which a declaration begins; 0 where it stands for none.
+pub fn start_word(ty: Ty, literal: Literal) -> i64
+    requires { AreDecimals ty }
+    ensures { result ≡ start_word ty literal }
+{
+    match literal_word(ty, literal) {
+        Ok(word) => word,
+        Err(_) => 0,
+    }
 }

@@ -1,6 +1,6 @@
 use Rattle.std.proofs.Common.{◌≡◌, drop}
 use Rattle.std.specs.List.{AllByRecursion}
-use Rattle.port_solve.specs.Steps.{with_words, all_with}
+use Rattle.port_solve.specs.Solved.{with_words, all_with}
 use Rattle.unit_tree.specs.Compositions.{run_of}
 use Rattle.unit_tree.specs.Given.{IsInputWord}
 use Rattle.port_solve.proofs.inputs.set_all.Given as goal

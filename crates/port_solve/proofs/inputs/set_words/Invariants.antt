@@ -1,6 +1,6 @@
 use Rattle.std.proofs.Common.{◌≡◌, drop}
 use Rattle.std.specs.List.{AllByRecursion}
-use Rattle.port_solve.specs.Steps.{with_words}
+use Rattle.port_solve.specs.Solved.{with_words}
 use Rattle.unit_tree.specs.Compositions.{run_of}
 use Rattle.unit_tree.specs.Given.{IsInputWord}
 use Rattle.port_solve.proofs.inputs.set_words.Given as goal

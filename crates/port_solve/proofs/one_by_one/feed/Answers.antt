@@ -2,7 +2,7 @@ use Rattle.std.proofs.Common.{◌∙◌, ◌<◌, length, ap, sym, refl, subst, 
 use Rattle.std.proofs.lemmas.Int.{to_z-of_z}
 use Rattle.std.proofs.lemmas.Option.{slice_get_read}
 use Rattle.std.specs.Prelude.{slice_get}
-use Rattle.port_solve.specs.Steps.{all_with}
+use Rattle.port_solve.specs.Solved.{all_with}
 use Rattle.port_solve.proofs.OneByOne.{feeds_fit, fed_words}
 use Rattle.port_solve.proofs.OutputPlaces.{feeds_there}
 use Rattle.port_solve.proofs.SetWords.{shape_after}
@@ -24,6 +24,15 @@ set_all-requires g c =
     (sym (ap (λ all. slice_get all c.args.place) (own ∙ ap (λ r. r.outputs) c.requires.order.routes)) ∙ read) in
     let fits : FitsSigned w64 c.args.word = search rules in
     rw (to_z-of_z w64 c.args.word fits, c.requires.system, feeds_are) (feeds_fit run sound c.args.place c.args.word c.requires.word)
+
+pub returns-clause-set : goal.returns-clause-set
+returns-clause-set g c =
+    let routes = c.as_slice.result.now in
+    let own = c.as_slice.ensures ∙ ap (λ r. r.outputs) c.routes.ensures.routes in
+    let within : c.args.place < length routes = subst (λ all. c.args.place < length all) (sym own) c.requires.place in
+    let read = slice_get_read routes (length routes) c.args.place c.index-as_slice-place.result refl within c.index-as_slice-place.is in
+    let fits : FitsSigned w64 c.args.word = search rules in
+    rw (sym (ap (λ all. slice_get all c.args.place) own) ∙ read) (rw (to_z-of_z w64 c.args.word fits, c.as_slice-2.ensures) at c.set_all.ensures.inputs)
 
 pub returns-clause-words : goal.returns-clause-words
 returns-clause-words g c = λ ports their.
