@@ -13,7 +13,7 @@ use Rattle.cosim_io.specs.Pieces.{AppendsPrefix, ConsumesExactly}
 use Rattle.cosim_io.proofs.PieceLemmas.{AppendsPrefix-nil}
 use Rattle.cosim_app.specs.Answer.{Answer, Serves, refused_answer, accepted_answer, printed_text, printed_answer}
 use Rattle.cosim_app.specs.declared.command_words.Command.{Command}
-use Rattle.cosim_app.specs.declared.command_words.Command.TheVariants.{Run, Check, Print}
+use Rattle.cosim_app.specs.declared.command_words.Command.TheVariants.{Check, Print}
 use Rattle.cosim_app.specs.Judgement.{PutsAnswer, PutsAnswerFront, PutsPiece, IsOwn, JudgesText, JudgesInput, Refuses}
 use Rattle.cosim_app.specs.Notes.{refused_note}
 use Rattle.cosim_app.proofs.CommandLaws.{command_answered}

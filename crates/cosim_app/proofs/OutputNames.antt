@@ -1,11 +1,11 @@
 -- Names of outputs by their numbers in the plain form.
-use Rattle.std.proofs.Common.{◌≡◌, ℕ, zero, suc, ◌+◌, ◌/◌, List, [], ◌∷◌, ◌++◌, map, length, Option, Some, None, refl, ap, sym, subst, ◌∙◌, arith}
+use Rattle.std.proofs.Common.{◌≡◌, ℕ, zero, suc, ◌+◌, ◌/◌, List, [], ◌∷◌, ◌++◌, map, length, Option, Some, None, refl, ap, sym, ◌∙◌, arith}
 use Rattle.std.specs.Prelude.{Bool, is_none, false, slice_get}
 use Rattle.std.specs.List.{AllByRecursion, filter_map, cons_option}
 use Rattle.std.specs.Option.{option_and_then, option_map, unwrap_or}
 use Rattle.event_runs.specs.EventPorts.{EventMember, Plain, Event, is_event, shape_of}
-use Rattle.event_runs.specs.EventRuns.{event_members_of, read_end, with_feeds}
-use Rattle.event_runs.specs.EventTrace.{output_read, shape_at}
+use Rattle.event_runs.specs.EventRuns.{read_end, with_feeds}
+use Rattle.event_runs.specs.EventTrace.{output_read}
 use Rattle.trace_plan.proofs.SystemLines.{units_declared}
 use Rattle.unit_tree.specs.Compositions.{member_with}
 use Rattle.unit_tree.specs.Names.{Port, unit_of_instance}
@@ -21,7 +21,7 @@ use Rattle.language_laws.proofs.PlainNames.{of_output, of_event}
 use Rattle.cosim_app.specs.Answer.{status_of}
 use Rattle.cosim_app.specs.Judgement.{IsWhole}
 use Rattle.cosim_app.specs.Notes.{name_or_none}
-use Rattle.cosim_app.specs.SourcePlaces.{instance_shape, source_end, unit_shape}
+use Rattle.cosim_app.specs.SourcePlaces.{source_end, unit_shape}
 
 -- ---- Names in a unit
 

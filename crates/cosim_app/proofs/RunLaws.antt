@@ -133,7 +133,7 @@ runs_accepted text system lines held held' faults faults' (verdict.Answered give
           system = system;
           lines = lines;
           accepted = accepted;
-            rows = tells.rows;
+          rows = tells.rows;
           last = tells.last;
           ending = tells.ending;
           trace =

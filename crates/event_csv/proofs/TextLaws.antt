@@ -1,9 +1,9 @@
 -- The text of a trace of what is run of a system is that of the system's own trace.
-use Rattle.std.proofs.Common.{◌≡◌, ℕ, zero, suc, ◌+◌, ◌-◌, Bool, true, false, cond, ℤ, pos, List, [], ◌∷◌, ◌++◌, map, length, Option, Some, None, refl, ap}
+use Rattle.std.proofs.Common.{◌≡◌, ℕ, zero, suc, ◌+◌, ◌-◌, Bool, true, false, cond, ℤ, pos, List, [], ◌∷◌, ◌++◌, map, Option, Some, None, refl, ap}
 use Rattle.std.proofs.Common.{sym, subst, ◌∙◌, arith}
-use Rattle.std.specs.Prelude.{⊤, ◌&&◌, codes, is_none, slice_get, slice_index_or, if◌then◌else◌, unwrap_or}
+use Rattle.std.specs.Prelude.{◌&&◌, codes, is_none, slice_get, slice_index_or, if◌then◌else◌, unwrap_or}
 use Rattle.std.specs.Fmt.{decimal}
-use Rattle.std.specs.List.{AllByRecursion, cons_option, filter_map, find, flat_map, position_or_len}
+use Rattle.std.specs.List.{AllByRecursion, cons_option, filter_map, find, flat_map}
 use Rattle.std.specs.Option.{option_and_then, option_map}
 use Rattle.std.specs.Ordering.{int_eq}
 use Rattle.std.specs.Str.{bytes_eq}
@@ -12,9 +12,9 @@ use Rattle.fixed_words.specs.Texts.{text_of}
 use Rattle.fixed_words.specs.declared.types.Ty.{Ty}
 use Rattle.super_time.specs.Seconds.{seconds_text_of}
 use Rattle.super_time.specs.declared.point.Point.{Point}
-use Rattle.trace_csv.specs.Columns.{column_of, columns_of, instance_number, output_number, port_title, title_of}
+use Rattle.trace_csv.specs.Columns.{column_of, columns_of, output_number, port_title, title_of}
 use Rattle.trace_csv.specs.Lines.{line_of}
-use Rattle.trace_csv.specs.TraceText.{field_of, header_line, is_absent, row_line, trace_text}
+use Rattle.trace_csv.specs.TraceText.{field_of, row_line, trace_text}
 use Rattle.unit_tree.specs.Compositions.{place_of, run_of}
 use Rattle.unit_tree.specs.Names.{Port, output_at, unit_of_instance}
 use Rattle.unit_tree.specs.Orders.{HasNoCycle, IsIn, outputs_of}
@@ -37,12 +37,12 @@ use Rattle.run_laws.proofs.RunOrders.{runs_have_orders}
 use Rattle.trace_plan.proofs.ShownOutputs.{shown_of}
 use Rattle.event_runs.specs.EventPorts.{plain_place, shape_of}
 use Rattle.event_runs.specs.EventRuns.{event_members_of, read_rows}
-use Rattle.event_runs.specs.EventTrace.{EventRow, read_row, read_words}
+use Rattle.event_runs.specs.EventTrace.{EventRow, read_words}
 use Rattle.event_runs.specs.Events.{Signal, Occurs, Absent}
 use Rattle.event_runs.proofs.RowLaws.{HasShape, rows_fit}
 use Rattle.event_runs.proofs.SplitPlaces.{event, shape, place_of_plain, place_of_event, shape_at_place}
 use Rattle.event_runs.proofs.SystemMembers.{members_plain, place_kept, shape_is}
-use Rattle.event_csv.specs.EventText.{EventColumn, event_column, event_columns_of, event_field, event_header, event_line, event_text, signal_text}
+use Rattle.event_csv.specs.EventText.{EventColumn, event_column, event_field, event_header, event_line, event_text, signal_text}
 
 -- ---- What is found by a test passes it
 
@@ -147,7 +147,7 @@ module _ (system : System) (ranged : IsRanged system) (kept : IsWellFormed syste
   -- The field of an output by the words at its places.
   field_at : (port : PortName) (output : Port) (words : List ℤ) (is_event : Bool) → output_at system port ≡ Some output → output.is_event ≡ is_event
       → cond (is_event && int_eq (slice_index_or words (place_of run port - 1) (pos 0)) (pos 0)) []
-          (text_of output.ty (slice_index_or words (place_of run port) (pos 0)))
+      (text_of output.ty (slice_index_or words (place_of run port) (pos 0)))
       ≡ signal_text output.ty (signal_by told words (place_of system port) is_event)
   field_at port output words false is plain =
       ap (λ place. text_of output.ty (slice_index_or words place (pos 0)))

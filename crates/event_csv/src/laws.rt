@@ -1,9 +1,6 @@
 //! Laws of the text of a trace.
 ghost use Rattle.event_csv.specs.EventText.{TextsAreRead};
 
-use event_runs as _;
-use trace_plan as _;
-
 /// A law: the text of a trace of what is run of a system is that of the system's own trace.
 pub fn texts_are_read()
     ensures { TextsAreRead }

@@ -148,7 +148,7 @@ passed [] words behind name named = refl
 passed (one ∷ variables) [] behind name named = refl
 passed (one ∷ variables) (word ∷ words) behind name named =
     ap (λ told. if told then record { kind = kind_of one.ty; word = word } else plain_value (same_slots variables words ++ behind) (presence_name name))
-        (other_bytes one.name (presence_name name) (λ is. word_is_plain one.name named.0 name is))
+    (other_bytes one.name (presence_name name) (λ is. word_is_plain one.name named.0 name is))
     ∙ passed variables words behind name named.1
 
 pub truth_bit : (signal : Signal) → record { kind = kind_of types.Bool; word = bit signal } ≡ truth (occurs signal)
@@ -166,16 +166,16 @@ pub told_by : (told : Bool) (event : EventIn) (signal : Signal) (events : List E
     ≡ truth (if told then occurs signal else occurring_at events signals name)
 told_by true event signal events signals behind name is named later =
     ap (λ told. if told then record { kind = kind_of types.Bool; word = bit signal } else plain_value
-        (Same (of_event event) (word_seen signal) ∷ event_slots events signals ++ behind) (presence_name name))
-        (bytes_of (presence_name event.name) (presence_name name) (ap presence_name (same_bytes event.name name is)))
+    (Same (of_event event) (word_seen signal) ∷ event_slots events signals ++ behind) (presence_name name))
+    (bytes_of (presence_name event.name) (presence_name name) (ap presence_name (same_bytes event.name name is)))
     ∙ truth_bit signal
 told_by false event signal events signals behind name is named later =
     let differ : event.name ≡ name → ⊥ = λ same. apart (bytes_of event.name name same) is in
     ap (λ told. if told then record { kind = kind_of types.Bool; word = bit signal } else plain_value
-        (Same (of_event event) (word_seen signal) ∷ event_slots events signals ++ behind) (presence_name name))
-        (other_bytes (presence_name event.name) (presence_name name) (λ same. differ (same_presence event.name name same)))
+    (Same (of_event event) (word_seen signal) ∷ event_slots events signals ++ behind) (presence_name name))
+    (other_bytes (presence_name event.name) (presence_name name) (λ same. differ (same_presence event.name name same)))
     ∙ ap (λ told. if told then record { kind = kind_of event.ty; word = word_seen signal } else plain_value (event_slots events signals ++ behind)
-        (presence_name name)) (other_bytes event.name (presence_name name) (λ same. word_is_plain event.name named name same))
+    (presence_name name)) (other_bytes event.name (presence_name name) (λ same. word_is_plain event.name named name same))
     ∙ later refl
   where
     apart : {b : Bool} → b ≡ true → b ≡ false → ⊥
@@ -189,7 +189,7 @@ events_told (event ∷ events) [] behind name is named among = absurd (none_over
 events_told (event ∷ events) (signal ∷ signals) behind name is named among =
     told_by (bytes_eq event.name name) event signal events signals behind name refl named.0
     (λ other. events_told events signals behind name (one_less signal signals event events is) named.1
-        (later_among (bytes_eq name event.name) (is_among (map (λ event. event.name) events) name) (turned other) among))
+    (later_among (bytes_eq name event.name) (is_among (map (λ event. event.name) events) name) (turned other) among))
   where
     turned : bytes_eq event.name name ≡ false → bytes_eq name event.name ≡ false
     turned other = other_bytes name event.name (λ same. apart (bytes_of event.name name (sym same)) other)
@@ -226,11 +226,15 @@ module _ (component : Component) (state : List ℤ) (seen : Seen) (fits : Fits c
       ∙ ap (λ n. n + length seen.words) (rw (fits.params, fits.states) refl)
       ∙ ap (λ n. length unit.params + length unit.states + n) fits.words
       ∙ sym (length-append (map (λ param. variable param.name param.ty) unit.params ++ map (λ state. variable state.name state.ty) unit.states)
-          (map of_input unit.inputs)
+      (map of_input unit.inputs)
       ∙ ap (λ n. n + length (map of_input unit.inputs))
-          (length-append (map (λ param. variable param.name param.ty) unit.params) (map (λ state. variable state.name state.ty) unit.states))
-      ∙ rw (length-map unit.params (λ param. variable param.name param.ty), length-map unit.states
-          (λ state. variable state.name state.ty), length-map unit.inputs of_input) refl)
+      (length-append (map (λ param. variable param.name param.ty) unit.params) (map (λ state. variable state.name state.ty) unit.states))
+      ∙ rw (
+        length-map unit.params (λ param. variable param.name param.ty),
+        length-map unit.states
+            (λ state. variable state.name state.ty),
+        length-map unit.inputs of_input,
+      ) refl)
 
   pub locals_fit : length local_words ≡ length local_variables
   locals_fit = length-map unit.locals (λ local. pos 0) ∙ sym (length-map unit.locals (λ local. variable local.name local.ty))
@@ -261,8 +265,8 @@ module _ (component : Component) (state : List ℤ) (seen : Seen) (fits : Fits c
       let variables : plain_variables slots_of ≡ variables_of (plain_unit unit) =
       whole.0 ∙ rw (begin.0, front.0, events.0, locals.0)
       (ap (λ all. all ++ local_variables)
-          (append_assoc before (map of_input unit.inputs) (map of_input (flat_map plain_inputs unit.events_in))
-          ∙ ap (λ all. before ++ all) (sym (map-append of_input unit.inputs (flat_map plain_inputs unit.events_in))))) in
+      (append_assoc before (map of_input unit.inputs) (map of_input (flat_map plain_inputs unit.events_in))
+      ∙ ap (λ all. before ++ all) (sym (map-append of_input unit.inputs (flat_map plain_inputs unit.events_in))))) in
       let words : words_beside slots_of ≡ words_of (plain_component component) state (plain_words seen) =
       whole.1 ∙ rw (begin.1, front.1, events.1, locals.1)
       (ap (λ all. all ++ local_words) (append_assoc (component.params ++ state) seen.words (flat_map words_of_signal seen.signals))) in
@@ -296,7 +300,7 @@ module _ (component : Component) (state : List ℤ) (seen : Seen) (fits : Fits c
         record {
           tells = λ name among.
               ap (λ slots. plain_value slots (presence_name name))
-                  (append_assoc (same_slots front_variables front_words) (event_slots unit.events_in seen.signals) (same_slots local_variables local_words))
+              (append_assoc (same_slots front_variables front_words) (event_slots unit.events_in seen.signals) (same_slots local_variables local_words))
               ∙ passed front_variables front_words (event_slots unit.events_in seen.signals ++ same_slots local_variables local_words) name split_front.0
               ∙ events_told unit.events_in seen.signals (same_slots local_variables local_words) name fits.signals split_front.1 among;
           fronts = subst (Fronts count)
@@ -310,7 +314,7 @@ module _ (component : Component) (state : List ℤ) (seen : Seen) (fits : Fits c
     shown time step =
         subst (λ env. Shows occurring events env (environment_of (plain_component component) state (plain_words seen) time step)) (source_is time step)
         (subst (λ env. Shows occurring events (source_env (both_of time step)) env) (plain_is time step)
-            (shows occurring events count (both_of time step) (is_both time step)))
+        (shows occurring events count (both_of time step) (is_both time step)))
 
     -- ---- The calls
 
@@ -348,7 +352,7 @@ module _ (component : Component) (state : List ℤ) (seen : Seen) (fits : Fits c
         → (plain >>= λ after. done (plain_moved after)) ≡ (source >>= λ after. done (source_moved after))
     moved_of (Ok plain) (Ok source) alike =
         ap (λ env. done (plain_moved env)) alike.plain_is ∙ ap done (moved_after alike.both alike.is.fronts)
-            ∙ sym (ap (λ env. done (source_moved env)) alike.source_is)
+        ∙ sym (ap (λ env. done (source_moved env)) alike.source_is)
     moved_of (Ok plain) (Err fault) alike = absurd alike
     moved_of (Err fault) (Ok source) alike = absurd alike
     moved_of (Err fault) (Err other) alike = ap (λ f. Err f) alike
@@ -360,12 +364,12 @@ module _ (component : Component) (state : List ℤ) (seen : Seen) (fits : Fits c
     moved_same None time step said = refl
     moved_same (Some lines) time step said =
         moved_of (effect_of_lines (map plain_line lines) (environment_of (plain_component component) state (plain_words seen) time step))
-            (effect_of_lines_in occurring lines (environment_in component state seen time step))
+        (effect_of_lines_in occurring lines (environment_in component state seen time step))
         (subst (λ env. Alike occurring events count
-            (effect_of_lines (map plain_line lines) (environment_of (plain_component component) state (plain_words seen) time step))
-            (effect_of_lines_in occurring lines env)) (source_is time step)
+        (effect_of_lines (map plain_line lines) (environment_of (plain_component component) state (plain_words seen) time step))
+        (effect_of_lines_in occurring lines env)) (source_is time step)
         (subst (λ env. Alike occurring events count (effect_of_lines (map plain_line lines) env)
-            (effect_of_lines_in occurring lines (source_env (both_of time step)))) (plain_is time step)
+        (effect_of_lines_in occurring lines (source_env (both_of time step)))) (plain_is time step)
         (lines_alike occurring events count lines said (both_of time step) (is_both time step))))
 
     -- ---- Event outputs
@@ -387,14 +391,19 @@ module _ (component : Component) (state : List ℤ) (seen : Seen) (fits : Fits c
         (ap (λ (given : Given). given >>= given_as types.Bool) are.0, ap (λ (given : Given). given >>= given_as ty) are.1 ∙ zero_given ty)
     two_given ty (Ok (Some value)) tells word are =
         subst (λ given. AreTwoGets (given_as ty value >>= λ w. Ok (Occurs w)) (tells >>= given_as types.Bool) given)
-            (sym (ap (λ (given : Given). given >>= given_as ty) are.1)) (by_range (given_as ty value))
+        (sym (ap (λ (given : Given). given >>= given_as ty) are.1)) (by_range (given_as ty value))
       where
         by_range : (given : Outcome) → AreTwoGets (given >>= λ w. Ok (Occurs w)) (tells >>= given_as types.Bool) given
         by_range (Ok w) = (ap (λ (given : Given). given >>= given_as types.Bool) are.0, refl)
         by_range (Err fault) = (inr (ap (λ (given : Given). given >>= given_as types.Bool) are.0), refl)
-    two_given ty (Err fault) tells word are =
-        (elim are.0 [ inl is ↦ inl (ap (λ (given : Given). given >>= given_as types.Bool) is) | inr is ↦ inr
-            (ap (λ (given : Given). given >>= given_as types.Bool) is) ], ap (λ (given : Given). given >>= given_as ty) are.1)
+    two_given ty (Err fault) tells word are = (
+      elim are.0 [
+        | inl is ↦ inl (ap (λ (given : Given). given >>= given_as types.Bool) is)
+        | inr is ↦ inr
+            (ap (λ (given : Given). given >>= given_as types.Bool) is)
+      ],
+      ap (λ (given : Given). given >>= given_as ty) are.1,
+    )
 
     pub event_same : (event : EventOut) (tells word : Output) → tells.ty ≡ types.Bool → word.ty ≡ event.ty
         → tells.value ≡ plain_expression (presence_of event.value) → word.value ≡ plain_expression (word_expression_of event.ty event.value)
@@ -406,13 +415,13 @@ module _ (component : Component) (state : List ℤ) (seen : Seen) (fits : Fits c
         let source = environment_in component state seen 0 0 in
         subst (λ given. AreTwoGets (get_event component state seen event) given (get_of (plain_component component) state (plain_words seen) word))
         (sym (ap (λ value. value_of value plain >>= given_as tells.ty) tells_is
-            ∙ ap (λ ty. value_of (plain_expression (presence_of event.value)) plain >>= given_as ty) tells_ty))
+        ∙ ap (λ ty. value_of (plain_expression (presence_of event.value)) plain >>= given_as ty) tells_ty))
         (subst (λ given. AreTwoGets (get_event component state seen event)
-            (value_of (plain_expression (presence_of event.value)) plain >>= given_as types.Bool) given)
+        (value_of (plain_expression (presence_of event.value)) plain >>= given_as types.Bool) given)
         (sym (ap (λ value. value_of value plain >>= given_as word.ty) word_is
-            ∙ ap (λ ty. value_of (plain_expression (word_expression_of event.ty event.value)) plain >>= given_as ty) word_ty))
+        ∙ ap (λ ty. value_of (plain_expression (word_expression_of event.ty event.value)) plain >>= given_as ty) word_ty))
         (two_given event.ty (event_in occurring event.value source) (value_of (plain_expression (presence_of event.value)) plain)
-            (value_of (plain_expression (word_expression_of event.ty event.value)) plain)
+        (value_of (plain_expression (word_expression_of event.ty event.value)) plain)
         (two occurring events source plain event.ty (shown 0 0) event.value said)))
 
     pub gets_same : (outputs : List Output) → AllByRecursion (λ output. Speaks events output.value) outputs
@@ -429,12 +438,22 @@ module _ (component : Component) (state : List ℤ) (seen : Seen) (fits : Fits c
     events_same (event ∷ outputs) said = (event_same event (first_of event) (second_of event) refl refl refl refl said.0, events_same outputs said.1)
       where
         first_of : EventOut → Output
-        first_of event = record { name = presence_name event.name; ty = types.Bool; needs = plain_needs unit event.needs; value =
-            plain_expression (presence_of event.value) }
+        first_of event = record {
+          name = presence_name event.name;
+          ty = types.Bool;
+          needs = plain_needs unit event.needs;
+          value =
+              plain_expression (presence_of event.value);
+        }
 
         second_of : EventOut → Output
-        second_of event = record { name = event.name; ty = event.ty; needs = plain_needs unit event.needs; value =
-            plain_expression (word_expression_of event.ty event.value) }
+        second_of event = record {
+          name = event.name;
+          ty = event.ty;
+          needs = plain_needs unit event.needs;
+          value =
+              plain_expression (word_expression_of event.ty event.value);
+        }
 
 pub plain_calls : (component : Component) (state : List ℤ) (seen : Seen) → IsSaid component.unit → Fits component state seen
     → HasPlainCalls component state seen

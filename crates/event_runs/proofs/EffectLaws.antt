@@ -17,7 +17,7 @@ use Rattle.unit_tree.specs.declared.environment.Environment.{Environment}
 use Rattle.unit_tree.specs.declared.environment.Value.{Value}
 use Rattle.unit_tree.specs.declared.expr.Expr.{Expr}
 use Rattle.unit_tree.specs.declared.line.Line as line
-use Rattle.unit_tree.specs.declared.line.Line.{Line, fold-Line}
+use Rattle.unit_tree.specs.declared.line.Line.{Line}
 use Rattle.unit_tree.specs.declared.line.Line.TheFolds.{ind-Line, map-Line}
 use Rattle.unit_tree.specs.declared.line.Line.TheOpen.{Line-F}
 use Rattle.unit_tree.specs.declared.line.Line.TheVariants.{rolls-Assign, rolls-If, rolls-Repeat, rolls-Accept}
@@ -42,12 +42,24 @@ pub record Both : Type 0 where
   pub accepted : ℕ
 
 abbrev pub source_env : Both → Environment
-source_env both = record { variables = source_variables both.slots; words = source_words both.slots; time = both.time; step = both.step; accepted =
-    both.accepted }
+source_env both = record {
+  variables = source_variables both.slots;
+  words = source_words both.slots;
+  time = both.time;
+  step = both.step;
+  accepted =
+      both.accepted;
+}
 
 abbrev pub plain_env : Both → Environment
-plain_env both = record { variables = plain_variables both.slots; words = words_beside both.slots; time = both.time; step = both.step; accepted =
-    both.accepted }
+plain_env both = record {
+  variables = plain_variables both.slots;
+  words = words_beside both.slots;
+  time = both.time;
+  step = both.step;
+  accepted =
+      both.accepted;
+}
 
 -- What a block speaks of, line by line.
 pub of_joined : (P : LineForm → Type 0) (lines : List Line) → AllByRecursion P (joined (map line_forms lines))
@@ -109,13 +121,13 @@ module _ (occurring : Occurring) (events : List (List ℕ)) (count : ℕ) where
   sequence_alike (plain ∷ plains) [] all both is = absurd all
   sequence_alike (plain ∷ plains) (source ∷ sources) all both is =
       alike_next (plain (plain_env both)) (source (source_env both)) (in_sequence plains) (in_sequence sources) (all.0 both is)
-          (sequence_alike plains sources all.1)
+      (sequence_alike plains sources all.1)
 
   pub times_alike : (turns : ℕ) (plain source : Effect) → EffectsAlike plain source → EffectsAlike (times turns plain) (times turns source)
   times_alike zero plain source alike both is = alike_here both is
   times_alike (suc turns) plain source alike both is =
       alike_next (plain (plain_env both)) (source (source_env both)) (times turns plain) (times turns source) (alike both is)
-          (times_alike turns plain source alike)
+      (times_alike turns plain source alike)
 
   abbrev pub OtherwiseAlike : Option (List Effect) → Option (List Effect) → Type 0
   OtherwiseAlike None None = ⊤
@@ -145,9 +157,9 @@ module _ (occurring : Occurring) (events : List (List ℕ)) (count : ℕ) where
   assigned_alike target word named both is =
       let plain = word_is_plain target named in
       subst (λ words. Alike (words >>= λ changed. Ok (record (plain_env both) { words = changed })) (assigned target word (source_env both)))
-          (sym (stored_plain both.slots target word plain))
+      (sym (stored_plain both.slots target word plain))
       (subst (λ words. Alike (in_plain (put both.slots target word) >>= λ changed. Ok (record (plain_env both) { words = changed }))
-          (words >>= λ changed. Ok (record (source_env both) { words = changed }))) (sym (stored_source both.slots target word))
+      (words >>= λ changed. Ok (record (source_env both) { words = changed }))) (sym (stored_source both.slots target word))
       (stored_alike both (put both.slots target word) is (put_stays both.slots target word plain)))
 
   pub accepting_by : (allowed : Bool) (length : ℤ) (both : Both) → IsBoth both
@@ -166,7 +178,7 @@ module _ (occurring : Occurring) (events : List (List ℕ)) (count : ℕ) where
       (λ env. value_in occurring value env >>= λ given. next' given env)
   value_next value next next' said alike both is =
       subst (λ given. Alike (given >>= λ v. next v (plain_env both)) (value_in occurring value (source_env both) >>= λ v. next' v (source_env both)))
-          (sym (same occurring events (source_env both) (plain_env both) (shows both is) value said))
+      (sym (same occurring events (source_env both) (plain_env both) (shows both is) value said))
       (by_value (value_in occurring value (source_env both)))
     where
       by_value : (given : Given) → Alike (given >>= λ v. next v (plain_env both)) (given >>= λ v. next' v (source_env both))
@@ -213,10 +225,10 @@ module _ (occurring : Occurring) (events : List (List ℕ)) (count : ℕ) where
   claim-Assign target value said =
       let forms : LineSpeaks events (line.Assign target value) = said in
       let first : FormSpeaks events (form.Assign target value) =
-          (subst (AllByRecursion (FormSpeaks events)) (fold-Assign (List LineForm) block_forms target value) forms).0 in
+      (subst (AllByRecursion (FormSpeaks events)) (fold-Assign (List LineForm) block_forms target value) forms).0 in
       let says_both = says (form.Assign target value) value (target ∷ []) refl first.names first.asked in
       alike_of (effect_of (plain_line (line.Assign target value))) (line_effect (Line-F.Assign target (plain_expression value)))
-          (effect_in occurring (line.Assign target value)) (line_effect_in occurring (Line-F.Assign target value))
+      (effect_in occurring (line.Assign target value)) (line_effect_in occurring (Line-F.Assign target value))
       (λ env. ap (λ some. effect_of some env) (fold-Assign Line node_plain_line target value) ∙ effect-Assign target (plain_expression value) env)
       (λ env. ap (λ (effect : Effect). effect env) (fold-Assign Effect (line_effect_in occurring) target value))
       (value_next value (λ v. assigned target v.word) (λ v. assigned target v.word) says_both.1 (λ v. assigned_alike target v.word says_both.0.0))
@@ -226,7 +238,7 @@ module _ (occurring : Occurring) (events : List (List ℕ)) (count : ℕ) where
       let first : FormSpeaks events (form.Accept value) = (subst (AllByRecursion (FormSpeaks events)) (fold-Accept (List LineForm) block_forms value) said).0 in
       let says_both = says (form.Accept value) value [] refl first.names first.asked in
       alike_of (effect_of (plain_line (line.Accept value))) (line_effect (Line-F.Accept (plain_expression value))) (effect_in occurring (line.Accept value))
-          (line_effect_in occurring (Line-F.Accept value))
+      (line_effect_in occurring (Line-F.Accept value))
       (λ env. ap (λ some. effect_of some env) (fold-Accept Line node_plain_line value) ∙ effect-Accept (plain_expression value) env)
       (λ env. ap (λ (effect : Effect). effect env) (fold-Accept Effect (line_effect_in occurring) value))
       (value_next value (λ v. accepting v.word) (λ v. accepting v.word) says_both.1 (λ v. accepting_alike v.word))
@@ -235,14 +247,14 @@ module _ (occurring : Occurring) (events : List (List ℕ)) (count : ℕ) where
   claim-Repeat turns body said =
       let lines = map bare body in
       let inside : AllByRecursion (FormSpeaks events) (joined (map line_forms lines) ++ (form.End ∷ [])) =
-          (subst (AllByRecursion (FormSpeaks events)) (fold-Repeat (List LineForm) block_forms turns lines) said).1 in
+      (subst (AllByRecursion (FormSpeaks events)) (fold-Repeat (List LineForm) block_forms turns lines) said).1 in
       let speaks = of_joined (FormSpeaks events) lines (halves (FormSpeaks events) (joined (map line_forms lines)) (form.End ∷ []) inside).0 in
       alike_of (effect_of (plain_line (line.Repeat turns lines))) (line_effect (Line-F.Repeat turns (plain_effects lines)))
-          (effect_in occurring (line.Repeat turns lines)) (line_effect_in occurring (Line-F.Repeat turns (source_effects lines)))
+      (effect_in occurring (line.Repeat turns lines)) (line_effect_in occurring (Line-F.Repeat turns (source_effects lines)))
       (λ env. ap (λ some. effect_of some env) (fold-Repeat Line node_plain_line turns lines) ∙ effect-Repeat turns (map plain_line lines) env)
       (λ env. ap (λ (effect : Effect). effect env) (fold-Repeat Effect (line_effect_in occurring) turns lines))
       (times_alike turns (in_sequence (plain_effects lines)) (in_sequence (source_effects lines))
-          (sequence_alike (plain_effects lines) (source_effects lines) (all_alike body speaks)))
+      (sequence_alike (plain_effects lines) (source_effects lines) (all_alike body speaks)))
 
   pub branch_alike : (told : Bool) (plains sources : List Effect) (plains' sources' : Option (List Effect)) → AllAlike plains sources
       → OtherwiseAlike plains' sources'
@@ -255,17 +267,17 @@ module _ (occurring : Occurring) (events : List (List ℕ)) (count : ℕ) where
   claim-If condition then_lines said =
       let lines = map bare then_lines in
       let all : AllByRecursion (FormSpeaks events) (form.If condition ∷ joined (map line_forms lines) ++ [] ++ (form.End ∷ [])) =
-          subst (AllByRecursion (FormSpeaks events)) (fold-If (List LineForm) block_forms condition lines None) said in
+      subst (AllByRecursion (FormSpeaks events)) (fold-If (List LineForm) block_forms condition lines None) said in
       let says_both = says (form.If condition) condition [] refl all.0.names all.0.asked in
       let inside = halves (FormSpeaks events) (joined (map line_forms lines) ++ []) (form.End ∷ []) all.1 in
       let speaks = of_joined (FormSpeaks events) lines (halves (FormSpeaks events) (joined (map line_forms lines)) [] inside.0).0 in
       alike_of (effect_of (plain_line (line.If condition lines None))) (line_effect (Line-F.If (plain_expression condition) (plain_effects lines) None))
-          (effect_in occurring (line.If condition lines None)) (line_effect_in occurring (Line-F.If condition (source_effects lines) None))
+      (effect_in occurring (line.If condition lines None)) (line_effect_in occurring (Line-F.If condition (source_effects lines) None))
       (λ env. ap (λ some. effect_of some env) (fold-If Line node_plain_line condition lines None)
-          ∙ effect-If (plain_expression condition) (map plain_line lines) env)
+      ∙ effect-If (plain_expression condition) (map plain_line lines) env)
       (λ env. ap (λ (effect : Effect). effect env) (fold-If Effect (line_effect_in occurring) condition lines None))
       (value_next condition (λ c env. if holds c then in_sequence (plain_effects lines) env else otherwise None env)
-          (λ c env. if holds c then in_sequence (source_effects lines) env else otherwise None env) says_both.1
+      (λ c env. if holds c then in_sequence (source_effects lines) env else otherwise None env) says_both.1
       (λ c. branch_alike (holds c) (plain_effects lines) (source_effects lines) None None (all_alike then_lines speaks) tt))
 
   pub claim-IfElse : (condition : Expr) (then_lines else_lines : List Proved) → Claim (line.If condition (map bare then_lines) (Some (map bare else_lines)))
@@ -273,22 +285,22 @@ module _ (occurring : Occurring) (events : List (List ℕ)) (count : ℕ) where
       let lines = map bare then_lines in
       let others = map bare else_lines in
       let all : AllByRecursion (FormSpeaks events)
-          (form.If condition ∷ joined (map line_forms lines) ++ (form.Else ∷ joined (map line_forms others)) ++ (form.End ∷ [])) =
-          subst (AllByRecursion (FormSpeaks events)) (fold-If (List LineForm) block_forms condition lines (Some others)) said in
+      (form.If condition ∷ joined (map line_forms lines) ++ (form.Else ∷ joined (map line_forms others)) ++ (form.End ∷ [])) =
+      subst (AllByRecursion (FormSpeaks events)) (fold-If (List LineForm) block_forms condition lines (Some others)) said in
       let says_both = says (form.If condition) condition [] refl all.0.names all.0.asked in
       let inside = halves (FormSpeaks events) (joined (map line_forms lines) ++ (form.Else ∷ joined (map line_forms others))) (form.End ∷ []) all.1 in
       let blocks = halves (FormSpeaks events) (joined (map line_forms lines)) (form.Else ∷ joined (map line_forms others)) inside.0 in
       let on_then = all_alike then_lines (of_joined (FormSpeaks events) lines blocks.0) in
       let on_else = all_alike else_lines (of_joined (FormSpeaks events) others blocks.1.1) in
       alike_of (effect_of (plain_line (line.If condition lines (Some others))))
-          (line_effect (Line-F.If (plain_expression condition) (plain_effects lines) (Some (plain_effects others))))
-          (effect_in occurring (line.If condition lines (Some others)))
-          (line_effect_in occurring (Line-F.If condition (source_effects lines) (Some (source_effects others))))
+      (line_effect (Line-F.If (plain_expression condition) (plain_effects lines) (Some (plain_effects others))))
+      (effect_in occurring (line.If condition lines (Some others)))
+      (line_effect_in occurring (Line-F.If condition (source_effects lines) (Some (source_effects others))))
       (λ env. ap (λ some. effect_of some env) (fold-If Line node_plain_line condition lines (Some others))
-          ∙ effect-IfElse (plain_expression condition) (map plain_line lines) (map plain_line others) env)
+      ∙ effect-IfElse (plain_expression condition) (map plain_line lines) (map plain_line others) env)
       (λ env. ap (λ (effect : Effect). effect env) (fold-If Effect (line_effect_in occurring) condition lines (Some others)))
       (value_next condition (λ c env. if holds c then in_sequence (plain_effects lines) env else otherwise (Some (plain_effects others)) env)
-          (λ c env. if holds c then in_sequence (source_effects lines) env else otherwise (Some (source_effects others)) env) says_both.1
+      (λ c env. if holds c then in_sequence (source_effects lines) env else otherwise (Some (source_effects others)) env) says_both.1
       (λ c. branch_alike (holds c) (plain_effects lines) (source_effects lines) (Some (plain_effects others)) (Some (source_effects others)) on_then on_else))
 
   pub node : (y : Line-F Proved) → Claim (roll-Line (map-Line Proved Line bare y))

@@ -10,7 +10,7 @@ use Rattle.unit_tree.specs.declared.environment.Environment.{Environment}
 use Rattle.unit_tree.specs.declared.environment.Value.{Value}
 use Rattle.unit_tree.specs.declared.expr.BinOp.{BinOp}
 use Rattle.unit_tree.specs.declared.expr.Expr as expr
-use Rattle.unit_tree.specs.declared.expr.Expr.{Expr, fold-Expr}
+use Rattle.unit_tree.specs.declared.expr.Expr.{Expr}
 use Rattle.unit_tree.specs.declared.expr.Expr.TheFolds.{ind-Expr, map-Expr}
 use Rattle.unit_tree.specs.declared.expr.Expr.TheOpen.{Expr-F}
 use Rattle.unit_tree.specs.declared.expr.Expr.TheVariants.{rolls-Number, rolls-Truth, rolls-Var, rolls-Time, rolls-Step, rolls-Unary, rolls-Binary}
@@ -51,14 +51,14 @@ module _ (occurring : Occurring) where
   has-Binary op left right on_left on_right env =
       ap (value_at env) (fold-Binary Telling (node_telling occurring) op left right)
       ∙ same-two op ((told_in left).value env) (value_in occurring left env) ((told_in right).value env) (value_in occurring right env) (on_left env)
-          (on_right env)
+      (on_right env)
       ∙ sym (in-Binary occurring env op left right)
 
   pub has-Clamp : (value low high : Expr) → HasValue value → HasValue low → HasValue high → HasValue (expr.Clamp value low high)
   has-Clamp value low high on_value on_low on_high env =
       ap (value_at env) (fold-Clamp Telling (node_telling occurring) value low high)
       ∙ same-three ((told_in value).value env) (value_in occurring value env) ((told_in low).value env) (value_in occurring low env) ((told_in high).value env)
-          (value_in occurring high env) (on_value env) (on_low env) (on_high env)
+      (value_in occurring high env) (on_value env) (on_low env) (on_high env)
       ∙ sym (in-Clamp occurring env value low high)
 
   pub has-Choose : (condition then_part else_part : Expr) → HasValue condition → HasValue then_part → HasValue else_part
@@ -66,7 +66,7 @@ module _ (occurring : Occurring) where
   has-Choose condition then_part else_part on_condition on_then on_else env =
       ap (value_at env) (fold-Choose Telling (node_telling occurring) condition then_part else_part)
       ∙ same-choose ((told_in condition).value env) (value_in occurring condition env) ((told_in then_part).value env) (value_in occurring then_part env)
-          ((told_in else_part).value env) (value_in occurring else_part env) (on_condition env) (on_then env) (on_else env)
+      ((told_in else_part).value env) (value_in occurring else_part env) (on_condition env) (on_then env) (on_else env)
       ∙ sym (in-Choose occurring env condition then_part else_part)
 
   abbrev pub Valued : Type 0
@@ -90,7 +90,7 @@ module _ (occurring : Occurring) where
   has_node (Expr-F.Clamp value low high) = subst HasValue (sym (rolls-Clamp value.0 low.0 high.0)) (has-Clamp value.0 low.0 high.0 value.1 low.1 high.1)
   has_node (Expr-F.Choose condition then_part else_part) =
       subst HasValue (sym (rolls-Choose condition.0 then_part.0 else_part.0))
-          (has-Choose condition.0 then_part.0 else_part.0 condition.1 then_part.1 else_part.1)
+      (has-Choose condition.0 then_part.0 else_part.0 condition.1 then_part.1 else_part.1)
   has_node Expr-F.Absent =
       subst HasValue (sym rolls-Absent) (λ env. ap (value_at env) (fold-Absent Telling (node_telling occurring)) ∙ sym (in-Absent occurring env))
   has_node (Expr-F.Present name) =
@@ -156,7 +156,7 @@ module _ (occurring : Occurring) (events : List (List ℕ)) (env plain : Environ
       → event_in occurring value env ≡ told_of ((telling occurring value).value env) → Two value
   no_choice value tells word told said =
       let value_is : (telling occurring value).value env ≡ plainly value plain = has_value occurring value env
-          ∙ sym (same occurring events env plain shows value said) in
+      ∙ sym (same occurring events env plain shows value said) in
       let event_is : event_in occurring value env ≡ told_of (plainly value plain) = told ∙ ap told_of value_is in
       let first : plainly (presence_of value) plain ≡ Ok (truth true) = ap (λ v. plainly v plain) tells ∙ plain_truth true plain in
       let second : plainly (word_expression_of ty value) plain ≡ plainly value plain = ap (λ v. plainly v plain) word in
@@ -179,11 +179,11 @@ module _ (occurring : Occurring) (events : List (List ℕ)) (env plain : Environ
   two-Absent said =
       let event_is : event_in occurring expr.Absent env ≡ Ok None = ap (λ (t : Telling). t.event env) (fold-Absent Telling (node_telling occurring)) in
       let first : plainly (presence_of expr.Absent) plain ≡ Ok (truth false) = ap (λ v. plainly v plain) (choices-Absent (expr.Truth false) all_true)
-          ∙ plain_truth false plain in
+      ∙ plain_truth false plain in
       let second : plainly (word_expression_of ty expr.Absent) plain ≡ Ok (zero_value ty) = ap (λ v. plainly v plain) (choices-Absent (zero_of ty) as_it_is)
-          ∙ plain_zero ty plain in
+      ∙ plain_zero ty plain in
       subst (λ event. AreTwo ty event (plainly (presence_of expr.Absent) plain) (plainly (word_expression_of ty expr.Absent) plain)) (sym event_is)
-          (first, second)
+      (first, second)
 
   abbrev pub chosen_of : Given → Given → Given → Given
   chosen_of condition one other = condition >>= λ c. (if holds c then one else other)
@@ -192,31 +192,31 @@ module _ (occurring : Occurring) (events : List (List ℕ)) (env plain : Environ
       → plainly (expr.Choose condition one other) plain ≡ chosen_of (plainly condition plain) (plainly one plain) (plainly other plain)
   plain_choice condition one other =
       ap (λ value. value_of value plain) (plain-Choose condition one other)
-          ∙ value-Choose (plain_expression condition) (plain_expression one) (plain_expression other) plain
+      ∙ value-Choose (plain_expression condition) (plain_expression one) (plain_expression other) plain
 
   pub two-Choose : (condition then_part else_part : Expr) → Two then_part → Two else_part → Two (expr.Choose condition then_part else_part)
   two-Choose condition then_part else_part on_then on_else said =
       let parts = said-Choose events condition then_part else_part said in
       let told = ap (λ (t : Telling). t.event env) (fold-Choose Telling (node_telling occurring) condition then_part else_part) in
       let value_is : (telling occurring condition).value env ≡ plainly condition plain = has_value occurring condition env
-          ∙ sym (same occurring events env plain shows condition parts.0) in
+      ∙ sym (same occurring events env plain shows condition parts.0) in
       let event_is : event_in occurring (expr.Choose condition then_part else_part) env
-          ≡ (plainly condition plain >>= λ c. (if holds c then event_in occurring then_part env else event_in occurring else_part env)) =
+      ≡ (plainly condition plain >>= λ c. (if holds c then event_in occurring then_part env else event_in occurring else_part env)) =
       told ∙ ap (λ (given : Given). given >>= λ c. (if holds c then event_in occurring then_part env else event_in occurring else_part env)) value_is in
       let first = ap (λ v. plainly v plain) (choices-Choose (expr.Truth false) all_true condition then_part else_part)
-          ∙ plain_choice condition (presence_of then_part) (presence_of else_part) in
+      ∙ plain_choice condition (presence_of then_part) (presence_of else_part) in
       let second = ap (λ v. plainly v plain) (choices-Choose (zero_of ty) as_it_is condition then_part else_part)
-          ∙ plain_choice condition (word_expression_of ty then_part) (word_expression_of ty else_part) in
+      ∙ plain_choice condition (word_expression_of ty then_part) (word_expression_of ty else_part) in
       subst (λ event. AreTwo ty event (plainly (presence_of (expr.Choose condition then_part else_part)) plain)
-          (plainly (word_expression_of ty (expr.Choose condition then_part else_part)) plain)) (sym event_is)
+      (plainly (word_expression_of ty (expr.Choose condition then_part else_part)) plain)) (sym event_is)
       (subst (λ given. AreTwo ty
-          (plainly condition plain >>= λ c. (if holds c then event_in occurring then_part env else event_in occurring else_part env)) given
-          (plainly (word_expression_of ty (expr.Choose condition then_part else_part)) plain)) (sym first)
+      (plainly condition plain >>= λ c. (if holds c then event_in occurring then_part env else event_in occurring else_part env)) given
+      (plainly (word_expression_of ty (expr.Choose condition then_part else_part)) plain)) (sym first)
       (subst (λ given. AreTwo ty (plainly condition plain >>= λ c. (if holds c then event_in occurring then_part env else event_in occurring else_part env))
-          (chosen_of (plainly condition plain) (plainly (presence_of then_part) plain) (plainly (presence_of else_part) plain)) given) (sym second)
+      (chosen_of (plainly condition plain) (plainly (presence_of then_part) plain) (plainly (presence_of else_part) plain)) given) (sym second)
       (choose_two ty (plainly condition plain) (event_in occurring then_part env) (event_in occurring else_part env) (plainly (presence_of then_part) plain)
-          (plainly (presence_of else_part) plain) (plainly (word_expression_of ty then_part) plain) (plainly (word_expression_of ty else_part) plain)
-          (on_then parts.1) (on_else parts.2))))
+      (plainly (presence_of else_part) plain) (plainly (word_expression_of ty then_part) plain) (plainly (word_expression_of ty else_part) plain)
+      (on_then parts.1) (on_else parts.2))))
 
   pub two-Number : (word : ℤ) (decimals : ℕ) → Two (expr.Number word decimals)
   two-Number word decimals =

@@ -82,8 +82,8 @@ module _ (shape : List Bool) (ports : Ports) (are_tidy : AreTidy shape ports) (o
   plain_by output None said is = refl
   plain_by output (Some seen) said is =
       ap result_err (get_same one.member.component state seen
-          (fits_seen shape ports one state wired are_tidy state_fits output.needs seen is) wired.said.variables output said)
-          ∙ by_given (get_in one.member.component state seen output)
+      (fits_seen shape ports one state wired are_tidy state_fits output.needs seen is) wired.said.variables output said)
+      ∙ by_given (get_in one.member.component state seen output)
     where
       by_given : (given : Outcome) → result_err given ≡ result_err (given >>= λ word. Ok (Occurs word))
       by_given (Ok word) = refl
@@ -93,12 +93,12 @@ module _ (shape : List Bool) (ports : Ports) (are_tidy : AreTidy shape ports) (o
       → Speaks (event_input_names unit) output.value → option_map tell (plain_fault number (plain_output unit output)) ≡ source_fault source (Plain output)
   plain_told number source output is words said =
       ap (λ inputs. option_map tell
-          (at_number number (option_and_then result_err
-          (option_map (λ i. get_of (plain_component one.member.component) state i (plain_output unit output)) inputs))))
-          (seen_is shape ports one state wired are_tidy output.needs (plain_output unit output) words refl)
+      (at_number number (option_and_then result_err
+      (option_map (λ i. get_of (plain_component one.member.component) state i (plain_output unit output)) inputs))))
+      (seen_is shape ports one state wired are_tidy output.needs (plain_output unit output) words refl)
       ∙ ap (λ fault. option_map tell (at_number number fault)) (plain_by output (seen_for signals output.needs one) said refl)
       ∙ told_at number source
-          (option_and_then result_err (option_map (λ s. get_out one.member.component state s (Plain output)) (seen_for signals output.needs one))) is
+      (option_and_then result_err (option_map (λ s. get_out one.member.component state s (Plain output)) (seen_for signals output.needs one))) is
 
   -- Of two gets of an event output the first that faults has its fault.
   pub two_told : (number source : ℕ) (event : Result Signal Fault) (first second : Outcome) → read number ≡ source → read (number + 1) ≡ source
@@ -106,13 +106,13 @@ module _ (shape : List Bool) (ports : Ports) (are_tidy : AreTidy shape ports) (o
       → option_map tell (or_first (at_number number (result_err first)) (at_number (number + 1) (result_err second))) ≡ at_number source (result_err event)
   two_told number source (Ok Absent) first second is is_next are =
       ap (λ g. option_map tell (or_first (at_number number (result_err g)) (at_number (number + 1) (result_err second)))) are.0
-          ∙ ap (λ g. option_map tell (at_number (number + 1) (result_err g))) are.1
+      ∙ ap (λ g. option_map tell (at_number (number + 1) (result_err g))) are.1
   two_told number source (Ok (Occurs word)) first second is is_next are =
       ap (λ g. option_map tell (or_first (at_number number (result_err g)) (at_number (number + 1) (result_err second)))) are.0
-          ∙ ap (λ g. option_map tell (at_number (number + 1) (result_err g))) are.1
+      ∙ ap (λ g. option_map tell (at_number (number + 1) (result_err g))) are.1
   two_told number source (Err fault) first second is is_next (inl told, word) =
       ap (λ g. option_map tell (or_first (at_number number (result_err g)) (at_number (number + 1) (result_err second)))) told
-          ∙ told_at number source (Some fault) is
+      ∙ told_at number source (Some fault) is
   two_told number source (Err fault) first second is is_next (inr told, word) =
       ap (λ g. option_map tell (or_first (at_number number (result_err g)) (at_number (number + 1) (result_err second)))) told
       ∙ ap (λ g. option_map tell (at_number (number + 1) (result_err g))) word
@@ -135,21 +135,21 @@ module _ (shape : List Bool) (ports : Ports) (are_tidy : AreTidy shape ports) (o
   event_by number source event None is is_next said seen_is_it = refl
   event_by number source event (Some seen) is is_next said seen_is_it =
       two_told number source (get_event one.member.component state seen event)
-          (get_of (plain_component one.member.component) state (plain_words seen) (tells_of event))
-          (get_of (plain_component one.member.component) state (plain_words seen) (word_of event)) is is_next
+      (get_of (plain_component one.member.component) state (plain_words seen) (tells_of event))
+      (get_of (plain_component one.member.component) state (plain_words seen) (word_of event)) is is_next
       (event_same one.member.component state seen
-          (fits_seen shape ports one state wired are_tidy state_fits event.needs seen seen_is_it) wired.said.variables event (tells_of event)
-          (word_of event) refl refl refl refl said)
+      (fits_seen shape ports one state wired are_tidy state_fits event.needs seen seen_is_it) wired.said.variables event (tells_of event)
+      (word_of event) refl refl refl refl said)
 
   pub event_told : (number source : ℕ) (event : EventOut) → read number ≡ source → read (number + 1) ≡ source → AllByRecursion IsWord event.needs
       → Speaks (event_input_names unit) event.value
       → option_map tell (or_first (plain_fault number (tells_of event)) (plain_fault (number + 1) (word_of event))) ≡ source_fault source (Event event)
   event_told number source event is is_next words said =
       ap (λ inputs. option_map tell (or_first (at_number number (err_of (tells_of event) inputs)) (plain_fault (number + 1) (word_of event))))
-          (seen_is shape ports one state wired are_tidy event.needs (tells_of event) words refl)
+      (seen_is shape ports one state wired are_tidy event.needs (tells_of event) words refl)
       ∙ ap (λ inputs. option_map tell
-          (or_first (at_number number (err_of (tells_of event) (option_map plain_words (seen_for signals event.needs one))))
-          (at_number (number + 1) (err_of (word_of event) inputs)))) (seen_is shape ports one state wired are_tidy event.needs (word_of event) words refl)
+      (or_first (at_number number (err_of (tells_of event) (option_map plain_words (seen_for signals event.needs one))))
+      (at_number (number + 1) (err_of (word_of event) inputs)))) (seen_is shape ports one state wired are_tidy event.needs (word_of event) words refl)
       ∙ event_by number source event (seen_for signals event.needs one) is is_next said refl
 
   -- ---- All outputs of it
@@ -187,13 +187,13 @@ module _ (shape : List Bool) (ports : Ports) (are_tidy : AreTidy shape ports) (o
       let first = plain_fault number (tells_of event) in
       let second = plain_fault (number + 1) (word_of event) in
       ap (option_map tell) (first_append (first ∷ second ∷ []) rest
-          ∙ ap (λ both. or_first both (first_some rest)) (first_front first (second ∷ []) ∙ ap (or_first first) (first_front second [] ∙ alone second)))
+      ∙ ap (λ both. or_first both (first_some rest)) (first_front first (second ∷ []) ∙ ap (or_first first) (first_front second [] ∙ alone second)))
       ∙ or_map tell (or_first first second) (first_some rest)
       ∙ ap (λ told. or_first told (option_map tell (first_some rest)))
-          (event_told number source event (reads_here number source true (map is_event (map Event events)) reads)
-          (reads_next number source (map is_event (map Event events)) reads) words.0 said.0)
+      (event_told number source event (reads_here number source true (map is_event (map Event events)) reads)
+      (reads_next number source (map is_event (map Event events)) reads) words.0 said.0)
       ∙ ap (or_first (source_fault source (Event event)))
-          (events_told (number + 1 + 1) (source + 1) events (reads_event number source (map is_event (map Event events)) reads) said.1 words.1)
+      (events_told (number + 1 + 1) (source + 1) events (reads_event number source (map is_event (map Event events)) reads) said.1 words.1)
       ∙ sym (first_front (source_fault source (Event event)) (source_faults (source + 1) (map Event events)))
     where
       alone : (given : Option Ending) → or_first given None ≡ given
@@ -214,9 +214,9 @@ module _ (shape : List Bool) (ports : Ports) (are_tidy : AreTidy shape ports) (o
       ap (option_map tell) (first_front (plain_fault number (plain_output unit output)) rest)
       ∙ or_map tell (plain_fault number (plain_output unit output)) (first_some rest)
       ∙ ap (λ told. or_first told (option_map tell (first_some rest)))
-          (plain_told number source output (reads_here number source false shape' reads) words.0 said.0)
+      (plain_told number source output (reads_here number source false shape' reads) words.0 said.0)
       ∙ ap (or_first (source_fault source (Plain output)))
-          (all_told (number + 1) (source + 1) outputs events (reads_plain number source shape' reads) said.1 events_said words.1)
+      (all_told (number + 1) (source + 1) outputs events (reads_plain number source shape' reads) said.1 events_said words.1)
       ∙ sym (first_front (source_fault source (Plain output)) (source_faults (source + 1) (map Plain outputs ++ map Event events)))
 
 -- ---- All members
@@ -254,12 +254,12 @@ module _ (all : List EventMember) (shape : List Bool) (ports : Ports) (are_tidy 
       ∙ or_map tell_all (first_some (map (fault_at ports) mine)) (first_some (map (fault_at ports) others))
       ∙ ap (λ told. or_first told (option_map tell_all (first_some (map (fault_at ports) others))))
       (all_told shape ports are_tidy one state wired.0 fit.0 from tell_all (output_read (shape_at all from))
-          (λ number fault. refl) 0 0 unit.outputs unit.events_out
+      (λ number fault. refl) 0 0 unit.outputs unit.events_out
       (λ j. zeros (shape_at all from) (shape_of one) j shape_is) wired.0.said.outputs wired.0.said.events wired.0.needs)
       ∙ ap (or_first (first_some (event_faults_at (read_ports shape ports) (from, (one, state)))))
-          (members_told (from + 1) members states (λ j. later_on from j ∙ here (suc j)) wired.1 fit.1)
+      (members_told (from + 1) members states (λ j. later_on from j ∙ here (suc j)) wired.1 fit.1)
       ∙ sym (first_append (event_faults_at (read_ports shape ports) (from, (one, state)))
-          (flat_map (event_faults_at (read_ports shape ports)) (enumerate_from (from + 1) (zip members states))))
+      (flat_map (event_faults_at (read_ports shape ports)) (enumerate_from (from + 1) (zip members states))))
 
 pub from_zero : (members : List EventMember) (j : ℕ) → slice_get members (0 + j) ≡ slice_get members j
 from_zero members j =
@@ -271,5 +271,5 @@ pub fault_is_read : (members : List EventMember) (run : Composition) (states : L
     → event_port_fault members states (read_ports (flat_map shape_of members) ports) ≡ option_map (read_ending members) (port_fault run states ports)
 fault_is_read members run states ports plain fit tidy =
     sym (ap (λ all. option_map (read_ending members)
-        (first_some (map (fault_at ports) (flat_map outlets_of (enumerate_from 0 (zip all states)))))) plain.members_are
+    (first_some (map (fault_at ports) (flat_map outlets_of (enumerate_from 0 (zip all states)))))) plain.members_are
     ∙ members_told members (flat_map shape_of members) ports tidy 0 members states (from_zero members) plain.wired fit)

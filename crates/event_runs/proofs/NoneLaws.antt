@@ -34,23 +34,23 @@ module _ (env : Environment) where
   node Expr-F.Step = subst Same (sym rolls-Step) (in-Step none_occurs env ∙ sym (value-Step env))
   node (Expr-F.Unary op arg) =
       subst Same (sym (rolls-Unary op arg.0))
-          (in-Unary none_occurs env op arg.0 ∙ ap (λ (given : Given). given >>= λ x. unary_value op x) arg.1 ∙ sym (value-Unary op arg.0 env))
+      (in-Unary none_occurs env op arg.0 ∙ ap (λ (given : Given). given >>= λ x. unary_value op x) arg.1 ∙ sym (value-Unary op arg.0 env))
   node (Expr-F.Binary op left right) =
       subst Same (sym (rolls-Binary op left.0 right.0))
-          (in-Binary none_occurs env op left.0 right.0
-          ∙ same-two op (value_in none_occurs left.0 env) (value_of left.0 env) (value_in none_occurs right.0 env) (value_of right.0 env) left.1 right.1
-          ∙ sym (value-Binary op left.0 right.0 env))
+      (in-Binary none_occurs env op left.0 right.0
+      ∙ same-two op (value_in none_occurs left.0 env) (value_of left.0 env) (value_in none_occurs right.0 env) (value_of right.0 env) left.1 right.1
+      ∙ sym (value-Binary op left.0 right.0 env))
   node (Expr-F.Clamp value low high) =
       subst Same (sym (rolls-Clamp value.0 low.0 high.0))
-          (in-Clamp none_occurs env value.0 low.0 high.0
-          ∙ same-three (value_in none_occurs value.0 env) (value_of value.0 env) (value_in none_occurs low.0 env) (value_of low.0 env)
-          (value_in none_occurs high.0 env) (value_of high.0 env) value.1 low.1 high.1 ∙ sym (value-Clamp value.0 low.0 high.0 env))
+      (in-Clamp none_occurs env value.0 low.0 high.0
+      ∙ same-three (value_in none_occurs value.0 env) (value_of value.0 env) (value_in none_occurs low.0 env) (value_of low.0 env)
+      (value_in none_occurs high.0 env) (value_of high.0 env) value.1 low.1 high.1 ∙ sym (value-Clamp value.0 low.0 high.0 env))
   node (Expr-F.Choose condition then_part else_part) =
       subst Same (sym (rolls-Choose condition.0 then_part.0 else_part.0))
-          (in-Choose none_occurs env condition.0 then_part.0 else_part.0
-          ∙ same-choose (value_in none_occurs condition.0 env) (value_of condition.0 env) (value_in none_occurs then_part.0 env) (value_of then_part.0 env)
-          (value_in none_occurs else_part.0 env) (value_of else_part.0 env) condition.1 then_part.1 else_part.1
-          ∙ sym (value-Choose condition.0 then_part.0 else_part.0 env))
+      (in-Choose none_occurs env condition.0 then_part.0 else_part.0
+      ∙ same-choose (value_in none_occurs condition.0 env) (value_of condition.0 env) (value_in none_occurs then_part.0 env) (value_of then_part.0 env)
+      (value_in none_occurs else_part.0 env) (value_of else_part.0 env) condition.1 then_part.1 else_part.1
+      ∙ sym (value-Choose condition.0 then_part.0 else_part.0 env))
   node Expr-F.Absent = subst Same (sym rolls-Absent)
       (in-Absent none_occurs env ∙ sym (ap (λ (meaning : Meaning). meaning env) (fold-Absent Meaning node_meaning)))
   node (Expr-F.Present name) =

@@ -91,14 +91,14 @@ module _ (shape : List Bool) (ports : Ports) (tidy : AreTidy shape ports) (defin
       → max_at t ports (plain_member shape one, state) ≡ event_max_at t signals (one, state)
   max_is t one state wired fit =
       ap (λ inputs. max_of (plain_component one.member.component) state inputs (local_time one.member.factor t)) (inputs_are one wired)
-          ∙ (calls_of one state wired fit).limit (local_time one.member.factor t)
+      ∙ (calls_of one state wired fit).limit (local_time one.member.factor t)
 
   step_is : (t h : ℕ) (one : EventMember) (state : List ℤ) → IsWired shape one → length state ≡ length one.member.component.unit.states
       → step_at t h ports (plain_member shape one, state) ≡ event_step_at t h signals (one, state)
   step_is t h one state wired fit =
       ap (λ moved. if is_held one.member.factor t h then None else Some moved)
       (ap (λ inputs. step_of (plain_component one.member.component) state inputs (local_time one.member.factor t) (local_step one.member.factor t h))
-          (inputs_are one wired)
+      (inputs_are one wired)
       ∙ (calls_of one state wired fit).step (local_time one.member.factor t) (local_step one.member.factor t h))
 
   limits_same : (t : ℕ) (members : List EventMember) (states : List (List ℤ)) → AllByRecursion (IsWired shape) members → StatesFit members states

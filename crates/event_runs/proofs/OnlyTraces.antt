@@ -41,7 +41,7 @@ module _ (members : List EventMember) (run : Composition) (order : List ℕ) (pl
       (refl, ends_is (sym q ∙ successor_read members run order plain are ordered here words is ∙ ap (read_next members) p))
   same_rest here [] (y ∷ ys) e f words is p q =
       let both : goes y.at ≡ ends (read_ending members e) = sym q.0 ∙ successor_read members run order plain are ordered here words is
-          ∙ ap (read_next members) p in absurd (cc)
+      ∙ ap (read_next members) p in absurd (cc)
   same_rest here (x ∷ xs) [] e f words is p q =
       let both : ends f ≡ goes x.at = sym q ∙ successor_read members run order plain are ordered here words is ∙ ap (read_next members) p.0.0 in absurd (cc)
   same_rest here (x ∷ xs) (y ∷ ys) e f words is p q =

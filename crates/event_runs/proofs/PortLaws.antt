@@ -130,7 +130,7 @@ pub among_by : (told : Bool) (unit : Unit) (need name : List ℕ) (rest : List (
     → is_among ((if told then presence_name need ∷ need ∷ [] else need ∷ []) ++ rest) name ≡ (bytes_eq name need || later)
 among_by true unit need name rest later plain is =
     ap (λ first. first || (bytes_eq name need || is_among rest name)) (other_bytes name (presence_name need) (λ same. plain need same))
-        ∙ ap (λ b. bytes_eq name need || b) is
+    ∙ ap (λ b. bytes_eq name need || b) is
 among_by false unit need name rest later plain is = ap (λ b. bytes_eq name need || b) is
 
 pub among_plain : (unit : Unit) (needs : List (List ℕ)) (name : List ℕ) → IsPlain name → is_among (plain_needs unit needs) name ≡ is_among needs name
@@ -166,7 +166,7 @@ pub among_presence : (unit : Unit) (needs : List (List ℕ)) (name : List ℕ) �
 among_presence unit [] name words event = refl
 among_presence unit (need ∷ needs) name words event =
     presence_by (is_among (event_input_names unit) need) unit need name (plain_needs unit needs) (is_among needs name) (word_is_plain need words.0) differ
-        (among_presence unit needs name words.1 event)
+    (among_presence unit needs name words.1 event)
   where
     differ : is_among (event_input_names unit) need ≡ false → bytes_eq name need ≡ false
     differ none = other_bytes name need (λ same. apart (ap (is_among (event_input_names unit)) (sym same) ∙ event) none)
@@ -190,7 +190,7 @@ module _ (shape : List Bool) (ports : Ports) (tidy : AreTidy shape ports) where
   source_word (Start word) fits = refl
   source_word (AtPlace place) fits =
       word_by (slice_get ports (plain_place shape place))
-          ∙ sym (ap (λ found. option_map word_seen (option_and_then (λ signal. signal) found)) (plain_at shape ports place tidy fits))
+      ∙ sym (ap (λ found. option_map word_seen (option_and_then (λ signal. signal) found)) (plain_at shape ports place tidy fits))
 
   pub feed_words : (feed : Option ℕ) → FeedFits shape feed
       → all_there (map (input_word ports) (plain_feed shape feed)) ≡ option_map words_of_signal (signal_from signals feed)
@@ -198,7 +198,7 @@ module _ (shape : List Bool) (ports : Ports) (tidy : AreTidy shape ports) where
   feed_words (Some place) fits =
       let at = event_at shape ports place tidy fits in
       ap (λ found. all_there
-          (option_and_then (λ word. word) found ∷ option_and_then (λ word. word) (slice_get ports (suc (plain_place shape place))) ∷ [])) at.tells_is
+      (option_and_then (λ word. word) found ∷ option_and_then (λ word. word) (slice_get ports (suc (plain_place shape place))) ∷ [])) at.tells_is
       ∙ ap (λ found. all_there (at.tells ∷ option_and_then (λ word. word) found ∷ [])) at.word_is
       ∙ tidy_pair at.tells at.word at.tidy
       ∙ sym (ap (λ found. option_map words_of_signal (option_and_then (λ signal. signal) found)) at.read)
@@ -212,11 +212,11 @@ module _ (shape : List Bool) (ports : Ports) (tidy : AreTidy shape ports) where
     plain_seen (input ∷ inputs) [] named fits = refl
     plain_seen (input ∷ inputs) (source ∷ sources) named fits =
         let among : is_among output.needs input.name ≡ is_among needs input.name = ap (λ all. is_among all input.name) needs_is
-            ∙ among_plain unit needs input.name (word_is_plain input.name named.0) in
+        ∙ among_plain unit needs input.name (word_is_plain input.name named.0) in
         ap (λ told. (if told then input_word ports (plain_source shape source) else Some (start_word input.ty input.start))
-            ∷ map (seen_by ports output) (zip inputs (map (plain_source shape) sources))) among
+        ∷ map (seen_by ports output) (zip inputs (map (plain_source shape) sources))) among
         ∙ ap (λ word. (if is_among needs input.name then word else Some (start_word input.ty input.start))
-            ∷ map (seen_by ports output) (zip inputs (map (plain_source shape) sources))) (source_word source fits.0)
+        ∷ map (seen_by ports output) (zip inputs (map (plain_source shape) sources))) (source_word source fits.0)
         ∙ ap (λ rest. word_needed signals needs (input, source) ∷ rest) (plain_seen inputs sources named.1 fits.1)
 
     -- An event input that is not needed shows 0 and 0.
@@ -237,15 +237,15 @@ module _ (shape : List Bool) (ports : Ports) (tidy : AreTidy shape ports) where
         ≡ option_map words_of_signal (signal_needed signals needs (event, feed))
     pair_seen event feed one other is fits zero_start named event_named =
         let tells_among : is_among output.needs (presence_name event.name) ≡ is_among needs event.name =
-            ap (λ all. is_among all (presence_name event.name)) needs_is ∙ among_presence unit needs event.name words event_named in
+        ap (λ all. is_among all (presence_name event.name)) needs_is ∙ among_presence unit needs event.name words event_named in
         let word_among : is_among output.needs event.name ≡ is_among needs event.name = ap (λ all. is_among all event.name) needs_is
-            ∙ among_plain unit needs event.name (word_is_plain event.name named) in
+        ∙ among_plain unit needs event.name (word_is_plain event.name named) in
         ap (λ told. all_there
-            ((if told then input_word ports one else Some (pos 0))
-            ∷ (if is_among output.needs event.name then input_word ports other else Some (start_word event.ty (no_event event.ty))) ∷ [])) tells_among
+        ((if told then input_word ports one else Some (pos 0))
+        ∷ (if is_among output.needs event.name then input_word ports other else Some (start_word event.ty (no_event event.ty))) ∷ [])) tells_among
         ∙ ap (λ told. all_there
-            ((if is_among needs event.name then input_word ports one else Some (pos 0))
-            ∷ (if told then input_word ports other else Some (start_word event.ty (no_event event.ty))) ∷ [])) word_among
+        ((if is_among needs event.name then input_word ports one else Some (pos 0))
+        ∷ (if told then input_word ports other else Some (start_word event.ty (no_event event.ty))) ∷ [])) word_among
         ∙ pair_by (is_among needs event.name) event feed one other is fits zero_start
 
     pub two_sources : (feed : Option ℕ) → (one : InputSource) × (other : InputSource) × (plain_feed shape feed ≡ one ∷ other ∷ [])
@@ -275,10 +275,10 @@ module _ (shape : List Bool) (ports : Ports) (tidy : AreTidy shape ports) where
         let sources = two_sources feed in
         let later = zip (flat_map plain_inputs events) (flat_map (plain_feed shape) feeds) in
         ap (λ front. all_there
-            (map (seen_by ports output) (zip (plain_inputs event ++ flat_map plain_inputs events) (front ++ flat_map (plain_feed shape) feeds)))) sources.2
+        (map (seen_by ports output) (zip (plain_inputs event ++ flat_map plain_inputs events) (front ++ flat_map (plain_feed shape) feeds)))) sources.2
         ∙ there_append (map (seen_by ports output) (zip (plain_inputs event) (sources.0 ∷ sources.1 ∷ []))) (map (seen_by ports output) later)
         ∙ ap (λ front. joined front (all_there (map (seen_by ports output) later)))
-            (pair_seen event feed sources.0 sources.1 sources.2 fits.0 named.0.1 named.0.0 named.0.2)
+        (pair_seen event feed sources.0 sources.1 sources.2 fits.0 named.0.1 named.0.0 named.0.2)
         ∙ ap (joined (option_map words_of_signal (signal_needed signals needs (event, feed)))) (events_seen events feeds named.1 fits.1)
         ∙ joined_widened (signal_needed signals needs (event, feed)) (map (signal_needed signals needs) (zip events feeds))
 

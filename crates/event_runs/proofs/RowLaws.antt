@@ -69,14 +69,14 @@ module _ (members : List EventMember) (run : Composition) (order : List ℕ) (pl
       let fit = fits members run order plain are ordered stand.at words in
       let tidy = (assignment_is_read members run stand.at.states plain fit stand.ports is).0 in
       ap (λ fault. event_row_unless fault stand.at.point (read_stand members stand).signals)
-          (fault_is_read members run stand.at.states stand.ports plain fit tidy ∙ ap (option_map (read_ending members)) told)
+      (fault_is_read members run stand.at.states stand.ports plain fit tidy ∙ ap (option_map (read_ending members)) told)
   row_by None stand words is told =
       let fit = fits members run order plain are ordered stand.at words in
       let tidy = (assignment_is_read members run stand.at.states plain fit stand.ports is).0 in
       let count : length stand.at.states ≡ length run.members = AllZip-long _ run.members stand.at.states words in
       let defined : list_all is_some stand.ports ≡ true = (undefined_faults run order stand.at.states stand.ports ordered count is).0 told in
       ap (λ fault. event_row_unless fault stand.at.point (read_stand members stand).signals)
-          (fault_is_read members run stand.at.states stand.ports plain fit tidy ∙ ap (option_map (read_ending members)) told)
+      (fault_is_read members run stand.at.states stand.ports plain fit tidy ∙ ap (option_map (read_ending members)) told)
       ∙ ap (λ signals. Some (record { point = stand.at.point; signals = signals })) (words_read (flat_map shape_of members) stand.ports tidy defined)
 
   row_read : (stand : Stand) → HasWords run stand.at → IsStand run stand → row_of stand ≡ option_map (read_row members) (row_at run stand)
@@ -88,9 +88,9 @@ module _ (members : List EventMember) (run : Composition) (order : List ℕ) (pl
   follow_rows here [] ending words is follows = ap (λ row. cons_option row []) (row_read here words is) ∙ cons_map (read_row members) (row_at run here) []
   follow_rows here (next ∷ stands) ending words is follows =
       ap (λ row. cons_option row (event_rows_of (record { members = members; pace = pace_of run }) (map (read_stand members) (next ∷ stands))))
-          (row_read here words is)
+      (row_read here words is)
       ∙ ap (cons_option (option_map (read_row members) (row_at run here)))
-          (follow_rows next stands ending (goes_keeps run here next are words follows.0) follows.0.1 follows.1)
+      (follow_rows next stands ending (goes_keeps run here next are words follows.0) follows.0.1 follows.1)
       ∙ cons_map (read_row members) (row_at run here) (rows_of run (next ∷ stands))
 
   pub rows_read : (stands : List Stand) (ending : Ending) → IsTrace run stands ending

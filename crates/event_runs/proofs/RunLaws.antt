@@ -49,9 +49,9 @@ module _ (shape : List Bool) (ports : Ports) where
   sides_from from (one ∷ members) [] = refl
   sides_from from (one ∷ members) (state ∷ states) =
       map-append (word_at ports) (outlets_of (from, (plain_member shape one, state)))
-          (flat_map outlets_of (enumerate_from (from + 1) (zip (map (plain_member shape) members) states)))
+      (flat_map outlets_of (enumerate_from (from + 1) (zip (map (plain_member shape) members) states)))
       ∙ ap (λ front. front ++ map (word_at ports) (flat_map outlets_of (enumerate_from (from + 1) (zip (map (plain_member shape) members) states))))
-          (counted one state from 0 (plain_unit one.member.component.unit).outputs)
+      (counted one state from 0 (plain_unit one.member.component.unit).outputs)
       ∙ ap (λ rest. words_at (one, state) ++ rest) (sides_from (from + 1) members states)
 
   pub sides_are : (members : List EventMember) (run : Composition) (states : List (List ℤ)) → run.members ≡ map (plain_member shape) members
@@ -94,7 +94,7 @@ module _ (shape : List Bool) (ports ports' : Ports) (tidy : AreTidy shape ports)
   plains_same one state wired [] words = refl
   plains_same one state wired (output ∷ outputs) words =
       ap (λ first. first ∷ map (word_for shape ports (one, state)) (map (plain_output one.member.component.unit) outputs))
-          (word_same one state wired output.needs (plain_output one.member.component.unit output) words.0 refl)
+      (word_same one state wired output.needs (plain_output one.member.component.unit output) words.0 refl)
       ∙ ap (λ rest. word_for shape ports' (one, state) (plain_output one.member.component.unit output) ∷ rest) (plains_same one state wired outputs words.1)
 
   pub events_same : (one : EventMember) (state : List ℤ) (wired : IsWired shape one) (events : List EventOut)
@@ -106,11 +106,11 @@ module _ (shape : List Bool) (ports ports' : Ports) (tidy : AreTidy shape ports)
       let first = first_of shape ports one state wired event in
       let second = second_of shape ports one state wired event in
       ap (λ w. w ∷ word_for shape ports (one, state) second
-          ∷ map (word_for shape ports (one, state)) (flat_map (plain_outputs one.member.component.unit) events))
-          (word_same one state wired event.needs first words.0 refl)
+      ∷ map (word_for shape ports (one, state)) (flat_map (plain_outputs one.member.component.unit) events))
+      (word_same one state wired event.needs first words.0 refl)
       ∙ ap (λ w. word_for shape ports' (one, state) first ∷ w
-          ∷ map (word_for shape ports (one, state)) (flat_map (plain_outputs one.member.component.unit) events))
-          (word_same one state wired event.needs second words.0 refl)
+      ∷ map (word_for shape ports (one, state)) (flat_map (plain_outputs one.member.component.unit) events))
+      (word_same one state wired event.needs second words.0 refl)
       ∙ ap (λ rest. word_for shape ports' (one, state) first ∷ word_for shape ports' (one, state) second ∷ rest) (events_same one state wired events words.1)
 
   pub member_same : (one : EventMember) (state : List ℤ) → IsWired shape one → words_at shape ports (one, state) ≡ words_at shape ports' (one, state)
@@ -119,9 +119,9 @@ module _ (shape : List Bool) (ports ports' : Ports) (tidy : AreTidy shape ports)
       let needs = halves (λ out. AllByRecursion IsWord (needs_in out)) (map Plain unit.outputs) (map Event unit.events_out) wired.needs in
       map-append (word_for shape ports (one, state)) (map (plain_output unit) unit.outputs) (flat_map (plain_outputs unit) unit.events_out)
       ∙ ap (λ front. front ++ map (word_for shape ports (one, state)) (flat_map (plain_outputs unit) unit.events_out))
-          (plains_same one state wired unit.outputs needs.0)
+      (plains_same one state wired unit.outputs needs.0)
       ∙ ap (λ rest. map (word_for shape ports' (one, state)) (map (plain_output unit) unit.outputs) ++ rest)
-          (events_same one state wired unit.events_out needs.1)
+      (events_same one state wired unit.events_out needs.1)
       ∙ sym (map-append (word_for shape ports' (one, state)) (map (plain_output unit) unit.outputs) (flat_map (plain_outputs unit) unit.events_out))
 
   pub sides_same : (members : List EventMember) (states : List (List ℤ)) → AllByRecursion (IsWired shape) members
@@ -205,9 +205,9 @@ module _ (signals : Signals) where
   outs_shaped one state [] = tt
   outs_shaped one state (Plain output ∷ outs) =
       subst (λ given. IsShaped (false ∷ map is_event outs) (option_and_then result_ok given ∷ map (signal_of signals (one, state)) outs))
-          (sym (out_by one state output (seen_for signals output.needs one)))
+      (sym (out_by one state output (seen_for signals output.needs one)))
       (plain_shaped (option_map (λ s. get_in one.member.component state s output) (seen_for signals output.needs one)) (map is_event outs)
-          (map (signal_of signals (one, state)) outs) (outs_shaped one state outs))
+      (map (signal_of signals (one, state)) outs) (outs_shaped one state outs))
   outs_shaped one state (Event event ∷ outs) =
       event_shaped (signal_of signals (one, state) (Event event)) (map is_event outs) (map (signal_of signals (one, state)) outs) (outs_shaped one state outs)
 
@@ -218,7 +218,7 @@ module _ (signals : Signals) where
   sides_shaped (one ∷ members) [] fit = absurd fit
   sides_shaped (one ∷ members) (state ∷ states) fit =
       shaped_both (shape_of one) (flat_map shape_of members) (signals_at signals (one, state)) (event_sides members states signals)
-          (outs_shaped one state (outs_of one.member.component.unit)) (sides_shaped members states fit.1)
+      (outs_shaped one state (outs_of one.member.component.unit)) (sides_shaped members states fit.1)
 
 -- ---- The laws
 
@@ -263,7 +263,7 @@ module _ (members : List EventMember) (run : Composition) (states : List (List �
   pub one_event_assignment : (order : List ℕ) → IsPlaceOrder run order → HasOneEventAssignment members states
   one_event_assignment order ordered =
       let count : length states ≡ length run.members = one_each members states fit
-          ∙ sym (ap length plain.members_are ∙ length-map members (plain_member shape)) in
+      ∙ sym (ap length plain.members_are ∙ length-map members (plain_member shape)) in
       let only = one_assignment run order states ordered count in
       record {
         signals = read_ports shape only.ports;

@@ -1,5 +1,5 @@
 -- What is said in a unit of a judged system: its names are words, and its expressions ask of its event inputs alone.
-use Rattle.std.proofs.Common.{◌≡◌, ℕ, Bool, true, false, List, [], ◌∷◌, ◌++◌, map, Option, Some, None, inl, inr, refl, ap, sym, subst}
+use Rattle.std.proofs.Common.{◌≡◌, ℕ, true, false, List, [], ◌∷◌, ◌++◌, map, Option, Some, None, inl, inr, refl, subst}
 use Rattle.std.specs.Prelude.{◌&&◌, ◌||◌, is_none, not}
 use Rattle.std.specs.List.{AllByRecursion, flat_map, list_all}
 use Rattle.std.specs.Option.{IfSome}
@@ -30,14 +30,13 @@ use Rattle.unit_tree.specs.declared.unit.State.{State}
 use Rattle.unit_tree.specs.declared.unit.Unit.{Unit}
 use Rattle.language_laws.proofs.BlockLaws.{all_step_lines}
 use Rattle.language_laws.proofs.Declarations.{Declared, OfParam, OfState, OfLocal, OfInput, OfEventIn, OfOutput, OfEventOut, line_of, declarations, ports}
-use Rattle.language_laws.proofs.Declarations.{Declares, AtLine, each_line, front_lines, tail_parts}
+use Rattle.language_laws.proofs.Declarations.{Declares, AtLine, each_line, front_lines}
 use Rattle.language_laws.proofs.NameLaws.{Hold}
 use Rattle.language_laws.proofs.UnitSites.{Passes}
 use Rattle.list_laws.proofs.Lists.{back_of, of_flat, each_append}
 use Rattle.list_laws.proofs.Members.{Has, all_has, has_behind, has_front, has_map}
 use Rattle.list_laws.proofs.Truths.{not_false}
-use Rattle.event_runs.specs.EventPorts.{Out, Plain, Event, outs_of, needs_in}
-use Rattle.event_runs.specs.Events.{all_variables_of}
+use Rattle.event_runs.specs.EventPorts.{Plain, Event, outs_of, needs_in}
 use Rattle.event_runs.specs.Laws.{Speaks, FormSpeaks, LineSpeaks, IsSaid, asks_of}
 
 -- ---- Where what is declared stands
@@ -236,7 +235,7 @@ module _ (system : System) (unit : Unit) (declared : Declares (Passes system) un
       let tail =
       max_speaks declared.before_tail unit.max (flat_map (headed_unit_part unit) (optional parts.Step unit.step))
       (subst (Tail declared.before_tail)
-          (flat_map-append (headed_unit_part unit) (optional parts.Max unit.max) (optional parts.Step unit.step)) declared.tail) in
+      (flat_map-append (headed_unit_part unit) (optional parts.Max unit.max) (optional parts.Step unit.step)) declared.tail) in
       record {
         variables =
             each_append (λ v. IsWord v.name) _ _

@@ -71,13 +71,13 @@ module _ (shape : List Bool) (ports : Ports) (one : EventMember) (state : List �
       (λ event. IsWord event.name × (start_word event.ty (no_event event.ty) ≡ pos 0) × (is_among (event_input_names unit) event.name ≡ true)) unit.events_in
   events_named =
       let front = halves (λ variable. IsWord variable.name)
-          (map (λ param. variable param.name param.ty) unit.params ++ map (λ state. variable state.name state.ty) unit.states ++ map of_input unit.inputs
-          ++ map of_event unit.events_in) (map (λ local. variable local.name local.ty) unit.locals) wired.said.variables in
+      (map (λ param. variable param.name param.ty) unit.params ++ map (λ state. variable state.name state.ty) unit.states ++ map of_input unit.inputs
+      ++ map of_event unit.events_in) (map (λ local. variable local.name local.ty) unit.locals) wired.said.variables in
       let events = (halves (λ variable. IsWord variable.name)
-          (map (λ param. variable param.name param.ty) unit.params ++ map (λ state. variable state.name state.ty) unit.states ++ map of_input unit.inputs)
-          (map of_event unit.events_in) front.0).1 in
+      (map (λ param. variable param.name param.ty) unit.params ++ map (λ state. variable state.name state.ty) unit.states ++ map of_input unit.inputs)
+      (map of_event unit.events_in) front.0).1 in
       all_has (λ event. IsWord event.name × (start_word event.ty (no_event event.ty) ≡ pos 0)
-          × (is_among (event_input_names unit) event.name ≡ true)) unit.events_in
+      × (is_among (event_input_names unit) event.name ≡ true)) unit.events_in
       (λ event has. (
         each_has (λ variable. IsWord variable.name) (map of_event unit.events_in) (of_event event) events (has_map of_event unit.events_in event has),
         zero_start event.ty,
@@ -87,16 +87,16 @@ module _ (shape : List Bool) (ports : Ports) (one : EventMember) (state : List �
   pub inputs_named : AllByRecursion (λ input. IsWord input.name) unit.inputs
   inputs_named =
       let front = halves (λ variable. IsWord variable.name)
-          (map (λ param. variable param.name param.ty) unit.params ++ map (λ state. variable state.name state.ty) unit.states ++ map of_input unit.inputs
-          ++ map of_event unit.events_in) (map (λ local. variable local.name local.ty) unit.locals) wired.said.variables in
+      (map (λ param. variable param.name param.ty) unit.params ++ map (λ state. variable state.name state.ty) unit.states ++ map of_input unit.inputs
+      ++ map of_event unit.events_in) (map (λ local. variable local.name local.ty) unit.locals) wired.said.variables in
       let events = halves (λ variable. IsWord variable.name)
-          (map (λ param. variable param.name param.ty) unit.params ++ map (λ state. variable state.name state.ty) unit.states ++ map of_input unit.inputs)
-          (map of_event unit.events_in) front.0 in
+      (map (λ param. variable param.name param.ty) unit.params ++ map (λ state. variable state.name state.ty) unit.states ++ map of_input unit.inputs)
+      (map of_event unit.events_in) front.0 in
       let inputs = (halves (λ variable. IsWord variable.name)
-          (map (λ param. variable param.name param.ty) unit.params ++ map (λ state. variable state.name state.ty) unit.states)
-          (map of_input unit.inputs) events.0).1 in
+      (map (λ param. variable param.name param.ty) unit.params ++ map (λ state. variable state.name state.ty) unit.states)
+      (map of_input unit.inputs) events.0).1 in
       all_has (λ input. IsWord input.name) unit.inputs
-          (λ input has. each_has (λ variable. IsWord variable.name) (map of_input unit.inputs) (of_input input) inputs (has_map of_input unit.inputs input has))
+      (λ input has. each_has (λ variable. IsWord variable.name) (map of_input unit.inputs) (of_input input) inputs (has_map of_input unit.inputs input has))
 
   -- Two ports of an event output are tidy, whatever the ports are.
   pub tidy_given : (ty : Ty) (tells word : Given) → AreTidyValues ty tells word
@@ -130,12 +130,22 @@ module _ (shape : List Bool) (ports : Ports) (one : EventMember) (state : List �
       zero_is (types.Fixed decimals) = refl
 
   abbrev pub first_of : EventOut → Output
-  first_of event = record { name = presence_name event.name; ty = types.Bool; needs = plain_needs unit event.needs; value =
-      plain_expression (presence_of event.value) }
+  first_of event = record {
+    name = presence_name event.name;
+    ty = types.Bool;
+    needs = plain_needs unit event.needs;
+    value =
+        plain_expression (presence_of event.value);
+  }
 
   abbrev pub second_of : EventOut → Output
-  second_of event = record { name = event.name; ty = event.ty; needs = plain_needs unit event.needs; value =
-      plain_expression (word_expression_of event.ty event.value) }
+  second_of event = record {
+    name = event.name;
+    ty = event.ty;
+    needs = plain_needs unit event.needs;
+    value =
+        plain_expression (word_expression_of event.ty event.value);
+  }
 
   pub tidy_by : (event : EventOut) (given : Option (List ℤ))
       → IsTidyPair (option_and_then result_ok (option_map (λ inputs. get_of (plain_component component) state inputs (first_of event)) given))
@@ -143,8 +153,8 @@ module _ (shape : List Bool) (ports : Ports) (one : EventMember) (state : List �
   tidy_by event None = tt
   tidy_by event (Some inputs) =
       tidy_given event.ty (plainly (presence_of event.value) (environment_of (plain_component component) state inputs 0 0))
-          (plainly (word_expression_of event.ty event.value) (environment_of (plain_component component) state inputs 0 0))
-          (tidy (environment_of (plain_component component) state inputs 0 0) event.ty event.value)
+      (plainly (word_expression_of event.ty event.value) (environment_of (plain_component component) state inputs 0 0))
+      (tidy (environment_of (plain_component component) state inputs 0 0) event.ty event.value)
 
   pub words_are_tidy : (event : EventOut) → IsTidyPair (word_of (first_of event)) (word_of (second_of event))
   words_are_tidy event = tidy_by event (inputs_for ports (outlet_for (first_of event)))
@@ -160,22 +170,22 @@ module _ (shape : List Bool) (ports : Ports) (one : EventMember) (state : List �
         let plain_pairs = zip unit.inputs (map (plain_source shape) one.member.sources) in
         let event_pairs = zip (flat_map plain_inputs unit.events_in) (flat_map (plain_feed shape) one.feeds) in
         ap (λ pairs. all_there (map (seen_by ports output) pairs))
-            (zip_append unit.inputs (flat_map plain_inputs unit.events_in) (map (plain_source shape) one.member.sources) (flat_map (plain_feed shape) one.feeds)
-            (length-map one.member.sources (plain_source shape) ∙ wired.count))
+        (zip_append unit.inputs (flat_map plain_inputs unit.events_in) (map (plain_source shape) one.member.sources) (flat_map (plain_feed shape) one.feeds)
+        (length-map one.member.sources (plain_source shape) ∙ wired.count))
         ∙ ap all_there (map-append (seen_by ports output) plain_pairs event_pairs)
         ∙ there_append (map (seen_by ports output) plain_pairs) (map (seen_by ports output) event_pairs)
         ∙ ap (λ front. joined (all_there front) (all_there (map (seen_by ports output) event_pairs)))
-            (plain_seen shape ports are_tidy unit needs words output needs_is unit.inputs one.member.sources inputs_named wired.sources)
+        (plain_seen shape ports are_tidy unit needs words output needs_is unit.inputs one.member.sources inputs_named wired.sources)
         ∙ ap (joined (all_there (map (word_needed signals needs) (zip unit.inputs one.member.sources))))
-            (events_seen shape ports are_tidy unit needs words output needs_is unit.events_in one.feeds events_named wired.feeds)
+        (events_seen shape ports are_tidy unit needs words output needs_is unit.events_in one.feeds events_named wired.feeds)
         ∙ seen_joined shape ports are_tidy unit needs words output needs_is (all_there (map (word_needed signals needs) (zip unit.inputs one.member.sources)))
-            (all_there (map (signal_needed signals needs) (zip unit.events_in one.feeds)))
+        (all_there (map (signal_needed signals needs) (zip unit.events_in one.feeds)))
 
     module _ (state_fits : length state ≡ length unit.states) where
       pub fits_seen : (needs : List (List ℕ)) (seen : Seen) → seen_for signals needs one ≡ Some seen → Fits component state seen
       fits_seen needs seen is =
           let both = seen_parts (all_there (map (word_needed signals needs) (zip unit.inputs one.member.sources)))
-              (all_there (map (signal_needed signals needs) (zip unit.events_in one.feeds))) seen is in
+          (all_there (map (signal_needed signals needs) (zip unit.events_in one.feeds))) seen is in
           record {
             params = wired.params;
             states = state_fits;
@@ -193,7 +203,7 @@ module _ (shape : List Bool) (ports : Ports) (one : EventMember) (state : List �
       plain_by output None said is = refl
       plain_by output (Some seen) said is =
           ap (λ given. option_map Occurs (result_ok given)) (get_same component state seen (fits_seen output.needs seen is) wired.said.variables output said)
-              ∙ by_given (get_in component state seen output)
+          ∙ by_given (get_in component state seen output)
         where
           by_given : (given : Outcome) → option_map Occurs (result_ok given) ≡ result_ok (given >>= λ word. Ok (Occurs word))
           by_given (Ok word) = refl
@@ -203,8 +213,8 @@ module _ (shape : List Bool) (ports : Ports) (one : EventMember) (state : List �
           → option_map Occurs (word_of (plain_output unit output)) ≡ signal_of signals at (Plain output)
       plain_is output words said =
           ap (λ inputs. option_map Occurs
-              (option_and_then result_ok (option_map (λ i. get_of (plain_component component) state i (plain_output unit output)) inputs)))
-              (seen_is output.needs (plain_output unit output) words refl)
+          (option_and_then result_ok (option_map (λ i. get_of (plain_component component) state i (plain_output unit output)) inputs)))
+          (seen_is output.needs (plain_output unit output) words refl)
           ∙ plain_by output (seen_for signals output.needs one) said refl
 
       pub two_read : (event : Result Signal Fault) (tells word : Outcome) → AreTwoGets event tells word
@@ -226,20 +236,20 @@ module _ (shape : List Bool) (ports : Ports) (one : EventMember) (state : List �
       event_by event None said is = refl
       event_by event (Some seen) said is =
           two_read (get_event component state seen event) (get_of (plain_component component) state (plain_words seen) (first_of event))
-              (get_of (plain_component component) state (plain_words seen) (second_of event))
+          (get_of (plain_component component) state (plain_words seen) (second_of event))
           (event_same component state seen (fits_seen event.needs seen is) wired.said.variables event (first_of event)
-              (second_of event) refl refl refl refl said)
+          (second_of event) refl refl refl refl said)
 
       pub event_is : (event : EventOut) → AllByRecursion IsWord event.needs → Speaks (event_input_names unit) event.value
           → read_pair (word_of (first_of event)) (word_of (second_of event)) ≡ signal_of signals at (Event event)
       event_is event words said =
           ap (λ inputs. read_pair (option_and_then result_ok (option_map (λ i. get_of (plain_component component) state i (first_of event)) inputs))
-              (word_of (second_of event))) (seen_is event.needs (first_of event) words refl)
+          (word_of (second_of event))) (seen_is event.needs (first_of event) words refl)
           ∙ ap (λ inputs. read_pair
-              (option_and_then result_ok
-              (option_map (λ i. get_of (plain_component component) state i (first_of event)) (option_map plain_words (seen_for signals event.needs one))))
-              (option_and_then result_ok (option_map (λ i. get_of (plain_component component) state i (second_of event)) inputs)))
-              (seen_is event.needs (second_of event) words refl)
+          (option_and_then result_ok
+          (option_map (λ i. get_of (plain_component component) state i (first_of event)) (option_map plain_words (seen_for signals event.needs one))))
+          (option_and_then result_ok (option_map (λ i. get_of (plain_component component) state i (second_of event)) inputs)))
+          (seen_is event.needs (second_of event) words refl)
           ∙ event_by event (seen_for signals event.needs one) said refl
 
       -- ---- All outputs of a member, in front of others
@@ -252,7 +262,7 @@ module _ (shape : List Bool) (ports : Ports) (one : EventMember) (state : List �
       plain_front [] shape' ports' said words = refl
       plain_front (output ∷ outputs) shape' ports' said words =
           ap (λ first. first ∷ read_ports (map is_event (map Plain outputs) ++ shape') (words_of (map (plain_output unit) outputs) ++ ports'))
-              (plain_is output words.0 said.0)
+          (plain_is output words.0 said.0)
           ∙ ap (λ rest. signal_of signals at (Plain output) ∷ rest) (plain_front outputs shape' ports' said.1 words.1)
 
       pub event_front : (events : List EventOut) (shape' : List Bool) (ports' : Ports)
@@ -263,7 +273,7 @@ module _ (shape : List Bool) (ports : Ports) (one : EventMember) (state : List �
       event_front [] shape' ports' said words = refl
       event_front (event ∷ events) shape' ports' said words =
           ap (λ first. first ∷ read_ports (map is_event (map Event events) ++ shape') (words_of (flat_map (plain_outputs unit) events) ++ ports'))
-              (event_is event words.0 said.0)
+          (event_is event words.0 said.0)
           ∙ ap (λ rest. signal_of signals at (Event event) ∷ rest) (event_front events shape' ports' said.1 words.1)
 
       pub member_front : (shape' : List Bool) (ports' : Ports)
@@ -275,15 +285,15 @@ module _ (shape : List Bool) (ports : Ports) (one : EventMember) (state : List �
           let plain_ports = words_of (map (plain_output unit) unit.outputs) in
           let event_ports = words_of (flat_map (plain_outputs unit) unit.events_out) in
           ap (λ s. read_ports (s ++ shape') (words_of (plain_unit unit).outputs ++ ports'))
-              (map-append is_event (map Plain unit.outputs) (map Event unit.events_out))
+          (map-append is_event (map Plain unit.outputs) (map Event unit.events_out))
           ∙ ap (λ s. read_ports s (words_of (plain_unit unit).outputs ++ ports')) (append_assoc plain_shape event_shape shape')
           ∙ ap (λ p. read_ports (plain_shape ++ (event_shape ++ shape')) (p ++ ports'))
-              (map-append word_of (map (plain_output unit) unit.outputs) (flat_map (plain_outputs unit) unit.events_out))
+          (map-append word_of (map (plain_output unit) unit.outputs) (flat_map (plain_outputs unit) unit.events_out))
           ∙ ap (read_ports (plain_shape ++ (event_shape ++ shape'))) (append_assoc plain_ports event_ports ports')
           ∙ plain_front unit.outputs (event_shape ++ shape') (event_ports ++ ports') wired.said.outputs needs.0
           ∙ ap (λ rest. map (signal_of signals at) (map Plain unit.outputs) ++ rest) (event_front unit.events_out shape' ports' wired.said.events needs.1)
           ∙ sym (append_assoc (map (signal_of signals at) (map Plain unit.outputs)) (map (signal_of signals at) (map Event unit.events_out))
-              (read_ports shape' ports'))
+          (read_ports shape' ports'))
           ∙ ap (λ front. front ++ read_ports shape' ports') (sym (map-append (signal_of signals at) (map Plain unit.outputs) (map Event unit.events_out)))
 
   -- ---- Tidy, in front of others
@@ -306,9 +316,9 @@ module _ (shape : List Bool) (ports : Ports) (one : EventMember) (state : List �
       let plain_ports = words_of (map (plain_output unit) unit.outputs) in
       let event_ports = words_of (flat_map (plain_outputs unit) unit.events_out) in
       subst (λ s. AreTidy (s ++ shape') (words_of (plain_unit unit).outputs ++ ports'))
-          (sym (map-append is_event (map Plain unit.outputs) (map Event unit.events_out)))
+      (sym (map-append is_event (map Plain unit.outputs) (map Event unit.events_out)))
       (subst (λ p. AreTidy ((plain_shape ++ event_shape) ++ shape') (p ++ ports'))
-          (sym (map-append word_of (map (plain_output unit) unit.outputs) (flat_map (plain_outputs unit) unit.events_out)))
+      (sym (map-append word_of (map (plain_output unit) unit.outputs) (flat_map (plain_outputs unit) unit.events_out)))
       (subst (λ s. AreTidy s ((plain_ports ++ event_ports) ++ ports')) (sym (append_assoc plain_shape event_shape shape'))
       (subst (λ p. AreTidy (plain_shape ++ (event_shape ++ shape')) p) (sym (append_assoc plain_ports event_ports ports'))
       (plain_tidy unit.outputs (event_shape ++ shape') (event_ports ++ ports') (event_tidy unit.events_out shape' ports' rest)))))

@@ -134,7 +134,7 @@ stored_plain (Same one old ∷ slots) name word plain =
 stored_plain (Tells event old ∷ slots) name word plain =
     let other : bytes_eq (presence_name event) name ≡ false = other_bytes (presence_name event) name (λ is. plain event (sym is)) in
     ap (λ told. cond told (cond (is_word_of types.Bool word) (Ok (word ∷ words_beside slots)) (Err Range))
-        (longer old (stored (plain_variables slots) (words_beside slots) name word))) other
+    (longer old (stored (plain_variables slots) (words_beside slots) name word))) other
     ∙ ap (longer old) (stored_plain slots name word plain)
     ∙ plain_told event old (put slots name word)
 

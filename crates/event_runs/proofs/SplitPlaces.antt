@@ -1,5 +1,5 @@
 -- Places and connections of a plain form, by those of its system.
-use Rattle.std.proofs.Common.{◌≡◌, ℕ, suc, ◌+◌, Bool, true, false, cond, List, [], ◌∷◌, ◌++◌, map, Option, Some, None, inl, inr, refl, ap, sym, subst, ◌∙◌}
+use Rattle.std.proofs.Common.{◌≡◌, ℕ, suc, ◌+◌, Bool, true, false, cond, List, [], ◌∷◌, ◌++◌, map, Option, Some, None, inl, inr, refl, ap, sym, ◌∙◌}
 use Rattle.std.proofs.Common.{◌⊎◌, arith}
 use Rattle.std.specs.Prelude.{not, ◌&&◌, slice_get}
 use Rattle.std.specs.List.{AllByRecursion, flat_map, filter_map, cons_option, position_or_len}
@@ -7,8 +7,8 @@ use Rattle.std.specs.Option.{option_map}
 use Rattle.std.proofs.lemmas.Option.{slice_get-map}
 use Rattle.unit_tree.specs.Compositions.{place_of}
 use Rattle.unit_tree.specs.Names.{same_port}
-use Rattle.unit_tree.specs.Orders.{IsIn, port_of, outputs_of, source_if, sources_of}
-use Rattle.unit_tree.specs.Plain.{presence_name, presence_port, is_event_output, plain_wires}
+use Rattle.unit_tree.specs.Orders.{IsIn, outputs_of, source_if, sources_of}
+use Rattle.unit_tree.specs.Plain.{presence_port, is_event_output, plain_wires}
 use Rattle.unit_tree.specs.Printable.{IsRanged}
 use Rattle.unit_tree.specs.WellFormed.{IsWellFormed}
 use Rattle.unit_tree.specs.declared.system.PortName.{PortName}
@@ -228,7 +228,7 @@ module _ (system : System) (ranged : IsRanged system) (kept : IsWellFormed syste
   tells_among port [] names each = refl
   tells_among port (wire ∷ wires) names each =
       tells_by (event wire.from) (same_port wire.to port) port wire (flat_map (plain_wires system) wires) (names wire (inl refl)) refl refl
-          (each wire (inl refl))
+      (each wire (inl refl))
       ∙ ap (cons_option (option_map presence_port (source_if port wire)))
       (tells_among port wires (λ other has. names other (inr has)) (λ other has. each other (inr has)))
       ∙ mapped_on (source_if port wire) (filter_map (source_if port) wires)

@@ -1,23 +1,21 @@
 -- The members of a system's plain form are those of the system, read.
-use Rattle.std.proofs.Common.{◌≡◌, ℕ, zero, suc, ◌-◌, ◌^◌, Bool, true, false, cond, pos, List, [], ◌∷◌, ◌++◌, map, length, Option, Some, None, inl, inr, refl}
+use Rattle.std.proofs.Common.{◌≡◌, ℕ, zero, suc, ◌-◌, ◌^◌, Bool, true, false, cond, pos, List, [], ◌∷◌, ◌++◌, map, Option, Some, None, inl, inr, refl}
 use Rattle.std.proofs.Common.{ap, sym, subst, ◌∙◌}
-use Rattle.std.specs.Prelude.{◌||◌, ◌==◌, is_none, not, slice_get, unwrap_or}
+use Rattle.std.specs.Prelude.{◌||◌, ◌==◌, is_none, slice_get, unwrap_or}
 use Rattle.std.specs.Bool.{beq}
 use Rattle.std.specs.List.{AllByRecursion, flat_map, filter_map, cons_option}
 use Rattle.std.specs.Option.{option_map}
-use Rattle.std.proofs.lemmas.Grind.{flat_map-append}
-use Rattle.std.proofs.lemmas.List.{append-nil, length-map, map-append}
+use Rattle.std.proofs.lemmas.List.{length-map, map-append}
 use Rattle.std.proofs.lemmas.Bool.{or_parts}
 use Rattle.fixed_words.specs.declared.types.Literal.TheVariants as literal
 use Rattle.fixed_words.specs.declared.types.Ty.TheVariants as types
-use Rattle.unit_tree.specs.Components.{start_word}
-use Rattle.unit_tree.specs.Compositions.{InputSource, Start, AtPlace, Member, component_with, source_from, source_of, factor_of, member_with, members_of}
+use Rattle.unit_tree.specs.Compositions.{Start, AtPlace, Member, component_with, source_from, source_of, factor_of, member_with}
 use Rattle.unit_tree.specs.Compositions.{composition_of, place_of, run_of}
 use Rattle.unit_tree.specs.Names.{Port, input_ports, output_at, input_at, output_ports, unit_of_instance}
 use Rattle.unit_tree.specs.Orders.{IsIn, port_of, outputs_in, outputs_of, sources_of}
-use Rattle.unit_tree.specs.Plain.{presence_name, presence_port, plain_form, plain_inputs, plain_unit, plain_wires, no_event, samples_or_all, is_event_output}
+use Rattle.unit_tree.specs.Plain.{presence_name, presence_port, plain_form, plain_inputs, plain_unit, plain_wires, no_event, samples_or_all}
 use Rattle.unit_tree.specs.Printable.{IsRanged}
-use Rattle.unit_tree.specs.WellFormed.{IsWellFormed, resolution_of, differ}
+use Rattle.unit_tree.specs.WellFormed.{IsWellFormed, differ}
 use Rattle.unit_tree.specs.declared.system.Instance.{Instance}
 use Rattle.unit_tree.specs.declared.system.PortName.{PortName}
 use Rattle.unit_tree.specs.declared.system.System.{System}
@@ -39,7 +37,7 @@ use Rattle.run_laws.proofs.PlainKept.{alike_by}
 use Rattle.run_laws.proofs.PlainOrders.{declared, input_is, is_event_is, named_has, plain_named, plain_of, wired}
 use Rattle.list_laws.proofs.Members.{Has, has_behind, has_front, has_map, each_has}
 use Rattle.list_laws.proofs.Truths.{not_false, one_or_two}
-use Rattle.event_runs.specs.EventPorts.{EventMember, Plain, Event, outs_of, is_event, shape_of, plain_place, plain_source, plain_feed, plain_member}
+use Rattle.event_runs.specs.EventPorts.{EventMember, Plain, Event, is_event, shape_of, plain_place, plain_source, plain_feed, plain_member}
 use Rattle.event_runs.specs.EventPorts.{SourceFits, FeedFits, IsWired}
 use Rattle.event_runs.specs.EventPorts.{IsPlainRun}
 use Rattle.event_runs.specs.EventRuns.{feed_from, feed_of, with_feeds, event_members_of}

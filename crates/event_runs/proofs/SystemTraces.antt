@@ -22,7 +22,7 @@ use Rattle.run_laws.proofs.PositionLaws.{system_has_members}
 use Rattle.run_laws.proofs.RunOrders.{runs_have_orders}
 use Rattle.event_runs.specs.EventPorts.{EventMember, plain_member, shape_of, IsPlainRun}
 use Rattle.event_runs.specs.EventRuns.{with_feeds, event_members_of, event_run_of, last_event_point, IsEventTraceOf, HasOneEventTraceOf, read_rows, read_end}
-use Rattle.event_runs.specs.EventTrace.{EventRun, EventStand, EventRow, IsEventTrace, event_rows_of, read_stand, HasOneEventTrace}
+use Rattle.event_runs.specs.EventTrace.{EventRun, IsEventTrace, event_rows_of, read_stand, HasOneEventTrace}
 use Rattle.event_runs.specs.Turns.{Pace, pace_of}
 use Rattle.event_runs.proofs.OnlyTraces.{one_event_trace}
 use Rattle.event_runs.proofs.RowLaws.{rows_read}
@@ -47,7 +47,7 @@ pace_alike : (system plain : System) → Alike system plain
 pace_alike system plain both factors =
     ap (λ f. paced f (resolution_of plain) plain.stop plain.longest plain.zero plain.rows plain.version (length plain.instances)) factors
     ∙ ap (λ r. paced (map (λ (one : Member). one.factor) (members_of system)) r plain.stop plain.longest plain.zero plain.rows plain.version
-        (length plain.instances))
+    (length plain.instances))
     both.resolution
     ∙ ap (λ s. paced (map (λ (one : Member). one.factor) (members_of system)) (resolution_of system) s plain.longest plain.zero plain.rows plain.version
     (length plain.instances)) both.stop

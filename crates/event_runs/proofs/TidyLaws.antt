@@ -55,27 +55,27 @@ module _ (env : Environment) (ty : Ty) where
   pub tidy-Absent : Tidy expr.Absent
   tidy-Absent =
       subst (λ given. AreTidyValues ty given (plainly (word_expression_of ty expr.Absent) env))
-          (sym (ap (λ v. plainly v env) (choices-Absent (expr.Truth false) all_true) ∙ plain_truth false env))
+      (sym (ap (λ v. plainly v env) (choices-Absent (expr.Truth false) all_true) ∙ plain_truth false env))
       (subst (λ given. AreTidyValues ty (Ok (truth false)) given) (sym (ap (λ v. plainly v env) (choices-Absent (zero_of ty) as_it_is) ∙ plain_zero ty env))
-          (inr (refl, refl)))
+      (inr (refl, refl)))
 
   pub plain_choice : (condition one other : Expr)
       → plainly (expr.Choose condition one other) env ≡ (plainly condition env >>= λ c. (if holds c then plainly one env else plainly other env))
   plain_choice condition one other =
       ap (λ value. value_of value env) (plain-Choose condition one other)
-          ∙ value-Choose (plain_expression condition) (plain_expression one) (plain_expression other) env
+      ∙ value-Choose (plain_expression condition) (plain_expression one) (plain_expression other) env
 
   pub tidy-Choose : (condition one other : Expr) → Tidy one → Tidy other → Tidy (expr.Choose condition one other)
   tidy-Choose condition one other on_one on_other =
       let first = ap (λ v. plainly v env) (choices-Choose (expr.Truth false) all_true condition one other)
-          ∙ plain_choice condition (presence_of one) (presence_of other) in
+      ∙ plain_choice condition (presence_of one) (presence_of other) in
       let second = ap (λ v. plainly v env) (choices-Choose (zero_of ty) as_it_is condition one other)
-          ∙ plain_choice condition (word_expression_of ty one) (word_expression_of ty other) in
+      ∙ plain_choice condition (word_expression_of ty one) (word_expression_of ty other) in
       subst (λ given. AreTidyValues ty given (plainly (word_expression_of ty (expr.Choose condition one other)) env)) (sym first)
       (subst (λ given. AreTidyValues ty
-          (plainly condition env >>= λ c. (if holds c then plainly (presence_of one) env else plainly (presence_of other) env)) given) (sym second)
+      (plainly condition env >>= λ c. (if holds c then plainly (presence_of one) env else plainly (presence_of other) env)) given) (sym second)
       (choice_is_tidy ty (plainly condition env) (plainly (presence_of one) env) (plainly (presence_of other) env) (plainly (word_expression_of ty one) env)
-          (plainly (word_expression_of ty other) env) on_one on_other))
+      (plainly (word_expression_of ty other) env) on_one on_other))
 
   abbrev pub Proved : Type 0
   Proved = (value : Expr) × Tidy value

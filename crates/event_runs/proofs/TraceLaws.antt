@@ -138,16 +138,16 @@ module _ (members : List EventMember) (run : Composition) (order : List ℕ) (pl
   next_read (Some ending) at ports words is told =
       let tidy = (assignment_is_read members run at.states plain (fits at words) ports is).0 in
       let event_told : event_port_fault members at.states (read ports) ≡ Some (read_ending members ending) =
-          fault_is_read members run at.states ports plain (fits at words) tidy ∙ ap (option_map (read_ending members)) told in
+      fault_is_read members run at.states ports plain (fits at words) tidy ∙ ap (option_map (read_ending members)) told in
       let offers = event_offers members at (read ports) in
       let p = proposal_at (pace_of run) at offers in
       let a = agreed_at (pace_of run) at offers in
       ap (λ fault. next_of (pace_of run) at fault offers.limits p a (offers.steps p) (offers.steps a)) event_told
       ∙ sym (ap (read_next members)
-          (successor_is run at ports
-          ∙ ap (λ fault. next_of (pace_of run) at fault (offers_of run at ports).limits (proposal_at (pace_of run) at (offers_of run at ports))
-          (agreed_at (pace_of run) at (offers_of run at ports)) ((offers_of run at ports).steps (proposal_at (pace_of run) at (offers_of run at ports)))
-          ((offers_of run at ports).steps (agreed_at (pace_of run) at (offers_of run at ports)))) told))
+      (successor_is run at ports
+      ∙ ap (λ fault. next_of (pace_of run) at fault (offers_of run at ports).limits (proposal_at (pace_of run) at (offers_of run at ports))
+      (agreed_at (pace_of run) at (offers_of run at ports)) ((offers_of run at ports).steps (proposal_at (pace_of run) at (offers_of run at ports)))
+      ((offers_of run at ports).steps (agreed_at (pace_of run) at (offers_of run at ports)))) told))
   next_read None at ports words is told =
       let fit = fits at words in
       let tidy = (assignment_is_read members run at.states plain fit ports is).0 in
@@ -155,12 +155,12 @@ module _ (members : List EventMember) (run : Composition) (order : List ℕ) (pl
       let defined : list_all is_some ports ≡ true = (undefined_faults run order at.states ports ordered count is).0 told in
       let same = give_the_same members run at ports plain fit tidy defined in
       let event_told : event_port_fault members at.states (read ports) ≡ None = fault_is_read members run at.states ports plain fit tidy
-          ∙ ap (option_map (read_ending members)) told in
+      ∙ ap (option_map (read_ending members)) told in
       let offers = offers_of run at ports in
       let p = proposal_at (pace_of run) at offers in
       let a = agreed_at (pace_of run) at offers in
       let none : next_by (pace_of run) at offers ≡ next_of (pace_of run) at None offers.limits p a (offers.steps p) (offers.steps a) =
-          ap (λ fault. next_of (pace_of run) at fault offers.limits p a (offers.steps p) (offers.steps a)) told in
+      ap (λ fault. next_of (pace_of run) at fault offers.limits p a (offers.steps p) (offers.steps a)) told in
       sym (next_same (pace_of run) at offers (event_offers members at (read ports)) (told ∙ sym event_told) same.limits same.steps)
       ∙ none
       ∙ sym (next_keeps members (pace_of run) at offers.limits p a (offers.steps p) (offers.steps a))

@@ -30,7 +30,7 @@ replies_are t h [] steps = refl
 replies_are t h (member ∷ members) [] = refl
 replies_are t h (member ∷ members) (step ∷ steps) =
     ap (λ reply. reply ∷ map (reply_at t h) (zip members steps)) (reply_is t h member step)
-        ∙ ap (λ rest. reply_with t h (member.factor, step) ∷ rest) (replies_are t h members steps)
+    ∙ ap (λ rest. reply_with t h (member.factor, step) ∷ rest) (replies_are t h members steps)
 
 redo_is : (t h instance : ℕ) (member : Member) (step : Option (Result Moved Fault))
     → redo_end_of t h (instance, (member, step)) ≡ redo_with t h (instance, (member.factor, step))
@@ -56,7 +56,7 @@ next_same pace at one other fault limits steps =
     let same_proposal : p ≡ p' = ap (proposed_by pace at) limits in
     let same_trial : one.steps p ≡ other.steps p' = ap one.steps same_proposal ∙ steps p' in
     let same_agreed : agreed_at pace at one ≡ agreed_at pace at other = ap (λ q. agreed_by pace at q (one.steps p)) same_proposal
-        ∙ ap (agreed_by pace at p') same_trial in
+    ∙ ap (agreed_by pace at p') same_trial in
     let same_redo : one.steps (agreed_at pace at one) ≡ other.steps (agreed_at pace at other) = ap one.steps same_agreed ∙ steps (agreed_at pace at other) in
     ap (λ f. next_of pace at f one.limits p (agreed_at pace at one) (one.steps p) (one.steps (agreed_at pace at one))) fault
     ∙ ap (λ l. next_of pace at other.fault l p (agreed_at pace at one) (one.steps p) (one.steps (agreed_at pace at one))) limits
@@ -81,7 +81,7 @@ module _ (run : Composition) (at : Position) (ports : Ports) where
   agreed_is =
       ap (λ h. agreed_step h (replies_to run at ports h)) proposed_is
       ∙ ap (agreed_step (proposal_at pace at offers))
-          (replies_are at.point.t (proposal_at pace at offers) run.members (steps_by run at ports (proposal_at pace at offers)))
+      (replies_are at.point.t (proposal_at pace at offers) run.members (steps_by run at ports (proposal_at pace at offers)))
 
   redo_of : (h : ℕ) → first_told (redo_end_of at.point.t h) (zip run.members (steps_by run at ports h))
       ≡ first_told (redo_with at.point.t h) (zip (factors_of run.members) (steps_by run at ports h))

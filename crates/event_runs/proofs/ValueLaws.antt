@@ -11,7 +11,7 @@ use Rattle.unit_tree.specs.declared.environment.Environment.{Environment}
 use Rattle.unit_tree.specs.declared.environment.Value.{Value}
 use Rattle.unit_tree.specs.declared.expr.BinOp.{BinOp}
 use Rattle.unit_tree.specs.declared.expr.Expr as expr
-use Rattle.unit_tree.specs.declared.expr.Expr.{Expr, fold-Expr}
+use Rattle.unit_tree.specs.declared.expr.Expr.{Expr}
 use Rattle.unit_tree.specs.declared.expr.Expr.TheFolds.{ind-Expr, map-Expr}
 use Rattle.unit_tree.specs.declared.expr.Expr.TheOpen.{Expr-F}
 use Rattle.unit_tree.specs.declared.expr.Expr.TheVariants.{rolls-Number, rolls-Truth, rolls-Var, rolls-Time, rolls-Step, rolls-Unary, rolls-Binary}
@@ -76,10 +76,16 @@ module _ (events : List (List ℕ)) where
       → are_among events (events_asked_in one ++ events_asked_in two ++ events_asked_in three) ≡ true → Said one × Said two × Said three
   said-three one two three words among =
       let last = parted events (names_in one ++ names_in two) (events_asked_in one ++ events_asked_in two) (names_in three)
-          (events_asked_in three) words among in
-      let first = parted events (names_in one) (events_asked_in one) (names_in two) (events_asked_in two) last.names_one last.asked_one in
-      (record { names = first.names_one; asked = first.asked_one }, record { names = first.names_other; asked = first.asked_other }, record { names =
-          last.names_other; asked = last.asked_other })
+      (events_asked_in three) words among in
+      let first = parted events (names_in one) (events_asked_in one) (names_in two) (events_asked_in two) last.names_one last.asked_one in (
+        record { names = first.names_one; asked = first.asked_one },
+        record { names = first.names_other; asked = first.asked_other },
+        record {
+          names =
+              last.names_other;
+          asked = last.asked_other;
+        },
+      )
 
   pub said-Clamp : (value low high : Expr) → Said (expr.Clamp value low high) → Said value × Said low × Said high
   said-Clamp value low high said =
@@ -99,7 +105,7 @@ module _ (events : List (List ℕ)) where
   pub said-Present : (name : List ℕ) → Said (expr.Present name) → is_among events name ≡ true
   said-Present name said =
       let only : are_among events (name ∷ []) ≡ true =
-          subst (λ names. are_among events names ≡ true) (fold-Present (List (List ℕ)) node_events name) said.asked in
+      subst (λ names. are_among events names ≡ true) (fold-Present (List (List ℕ)) node_events name) said.asked in
       (and_parts (is_among events name) true only).0
 
 -- ---- Values of single nodes
@@ -196,7 +202,7 @@ module _ (occurring : Occurring) (events : List (List ℕ)) (env plain : Environ
       let parts = said-Binary events op left right said in
       ap seen_plain (plain-Binary op left right) ∙ value-Binary op (plain_expression left) (plain_expression right) plain
       ∙ same-two op (value_of (plain_expression left) plain) (value_in occurring left env) (value_of (plain_expression right) plain)
-          (value_in occurring right env) (on_left parts.0) (on_right parts.1)
+      (value_in occurring right env) (on_left parts.0) (on_right parts.1)
       ∙ sym (in-Binary occurring env op left right)
 
   pub same-Clamp : (value low high : Expr) → Same value → Same low → Same high → Same (expr.Clamp value low high)
@@ -204,17 +210,17 @@ module _ (occurring : Occurring) (events : List (List ℕ)) (env plain : Environ
       let parts = said-Clamp events value low high said in
       ap seen_plain (plain-Clamp value low high) ∙ value-Clamp (plain_expression value) (plain_expression low) (plain_expression high) plain
       ∙ same-three (value_of (plain_expression value) plain) (value_in occurring value env) (value_of (plain_expression low) plain) (value_in occurring low env)
-          (value_of (plain_expression high) plain) (value_in occurring high env) (on_value parts.0) (on_low parts.1) (on_high parts.2)
+      (value_of (plain_expression high) plain) (value_in occurring high env) (on_value parts.0) (on_low parts.1) (on_high parts.2)
       ∙ sym (in-Clamp occurring env value low high)
 
   pub same-Choose : (condition then_part else_part : Expr) → Same condition → Same then_part → Same else_part → Same (expr.Choose condition then_part else_part)
   same-Choose condition then_part else_part on_condition on_then on_else said =
       let parts = said-Choose events condition then_part else_part said in
       ap seen_plain (plain-Choose condition then_part else_part)
-          ∙ value-Choose (plain_expression condition) (plain_expression then_part) (plain_expression else_part) plain
+      ∙ value-Choose (plain_expression condition) (plain_expression then_part) (plain_expression else_part) plain
       ∙ same-choose (value_of (plain_expression condition) plain) (value_in occurring condition env) (value_of (plain_expression then_part) plain)
-          (value_in occurring then_part env) (value_of (plain_expression else_part) plain) (value_in occurring else_part env) (on_condition parts.0)
-          (on_then parts.1) (on_else parts.2)
+      (value_in occurring then_part env) (value_of (plain_expression else_part) plain) (value_in occurring else_part env) (on_condition parts.0)
+      (on_then parts.1) (on_else parts.2)
       ∙ sym (in-Choose occurring env condition then_part else_part)
 
   pub same-Var : (name : List ℕ) → Same (expr.Var name)

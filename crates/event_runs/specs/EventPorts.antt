@@ -76,7 +76,7 @@ seen_both _ _ = None
 abbrev pub seen_for : Signals → List (List ℕ) → EventMember → Option Seen
 seen_for signals needs one =
     seen_both (all_there (map (word_needed signals needs) (zip one.member.component.unit.inputs one.member.sources)))
-        (all_there (map (signal_needed signals needs) (zip one.member.component.unit.events_in one.feeds)))
+    (all_there (map (signal_needed signals needs) (zip one.member.component.unit.events_in one.feeds)))
 
 -- ---- The equations
 
@@ -195,8 +195,8 @@ StatesFit members states = AllZip (λ one state. length state ≡ length one.mem
 abbrev pub AssignmentsAreRead : Type 0
 AssignmentsAreRead =
     (members : List EventMember) (run : Composition) (states : List (List ℤ)) (ports : Ports) → IsPlainRun members run → StatesFit members states
-        → IsAssignment run states ports
-        → AreTidy (flat_map shape_of members) ports × IsEventAssignment members states (read_ports (flat_map shape_of members) ports)
+    → IsAssignment run states ports
+    → AreTidy (flat_map shape_of members) ports × IsEventAssignment members states (read_ports (flat_map shape_of members) ports)
 
 -- And each of the source's is one of those that are read.
 pub record IsReadOf (members : List EventMember) (run : Composition) (states : List (List ℤ)) (signals : Signals) : Type 0 where
@@ -207,7 +207,7 @@ pub record IsReadOf (members : List EventMember) (run : Composition) (states : L
 abbrev pub EventAssignmentsAreRead : Type 0
 EventAssignmentsAreRead =
     (members : List EventMember) (run : Composition) (states : List (List ℤ)) (signals : Signals) → IsPlainRun members run → StatesFit members states
-        → IsEventAssignment members states signals → IsReadOf members run states signals
+    → IsEventAssignment members states signals → IsReadOf members run states signals
 
 -- So where the places of the plain form have an order, the source has exactly one port assignment.
 pub record HasOneEventAssignment (members : List EventMember) (states : List (List ℤ)) : Type 0 where
@@ -218,4 +218,4 @@ pub record HasOneEventAssignment (members : List EventMember) (states : List (Li
 abbrev pub EventAssignmentsAreUnique : Type 0
 EventAssignmentsAreUnique =
     (members : List EventMember) (run : Composition) (order : List ℕ) (states : List (List ℤ)) → IsPlainRun members run → IsPlaceOrder run order
-        → StatesFit members states → HasOneEventAssignment members states
+    → StatesFit members states → HasOneEventAssignment members states

@@ -32,7 +32,7 @@ pub record EventRun : Type 0 where
 abbrev pub event_fault_at : Signals → ℕ → EventStanding → ℕ × Out → Option Ending
 event_fault_at signals instance (one, state) (number, out) =
     option_map (UnitFault instance (place.Output number))
-        (option_and_then result_err (option_map (λ seen. get_out one.member.component state seen out) (seen_for signals (needs_in out) one)))
+    (option_and_then result_err (option_map (λ seen. get_out one.member.component state seen out) (seen_for signals (needs_in out) one)))
 
 abbrev pub event_faults_at : Signals → ℕ × EventStanding → List (Option Ending)
 event_faults_at signals (instance, standing) = map (event_fault_at signals instance standing) (enumerate_from 0 (outs_of standing.0.member.component.unit))
@@ -72,7 +72,7 @@ event_max_at t signals (one, state) = max_in one.member.component state (seen_at
 abbrev pub event_step_at : ℕ → ℕ → Signals → EventStanding → Option (Result Moved Fault)
 event_step_at t h signals (one, state) =
     if is_held one.member.factor t h then None else Some
-        (step_in one.member.component state (seen_at signals one) (local_time one.member.factor t) (local_step one.member.factor t h))
+    (step_in one.member.component state (seen_at signals one) (local_time one.member.factor t) (local_step one.member.factor t h))
 
 abbrev pub event_offers : List EventMember → Position → Signals → Offers
 event_offers members at signals = record {
@@ -129,14 +129,14 @@ pub record GiveTheSame (members : List EventMember) (run : Composition) (at : Po
 abbrev pub MembersGiveTheSame : Type 0
 MembersGiveTheSame =
     (members : List EventMember) (run : Composition) (at : Position) (ports : Ports) → IsPlainRun members run → StatesFit members at.states
-        → AreTidy (flat_map shape_of members) ports → list_all is_some ports ≡ true → GiveTheSame members run at ports
+    → AreTidy (flat_map shape_of members) ports → list_all is_some ports ≡ true → GiveTheSame members run at ports
 
 -- The port fault of the source is that of the plain form, where the two ports of an event output are one.
 abbrev pub FaultsAreRead : Type 0
 FaultsAreRead =
     (members : List EventMember) (run : Composition) (states : List (List ℤ)) (ports : Ports) → IsPlainRun members run → StatesFit members states
-        → AreTidy (flat_map shape_of members) ports
-        → event_port_fault members states (read_ports (flat_map shape_of members) ports) ≡ option_map (read_ending members) (port_fault run states ports)
+    → AreTidy (flat_map shape_of members) ports
+    → event_port_fault members states (read_ports (flat_map shape_of members) ports) ≡ option_map (read_ending members) (port_fault run states ports)
 
 abbrev pub read_stand : List EventMember → Stand → EventStand
 read_stand members stand = record { at = stand.at; signals = read_ports (flat_map shape_of members) stand.ports }
@@ -145,8 +145,8 @@ read_stand members stand = record { at = stand.at; signals = read_ports (flat_ma
 abbrev pub TracesAreRead : Type 0
 TracesAreRead =
     (members : List EventMember) (run : Composition) (order : List ℕ) (stands : List Stand) (ending : Ending) → IsPlainRun members run → AreMembers run
-        → IsPlaceOrder run order → IsTrace run stands ending
-        → IsEventTrace (record { members = members; pace = pace_of run }) (map (read_stand members) stands) (read_ending members ending)
+    → IsPlaceOrder run order → IsTrace run stands ending
+    → IsEventTrace (record { members = members; pace = pace_of run }) (map (read_stand members) stands) (read_ending members ending)
 
 -- So the source has exactly one trace where the places of its plain form have an order.
 pub record HasOneEventTrace (run : EventRun) : Type 0 where
@@ -158,7 +158,7 @@ pub record HasOneEventTrace (run : EventRun) : Type 0 where
 abbrev pub SourcesHaveOneTrace : Type 0
 SourcesHaveOneTrace =
     (members : List EventMember) (run : Composition) (order : List ℕ) → IsPlainRun members run → AreMembers run → IsPlaceOrder run order
-        → HasOneEventTrace (record { members = members; pace = pace_of run })
+    → HasOneEventTrace (record { members = members; pace = pace_of run })
 
 -- The words of a row of the plain form, read as signals.
 abbrev pub read_words : List Bool → List ℤ → List Signal
@@ -173,5 +173,5 @@ read_row members row = record { point = row.point; signals = read_words (flat_ma
 abbrev pub RowsAreRead : Type 0
 RowsAreRead =
     (members : List EventMember) (run : Composition) (order : List ℕ) (stands : List Stand) (ending : Ending) → IsPlainRun members run → AreMembers run
-        → IsPlaceOrder run order → IsTrace run stands ending
-        → event_rows_of (record { members = members; pace = pace_of run }) (map (read_stand members) stands) ≡ map (read_row members) (rows_of run stands)
+    → IsPlaceOrder run order → IsTrace run stands ending
+    → event_rows_of (record { members = members; pace = pace_of run }) (map (read_stand members) stands) ≡ map (read_row members) (rows_of run stands)

@@ -39,7 +39,7 @@ pub record Shows (occurring : Occurring) (events : List (List ℕ)) (env plain :
 abbrev pub PlainExpressionsMeanTheSame : Type 0
 PlainExpressionsMeanTheSame =
     (occurring : Occurring) (events : List (List ℕ)) (env plain : Environment) (value : Expr) → Shows occurring events env plain → Speaks events value
-        → value_of (plain_expression value) plain ≡ value_in occurring value env
+    → value_of (plain_expression value) plain ≡ value_in occurring value env
 
 -- The zero of a type's kind.
 abbrev pub zero_value : Ty → Value
@@ -55,8 +55,8 @@ AreTwo ty (Err fault) tells word = ((tells ≡ Err fault) ⊎ (tells ≡ Ok (tru
 abbrev pub EventsAreTwo : Type 0
 EventsAreTwo =
     (occurring : Occurring) (events : List (List ℕ)) (env plain : Environment) (ty : Ty) (value : Expr) → Shows occurring events env plain → Speaks events value
-        → AreTwo ty (event_in occurring value env) (value_of (plain_expression (presence_of value)) plain)
-        (value_of (plain_expression (word_expression_of ty value)) plain)
+    → AreTwo ty (event_in occurring value env) (value_of (plain_expression (presence_of value)) plain)
+    (value_of (plain_expression (word_expression_of ty value)) plain)
 
 -- Where no event occurs, a value is that of an environment without events.
 abbrev pub NoEventsMeanTheSame : Type 0

@@ -1,11 +1,9 @@
+//! Laws of runs of systems with event ports.
 ghost use Rattle.event_runs.specs.Laws.{PlainExpressionsMeanTheSame, EventsAreTwo, NoEventsMeanTheSame, ComponentsHavePlainCalls};
 ghost use Rattle.event_runs.specs.EventTrace.{MembersGiveTheSame, FaultsAreRead, TracesAreRead, RowsAreRead, SourcesHaveOneTrace};
 ghost use Rattle.event_runs.specs.EventRuns.{MembersArePlain, PlainFormsTellTheTrace, SourcesHaveOneOutcome};
 ghost use Rattle.event_runs.specs.Turns.{SuccessorsAreByOffers, SameOffersLeadOn};
 ghost use Rattle.event_runs.specs.EventPorts.{AssignmentsAreRead, EventAssignmentsAreRead, EventAssignmentsAreUnique};
-
-use fixed_words::Fault as _F;
-use unit_tree::Expr as _E;
 
 /// A law: the plain form of an expression has its value; the two that an event output becomes tell of its event; and where no
 /// event occurs, a value is that without events.

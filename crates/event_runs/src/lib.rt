@@ -1,5 +1,22 @@
 //! Runs of systems with event ports, as they are written: definitions and laws, without code.
+//!
+//! A system is run in its plain form, in which each event port is two plain ports. Here stands what the system means as it is
+//! written, where an event port has a word or is absent, and that the run of the plain form, read, is that of the system:
+//!
+//! - `specs/Events.antt`: values, event outputs, step lines and the calls of a component where events occur at some inputs;
+//! - `specs/EventPorts.antt`: port assignments, and how ports of the plain form are read;
+//! - `specs/Turns.antt`: the successor by what members give;
+//! - `specs/EventTrace.antt`: port faults, positions, rows and traces;
+//! - `specs/EventRuns.antt`: what is run of a system, and its trace.
+//!
+//! The laws lead from expressions ([`plain_expressions_mean_the_same`]) to the whole: a judged system has exactly one trace,
+//! which is that of its plain form, read ([`systems_have_one_event_trace`]).
 #![tactic(auto)]
 
 mod laws;
 
+pub use laws::{
+    assignments_are_read, components_have_plain_calls, faults_are_read, members_are_plain,
+    members_give_the_same, plain_expressions_mean_the_same, successors_are_by_offers,
+    systems_have_one_event_trace, traces_are_read,
+};

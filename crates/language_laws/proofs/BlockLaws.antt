@@ -6,7 +6,7 @@ use Rattle.std.proofs.lemmas.Bool.{and_parts}
 use Rattle.std.proofs.lemmas.List.{append-nil}
 use Rattle.unit_tree.specs.Canonical.{optional, unit_parts, canonical_parts}
 use Rattle.unit_tree.specs.Parts as parts
-use Rattle.unit_tree.specs.Parts.{Part, UnitPart, block_forms, joined, else_forms, line_forms, unit_part_forms, part_forms, unit_of}
+use Rattle.unit_tree.specs.Parts.{Part, UnitPart, block_forms, joined, line_forms, unit_of}
 use Rattle.unit_tree.specs.Sites.{Scope, TopScope, UnitScope, StepScope, InstanceScope, Site, Headed, alone, sites, headed_unit_part, headed_part, sites_of}
 use Rattle.unit_tree.specs.Sites.{is_step_line, holds, is_unit_line, is_instance_line, IsOpenedBy, Opens, IsWithin, are_level, StandsBehind}
 use Rattle.unit_tree.specs.declared.expr.Expr.{Expr}

@@ -12,9 +12,9 @@ use Rattle.unit_tree.specs.Canonical.{optional, unit_parts, canonical_parts}
 use Rattle.unit_tree.specs.Names.{Port, output_ports, unit_named, unit_of_instance, instance_named, unit_at}
 use Rattle.unit_tree.specs.Orders.{IsIn, port_of, outputs_in, outputs_of, declares_output, line_of_output}
 use Rattle.unit_tree.specs.Parts as parts
-use Rattle.unit_tree.specs.Parts.{Part, UnitPart, unit_part_forms, unit_of}
+use Rattle.unit_tree.specs.Parts.{UnitPart, unit_of}
 use Rattle.unit_tree.specs.Sites.{Scope, TopScope, UnitScope, Site, Headed, alone, sites, headed_unit_part, headed_part, sites_of}
-use Rattle.unit_tree.specs.WellFormed.{IsWellFormed, number_where, redeclares, instance_declared, unit_declared, name_declared, says_again}
+use Rattle.unit_tree.specs.WellFormed.{IsWellFormed, redeclares, instance_declared, unit_declared, name_declared, says_again}
 use Rattle.unit_tree.specs.declared.line_form.LineForm.{LineForm}
 use Rattle.unit_tree.specs.declared.line_form.LineForm.TheVariants as form
 use Rattle.unit_tree.specs.declared.system.Instance.{Instance}

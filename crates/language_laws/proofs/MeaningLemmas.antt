@@ -9,7 +9,7 @@ use Rattle.unit_tree.specs.declared.expr.Expr.{Expr}
 use Rattle.unit_tree.specs.declared.expr.Expr.TheOpen.{Expr-F}
 use Rattle.unit_tree.specs.declared.expr.UnOp.{UnOp}
 use Rattle.unit_tree.specs.declared.line.Line as line
-use Rattle.unit_tree.specs.declared.line.Line.{Line, fold-Line}
+use Rattle.unit_tree.specs.declared.line.Line.{Line}
 use Rattle.unit_tree.specs.declared.line.Line.TheFolds.{fold-roll-Line}
 use Rattle.unit_tree.specs.declared.line.Line.TheOpen.{Line-F}
 use Rattle.unit_tree.specs.declared.line.Line.TheVariants.{rolls-Assign, rolls-If, rolls-Repeat, rolls-Accept}

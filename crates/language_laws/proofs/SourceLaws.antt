@@ -11,7 +11,7 @@ use Rattle.unit_tree.specs.Blocks.{Before, no_lines, and_line, and_lines, opens_
 use Rattle.unit_tree.specs.Canonical.{optional, unit_parts, canonical_parts, canonical_forms}
 use Rattle.unit_tree.specs.LineForms.{are_alike}
 use Rattle.unit_tree.specs.Parts as parts
-use Rattle.unit_tree.specs.Parts.{Part, UnitPart, line_forms, unit_part_forms, part_forms, text_forms, with_unit_part, unit_of, with_part, system_of}
+use Rattle.unit_tree.specs.Parts.{Part, UnitPart, line_forms, unit_part_forms, part_forms, text_forms, unit_of, system_of}
 use Rattle.unit_tree.specs.Sites.{is_step_line}
 use Rattle.unit_tree.specs.SourceLines.{unit_part_rank, part_rank, of_rank, by_rank, each_ranked, unit_lines_in_order, part_lines_in_order, in_canonical_order}
 use Rattle.unit_tree.specs.declared.expr.Expr as expr

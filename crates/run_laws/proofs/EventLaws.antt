@@ -1,5 +1,5 @@
 -- Systems without event ports.
-use Rattle.std.proofs.Common.{◌≡◌, ◌≤◌, ◌⊎◌, inl, inr, zero, ◌==◌, cond, Bool, true, false, List, [], ◌∷◌, ◌++◌, map, refl, sym, subst, ap}
+use Rattle.std.proofs.Common.{◌≡◌, ◌≤◌, ◌⊎◌, inl, inr, zero, ◌==◌, cond, Bool, false, List, [], ◌∷◌, ◌++◌, map, refl, sym, subst, ap}
 use Rattle.std.specs.Prelude.{◌||◌}
 use Rattle.std.specs.List.{AllByRecursion, flat_map, list_any}
 use Rattle.std.proofs.lemmas.Grind.{flat_map-append}
@@ -7,7 +7,7 @@ use Rattle.std.proofs.lemmas.Bool.{or_parts}
 use Rattle.unit_tree.specs.Canonical.{optional, unit_parts, canonical_forms}
 use Rattle.unit_tree.specs.Compositions.{HasNoEvents}
 use Rattle.unit_tree.specs.Parts as parts
-use Rattle.unit_tree.specs.Parts.{Part, UnitPart, unit_part_forms, part_forms}
+use Rattle.unit_tree.specs.Parts.{Part, unit_part_forms, part_forms}
 use Rattle.unit_tree.specs.Plain.{plain_unit, plain_form}
 use Rattle.unit_tree.specs.Printable.{IsRanged, is_event_port}
 use Rattle.unit_tree.specs.declared.line_form.LineForm.{LineForm}

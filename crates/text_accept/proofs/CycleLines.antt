@@ -1,13 +1,13 @@
 -- The line at which the code names a cycle.
-use Rattle.std.proofs.Common.{◌≡◌, ℕ, List, Option, Some, None, ◌⊎◌, inl, inr, refl, ap, sym, subst, ◌∙◌}
+use Rattle.std.proofs.Common.{◌≡◌, ℕ, List, Option, Some, ◌⊎◌, inl, inr, refl, ap, sym, subst, ◌∙◌}
 use Rattle.std.specs.Prelude.{slice_get, IsSome}
 use Rattle.text_laws.proofs.ReadIsPrintable.{read_is_printable}
-use Rattle.text_accept.specs.Accepting.{IsAcceptedAs, IsCheckedAs, IsLineOfCycle}
+use Rattle.text_accept.specs.Accepting.{IsAcceptedAs, IsCheckedAs}
 use Rattle.text_accept.specs.Marks.{IsWithoutMark}
 use Rattle.text_accept.proofs.SourceCycles.{IsMadeOf, SourceOutput, source_of, without_cycle, name_is_plain}
 use Rattle.unit_tree.specs.Compositions.{run_of}
-use Rattle.unit_tree.specs.Orders.{IsIn, IsFirstWithoutOrder, line_of_output, outputs_of}
-use Rattle.unit_tree.specs.Plain.{plain_form, presence_name, presence_port}
+use Rattle.unit_tree.specs.Orders.{IsFirstWithoutOrder, line_of_output}
+use Rattle.unit_tree.specs.Plain.{plain_form}
 use Rattle.unit_tree.specs.Printable.{IsRanged}
 use Rattle.unit_tree.specs.Routes.{Ordered, IsOrderOf}
 use Rattle.unit_tree.specs.WellFormed.{IsWellFormed}

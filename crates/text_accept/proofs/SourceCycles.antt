@@ -1,12 +1,10 @@
 -- The first output without an order of the plain form is made of the first one of the system itself.
 use Rattle.std.proofs.Common.{◌≡◌, ℕ, ◌+◌, Bool, true, false, cond, List, [], ◌∷◌, ◌++◌, ◌⊎◌, inl, inr, refl, ap, sym, subst, ◌∙◌}
-use Rattle.std.proofs.Common.{append_assoc, append-nil}
-use Rattle.std.specs.Prelude.{◌==◌, ⊤}
+use Rattle.std.specs.Prelude.{◌==◌}
 use Rattle.std.specs.List.{AllByRecursion}
 use Rattle.unit_tree.specs.Compositions.{composition_of, run_of}
-use Rattle.unit_tree.specs.Names.{unit_named}
-use Rattle.unit_tree.specs.Orders.{IsIn, IsOrderly, HasNoCycle, HasNoOrder, IsFirstWithoutOrder, outputs_of}
-use Rattle.unit_tree.specs.Plain.{plain_form, plain_output, plain_outputs, presence_name, presence_port, is_event_output}
+use Rattle.unit_tree.specs.Orders.{IsIn, HasNoCycle, HasNoOrder, IsFirstWithoutOrder, outputs_of}
+use Rattle.unit_tree.specs.Plain.{plain_form, presence_name, presence_port, is_event_output}
 use Rattle.unit_tree.specs.Ports.{IsPlaceOrder}
 use Rattle.unit_tree.specs.Printable.{IsRanged}
 use Rattle.unit_tree.specs.WellFormed.{IsWellFormed}
@@ -14,9 +12,8 @@ use Rattle.unit_tree.specs.declared.system.PortName.{PortName}
 use Rattle.unit_tree.specs.declared.system.System.{System}
 use Rattle.run_laws.proofs.EventLaws.{plain_form_1, version_1_without_events, plain_of_without_events}
 use Rattle.language_laws.proofs.NameLaws.{names_differ, is_wired}
-use Rattle.run_laws.proofs.PlaceOrders.{has_in, has_no_cycle}
+use Rattle.run_laws.proofs.PlaceOrders.{has_no_cycle}
 use Rattle.run_laws.proofs.PlainCycles.{plain_is_wired, has_none_of_plain, is_output, outputs_among, orderly, kept_in, told_in}
-use Rattle.language_laws.proofs.PlainNames.{IsPlain}
 use Rattle.language_laws.proofs.OrderLaws.{in_front}
 use Rattle.run_laws.proofs.PlainOrders.{plain_of, plain_names_differ, split_by, split}
 use Rattle.run_laws.proofs.PlainOrders.{splits, in_splits, ordered, plain_name}

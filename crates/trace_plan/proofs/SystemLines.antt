@@ -11,7 +11,7 @@ use Rattle.unit_tree.specs.Canonical.{optional, unit_parts, canonical_parts, can
 use Rattle.unit_tree.specs.LineForms.{are_alike}
 use Rattle.unit_tree.specs.Names.{unit_of_instance}
 use Rattle.unit_tree.specs.Parts as parts
-use Rattle.unit_tree.specs.Parts.{Part, UnitPart, unit_part_forms, part_forms}
+use Rattle.unit_tree.specs.Parts.{Part, UnitPart, part_forms}
 use Rattle.unit_tree.specs.Plain.{plain_forms}
 use Rattle.unit_tree.specs.Printable.{IsRanged, IsInRange}
 use Rattle.unit_tree.specs.Sites.{TopScope, Site, sites_of}

@@ -1,11 +1,9 @@
 -- What is run of a unit of a system in range that is well-formed may be compiled.
 use Rattle.std.proofs.Common.{◌≡◌, ◌⊎◌, ℕ, ◌≤◌, Bool, true, false, ℤ, List, [], ◌∷◌, ◌++◌, map, length, Option, Some, None, inl, inr, refl, sym, ap, ◌∙◌, subst}
-use Rattle.std.proofs.Common.{arith}
 use Rattle.std.specs.Prelude.{◌||◌, not, nat_lt, is_none}
 use Rattle.std.specs.List.{AllByRecursion, flat_map}
 use Rattle.std.specs.Option.{option_map, IfSome}
 use Rattle.std.proofs.lemmas.Bool.{and_parts, and_from, or_parts}
-use Rattle.std.proofs.lemmas.Bool.Decides.{nat_tests}
 use Rattle.std.proofs.lemmas.Grind.{flat_map-append}
 use Rattle.fixed_words.specs.Types.{kind_of, AreDecimals}
 use Rattle.fixed_words.specs.declared.types.Kind.{Kind}
@@ -41,7 +39,7 @@ use Rattle.language_laws.proofs.PlainNames.{map_has, flat_has}
 use Rattle.language_laws.proofs.Declarations.{Declared, OfParam, OfState, OfLocal, OfInput, OfEventIn, OfOutput, OfEventOut, line_of, variable_of, Declares, AtLine}
 use Rattle.language_laws.proofs.Declarations.{unit_limited}
 use Rattle.unit_exec.proofs.EventChoices.{word_names, word_events, presence_names, presence_events, word_ranged, presence_ranged, plain_ranged, presence_kinded}
-use Rattle.unit_exec.proofs.KindsOfRuns.{IsOf, kinded}
+use Rattle.unit_exec.proofs.KindsOfRuns.{kinded}
 use Rattle.unit_exec.proofs.KindsOfRuns as kind_laws
 use Rattle.unit_exec.proofs.LinesOfRuns.{FormRight, lines_right}
 use Rattle.unit_exec.proofs.NamesOfUnits.{passes_at, Comes, Tells, from_run, Usable, usable_shared, usable_step, name_kind, presence_kind, output_has}

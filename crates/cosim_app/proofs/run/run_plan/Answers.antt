@@ -18,8 +18,8 @@ returns-in-Ok-ending g c =
       tells_trace c.args.plan.now.value.system c.requires.whole (g.O.Sink.held c.args.out.now)
           (g.O.Sink.held c.run_alone.new.out) c.in-Ok-run_alone.report c.status.result c.in-Ok-ending.note.items reports c.status.ensures
           (c.in-Ok-ending.ensures
-              ∙ ap (λ (p : Planned).
-              traced_note p.system (source_end p.system c.in-Ok-run_alone.report.outcome) c.in-Ok-run_alone.report.last) c.deref.ensures),
+          ∙ ap (λ (p : Planned).
+          traced_note p.system (source_end p.system c.in-Ok-run_alone.report.outcome) c.in-Ok-run_alone.report.last) c.deref.ensures),
       c.in-Ok-run_alone.ensures.cause.same (λ e. absurd (cc)),
     )
 

@@ -1,4 +1,4 @@
-use Rattle.std.proofs.Common.{Err, inl, refl, subst}
+use Rattle.std.proofs.Common.{Err, refl, subst}
 use Rattle.text_accept.specs.Accepting.{AnswersAcceptance}
 use Rattle.unit_text.specs.declared.fault.TextFault.{TextFault}
 use Rattle.cosim_app.specs.declared.command_words.Command.TheVariants.{Run}
