@@ -3,9 +3,9 @@ use Rattle.std.proofs.Common.{◌≡◌, ℕ, zero, suc, ◌+◌, ◌/◌, List,
 use Rattle.std.specs.Prelude.{Bool, is_none, false, slice_get}
 use Rattle.std.specs.List.{AllByRecursion, filter_map, cons_option}
 use Rattle.std.specs.Option.{option_and_then, option_map, unwrap_or}
-use Rattle.event_runs.specs.EventPorts.{EventMember, Plain, Event, is_event, shape_of}
-use Rattle.event_runs.specs.EventRuns.{read_end, with_feeds}
-use Rattle.event_runs.specs.EventTrace.{output_read}
+use Rattle.event_runs.specs.EventPorts.{EventMember, Plain, Event}
+use Rattle.event_runs.specs.Readings.{is_event, shape_of, event_shape, read_end, output_read}
+use Rattle.event_runs.specs.EventRuns.{with_feeds}
 use Rattle.trace_plan.proofs.SystemLines.{units_declared}
 use Rattle.unit_tree.specs.Compositions.{member_with}
 use Rattle.unit_tree.specs.Names.{Port, unit_of_instance}
@@ -21,7 +21,7 @@ use Rattle.language_laws.proofs.PlainNames.{of_output, of_event}
 use Rattle.cosim_app.specs.Answer.{status_of}
 use Rattle.cosim_app.specs.Judgement.{IsWhole}
 use Rattle.cosim_app.specs.Notes.{name_or_none}
-use Rattle.cosim_app.specs.SourcePlaces.{source_end, unit_shape}
+use Rattle.cosim_app.specs.SourcePlaces.{source_end}
 
 -- ---- Names in a unit
 
@@ -63,7 +63,7 @@ module _ (system : System) where
   made instance = option_map (with_feeds system instance) (member_with system instance (unit_of_instance system instance))
 
   abbrev shape_among : List Instance → ℕ → List Bool
-  shape_among instances number = unwrap_or (option_map unit_shape (option_and_then (unit_of_instance system) (slice_get instances number))) []
+  shape_among instances number = unwrap_or (option_map event_shape (option_and_then (unit_of_instance system) (slice_get instances number))) []
 
   abbrev members_shape : List EventMember → ℕ → List Bool
   members_shape members number = unwrap_or (option_map shape_of (slice_get members number)) []
@@ -77,7 +77,7 @@ module _ (system : System) where
 
   here_by : (instance : Instance) (members : List EventMember) (given : Option Unit) → is_none given ≡ false
       → members_shape (cons_option (option_map (with_feeds system instance) (member_with system instance given)) members) zero
-      ≡ unwrap_or (option_map unit_shape given) []
+      ≡ unwrap_or (option_map event_shape given) []
   here_by instance members None some = absurd (cc)
   here_by instance members (Some unit) some = refl
 

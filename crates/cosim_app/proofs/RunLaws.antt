@@ -4,7 +4,8 @@ use Rattle.cosim_io.specs.Pieces.{AppendsPrefix}
 use Rattle.std.proofs.Common.{◌≡◌, ℕ, List, Option, refl, sym, ap, subst, ◌∙◌, inr}
 use Rattle.cosim_io.proofs.PieceLemmas.{AppendsPrefix-nil, AppendsPrefix-whole}
 use Rattle.event_csv.proofs.TextLaws.{text_read}
-use Rattle.event_runs.specs.EventRuns.{IsEventTraceOf, read_end, read_rows}
+use Rattle.event_runs.specs.EventRuns.{IsEventTraceOf}
+use Rattle.event_runs.specs.Readings.{read_end, read_rows}
 use Rattle.event_runs.proofs.SystemTraces.{tells}
 use Rattle.serial_run.specs.Reports.{PutsFront as RunFront, ReportsTrace}
 use Rattle.serial_run.specs.declared.report.Report.{Report}

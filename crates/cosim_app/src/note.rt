@@ -1,8 +1,8 @@
 //! The notes of the program.
 ghost use Rattle.std.specs.Prelude.{◌≡◌, ◌≤◌, ◌++◌, IfOk, OnOk};
 ghost use Rattle.cosim_app.specs.Answer.{traced_note};
-ghost use Rattle.cosim_app.specs.SourcePlaces.{instance_shape, unit_shape, source_end, source_place};
-ghost use Rattle.event_runs.specs.EventTrace.{output_read};
+ghost use Rattle.cosim_app.specs.SourcePlaces.{instance_shape, source_end, source_place};
+ghost use Rattle.event_runs.specs.Readings.{event_shape, output_read};
 ghost use Rattle.cosim_app.specs.Notes.{fault_number, instance_name, name_in, output_name, place_text, refused_note, point_text, fault_text, budget_text, lengths_text, step_refused_text, ending_note, line_end};
 
 use crate::pieces::append_all;
@@ -68,7 +68,7 @@ fn instance_name(system: &System, instance: u32) -> &[u8]
 /// The name of the output that an output of the unit's plain form is made of: behind the plain outputs stand two for each
 /// event output.
 fn name_in(unit: &Unit, number: usize) -> &[u8]
-    ensures { result.now ≡ name_in unit.now (output_read (unit_shape unit.now) number) }
+    ensures { result.now ≡ name_in unit.now (output_read (event_shape unit.now) number) }
 {
     let (plain, events) = (unit.outputs.as_slice(), unit.events_out.as_slice());
     if number < plain.len() {

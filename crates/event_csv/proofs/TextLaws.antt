@@ -11,18 +11,16 @@ use Rattle.std.proofs.lemmas.List.Folds.{find_at}
 use Rattle.fixed_words.specs.Texts.{text_of}
 use Rattle.fixed_words.specs.declared.types.Ty.{Ty}
 use Rattle.super_time.specs.Seconds.{seconds_text_of}
-use Rattle.super_time.specs.declared.point.Point.{Point}
 use Rattle.trace_csv.specs.Columns.{column_of, columns_of, output_number, port_title, title_of}
 use Rattle.trace_csv.specs.Lines.{line_of}
 use Rattle.trace_csv.specs.TraceText.{field_of, row_line, trace_text}
-use Rattle.unit_tree.specs.Compositions.{place_of, run_of}
+use Rattle.unit_tree.specs.Compositions.{place_of}
 use Rattle.unit_tree.specs.Names.{Port, output_at, unit_of_instance}
-use Rattle.unit_tree.specs.Orders.{HasNoCycle, IsIn, outputs_of}
+use Rattle.unit_tree.specs.Orders.{IsIn, outputs_of}
 use Rattle.unit_tree.specs.Plain.{plain_form, samples_or_all}
 use Rattle.unit_tree.specs.Printable.{IsRanged}
-use Rattle.unit_tree.specs.Trace.{Row, IsTraceOf}
+use Rattle.unit_tree.specs.Trace.{Row}
 use Rattle.unit_tree.specs.WellFormed.{IsWellFormed, resolution_of}
-use Rattle.unit_tree.specs.declared.ending.Ending.{Ending}
 use Rattle.unit_tree.specs.declared.system.Column.{Column}
 use Rattle.unit_tree.specs.declared.system.Instance.{Instance}
 use Rattle.unit_tree.specs.declared.system.PortName.{PortName}
@@ -32,16 +30,14 @@ use Rattle.unit_tree.specs.declared.unit.Unit.{Unit}
 use Rattle.language_laws.proofs.NameLaws.{same_bytes}
 use Rattle.run_laws.proofs.PlaceOrders.{has_in}
 use Rattle.run_laws.proofs.PortLaws.{output_has}
-use Rattle.run_laws.proofs.PositionLaws.{system_has_members}
-use Rattle.run_laws.proofs.RunOrders.{runs_have_orders}
 use Rattle.trace_plan.proofs.ShownOutputs.{shown_of}
-use Rattle.event_runs.specs.EventPorts.{plain_place, shape_of}
-use Rattle.event_runs.specs.EventRuns.{event_members_of, read_rows}
-use Rattle.event_runs.specs.EventTrace.{EventRow, read_words}
+use Rattle.event_runs.specs.Readings.{plain_place, HasShape, read_words}
+use Rattle.event_runs.specs.EventTrace.{EventRow}
 use Rattle.event_runs.specs.Events.{Signal, Occurs, Absent}
-use Rattle.event_runs.proofs.RowLaws.{HasShape, rows_fit}
+use Rattle.event_runs.proofs.SystemTraces.{rows_shaped}
 use Rattle.event_runs.proofs.SplitPlaces.{event, shape, place_of_plain, place_of_event, shape_at_place}
-use Rattle.event_runs.proofs.SystemMembers.{members_plain, place_kept, shape_is}
+use Rattle.event_runs.proofs.SystemMembers.{place_kept, shape_is}
+use Rattle.event_csv.specs.Laws.{HeadersAreRead, LinesAreRead, TextsAreRead}
 use Rattle.event_csv.specs.EventText.{EventColumn, event_column, event_field, event_header, event_line, event_text, signal_text}
 
 -- ---- What is found by a test passes it
@@ -77,8 +73,8 @@ read_at (true ∷ shape) [] place told fits is = absurd fits
 read_at (true ∷ shape) (tells ∷ []) place told fits is = absurd fits
 read_at (true ∷ shape) (tells ∷ word ∷ words) zero true fits is = refl
 read_at (true ∷ shape) (tells ∷ word ∷ words) zero false fits is = absurd (cc)
-read_at (true ∷ shape) (tells ∷ word ∷ words) (suc place) true fits is = read_at shape words place true fits is
-read_at (true ∷ shape) (tells ∷ word ∷ words) (suc place) false fits is = read_at shape words place false fits is
+read_at (true ∷ shape) (tells ∷ word ∷ words) (suc place) true fits is = read_at shape words place true fits.1 is
+read_at (true ∷ shape) (tells ∷ word ∷ words) (suc place) false fits is = read_at shape words place false fits.1 is
 
 one_less : (place : ℕ) → suc place - 1 ≡ place
 one_less place = omega arith
@@ -202,20 +198,26 @@ module _ (system : System) (ranged : IsRanged system) (kept : IsWellFormed syste
       ap (λ line. line ++ flat_map (λ r. row_line (resolution_of system) (columns_of system) r.point r.words) rows) (line_is row fit.0)
       ∙ ap (λ rest. event_line system (read row) ++ rest) (lines_are rows fit.1)
 
+  header_is : header_line system (columns_of system) ≡ event_header system
+  header_is = ap (λ titles. line_of (codes "time" ∷ codes "index" ∷ titles)) (titles_are (samples_or_all system))
+
   text_by_shape : (rows : List Row) → AllByRecursion (λ row. HasShape told row.words) rows → trace_text system rows ≡ event_text system (map read rows)
   text_by_shape rows fit =
-      ap (λ titles. line_of (codes "time" ∷ codes "index" ∷ titles)
-      ++ flat_map (λ row. row_line (resolution_of system) (columns_of system) row.point row.words) rows) (titles_are (samples_or_all system))
+      ap (λ header. header ++ flat_map (λ row. row_line (resolution_of system) (columns_of system) row.point row.words) rows) header_is
       ∙ ap (λ lines. event_header system ++ lines) (lines_are rows fit)
 
-pub text_read : (system : System) → IsRanged system → IsWellFormed system → HasNoCycle system → (rows : List Row) (last : Point) (ending : Ending)
-    → IsTraceOf system rows last ending → trace_text system rows ≡ event_text system (read_rows system rows)
+pub header_read : HeadersAreRead
+header_read system ranged kept = header_is system ranged kept
+
+pub line_read : LinesAreRead
+line_read system ranged kept row fits =
+    let same = shape_is system ranged kept in
+    line_is system ranged kept row (subst (λ s. HasShape s row.words) (sym same) fits)
+    ∙ ap (λ s. event_line system (record { point = row.point; signals = read_words s row.words })) same
+
+pub text_read : TextsAreRead
 text_read system ranged kept no_cycle rows last ending of =
-    let order = runs_have_orders system ranged kept no_cycle in
-    let members = event_members_of system in
-    let fit =
-    rows_fit members (run_of system) order.0 (members_plain system ranged kept) (system_has_members (plain_form system)) order.1 of.stands ending of.trace in
-    let all = subst (AllByRecursion (λ row. HasShape (flat_map shape_of members) row.words)) (sym of.rows_are) fit in
-    let shape_told = shape_is system ranged kept in
-    text_by_shape system ranged kept rows (subst (λ s. AllByRecursion (λ row. HasShape s row.words) rows) (sym shape_told) all)
-    ∙ ap (λ s. event_text system (map (λ row. record { point = row.point; signals = read_words s row.words }) rows)) shape_told
+    let same = shape_is system ranged kept in
+    text_by_shape system ranged kept rows
+    (subst (λ s. AllByRecursion (λ row. HasShape s row.words) rows) (sym same) (rows_shaped system ranged kept no_cycle rows last ending of))
+    ∙ ap (λ s. event_text system (map (λ row. record { point = row.point; signals = read_words s row.words }) rows)) same

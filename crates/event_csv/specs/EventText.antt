@@ -1,26 +1,19 @@
 -- The text of a trace of a system as it is written: the header and the rows as CSV, where an event output without an event has an empty
 -- field.
-use Rattle.std.specs.Prelude.{◌≡◌, ℕ, List, [], ◌∷◌, ◌++◌, map, codes, slice_index_or}
+use Rattle.std.specs.Prelude.{ℕ, List, [], ◌∷◌, ◌++◌, map, codes, slice_index_or}
 use Rattle.std.specs.Fmt.{decimal}
 use Rattle.std.specs.List.{filter_map, flat_map}
 use Rattle.std.specs.Option.{option_map}
 use Rattle.fixed_words.specs.Texts.{text_of}
 use Rattle.fixed_words.specs.declared.types.Ty.{Ty}
 use Rattle.super_time.specs.Seconds.{seconds_text_of}
-use Rattle.super_time.specs.declared.point.Point.{Point}
 use Rattle.trace_csv.specs.Lines.{line_of}
-use Rattle.trace_csv.specs.TraceText.{trace_text}
 use Rattle.unit_tree.specs.Compositions.{place_of}
 use Rattle.unit_tree.specs.Names.{Port, output_at}
-use Rattle.unit_tree.specs.Orders.{HasNoCycle}
 use Rattle.unit_tree.specs.Plain.{samples_or_all}
-use Rattle.unit_tree.specs.Printable.{IsRanged}
-use Rattle.unit_tree.specs.Trace.{Row, IsTraceOf}
-use Rattle.unit_tree.specs.WellFormed.{IsWellFormed, resolution_of}
-use Rattle.unit_tree.specs.declared.ending.Ending.{Ending}
+use Rattle.unit_tree.specs.WellFormed.{resolution_of}
 use Rattle.unit_tree.specs.declared.system.PortName.{PortName}
 use Rattle.unit_tree.specs.declared.system.System.{System}
-use Rattle.event_runs.specs.EventRuns.{read_rows}
 use Rattle.event_runs.specs.EventTrace.{EventRow}
 use Rattle.event_runs.specs.Events.{Signal, Occurs, Absent}
 
@@ -66,12 +59,3 @@ event_line system row =
 -- The header, and a line for each row.
 abbrev pub event_text : System → List EventRow → List ℕ
 event_text system rows = event_header system ++ flat_map (event_line system) rows
-
--- ---- A law
-
--- The text of a trace of what is run of a system is that of the system's own trace.
-abbrev pub TextsAreRead : Type 0
-TextsAreRead =
-    (system : System) → IsRanged system → IsWellFormed system → HasNoCycle system
-    → (rows : List Row) (last : Point) (ending : Ending) → IsTraceOf system rows last ending
-    → trace_text system rows ≡ event_text system (read_rows system rows)

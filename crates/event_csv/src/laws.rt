@@ -1,7 +1,10 @@
 //! Laws of the text of a trace.
-ghost use Rattle.event_csv.specs.EventText.{TextsAreRead};
+ghost use Rattle.event_csv.specs.Laws.{HeadersAreRead, LinesAreRead, TextsAreRead};
 
-/// A law: the text of a trace of what is run of a system is that of the system's own trace.
-pub fn texts_are_read()
-    ensures { TextsAreRead }
+/// A law: the header, the line of each row, and so the text of a trace of what is run of a system are those of the system's own
+/// trace.
+pub fn trace_texts_are_read()
+    ensures header { HeadersAreRead }
+    ensures lines { LinesAreRead }
+    ensures texts { TextsAreRead }
 {}

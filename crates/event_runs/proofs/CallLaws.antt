@@ -33,9 +33,8 @@ use Rattle.language_laws.proofs.NameLaws.{same_bytes, bytes_of}
 use Rattle.language_laws.proofs.PlainNames.{word_is_plain, same_presence}
 use Rattle.event_runs.specs.Events.{Signal, Occurs, Absent, occurs, Occurring, Seen, value_in, event_in, effect_of_lines_in, word_seen, occurring_at}
 use Rattle.event_runs.specs.Events.{all_variables_of, all_words_of, environment_in, occurring_in, get_in, signal_as, get_event, limit_in, moved_in}
-use Rattle.event_runs.specs.Events.{words_of_signal}
-use Rattle.event_runs.specs.Laws.{Speaks, Shows, AreTwo, zero_value, LineSpeaks, IsSaid, plain_component, plain_words, Fits, AreTwoGets, AllPairs}
-use Rattle.event_runs.specs.Laws.{HasPlainCalls}
+use Rattle.event_runs.specs.Readings.{words_of_signal, plain_component, plain_words}
+use Rattle.event_runs.specs.Laws.{Speaks, Shows, AreTwo, zero_value, LineSpeaks, IsSaid, Fits, AreTwoGets, AllPairs, HasPlainCalls}
 use Rattle.event_runs.proofs.EffectLaws.{Both, source_env, plain_env, IsBoth, shows, Alike, lines_alike}
 use Rattle.event_runs.proofs.EventLaws.{two}
 use Rattle.event_runs.proofs.SlotLaws.{Slot, Same, Tells, source_variables, source_words, plain_variables, words_beside, plain_value, other_bytes, Fronts}

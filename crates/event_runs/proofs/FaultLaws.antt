@@ -21,11 +21,11 @@ use Rattle.unit_tree.specs.declared.ending.Place.TheVariants as place
 use Rattle.unit_tree.specs.declared.unit.EventOut.{EventOut}
 use Rattle.unit_tree.specs.declared.unit.Output.{Output}
 use Rattle.unit_tree.specs.declared.unit.Unit.{Unit}
-use Rattle.event_runs.specs.EventPorts.{Signals, EventMember, Out, Plain, Event, needs_in, get_out, seen_for, is_event, shape_of, read_ports, plain_member}
-use Rattle.event_runs.specs.EventPorts.{AreTidy, IsWired, IsPlainRun, StatesFit}
-use Rattle.event_runs.specs.EventTrace.{event_fault_at, event_faults_at, event_port_fault, output_read, shape_at, read_ending}
+use Rattle.event_runs.specs.EventPorts.{Signals, EventMember, Out, Plain, Event, needs_in, get_out, seen_for}
+use Rattle.event_runs.specs.Readings.{is_event, shape_of, read_ports, plain_member, output_read, shape_at, read_ending, plain_component, plain_words}
+use Rattle.event_runs.specs.Laws.{AreTidy, IsWired, IsPlainRun, StatesFit, Speaks, AreTwoGets}
+use Rattle.event_runs.specs.EventTrace.{event_fault_at, event_faults_at, event_port_fault}
 use Rattle.event_runs.specs.Events.{Signal, Occurs, Absent, Seen, get_in, get_event}
-use Rattle.event_runs.specs.Laws.{Speaks, plain_component, plain_words, AreTwoGets}
 use Rattle.event_runs.proofs.CallLaws.{get_same, event_same}
 use Rattle.event_runs.proofs.SideLaws.{first_of, second_of, seen_is, fits_seen}
 

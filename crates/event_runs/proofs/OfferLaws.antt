@@ -11,11 +11,12 @@ use Rattle.unit_tree.specs.Compositions.{InputSource, Composition}
 use Rattle.unit_tree.specs.Negotiation.{inputs_at, is_held, max_at, step_at}
 use Rattle.unit_tree.specs.Ports.{Ports, input_word}
 use Rattle.unit_tree.specs.Successor.{Position}
-use Rattle.event_runs.specs.EventPorts.{Signals, EventMember, word_from, signal_from, shape_of, read_pair, read_ports, plain_place, plain_source, plain_feed}
-use Rattle.event_runs.specs.EventPorts.{plain_member, IsTidyPair, AreTidy, SourceFits, FeedFits, IsWired, IsPlainRun, StatesFit}
-use Rattle.event_runs.specs.EventTrace.{seen_at, event_max_at, event_step_at, GiveTheSame}
-use Rattle.event_runs.specs.Events.{Absent, words_of_signal}
-use Rattle.event_runs.specs.Laws.{plain_component, plain_words, HasPlainCalls}
+use Rattle.event_runs.specs.EventPorts.{Signals, EventMember, word_from, signal_from}
+use Rattle.event_runs.specs.Readings.{shape_of, read_pair, read_ports, plain_place, plain_source, plain_feed, plain_member, words_of_signal, plain_component}
+use Rattle.event_runs.specs.Readings.{plain_words}
+use Rattle.event_runs.specs.Laws.{IsTidyPair, AreTidy, SourceFits, FeedFits, IsWired, IsPlainRun, StatesFit, GiveTheSame, HasPlainCalls}
+use Rattle.event_runs.specs.EventTrace.{seen_at, event_max_at, event_step_at}
+use Rattle.event_runs.specs.Events.{Absent}
 use Rattle.unit_tree.specs.Components.{max_of, step_of}
 use Rattle.event_runs.proofs.CallLaws.{plain_calls}
 use Rattle.event_runs.proofs.PortLaws.{source_word, event_at}

@@ -8,9 +8,10 @@ use Rattle.unit_tree.specs.declared.ending.Ending.{Ending}
 use Rattle.run_laws.proofs.PositionLaws.{positions_keep}
 use Rattle.run_laws.proofs.RunTraces.{one_trace}
 use Rattle.run_laws.proofs.RunTraces.{goes_keeps}
-use Rattle.event_runs.specs.EventPorts.{EventMember, IsEventAssignment, IsPlainRun}
-use Rattle.event_runs.specs.EventTrace.{EventRun, EventStand, EventFollows, IsEventTrace, read_ending, read_stand, HasOneEventTrace}
-use Rattle.event_runs.specs.Turns.{pace_of}
+use Rattle.event_runs.specs.EventPorts.{EventMember, IsEventAssignment}
+use Rattle.event_runs.specs.Laws.{IsPlainRun, HasOneEventTrace}
+use Rattle.event_runs.specs.EventTrace.{EventRun, EventStand, EventFollows, IsEventTrace}
+use Rattle.event_runs.specs.Readings.{read_ending, read_stand, pace_of}
 use Rattle.event_runs.proofs.RunLaws.{one_event_assignment}
 use Rattle.event_runs.proofs.TraceLaws.{read_next, fits, stand_read, successor_read, first_is, trace_read}
 

@@ -26,10 +26,10 @@ use Rattle.unit_tree.specs.declared.unit.Output.{Output}
 use Rattle.unit_tree.specs.declared.unit.Unit.{Unit}
 use Rattle.language_laws.proofs.NameLaws.{same_bytes, bytes_of}
 use Rattle.language_laws.proofs.PlainNames.{IsPlain, word_is_plain, same_presence}
-use Rattle.event_runs.specs.EventPorts.{Signals, word_from, signal_from, word_needed, signal_needed, seen_both, read_pair, read_ports, plain_place}
-use Rattle.event_runs.specs.EventPorts.{plain_source, plain_feed, IsTidyPair, AreTidy, SourceFits, FeedFits}
-use Rattle.event_runs.specs.Events.{Signal, Occurs, Absent, Seen, word_seen, words_of_signal}
-use Rattle.event_runs.specs.Laws.{plain_words}
+use Rattle.event_runs.specs.EventPorts.{Signals, word_from, signal_from, word_needed, signal_needed, seen_both}
+use Rattle.event_runs.specs.Readings.{read_pair, read_ports, plain_place, plain_source, plain_feed, words_of_signal, plain_words}
+use Rattle.event_runs.specs.Laws.{IsTidyPair, AreTidy, SourceFits, FeedFits}
+use Rattle.event_runs.specs.Events.{Signal, Occurs, Absent, Seen, word_seen}
 use Rattle.event_runs.proofs.CallLaws.{one_less, none_over, none_under}
 use Rattle.event_runs.proofs.SlotLaws.{other_bytes}
 

@@ -1,6 +1,6 @@
 -- The rows of a plain form, read, are those of the source.
-use Rattle.std.proofs.Common.{◌≡◌, ℕ, Bool, true, false, if◌then◌else◌, ℤ, pos, List, [], ◌∷◌, map, length, Option, Some, None, refl, sym, ap, ◌∙◌, subst}
-use Rattle.std.specs.Prelude.{⊤, is_some, ◌&&◌}
+use Rattle.std.proofs.Common.{◌≡◌, ℕ, Bool, true, false, if◌then◌else◌, pos, List, [], ◌∷◌, map, length, Option, Some, None, refl, sym, ap, ◌∙◌, subst}
+use Rattle.std.specs.Prelude.{is_some, ◌&&◌}
 use Rattle.std.specs.List.{AllByRecursion, flat_map, filter_map, list_all, cons_option}
 use Rattle.std.specs.Option.{option_map}
 use Rattle.std.specs.Ordering.{int_eq}
@@ -13,9 +13,10 @@ use Rattle.unit_tree.specs.declared.ending.Ending.{Ending}
 use Rattle.run_laws.proofs.AssignmentLaws.{undefined_faults}
 use Rattle.run_laws.proofs.PositionLaws.{positions_keep}
 use Rattle.run_laws.proofs.RunTraces.{goes_keeps}
-use Rattle.event_runs.specs.EventPorts.{EventMember, shape_of, read_ports, AreTidy, IsPlainRun}
-use Rattle.event_runs.specs.EventTrace.{EventRow, event_port_fault, event_row_unless, event_rows_of, read_ending, read_stand, read_words, read_row}
-use Rattle.event_runs.specs.Turns.{pace_of}
+use Rattle.event_runs.specs.EventPorts.{EventMember}
+use Rattle.event_runs.specs.Readings.{shape_of, read_ports, HasShape, read_ending, read_stand, read_words, read_row, pace_of}
+use Rattle.event_runs.specs.Laws.{AreTidy, IsPlainRun}
+use Rattle.event_runs.specs.EventTrace.{EventRow, event_port_fault, event_row_unless, event_rows_of}
 use Rattle.event_runs.proofs.FaultLaws.{fault_is_read}
 use Rattle.event_runs.proofs.RunLaws.{assignment_is_read}
 use Rattle.event_runs.proofs.TraceLaws.{fits}
@@ -34,13 +35,6 @@ words_read (true ∷ shape) (Some tells ∷ None ∷ ports) tidy all = absurd (c
 words_read (true ∷ shape) (Some tells ∷ Some word ∷ ports) tidy all =
     ap (λ rest. (if int_eq tells (pos 0) then Absent else Occurs word) ∷ rest) (words_read shape ports tidy.1 all)
 
--- The words of a row of the plain form: one for each plain output, and two for each event output.
-abbrev pub HasShape : List Bool → List ℤ → Type 0
-HasShape [] [] = ⊤
-HasShape (false ∷ shape) (word ∷ words) = HasShape shape words
-HasShape (true ∷ shape) (tells ∷ word ∷ words) = HasShape shape words
-HasShape _ _ = ⊥
-
 shaped : (shape : List Bool) (ports : Ports) → AreTidy shape ports → list_all is_some ports ≡ true → HasShape shape (filter_map (λ word. word) ports)
 shaped [] [] tidy all = tt
 shaped [] (first ∷ ports) tidy all = absurd tidy
@@ -51,7 +45,7 @@ shaped (true ∷ shape) [] tidy all = absurd tidy
 shaped (true ∷ shape) (tells ∷ []) tidy all = absurd tidy
 shaped (true ∷ shape) (None ∷ word ∷ ports) tidy all = absurd (cc)
 shaped (true ∷ shape) (Some tells ∷ None ∷ ports) tidy all = absurd (cc)
-shaped (true ∷ shape) (Some tells ∷ Some word ∷ ports) tidy all = shaped shape ports tidy.1 all
+shaped (true ∷ shape) (Some tells ∷ Some word ∷ ports) tidy all = (tidy.0, shaped shape ports tidy.1 all)
 
 cons_map : {A B : Type 0} (f : A → B) (x : Option A) (xs : List A) → cons_option (option_map f x) (map f xs) ≡ map f (cons_option x xs)
 cons_map f None xs = refl
@@ -107,7 +101,7 @@ module _ (members : List EventMember) (run : Composition) (order : List ℕ) (pl
   fit_by None stand rest words is told all =
       let fit = fits members run order plain are ordered stand.at words in
       let tidy = (assignment_is_read members run stand.at.states plain fit stand.ports is).0 in
-      let count : length stand.at.states ≡ length run.members = one_each _ run.members stand.at.states words in
+      let count : length stand.at.states ≡ length run.members = AllZip-long _ run.members stand.at.states words in
       (shaped (flat_map shape_of members) stand.ports tidy ((undefined_faults run order stand.at.states stand.ports ordered count is).0 told), all)
 
   follow_fit : (here : Stand) (stands : List Stand) (ending : Ending) → HasWords run here.at → IsStand run here → Follows run here stands ending

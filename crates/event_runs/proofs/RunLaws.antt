@@ -17,10 +17,10 @@ use Rattle.unit_tree.specs.declared.unit.EventOut.{EventOut}
 use Rattle.unit_tree.specs.declared.unit.Output.{Output}
 use Rattle.run_laws.proofs.AssignmentLaws.{one_assignment}
 use Rattle.event_runs.specs.EventPorts.{Signals, EventMember, Out, Plain, Event, outs_of, needs_in, get_out, seen_for, EventStanding, signal_of, signals_at}
-use Rattle.event_runs.specs.EventPorts.{event_sides, IsEventAssignment, is_event, shape_of, read_ports, plain_member, AreTidy, IsWired, IsShaped, IsPlainRun}
-use Rattle.event_runs.specs.EventPorts.{StatesFit, IsReadOf, HasOneEventAssignment}
+use Rattle.event_runs.specs.EventPorts.{event_sides, IsEventAssignment}
+use Rattle.event_runs.specs.Readings.{is_event, shape_of, read_ports, plain_member, plain_component, plain_words}
+use Rattle.event_runs.specs.Laws.{AreTidy, IsWired, IsShaped, IsPlainRun, StatesFit, IsReadOf, HasOneEventAssignment}
 use Rattle.event_runs.specs.Events.{Signal, Occurs, Absent, Seen, word_seen, get_in}
-use Rattle.event_runs.specs.Laws.{plain_component, plain_words}
 use Rattle.event_runs.proofs.SideLaws.{seen_is, first_of, second_of, member_front, member_tidy}
 use Rattle.event_runs.proofs.ValueLaws.{halves}
 

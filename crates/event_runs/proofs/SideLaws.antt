@@ -26,10 +26,10 @@ use Rattle.list_laws.proofs.Members.{Has, has_map}
 use Rattle.language_laws.proofs.NameLaws.{bytes_of}
 use Rattle.list_laws.proofs.Members.{all_has, each_has}
 use Rattle.event_runs.specs.EventPorts.{Signals, EventMember, Plain, Event, needs_in, get_out, word_needed, signal_needed, seen_for, EventStanding, signal_of}
-use Rattle.event_runs.specs.EventPorts.{signals_at, is_event, shape_of, read_pair, read_ports, plain_source, plain_feed, plain_member, IsTidyPair, AreTidy}
-use Rattle.event_runs.specs.EventPorts.{IsWired}
+use Rattle.event_runs.specs.EventPorts.{signals_at}
+use Rattle.event_runs.specs.Readings.{is_event, shape_of, read_pair, read_ports, plain_source, plain_feed, plain_member, plain_component, plain_words}
+use Rattle.event_runs.specs.Laws.{IsTidyPair, AreTidy, IsWired, Speaks, Fits, AreTwoGets, zero_value}
 use Rattle.event_runs.specs.Events.{Signal, Occurs, Absent, Seen, get_in, get_event}
-use Rattle.event_runs.specs.Laws.{Speaks, plain_component, plain_words, Fits, AreTwoGets, zero_value}
 use Rattle.event_runs.proofs.CallLaws.{get_same, event_same, of_event, of_input}
 use Rattle.event_runs.proofs.EventLaws.{plainly}
 use Rattle.event_runs.proofs.PortLaws.{joined, there_append, zip_append, there_length, plain_seen, events_seen, seen_joined, zero_start, seen_parts}

@@ -21,7 +21,7 @@ use Rattle.run_laws.proofs.PlainOrders.{plain_of, presence_wire, same_ports, spl
 use Rattle.run_laws.proofs.SplitOutputs.{outputs_split}
 use Rattle.list_laws.proofs.Members.{Has, all_has}
 use Rattle.list_laws.proofs.Truths.{true_is_false}
-use Rattle.event_runs.specs.EventPorts.{plain_place}
+use Rattle.event_runs.specs.Readings.{plain_place}
 
 -- ---- Ports that are not the same
 

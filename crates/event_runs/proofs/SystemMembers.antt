@@ -37,9 +37,9 @@ use Rattle.run_laws.proofs.PlainKept.{alike_by}
 use Rattle.run_laws.proofs.PlainOrders.{declared, input_is, is_event_is, named_has, plain_named, plain_of, wired}
 use Rattle.list_laws.proofs.Members.{Has, has_behind, has_front, has_map, each_has}
 use Rattle.list_laws.proofs.Truths.{not_false, one_or_two}
-use Rattle.event_runs.specs.EventPorts.{EventMember, Plain, Event, is_event, shape_of, plain_place, plain_source, plain_feed, plain_member}
-use Rattle.event_runs.specs.EventPorts.{SourceFits, FeedFits, IsWired}
-use Rattle.event_runs.specs.EventPorts.{IsPlainRun}
+use Rattle.event_runs.specs.EventPorts.{EventMember, Plain, Event}
+use Rattle.event_runs.specs.Readings.{is_event, shape_of, plain_place, plain_source, plain_feed, plain_member}
+use Rattle.event_runs.specs.Laws.{SourceFits, FeedFits, IsWired, IsPlainRun}
 use Rattle.event_runs.specs.EventRuns.{feed_from, feed_of, with_feeds, event_members_of}
 use Rattle.event_runs.proofs.PortLaws.{zero_start}
 use Rattle.event_runs.proofs.SaidUnits.{is_said, needs_are_words, input_word, event_word, output_line}

@@ -1,11 +1,10 @@
 -- The trace of a system's plain form, read, is that of the system, which has no other.
-use Rattle.std.proofs.Common.{◌≡◌, ℕ, List, [], ◌∷◌, map, length, Option, Some, None, refl, ap, sym, subst, ◌∙◌}
-use Rattle.std.specs.List.{filter_map, flat_map, cons_option}
-use Rattle.std.specs.Option.{option_map, unwrap_or}
+use Rattle.std.proofs.Common.{◌≡◌, ℕ, ℤ, List, [], ◌∷◌, map, length, Option, refl, ap, sym, subst, ◌∙◌}
+use Rattle.std.specs.List.{AllByRecursion, flat_map}
+use Rattle.std.specs.Option.{unwrap_or}
 use Rattle.fixed_words.specs.declared.types.Literal.{Literal}
-use Rattle.unit_tree.specs.Compositions.{Composition, Member, factor_of, member_with, members_of, composition_of, run_of, ticks_or, default_zeros}
+use Rattle.unit_tree.specs.Compositions.{Composition, Member, members_of, composition_of, run_of, ticks_or, default_zeros}
 use Rattle.unit_tree.specs.Compositions.{default_rows, AreMembers}
-use Rattle.unit_tree.specs.Names.{unit_of_instance}
 use Rattle.unit_tree.specs.Orders.{HasNoCycle}
 use Rattle.unit_tree.specs.Plain.{plain_form}
 use Rattle.unit_tree.specs.Ports.{IsPlaceOrder}
@@ -15,17 +14,19 @@ use Rattle.unit_tree.specs.WellFormed.{IsWellFormed, resolution_of}
 use Rattle.unit_tree.specs.declared.ending.Ending.{Ending}
 use Rattle.unit_tree.specs.declared.system.Instance.{Instance}
 use Rattle.unit_tree.specs.declared.system.System.{System}
-use Rattle.unit_tree.specs.declared.unit.Unit.{Unit}
 use Rattle.super_time.specs.declared.point.Point.{Point}
 use Rattle.run_laws.proofs.PlainKept.{Alike, alike}
 use Rattle.run_laws.proofs.PositionLaws.{system_has_members}
 use Rattle.run_laws.proofs.RunOrders.{runs_have_orders}
-use Rattle.event_runs.specs.EventPorts.{EventMember, plain_member, shape_of, IsPlainRun}
-use Rattle.event_runs.specs.EventRuns.{with_feeds, event_members_of, event_run_of, last_event_point, IsEventTraceOf, HasOneEventTraceOf, read_rows, read_end}
-use Rattle.event_runs.specs.EventTrace.{EventRun, IsEventTrace, event_rows_of, read_stand, HasOneEventTrace}
-use Rattle.event_runs.specs.Turns.{Pace, pace_of}
+use Rattle.event_runs.specs.EventPorts.{EventMember}
+use Rattle.event_runs.specs.Readings.{plain_member, shape_of, read_rows, read_end, read_stand, pace_of, HasShape, system_shape}
+use Rattle.event_runs.specs.Laws.{IsPlainRun, HasOneEventTrace, HasOneEventAssignment, StatesFit}
+use Rattle.event_runs.specs.EventRuns.{event_members_of, event_pace, event_run_of, last_event_point, IsEventTraceOf, HasOneEventTraceOf}
+use Rattle.event_runs.specs.EventTrace.{EventRun, IsEventTrace, event_rows_of}
+use Rattle.event_runs.specs.Offers.{Pace}
 use Rattle.event_runs.proofs.OnlyTraces.{one_event_trace}
-use Rattle.event_runs.proofs.RowLaws.{rows_read}
+use Rattle.event_runs.proofs.RowLaws.{rows_fit, rows_read}
+use Rattle.event_runs.proofs.RunLaws.{one_event_assignment}
 use Rattle.event_runs.proofs.SystemMembers.{members_plain}
 use Rattle.event_runs.proofs.TraceLaws.{trace_read}
 
@@ -41,44 +42,19 @@ paced factors resolution stop longest zeros rows version instances = record {
   factors = factors;
 }
 
-pace_alike : (system plain : System) → Alike system plain
-    → map (λ (one : Member). one.factor) (members_of plain) ≡ map (λ (one : Member). one.factor) (members_of system)
-    → pace_of (composition_of plain) ≡ pace_of (composition_of system)
-pace_alike system plain both factors =
-    ap (λ f. paced f (resolution_of plain) plain.stop plain.longest plain.zero plain.rows plain.version (length plain.instances)) factors
-    ∙ ap (λ r. paced (map (λ (one : Member). one.factor) (members_of system)) r plain.stop plain.longest plain.zero plain.rows plain.version
-    (length plain.instances))
-    both.resolution
-    ∙ ap (λ s. paced (map (λ (one : Member). one.factor) (members_of system)) (resolution_of system) s plain.longest plain.zero plain.rows plain.version
-    (length plain.instances)) both.stop
-    ∙ ap (λ l. paced (map (λ (one : Member). one.factor) (members_of system)) (resolution_of system) system.stop l plain.zero plain.rows plain.version
-    (length plain.instances)) both.longest
-    ∙ ap (λ z. paced (map (λ (one : Member). one.factor) (members_of system)) (resolution_of system) system.stop system.longest z plain.rows plain.version
-    (length plain.instances)) both.zeros
-    ∙ ap (λ r. paced (map (λ (one : Member). one.factor) (members_of system)) (resolution_of system) system.stop system.longest system.zero r plain.version
-    (length plain.instances)) both.rows
-    ∙ ap (λ v. paced (map (λ (one : Member). one.factor) (members_of system)) (resolution_of system) system.stop system.longest system.zero system.rows v
-    (length plain.instances)) both.version
-    ∙ ap (λ (i : List Instance). paced (map (λ (one : Member). one.factor) (members_of system)) (resolution_of system) system.stop system.longest system.zero
-    system.rows system.version (length i)) both.instances
-
--- A member with event ports has the factor of the member that it is made of.
-factors_by : (system : System) (instance : Instance) (given : Option Unit) (others : List EventMember) (rest : List Member)
-    → map (λ (one : EventMember). one.member.factor) others ≡ map (λ (one : Member). one.factor) rest
-    → map (λ (one : EventMember). one.member.factor) (cons_option (option_map (with_feeds system instance) (member_with system instance given)) others)
-    ≡ map (λ (one : Member). one.factor) (cons_option (member_with system instance given) rest)
-factors_by system instance None others rest same = same
-factors_by system instance (Some unit) others rest same = ap (λ more. factor_of system unit ∷ more) same
-
-factors_of : (system : System) (instances : List Instance)
-    → map (λ (one : EventMember). one.member.factor)
-    (filter_map (λ instance. option_map (with_feeds system instance) (member_with system instance (unit_of_instance system instance))) instances)
-    ≡ map (λ (one : Member). one.factor) (filter_map (λ instance. member_with system instance (unit_of_instance system instance)) instances)
-factors_of system [] = refl
-factors_of system (instance ∷ instances) =
-    factors_by system instance (unit_of_instance system instance)
-    (filter_map (λ i. option_map (with_feeds system i) (member_with system i (unit_of_instance system i))) instances)
-    (filter_map (λ i. member_with system i (unit_of_instance system i)) instances) (factors_of system instances)
+pace_alike : (system plain : System) (factors : List ℕ) → Alike system plain → map (λ (one : Member). one.factor) (members_of plain) ≡ factors
+    → pace_of (composition_of plain)
+    ≡ paced factors (resolution_of system) system.stop system.longest system.zero system.rows system.version (length system.instances)
+pace_alike system plain factors both same =
+    ap (λ f. paced f (resolution_of plain) plain.stop plain.longest plain.zero plain.rows plain.version (length plain.instances)) same
+    ∙ ap (λ r. paced factors r plain.stop plain.longest plain.zero plain.rows plain.version (length plain.instances)) both.resolution
+    ∙ ap (λ s. paced factors (resolution_of system) s plain.longest plain.zero plain.rows plain.version (length plain.instances)) both.stop
+    ∙ ap (λ l. paced factors (resolution_of system) system.stop l plain.zero plain.rows plain.version (length plain.instances)) both.longest
+    ∙ ap (λ z. paced factors (resolution_of system) system.stop system.longest z plain.rows plain.version (length plain.instances)) both.zeros
+    ∙ ap (λ r. paced factors (resolution_of system) system.stop system.longest system.zero r plain.version (length plain.instances)) both.rows
+    ∙ ap (λ v. paced factors (resolution_of system) system.stop system.longest system.zero system.rows v (length plain.instances)) both.version
+    ∙ ap (λ (i : List Instance). paced factors (resolution_of system) system.stop system.longest system.zero system.rows system.version (length i))
+    both.instances
 
 plain_factors : {A : Type 0} (given : A → EventMember) (made : A → Member) → ((x : A) → (made x).factor ≡ (given x).member.factor) → (xs : List A)
     → map (λ (one : Member). one.factor) (map made xs) ≡ map (λ (one : EventMember). one.member.factor) (map given xs)
@@ -114,13 +90,12 @@ module _ (system : System) (ranged : IsRanged system) (kept : IsWellFormed syste
   abbrev order : (order : List ℕ) × IsPlaceOrder run order
   order = runs_have_orders system ranged kept no_cycle
 
-  same_pace : pace_of run ≡ pace_of (composition_of system)
+  same_pace : pace_of run ≡ event_pace system members
   same_pace =
-      pace_alike system (plain_form system) (alike system)
+      pace_alike system (plain_form system) (map (λ (one : EventMember). one.member.factor) members) (alike system)
       (ap (map (λ (one : Member). one.factor)) plain.members_are
       ∙ plain_factors (λ one. one) (plain_member (flat_map shape_of members)) (λ one. refl) members
-      ∙ ap (map (λ (one : EventMember). one.member.factor)) (map_itself members)
-      ∙ factors_of system system.instances)
+      ∙ ap (map (λ (one : EventMember). one.member.factor)) (map_itself members))
 
   abbrev with_pace : Pace → EventRun
   with_pace pace = record { members = members; pace = pace }
@@ -151,3 +126,12 @@ module _ (system : System) (ranged : IsRanged system) (kept : IsWellFormed syste
           same.1,
         );
   }
+
+  pub rows_shaped : (rows : List Row) (last : Point) (ending : Ending) → IsTraceOf system rows last ending
+      → AllByRecursion (λ row. HasShape (system_shape system) row.words) rows
+  rows_shaped rows last ending of =
+      subst (AllByRecursion (λ row. HasShape (system_shape system) row.words)) (sym of.rows_are)
+      (rows_fit members run order.0 plain are order.1 of.stands ending of.trace)
+
+  pub one_assignment : (states : List (List ℤ)) → StatesFit members states → HasOneEventAssignment members states
+  one_assignment states fit = one_event_assignment members run states plain fit order.0 order.1

@@ -17,10 +17,11 @@ use Rattle.unit_tree.specs.declared.ending.Ending.TheVariants.{Completed, RowBud
 use Rattle.run_laws.proofs.AssignmentLaws.{undefined_faults}
 use Rattle.run_laws.proofs.PositionLaws.{positions_keep}
 use Rattle.run_laws.proofs.RunTraces.{goes_keeps}
-use Rattle.event_runs.specs.EventPorts.{Signals, EventMember, shape_of, read_ports, plain_member, IsEventAssignment, IsPlainRun, StatesFit}
+use Rattle.event_runs.specs.EventPorts.{Signals, EventMember, IsEventAssignment}
+use Rattle.event_runs.specs.Readings.{shape_of, read_ports, plain_member, read_ending, read_stand, pace_of, offers_of}
+use Rattle.event_runs.specs.Laws.{IsPlainRun, StatesFit}
 use Rattle.event_runs.specs.EventTrace.{EventRun, event_port_fault, event_offers, event_successor, first_event_position, EventFollows, IsEventTrace}
-use Rattle.event_runs.specs.EventTrace.{read_ending, read_stand}
-use Rattle.event_runs.specs.Turns.{Pace, pace_of, Limits, Steps, redo_with, ends_by, after_by, next_of, proposal_at, agreed_at, next_by, offers_of}
+use Rattle.event_runs.specs.Offers.{Pace, Limits, Steps, redo_with, ends_by, after_by, next_of, proposal_at, agreed_at, next_by}
 use Rattle.event_runs.proofs.FaultLaws.{fault_is_read}
 use Rattle.event_runs.proofs.OfferLaws.{give_the_same}
 use Rattle.event_runs.proofs.RunLaws.{assignment_is_read}

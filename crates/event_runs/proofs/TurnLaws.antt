@@ -8,8 +8,8 @@ use Rattle.unit_tree.specs.Compositions.{Member, Composition}
 use Rattle.unit_tree.specs.Negotiation.{proposal_of, agreed_step, max_at, limit_at, reply_at}
 use Rattle.unit_tree.specs.Ports.{Ports, first_some}
 use Rattle.unit_tree.specs.Successor.{Position, Next, steps_by, proposed, agreed, replies_to, first_told, redo_end_of, successor}
-use Rattle.event_runs.specs.Turns.{Pace, pace_of, Steps, limit_with, proposed_by, reply_with, agreed_by, redo_with, next_of, Offers, proposal_at, agreed_at}
-use Rattle.event_runs.specs.Turns.{next_by, offers_of}
+use Rattle.event_runs.specs.Offers.{Pace, Steps, limit_with, proposed_by, reply_with, agreed_by, redo_with, next_of, Offers, proposal_at, agreed_at, next_by}
+use Rattle.event_runs.specs.Readings.{pace_of, offers_of}
 
 abbrev factors_of : List Member → List ℕ
 factors_of members = map (λ member. member.factor) members

@@ -1,22 +1,20 @@
 -- What is run of a system as it is written, and its trace: each event port has a word or is absent.
-use Rattle.std.specs.Prelude.{◌≡◌, ℕ, List, [], ◌∷◌, map, Option, Some, None}
 use Rattle.std.specs.List.{filter_map}
-use Rattle.std.specs.Option.{option_map}
+use Rattle.std.specs.Option.{option_map, unwrap_or}
+use Rattle.std.specs.Prelude.{ℕ, List, [], ◌∷◌, map, Option, Some, None, ◌≡◌, length}
 use Rattle.super_time.specs.declared.point.Point.{Point}
-use Rattle.unit_tree.specs.Compositions.{Member, place_of, member_with, composition_of, run_of}
+use Rattle.unit_tree.specs.Compositions.{Member, place_of, member_with, stop_of, ticks_or, default_zeros, default_rows}
 use Rattle.unit_tree.specs.Names.{unit_of_instance}
-use Rattle.unit_tree.specs.Orders.{HasNoCycle, port_of, sources_of}
-use Rattle.unit_tree.specs.Printable.{IsRanged}
-use Rattle.unit_tree.specs.Trace.{Row, IsTraceOf}
-use Rattle.unit_tree.specs.WellFormed.{IsWellFormed}
+use Rattle.unit_tree.specs.Orders.{port_of, sources_of}
+use Rattle.unit_tree.specs.WellFormed.{resolution_of}
 use Rattle.unit_tree.specs.declared.ending.Ending.{Ending}
 use Rattle.unit_tree.specs.declared.system.Instance.{Instance}
 use Rattle.unit_tree.specs.declared.system.PortName.{PortName}
 use Rattle.unit_tree.specs.declared.system.System.{System}
 use Rattle.unit_tree.specs.declared.unit.EventIn.{EventIn}
-use Rattle.event_runs.specs.EventPorts.{EventMember, IsPlainRun}
-use Rattle.event_runs.specs.EventTrace.{EventRun, EventStand, EventRow, IsEventTrace, event_rows_of, read_ending, read_row}
-use Rattle.event_runs.specs.Turns.{pace_of}
+use Rattle.event_runs.specs.EventPorts.{EventMember}
+use Rattle.event_runs.specs.EventTrace.{EventRun, EventStand, IsEventTrace, EventRow, event_rows_of}
+use Rattle.event_runs.specs.Offers.{Pace}
 
 -- ---- What is run
 
@@ -39,9 +37,18 @@ event_members_of system =
     (λ instance. option_map (with_feeds system instance) (member_with system instance (unit_of_instance system instance)))
     system.instances
 
--- Where a run ends, its bounds and its resolutions are told in the system in the same way with events as without.
+-- Where its run ends, its bounds, and how many ticks of the system a local tick of each member is.
+abbrev pub event_pace : System → List EventMember → Pace
+event_pace system members = record {
+  stop = stop_of system;
+  longest = ticks_or (stop_of system) (resolution_of system) system.longest;
+  zero_budget = unwrap_or system.zero (default_zeros system.version);
+  row_budget = unwrap_or system.rows (default_rows system.version (length system.instances));
+  factors = map (λ one. one.member.factor) members;
+}
+
 abbrev pub event_run_of : System → EventRun
-event_run_of system = record { members = event_members_of system; pace = pace_of (composition_of system) }
+event_run_of system = record { members = event_members_of system; pace = event_pace system (event_members_of system) }
 
 -- ---- Its trace
 
@@ -66,27 +73,3 @@ pub record HasOneEventTraceOf (system : System) : Type 0 where
   pub is_trace : IsEventTraceOf system rows last ending
   pub is_only : (others : List EventRow) (point : Point) (end : Ending) → IsEventTraceOf system others point end
       → (others ≡ rows) × (point ≡ last) × (end ≡ ending)
-
--- ---- Laws
-
--- The members of the plain form are those of the system, read.
-abbrev pub MembersArePlain : Type 0
-MembersArePlain = (system : System) → IsRanged system → IsWellFormed system → IsPlainRun (event_members_of system) (run_of system)
-
--- The rows of a system's plain form, read as those of the system, and its end.
-abbrev pub read_rows : System → List Row → List EventRow
-read_rows system rows = map (read_row (event_members_of system)) rows
-
-abbrev pub read_end : System → Ending → Ending
-read_end system ending = read_ending (event_members_of system) ending
-
--- The trace of the plain form, read, is that of the system.
-abbrev pub PlainFormsTellTheTrace : Type 0
-PlainFormsTellTheTrace =
-    (system : System) → IsRanged system → IsWellFormed system → HasNoCycle system
-    → (rows : List Row) (last : Point) (ending : Ending) → IsTraceOf system rows last ending
-    → IsEventTraceOf system (read_rows system rows) last (read_end system ending)
-
--- A system in range that is well-formed and has no cycle has exactly one trace.
-abbrev pub SourcesHaveOneOutcome : Type 0
-SourcesHaveOneOutcome = (system : System) → IsRanged system → IsWellFormed system → HasNoCycle system → HasOneEventTraceOf system

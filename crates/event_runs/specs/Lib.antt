@@ -3,4 +3,5 @@ pub mod EventRuns
 pub mod EventTrace
 pub mod Events
 pub mod Laws
-pub mod Turns
+pub mod Offers
+pub mod Readings

@@ -1,9 +1,5 @@
 //! Laws of runs of systems with event ports.
-ghost use Rattle.event_runs.specs.Laws.{PlainExpressionsMeanTheSame, EventsAreTwo, NoEventsMeanTheSame, ComponentsHavePlainCalls};
-ghost use Rattle.event_runs.specs.EventTrace.{MembersGiveTheSame, FaultsAreRead, TracesAreRead, RowsAreRead, SourcesHaveOneTrace};
-ghost use Rattle.event_runs.specs.EventRuns.{MembersArePlain, PlainFormsTellTheTrace, SourcesHaveOneOutcome};
-ghost use Rattle.event_runs.specs.Turns.{SuccessorsAreByOffers, SameOffersLeadOn};
-ghost use Rattle.event_runs.specs.EventPorts.{AssignmentsAreRead, EventAssignmentsAreRead, EventAssignmentsAreUnique};
+ghost use Rattle.event_runs.specs.Laws.{PlainExpressionsMeanTheSame, EventsAreTwo, NoEventsMeanTheSame, ComponentsHavePlainCalls, MembersGiveTheSame, FaultsAreRead, TracesAreRead, RowsAreRead, SourcesHaveOneTrace, MembersArePlain, SystemsHaveOneEventAssignment, PlainFormsTellTheTrace, RowsHaveShape, SourcesHaveOneOutcome, SuccessorsAreByOffers, SameOffersLeadOn, AssignmentsAreRead, EventAssignmentsAreRead, EventAssignmentsAreUnique};
 
 /// A law: the plain form of an expression has its value; the two that an event output becomes tell of its event; and where no
 /// event occurs, a value is that without events.
@@ -58,7 +54,12 @@ pub fn members_are_plain()
 
 /// A law: a system in range that is well-formed and has no cycle has exactly one trace, which is that of its plain form, read:
 /// the same points, the same last point, and the same end.
+///
+/// It has exactly one port assignment for any states, and each row of the plain form has at an event output 1 and its word, or
+/// 0 and 0.
 pub fn systems_have_one_event_trace()
+    ensures ports { SystemsHaveOneEventAssignment }
     ensures tells { PlainFormsTellTheTrace }
+    ensures rows { RowsHaveShape }
     ensures one { SourcesHaveOneOutcome }
 {}

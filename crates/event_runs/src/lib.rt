@@ -4,10 +4,13 @@
 //! written, where an event port has a word or is absent, and that the run of the plain form, read, is that of the system:
 //!
 //! - `specs/Events.antt`: values, event outputs, step lines and the calls of a component where events occur at some inputs;
-//! - `specs/EventPorts.antt`: port assignments, and how ports of the plain form are read;
-//! - `specs/Turns.antt`: the successor by what members give;
+//! - `specs/EventPorts.antt`: port assignments;
+//! - `specs/Offers.antt`: how a run goes on, by what its members give;
 //! - `specs/EventTrace.antt`: port faults, positions, rows and traces;
 //! - `specs/EventRuns.antt`: what is run of a system, and its trace.
+//!
+//! That is what is promised of a run. How ports, rows and ends of the plain form are read stands in `specs/Readings.antt`, and
+//! what the laws say in `specs/Laws.antt`.
 //!
 //! The laws lead from expressions ([`plain_expressions_mean_the_same`]) to the whole: a judged system has exactly one trace,
 //! which is that of its plain form, read ([`systems_have_one_event_trace`]).

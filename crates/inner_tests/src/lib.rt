@@ -1,6 +1,6 @@
 //! Tests of what no command reaches: words that are no valid code, literals by themselves, texts that are put behind others,
-//! systems without a plan, systems that are copied or can't be printed, the ends of inputs, runs of version 2, reports of runs,
-//! ports that are solved one by one, and what a run lends and wants.
+//! systems without a plan, systems that are copied or can't be printed, the ends of inputs, reports of runs, ports that are
+//! solved one by one, and what a run lends and wants.
 //!
 //! What is expected is worked out by hand. `StepLaws` of `proofs/` shows that a phase that wants no step can be settled, and
 //! `WordLaws` that 1 is a word of each type. All else is asked of the built program, by the texts of `tests/`.

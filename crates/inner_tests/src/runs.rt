@@ -1,4 +1,4 @@
-//! Systems without a plan, and whole runs of version 2.
+//! Systems without a plan, the ends of inputs, and reports of whole runs.
 use crate::opening::{perhaps_plan, plan_of};
 use crate::wants::HELD_ANEW;
 use cosim_io::MemSink;
@@ -24,14 +24,6 @@ const LOOP: &str =
 /// A truth value, an event at the second row alone, and an output that is no column.
 const TRUTHS: &str =
     "cosim 2\nunit A\nstate n : Int64 = 0\noutput even : Bool = n mod 2 == 0\nevent output e : Int64 = if n == 1 then -5 else absent\noutput y : Int64 = n + 100\nstep\nn := n + h\nend\nend\ninstance a : A\nend\nstop 2\nlongest 1\nsample a.e\nsample a.even\n";
-
-/// An event with 30 at `odd.e`, none at `even.e`, and an event input that is connected to nothing.
-const EVENTS: &str =
-    "cosim 2\nunit Even\nstate n : Int64 = 0\nevent output e : Int64 = if n mod 2 == 1 then n * 10 else absent\nend\nunit Odd\nstate n : Int64 = 3\nevent output e : Int64 = if n mod 2 == 1 then n * 10 else absent\nend\nunit Tally\nevent input e : Int64\noutput k : Int64 needs e = if present(e) then e + 1 else -1\nend\ninstance one : Tally\nend\ninstance two : Tally\nend\ninstance none : Tally\nend\ninstance odd : Odd\nend\ninstance even : Even\nend\nconnect odd.e -> one.e\nconnect even.e -> two.e\nstop 0\n";
-
-/// An event output that faults.
-const EVENT_FAULT: &str =
-    "cosim 2\nunit A\nstate n : Int64 = 0\nevent output e : Int64 = if 1 div n == 1 then 5 else absent\nend\ninstance a : A\nend\nstop 1\n";
 
 /// Why a text has no plan, if it has none.
 fn fault_of(alloc: Global, text: &str) -> Result<Option<PlanFault>, Fail> {
@@ -85,30 +77,6 @@ fn run_whole(alloc: Global, plan: &Arc<Plan>) -> Result<WholeRun, Fail> {
     Ok(WholeRun { answer, sink })
 }
 
-/// The trace of a text.
-fn trace_of(alloc: Global, text: &str) -> Result<String, Fail> {
-    let run = run_whole(alloc, &plan_of(alloc, text)?)?;
-    Ok(String::from_utf8(run.sink.bytes().to_vec(alloc)?)?)
-}
-
-#[test]
-fn events_are_put_where_they_occur(rt: HostRuntime) -> Result<(), Fail> {
-    for (text, trace) in [
-        (
-            TRUTHS,
-            "time,index,a.e,a.even\n0,0,,true\n1,0,-5,false\n2,0,,true\n",
-        ),
-        (
-            EVENTS,
-            "time,index,one.k,two.k,none.k,odd.e,even.e\n0,0,31,-1,-1,30,\n",
-        ),
-        (EVENT_FAULT, "time,index,a.e\n"),
-    ] {
-        assert_eq!(rt; trace_of(rt.alloc(), text)?.as_str(), trace);
-    }
-    Ok(())
-}
-
 /// The report of a run that came to its stop, with so many rows, the sum of their words, and so many steps.
 fn report(stop: u64, rows: u64, sum: i128, own: u64) -> Report {
     Report {
@@ -135,21 +103,5 @@ fn runs_report_their_traces(rt: HostRuntime) -> Result<(), Fail> {
         let run = run_whole(rt.alloc(), &plan_of(rt.alloc(), text)?)?;
         assert_eq!(rt; run.answer, Ok(expected), "{text}");
     }
-    Ok(())
-}
-
-/// How many steps of length zero and how many rows there may be.
-fn budgets(plan: &Plan) -> (u64, u64) {
-    (plan.zero_budget(), plan.row_limit())
-}
-
-fn budgets_of(alloc: Global, text: &str) -> Result<(u64, u64), Fail> {
-    let plan = plan_of(alloc, text)?;
-    Ok(budgets(&plan))
-}
-
-#[test]
-fn plans_of_version_2_have_its_defaults(rt: HostRuntime) -> Result<(), Fail> {
-    assert_eq!(rt; budgets_of(rt.alloc(), TRUTHS)?, (1_000, 10_000));
     Ok(())
 }
