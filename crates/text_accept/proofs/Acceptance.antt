@@ -7,6 +7,7 @@ use Rattle.std.specs.Option.{option_map}
 use Rattle.std.proofs.lemmas.List.{length-map}
 use Rattle.std.proofs.lemmas.Option.{same_Some}
 use Rattle.language_laws.specs.Language.{CyclesAreJudgedOnce}
+use Rattle.unit_tree.specs.Canonical.{canonical_forms}
 use Rattle.unit_tree.specs.Names.{unit_at}
 use Rattle.unit_tree.specs.Orders.{HasNoCycle, IsFirstWithoutOrder, declares_output, line_of_output}
 use Rattle.unit_tree.specs.Parts.{Part}
@@ -27,7 +28,7 @@ use Rattle.unit_text.proofs.AnswerLaws.{answered_once}
 use Rattle.unit_text.proofs.KnownForms.{known}
 use Rattle.wire_graph.proofs.CycleLaws.{cycles_are_judged_once as judged_cycles}
 use Rattle.text_accept.specs.Laws.{IsAcceptedOrRefused, EveryTextIsJudgedOnce}
-use Rattle.text_accept.specs.Accepting.{IsAcceptedAs, source_line, BreaksRule, HasCycle, IsRefusedAt}
+use Rattle.text_accept.specs.Accepting.{IsAcceptedAs, source_line, IsSystemRefusedAt, SaysRefused, IsRefusedAt}
 use Rattle.text_accept.proofs.SourceCycles.{first_stands}
 
 -- ---- One system, and one list of lines
@@ -52,9 +53,11 @@ get_within (line ∷ lines) zero within = (line, refl)
 get_within (line ∷ lines) (suc place) within = get_within lines place (omega (arith, within))
 
 -- there are as many lines that canonical lines came from as canonical lines
+pub sites_count : (system : System) → length (sites_of system) ≡ length (canonical_forms system)
+sites_count system = sym (length-map (sites_of system) (λ site. site.line)) ∙ ap length (sites_are system)
+
 pub as_many : (text : List ℕ) (system : System) (lines : List ℕ) → ReadsFrom text system lines → length (sites_of system) ≡ length lines
-as_many text system lines from = sym (length-map (sites_of system) (λ site. site.line)) ∙ ap length (sites_are system)
-    ∙ sym (one_for_one text system lines from)
+as_many text system lines from = sites_count system ∙ sym (one_for_one text system lines from)
 
 pub has_source : (text : List ℕ) (system : System) (lines : List ℕ) (item : ℕ) → ReadsFrom text system lines → 1 ≤ item → item ≤ length (sites_of system)
     → (line : ℕ) × (source_line lines item ≡ Some line)
@@ -138,8 +141,15 @@ pub broken_is_refused : (text : List ℕ) (system : System) (lines : List ℕ) (
     → refusal_of system ≡ Some refusal → (line : ℕ) × IsRefusedAt text line refusal.by
 broken_is_refused text system lines refusal from found =
     let within = refusal_lines system refusal found in
-    let source = has_source text system lines refusal.at from within.0 within.1 in
-    (source.0, inr (inl (record { system = system; lines = lines; reads = from; refusal = refusal; found = found; at = source.1; by = refl })))
+    let source = has_source text system lines refusal.at from within.0 within.1 in (
+      source.0,
+      inr (record {
+        system = system;
+        lines = lines;
+        reads = from;
+        refused = inl (record { refusal = refusal; found = found; at = source.1; by = refl });
+      }),
+    )
 
 pub cycle_is_refused : (text : List ℕ) (system : System) (lines : List ℕ) (port : PortName) → ReadsFrom text system lines → IsWellFormed system
     → IsFirstWithoutOrder system port → (line : ℕ) × IsRefusedAt text line 15
@@ -150,20 +160,20 @@ cycle_is_refused text system lines port from well first =
     let high = within.1 in
     let source = has_source text system lines declared.0 from low (omega (arith, high)) in (
       source.0,
-      inr (inr
-          (record {
-            system = system;
-            lines = lines;
-            reads = from;
-            well_formed = well;
-            port = port;
-            first = first;
-            item = declared.0;
-            declared =
-                declared.1;
-            at = source.1;
-            by = refl;
-          })),
+      inr (record {
+        system = system;
+        lines = lines;
+        reads = from;
+        refused = inr (record {
+          well_formed = well;
+          port = port;
+          first = first;
+          item = declared.0;
+          declared = declared.1;
+          at = source.1;
+          by = refl;
+        });
+      }),
     )
 
 judged_by_order : CyclesAreJudgedOnce → (text : List ℕ) (system : System) (lines : List ℕ) → ReadsFrom text system lines → IsWellFormed system
@@ -192,19 +202,19 @@ judged cycles text = by_answer (once text).answered
 -- ---- Lines of the code's answers
 
 -- the line of a refusal is one of those that canonical lines came from
-pub refusal_inside : (text : List ℕ) (system : System) (lines : List ℕ) (refusal : Refusal) → ReadsFrom text system lines → refusal_of system ≡ Some refusal
-    → (1 ≤ refusal.at) × (refusal.at ≤ length lines)
-refusal_inside text system lines refusal from found =
+pub refusal_inside : (system : System) (lines : List ℕ) (refusal : Refusal) → length lines ≡ length (canonical_forms system)
+    → refusal_of system ≡ Some refusal → (1 ≤ refusal.at) × (refusal.at ≤ length lines)
+refusal_inside system lines refusal many found =
     let within = refusal_lines system refusal found in
-    let same = as_many text system lines from in
+    let same = many ∙ sym (sites_count system) in
     (within.0, let last = within.1 in omega (arith, last, same))
 
 -- and so is that of an output
-pub output_inside : (text : List ℕ) (system : System) (lines : List ℕ) (port : PortName) (item : ℕ) → ReadsFrom text system lines
+pub output_inside : (system : System) (lines : List ℕ) (port : PortName) (item : ℕ) → length lines ≡ length (canonical_forms system)
     → line_of_output system port ≡ Some item → (1 ≤ item) × (item ≤ length lines)
-output_inside text system lines port item from declared =
+output_inside system lines port item many declared =
     let within = found_within (λ at. declares_output port.port (unit_at system port) at.1.scope at.1.line) 1 (sites_of system) item declared in
-    let same = as_many text system lines from in
+    let same = many ∙ sym (sites_count system) in
     (within.0, let last = within.1 in omega (arith, last, same))
 
 -- ---- Once
@@ -217,50 +227,47 @@ accepted_once text one other ones others a b = one_source text one other ones ot
 none_refused : (system : System) (refusal : Refusal) → IsWellFormed system → refusal_of system ≡ Some refusal → ⊥
 none_refused system refusal well found = let none = (well_formed system).0 well in absurd (cc)
 
-two_rules : (text : List ℕ) (line by other rule : ℕ) → BreaksRule text line by → BreaksRule text other rule → (line ≡ other) × (by ≡ rule)
-two_rules text line by other rule a b =
-    let same = one_source text a.system b.system a.lines b.lines a.reads b.reads in
-    let one : a.refusal ≡ b.refusal = same_Some a.refusal b.refusal (sym a.found ∙ ap refusal_of same.0 ∙ b.found) in (
-      same_Some line other (sym a.at ∙ ap (λ lines. source_line lines a.refusal.at) same.1 ∙ ap (λ (r : Refusal). source_line b.lines r.at) one ∙ b.at),
+system_refused_once : CyclesAreJudgedOnce → (system : System) (lines : List ℕ) (line by other rule : ℕ) → IsSystemRefusedAt system lines line by
+    → IsSystemRefusedAt system lines other rule → (line ≡ other) × (by ≡ rule)
+system_refused_once cycles system lines line by other rule (inl a) (inl b) =
+    let one : a.refusal ≡ b.refusal = same_Some a.refusal b.refusal (sym a.found ∙ b.found) in (
+      same_Some line other (sym a.at ∙ ap (λ (r : Refusal). source_line lines r.at) one ∙ b.at),
       a.by ∙ ap (λ (r : Refusal). r.by) one ∙ sym b.by,
     )
+system_refused_once cycles system lines line by other rule (inr a) (inr b) =
+    let port : a.port ≡ b.port = cycles.one_port system a.port b.port a.first b.first in
+    let item : a.item ≡ b.item = same_Some a.item b.item (sym a.declared ∙ ap (line_of_output system) port ∙ b.declared) in
+    (same_Some line other (sym a.at ∙ ap (source_line lines) item ∙ b.at), a.by ∙ sym b.by)
+system_refused_once cycles system lines line by other rule (inl a) (inr b) = absurd (none_refused system a.refusal b.well_formed a.found)
+system_refused_once cycles system lines line by other rule (inr a) (inl b) = absurd (none_refused system b.refusal a.well_formed b.found)
 
-two_cycles : CyclesAreJudgedOnce → (text : List ℕ) (line by other rule : ℕ) → HasCycle text line by → HasCycle text other rule → (line ≡ other) × (by ≡ rule)
-two_cycles cycles text line by other rule a b =
+says_refused_once : CyclesAreJudgedOnce → (text : List ℕ) (line by other rule : ℕ) → SaysRefused text line by → SaysRefused text other rule
+    → (line ≡ other) × (by ≡ rule)
+says_refused_once cycles text line by other rule a b =
     let same = one_source text a.system b.system a.lines b.lines a.reads b.reads in
-    let port : a.port ≡ b.port = cycles.one_port b.system a.port b.port (subst (λ (s : System). IsFirstWithoutOrder s a.port) same.0 a.first) b.first in
-    let item : a.item ≡ b.item =
-    same_Some a.item b.item (sym a.declared ∙ ap (λ (s : System). line_of_output s a.port) same.0 ∙ ap (line_of_output b.system) port ∙ b.declared) in (
-      same_Some line other (sym a.at ∙ ap (λ lines. source_line lines a.item) same.1 ∙ ap (source_line b.lines) item ∙ b.at),
-      a.by ∙ sym b.by,
-    )
-
-rule_and_cycle : (text : List ℕ) (line by other rule : ℕ) → BreaksRule text line by → HasCycle text other rule → ⊥
-rule_and_cycle text line by other rule a b =
-    let same = one_source text a.system b.system a.lines b.lines a.reads b.reads in
-    none_refused b.system a.refusal b.well_formed (ap refusal_of (sym same.0) ∙ a.found)
+    let here : IsSystemRefusedAt b.system b.lines line by =
+    subst (λ lines. IsSystemRefusedAt b.system lines line by) same.1
+    (subst (λ (s : System). IsSystemRefusedAt s a.lines line by) same.0 a.refused) in
+    system_refused_once cycles b.system b.lines line by other rule here b.refused
 
 pub refused_at_once : CyclesAreJudgedOnce → (text : List ℕ) (line by other rule : ℕ) → IsRefusedAt text line by → IsRefusedAt text other rule
     → (line ≡ other) × (by ≡ rule)
 refused_at_once cycles text line by other rule (inl a) (inl b) = refused_once text line by other rule a b
-refused_at_once cycles text line by other rule (inl a) (inr (inl b)) = absurd ((once text).not_both b.system line by b.reads.reads a)
-refused_at_once cycles text line by other rule (inl a) (inr (inr b)) = absurd ((once text).not_both b.system line by b.reads.reads a)
-refused_at_once cycles text line by other rule (inr (inl a)) (inl b) = absurd ((once text).not_both a.system other rule a.reads.reads b)
-refused_at_once cycles text line by other rule (inr (inr a)) (inl b) = absurd ((once text).not_both a.system other rule a.reads.reads b)
-refused_at_once cycles text line by other rule (inr (inl a)) (inr (inl b)) = two_rules text line by other rule a b
-refused_at_once cycles text line by other rule (inr (inl a)) (inr (inr b)) = absurd (rule_and_cycle text line by other rule a b)
-refused_at_once cycles text line by other rule (inr (inr a)) (inr (inl b)) = absurd (rule_and_cycle text other rule line by b a)
-refused_at_once cycles text line by other rule (inr (inr a)) (inr (inr b)) = two_cycles cycles text line by other rule a b
+refused_at_once cycles text line by other rule (inl a) (inr b) = absurd ((once text).not_both b.system line by b.reads.reads a)
+refused_at_once cycles text line by other rule (inr a) (inl b) = absurd ((once text).not_both a.system other rule a.reads.reads b)
+refused_at_once cycles text line by other rule (inr a) (inr b) = says_refused_once cycles text line by other rule a b
+
+keeps_or_breaks : CyclesAreJudgedOnce → (system : System) (lines : List ℕ) (line rule : ℕ) → IsWellFormed system → HasNoCycle system
+    → IsSystemRefusedAt system lines line rule → ⊥
+keeps_or_breaks cycles system lines line rule well ordered (inl b) = none_refused system b.refusal well b.found
+keeps_or_breaks cycles system lines line rule well ordered (inr b) = cycles.not_both system b.port ordered b.first
 
 pub not_both : CyclesAreJudgedOnce → (text : List ℕ) (system : System) (lines : List ℕ) (line rule : ℕ) → IsAcceptedAs text system lines
     → IsRefusedAt text line rule → ⊥
 not_both cycles text system lines line rule a (inl b) = (once text).not_both system line rule a.reads.reads b
-not_both cycles text system lines line rule a (inr (inl b)) =
+not_both cycles text system lines line rule a (inr b) =
     let same = one_source text system b.system lines b.lines a.reads b.reads in
-    none_refused system b.refusal a.well_formed (ap refusal_of same.0 ∙ b.found)
-not_both cycles text system lines line rule a (inr (inr b)) =
-    let same = one_source text system b.system lines b.lines a.reads b.reads in
-    cycles.not_both b.system b.port (subst HasNoCycle same.0 a.ordered) b.first
+    keeps_or_breaks cycles b.system b.lines line rule (subst IsWellFormed same.0 a.well_formed) (subst HasNoCycle same.0 a.ordered) b.refused
 
 pub judged_once : EveryTextIsJudgedOnce
 judged_once text = record {

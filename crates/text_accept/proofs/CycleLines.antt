@@ -1,15 +1,19 @@
 -- The line at which the code names a cycle.
-use Rattle.std.proofs.Common.{◌≡◌, ℕ, List, Option, Some, ◌⊎◌, inl, inr, refl, ap, sym, subst, ◌∙◌}
+use Rattle.std.proofs.Common.{◌≡◌, ℕ, List, Option, Some, Result, Ok, Err, ◌⊎◌, inl, inr, refl, ap, sym, subst, ◌∙◌}
 use Rattle.std.specs.Prelude.{slice_get, IsSome}
 use Rattle.text_laws.proofs.ReadIsPrintable.{read_is_printable}
-use Rattle.text_accept.specs.Accepting.{IsAcceptedAs, IsCheckedAs}
+use Rattle.text_accept.specs.Accepting.{AnswersAcceptance, AnswersSystem}
+use Rattle.text_accept.specs.declared.accepting.AcceptedText.{AcceptedText}
+use Rattle.unit_text.specs.declared.fault.TextFault.{TextFault}
+use Rattle.unit_text.specs.declared.fault.TextFault.TheVariants as fault
 use Rattle.text_accept.specs.Marks.{IsWithoutMark}
 use Rattle.text_accept.proofs.SourceCycles.{IsMadeOf, SourceOutput, source_of, without_cycle, name_is_plain}
 use Rattle.unit_tree.specs.Compositions.{run_of}
-use Rattle.unit_tree.specs.Orders.{IsFirstWithoutOrder, line_of_output}
+use Rattle.unit_tree.specs.Orders.{HasNoCycle, IsFirstWithoutOrder, line_of_output}
 use Rattle.unit_tree.specs.Plain.{plain_form}
 use Rattle.unit_tree.specs.Printable.{IsRanged}
-use Rattle.unit_tree.specs.Routes.{Ordered, IsOrderOf}
+use Rattle.unit_tree.specs.Routes.{IsOrderOf}
+use Rattle.unit_tree.specs.SourceLines.{ReadsFrom}
 use Rattle.unit_tree.specs.WellFormed.{IsWellFormed}
 use Rattle.unit_tree.specs.declared.system.PortName.{PortName}
 use Rattle.unit_tree.specs.declared.system.System.{System}
@@ -65,11 +69,16 @@ cycle_line system ranged kept instance output fault names numbered without mark 
 pub some_line : (found : Option ℕ) (item : ℕ) → found ≡ Some item → IsSome found
 some_line found item is = subst IsSome (sym is) refl
 
--- What is checked and has an order is accepted.
-pub accepted : (text : List ℕ) (system : System) (lines : List ℕ) (order : Ordered) → IsCheckedAs text system lines → IsOrderOf (run_of system) order
-    → IsAcceptedAs text system lines
-accepted text system lines order checked is_order = record {
-  reads = checked.reads;
-  well_formed = checked.well_formed;
-  ordered = without_cycle system (read_is_printable text system checked.reads.reads).ranged checked.well_formed order.places is_order.places;
-}
+-- What the answer to the system that a text says is, it is to the text.
+pub answers_text : (text : List ℕ) (system : System) (lines : List ℕ) (result : Result AcceptedText TextFault) → ReadsFrom text system lines
+    → AnswersSystem system lines result → AnswersAcceptance text result
+answers_text text system lines (Ok read) reads is = (
+  record {
+    reads = subst (λ l. ReadsFrom text read.checked l) (sym is.same_lines) (subst (λ (s : System). ReadsFrom text s lines) (sym is.checked) reads);
+    well_formed = subst IsWellFormed (sym is.checked) is.well_formed;
+    ordered = subst HasNoCycle (sym is.checked) is.ordered;
+  },
+  subst (λ (s : System). IsOrderOf (run_of s) read.order) (sym is.checked) is.order,
+)
+answers_text text system lines (Err (fault.Line line rule)) reads refused = inr (record { system = system; lines = lines; reads = reads; refused = refused })
+answers_text text system lines (Err fault.NoMemory) reads is = tt

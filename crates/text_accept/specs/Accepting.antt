@@ -1,7 +1,9 @@
 -- Which texts are accepted by the rules of the language, and at which line and by which rule any other is refused. The rules are
 -- judged in stages: those on the text and its lines, those on the system that it says, and at last that its outputs have an order.
 use Rattle.std.specs.Prelude.{◌≡◌, ℕ, ◌-◌, List, Option, Some, Result, Ok, Err, slice_get, ◌⊎◌, ⊤}
+use Rattle.unit_tree.specs.Compositions.{run_of}
 use Rattle.unit_tree.specs.Orders.{HasNoCycle, IsFirstWithoutOrder, line_of_output}
+use Rattle.unit_tree.specs.Routes.{IsOrderOf}
 use Rattle.unit_tree.specs.SourceLines.{ReadsFrom}
 use Rattle.unit_tree.specs.Texts.{IsRefused}
 use Rattle.unit_tree.specs.WellFormed.{Refusal, IsWellFormed, refusal_of}
@@ -10,7 +12,6 @@ use Rattle.unit_tree.specs.declared.system.System.{System}
 use Rattle.unit_text.specs.declared.fault.TextFault.{TextFault}
 use Rattle.unit_text.specs.declared.fault.TextFault.TheVariants as fault
 use Rattle.text_accept.specs.declared.accepting.AcceptedText.{AcceptedText}
-use Rattle.text_accept.specs.declared.accepting.CheckedText.{CheckedText}
 
 -- The text says the system, whose canonical lines came from these lines of the text; no rule is broken, and its outputs have
 -- an order.
@@ -23,30 +24,16 @@ pub record IsAcceptedAs (text : List ℕ) (system : System) (lines : List ℕ) :
 abbrev pub source_line : List ℕ → ℕ → Option ℕ
 source_line lines item = slice_get lines (item - 1)
 
--- The system that the text says breaks a rule: the least one, at the first canonical line that breaks it.
-pub record BreaksRule (text : List ℕ) (line rule : ℕ) : Type 0 where
-  pub system : System
-  pub lines : List ℕ
-  pub reads : ReadsFrom text system lines
+-- A system, whose canonical lines came from these lines of a text, breaks a rule: the least one, at the first canonical line that
+-- breaks it.
+pub record BreaksRule (system : System) (lines : List ℕ) (line rule : ℕ) : Type 0 where
   pub refusal : Refusal
   pub found : refusal_of system ≡ Some refusal
   pub at : source_line lines refusal.at ≡ Some line
   pub by : rule ≡ refusal.by
 
--- The text says the system, and no line of this breaks a rule; whether its outputs have an order is not asked.
-pub record IsCheckedAs (text : List ℕ) (system : System) (lines : List ℕ) : Type 0 where
-  pub reads : ReadsFrom text system lines
-  pub well_formed : IsWellFormed system
-
--- The text is refused by a rule on the text and its lines, or on the system that it says.
-abbrev pub IsRefusedBeforeOrder : List ℕ → ℕ → ℕ → Type 0
-IsRefusedBeforeOrder text line rule = IsRefused text line rule ⊎ BreaksRule text line rule
-
--- The system keeps these rules, and some output has no order: the line is that of the first such output in its unit.
-pub record HasCycle (text : List ℕ) (line rule : ℕ) : Type 0 where
-  pub system : System
-  pub lines : List ℕ
-  pub reads : ReadsFrom text system lines
+-- It keeps these rules, and some output has no order: the line is that of the first such output in its unit.
+pub record HasCycle (system : System) (lines : List ℕ) (line rule : ℕ) : Type 0 where
   pub well_formed : IsWellFormed system
   pub port : PortName
   pub first : IsFirstWithoutOrder system port
@@ -55,9 +42,20 @@ pub record HasCycle (text : List ℕ) (line rule : ℕ) : Type 0 where
   pub at : source_line lines item ≡ Some line
   pub by : rule ≡ 15
 
--- The text is refused at the line by the rule.
+-- The system is refused at the line by the rule.
+abbrev pub IsSystemRefusedAt : System → List ℕ → ℕ → ℕ → Type 0
+IsSystemRefusedAt system lines line rule = BreaksRule system lines line rule ⊎ HasCycle system lines line rule
+
+-- The system that the text says is refused.
+pub record SaysRefused (text : List ℕ) (line rule : ℕ) : Type 0 where
+  pub system : System
+  pub lines : List ℕ
+  pub reads : ReadsFrom text system lines
+  pub refused : IsSystemRefusedAt system lines line rule
+
+-- The text is refused at the line by the rule: by those on the text and its lines, or by those on the system that it says.
 abbrev pub IsRefusedAt : List ℕ → ℕ → ℕ → Type 0
-IsRefusedAt text line rule = IsRefused text line rule ⊎ (BreaksRule text line rule ⊎ HasCycle text line rule)
+IsRefusedAt text line rule = IsRefused text line rule ⊎ SaysRefused text line rule
 
 -- ---- Answers
 
@@ -72,15 +70,23 @@ pub record IsLineOfCycle (system : System) (item : ℕ) : Type 0 where
   pub first : IsFirstWithoutOrder system port
   pub declared : line_of_output system port ≡ Some item
 
--- The answer to a text up to the order of outputs; want of memory says nothing.
-abbrev pub ChecksText : List ℕ → Result CheckedText TextFault → Type 0
-ChecksText text (Ok read) = IsCheckedAs text read.checked read.lines
-ChecksText text (Err (fault.Line line rule)) = IsRefusedBeforeOrder text line rule
-ChecksText text (Err fault.NoMemory) = ⊤
+-- The system was accepted as it is, with the lines that its canonical lines came from and an order of its outputs.
+pub record IsAcceptedWith (system : System) (lines : List ℕ) (read : AcceptedText) : Type 0 where
+  pub checked : read.checked ≡ system
+  pub same_lines : read.lines ≡ lines
+  pub order : IsOrderOf (run_of system) read.order
+  pub well_formed : IsWellFormed system
+  pub ordered : HasNoCycle system
 
--- The answer to a text: the system that it is accepted as, or the line and the rule by which it is refused; want of memory says
--- nothing.
+-- The answer to a system whose canonical lines came from these lines of a text; want of memory says nothing.
+abbrev pub AnswersSystem : System → List ℕ → Result AcceptedText TextFault → Type 0
+AnswersSystem system lines (Ok read) = IsAcceptedWith system lines read
+AnswersSystem system lines (Err (fault.Line line rule)) = IsSystemRefusedAt system lines line rule
+AnswersSystem system lines (Err fault.NoMemory) = ⊤
+
+-- The answer to a text: the system that it is accepted as, with an order of its outputs, or the line and the rule by which it is
+-- refused; want of memory says nothing.
 abbrev pub AnswersAcceptance : List ℕ → Result AcceptedText TextFault → Type 0
-AnswersAcceptance text (Ok read) = IsAcceptedAs text read.checked read.lines
+AnswersAcceptance text (Ok read) = IsAcceptedAs text read.checked read.lines × IsOrderOf (run_of read.checked) read.order
 AnswersAcceptance text (Err (fault.Line line rule)) = IsRefusedAt text line rule
 AnswersAcceptance text (Err fault.NoMemory) = ⊤

@@ -1,7 +1,9 @@
-//! A text, read and judged by all rules.
+//! A text, read and judged by all rules; and a system by those on systems.
 ghost use Rattle.std.specs.Prelude.{◌≡◌, ◌≤◌, ⊤, length, IfOk, IfErr};
-ghost use Rattle.text_accept.specs.Accepting.{AnswersAcceptance, ChecksText, IsAtSource, IsLineOfCycle};
+ghost use Rattle.text_accept.specs.Accepting.{AnswersAcceptance, AnswersSystem, IsAtSource, IsLineOfCycle};
 ghost use Rattle.text_accept.specs.Marks.{IsWithoutMark};
+ghost use Rattle.unit_tree.specs.Canonical.{canonical_forms};
+ghost use Rattle.unit_tree.specs.Printable.{IsRanged};
 ghost use Rattle.wire_graph.specs.Faults.{IsRightFault};
 ghost use Rattle.wire_graph.specs.declared.fault.OrderFault.TheVariants.{Loop};
 
@@ -9,26 +11,19 @@ use fixed_words::{List, NoMemory};
 use std::alloc::Global;
 use unit_check::{CheckFault, check, line_of_output};
 use unit_text::{ReadText, TextFault, read_system};
-use unit_tree::Checked;
+use unit_tree::{Checked, Order, System};
 use wire_graph::{OrderFault, order, output_names};
 
 /// The rule of cycles.
 const CYCLE_RULE: u8 = 15;
 
-/// A text that keeps the rules on texts and systems: its system, and for each canonical line of it the number of the line of
-/// the text that it came from.
-#[derive(Debug, Drop)]
-pub(crate) struct CheckedText {
-    pub(crate) checked: Checked,
-    pub(crate) lines: List<u32>,
-}
-
-/// What [`crate::accept_text`] gives of a text that keeps all rules: its system, and for each canonical line of it the number
-/// of the line of the text that it came from. By its clause the outputs of the system have an order.
+/// A text that keeps all rules: its system, for each canonical line of it the number of the line of the text that it came from,
+/// and an order of its outputs with the routes of all ports.
 #[derive(Debug, Drop)]
 pub struct AcceptedText {
     pub checked: Checked,
     pub lines: List<u32>,
+    pub order: Order,
 }
 
 /// The refusal at the line that a canonical line came from, which counts from 1.
@@ -40,18 +35,6 @@ fn at_source(lines: &[u32], item: u32, rule: u8) -> TextFault
     TextFault::Line {
         line: lines[item as usize - 1],
         rule,
-    }
-}
-
-/// Reads a text and judges the system that it says, but for the order of its outputs.
-fn read_and_check(alloc: Global, text: &[u8]) -> Result<CheckedText, TextFault>
-    ensures { ChecksText text.now result }
-{
-    let ReadText { system, lines } = read_system(alloc, text)?;
-    match check(alloc, system) {
-        Ok(checked) => Ok(CheckedText { checked, lines }),
-        Err(CheckFault::Line { item, rule }) => Err(at_source(lines.as_slice(), item, rule)),
-        Err(CheckFault::NoMemory) => Err(TextFault::NoMemory),
     }
 }
 
@@ -81,16 +64,22 @@ fn line_of_cycle(
     Ok(line.unwrap())
 }
 
-/// Reads a text, and judges the system that it says, in either version of the language, and whether its outputs have an order.
-///
-/// A text that breaks a rule is refused by the first stage that finds one, at its line and by the rule: on the text and its
-/// lines, on the system, and at last on the order of its outputs.
-pub fn accept_text(alloc: Global, text: &[u8]) -> Result<AcceptedText, TextFault>
-    ensures { AnswersAcceptance text.now result }
+/// Judges whether the outputs of a checked system have an order.
+fn accept_checked(
+    alloc: Global,
+    checked: Checked,
+    lines: List<u32>,
+) -> Result<AcceptedText, TextFault>
+    requires { length lines ≡ length (canonical_forms checked) }
+    ensures { AnswersSystem checked lines result }
 {
-    let CheckedText { checked, lines } = read_and_check(alloc, text)?;
+    let _ = checked.system();
     match order(alloc, &checked) {
-        Ok(_) => Ok(AcceptedText { checked, lines }),
+        Ok(order) => Ok(AcceptedText {
+            checked,
+            lines,
+            order,
+        }),
         Err(OrderFault::Loop { instance, output }) => {
             match line_of_cycle(alloc, &checked, instance, output) {
                 Ok(item) => Err(at_source(lines.as_slice(), item, CYCLE_RULE)),
@@ -99,4 +88,35 @@ pub fn accept_text(alloc: Global, text: &[u8]) -> Result<AcceptedText, TextFault
         }
         Err(OrderFault::NoMemory) => Err(TextFault::NoMemory),
     }
+}
+
+/// Judges a system by all rules on systems, in either version of the language, and whether its outputs have an order. Each of its
+/// canonical lines came from one of the `lines` of a text, at which it is refused.
+///
+/// What is refused breaks the least rule, at the first canonical line that breaks it; the order of outputs is judged last.
+pub fn accept_system(
+    alloc: Global,
+    system: System,
+    lines: List<u32>,
+) -> Result<AcceptedText, TextFault>
+    requires ranged { IsRanged system }
+    requires one_for_one { length lines ≡ length (canonical_forms system) }
+    ensures { AnswersSystem system lines result }
+{
+    match check(alloc, system) {
+        Ok(checked) => accept_checked(alloc, checked, lines),
+        Err(CheckFault::Line { item, rule }) => Err(at_source(lines.as_slice(), item, rule)),
+        Err(CheckFault::NoMemory) => Err(TextFault::NoMemory),
+    }
+}
+
+/// Reads a text, and judges the system that it says, in either version of the language, and whether its outputs have an order.
+///
+/// A text that breaks a rule is refused by the first stage that finds one, at its line and by the rule: on the text and its
+/// lines, on the system, and at last on the order of its outputs.
+pub fn accept_text(alloc: Global, text: &[u8]) -> Result<AcceptedText, TextFault>
+    ensures { AnswersAcceptance text.now result }
+{
+    let ReadText { system, lines } = read_system(alloc, text)?;
+    accept_system(alloc, system, lines)
 }

@@ -13,6 +13,7 @@ use crate::fault::PlanFault;
 use crate::fitting::{Fitted, all_fitted, factors, limited};
 use crate::numbers::{Numbers, numbers_of};
 use crate::ordering::order_of;
+use fixed_words::NoMemory;
 use std::alloc::Global;
 use std::marker::Model;
 use std::sync::Arc;
@@ -62,6 +63,14 @@ impl Plan {
         ensures fault { IfErr result (IsRightPlanFault checked) }
     {
         let order = order_of(alloc, &checked)?;
+        Ok(Plan::ordered(alloc, checked, order)?)
+    }
+
+    /// The plan of a system by an order of its outputs, for who made one already. Want of memory is a free answer.
+    pub fn ordered(alloc: Global, checked: Checked, order: Order) -> Result<Plan, NoMemory>
+        requires { IsOrderOf (run_of checked) order }
+        ensures { IfOk result (λ plan. plan.system ≡ checked) }
+    {
         let fitted = all_fitted(alloc, &checked)?;
         let factors = factors(alloc, &fitted)?;
         let limited = limited(alloc, &fitted)?;

@@ -1,21 +1,14 @@
-use Rattle.std.proofs.Common.{◌≡◌, ◌≤◌, sym, subst, length, ℕ, List}
-use Rattle.text_accept.proofs.Acceptance.{output_inside}
-use Rattle.text_accept.proofs.CycleLines.{accepted}
+use Rattle.text_accept.proofs.CycleLines.{answers_text}
+use Rattle.text_laws.proofs.SourceCounts.{one_for_one}
 use Rattle.text_accept.proofs.accepting.accept_text.Goals as goal
 
-pub returns-in-Ok : goal.returns-in-Ok
-returns-in-Ok c =
-    accepted c.args.text.now c.in_ok-checked.field-0.checked c.in_ok-checked.field-0.lines c.in-Ok.field-0 c.in_ok-checked.ensures c.in-Ok.ensures.ordered
+pub accept_system-requires-clause-ranged : goal.accept_system-requires-clause-ranged
+accept_system-requires-clause-ranged c = c.in_ok-system.ensures.printable.ranged
 
-pub at_source-requires-clause-first : goal.at_source-requires-clause-first
-at_source-requires-clause-first c =
-    let line = c.in-Ok-line_of_cycle.ensures in
-    (output_inside c.args.text.now c.in_ok-checked.field-0.checked c.in_ok-checked.field-0.lines line.port c.in-Ok-line_of_cycle.item
-    c.in_ok-checked.ensures.reads line.declared).0
+pub accept_system-requires-clause-one_for_one : goal.accept_system-requires-clause-one_for_one
+accept_system-requires-clause-one_for_one c = one_for_one c.args.text.now c.in_ok-system.field-0.system c.in_ok-system.field-0.lines c.in_ok-system.ensures.answer
 
-pub at_source-requires-clause-last : goal.at_source-requires-clause-last
-at_source-requires-clause-last c =
-    let line = c.in-Ok-line_of_cycle.ensures in
-    subst (λ (lines : List ℕ). c.in-Ok-line_of_cycle.item ≤ length lines) (sym c.as_slice.ensures)
-    (output_inside c.args.text.now c.in_ok-checked.field-0.checked c.in_ok-checked.field-0.lines line.port c.in-Ok-line_of_cycle.item
-    c.in_ok-checked.ensures.reads line.declared).1
+pub returns : goal.returns
+returns c =
+    answers_text c.args.text.now c.in_ok-system.field-0.system c.in_ok-system.field-0.lines c.accept_system.result c.in_ok-system.ensures.answer
+    c.accept_system.ensures

@@ -8,7 +8,7 @@ use Rattle.trace_plan.specs.declared.fitting.Fitted.{Fitted}
 use Rattle.trace_plan.proofs.PlainRuns.{bounded}
 use Rattle.unit_tree.specs.Compositions.{run_of}
 use Rattle.unit_tree.specs.declared.system.System.{System}
-use Rattle.trace_plan.proofs.plan.Plan.new.Goals as goal
+use Rattle.trace_plan.proofs.plan.Plan.ordered.Goals as goal
 
 pub limited-requires : goal.limited-requires
 limited-requires c =
@@ -20,7 +20,7 @@ limited-requires c =
 
 pub invariant_of-result : goal.invariant_of-result
 invariant_of-result c = record {
-  order = c.in_ok-order.ensures.ordered;
+  order = c.requires;
   fitted = c.in_ok-fitted.ensures;
   factors = c.in_ok-factors.ensures ∙ ap (map (λ (one : Fitted). one.factor)) c.deref.ensures.value;
   limited = c.in_ok-limited.ensures

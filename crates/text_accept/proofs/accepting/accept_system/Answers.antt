@@ -1,0 +1,15 @@
+use Rattle.std.proofs.Common.{◌≡◌, ◌≤◌, sym, subst, length, ℕ, List}
+use Rattle.unit_check.specs.Rules.{IsFaultOf}
+use Rattle.text_accept.proofs.Acceptance.{refusal_inside}
+use Rattle.text_accept.proofs.accepting.accept_system.Goals as goal
+
+pub at_source-requires-clause-first : goal.at_source-requires-clause-first
+at_source-requires-clause-first c =
+    let told = subst (IsFaultOf c.args.system) c.in-Err-Line.field-0-is c.in-Err-Line.ensures.refused in
+    (refusal_inside c.args.system c.args.lines (record { by = c.in-Err-Line.rule; at = c.in-Err-Line.item }) c.requires.one_for_one told).0
+
+pub at_source-requires-clause-last : goal.at_source-requires-clause-last
+at_source-requires-clause-last c =
+    let told = subst (IsFaultOf c.args.system) c.in-Err-Line.field-0-is c.in-Err-Line.ensures.refused in
+    subst (λ (lines : List ℕ). c.in-Err-Line.item ≤ length lines) (sym c.as_slice.ensures)
+    (refusal_inside c.args.system c.args.lines (record { by = c.in-Err-Line.rule; at = c.in-Err-Line.item }) c.requires.one_for_one told).1
