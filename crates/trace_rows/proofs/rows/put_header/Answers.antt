@@ -8,7 +8,7 @@ use Rattle.trace_rows.proofs.rows.put_header.Goals as goal
 
 pub returns-in_err-header_text-clause-front : goal.returns-in_err-header_text-clause-front
 returns-in_err-header_text-clause-front g c =
-    on_err c.from_residual-in_err-header_text.result (AppendsPrefix-nil (g.O.Sink.held c.args.out.now) (header_of c.args.plan.now.system))
+    on_err c.from_residual.result (AppendsPrefix-nil (g.O.Sink.held c.args.out.now) (header_of c.args.plan.now.system))
 
 pub returns-in_err-put-clause-front : goal.returns-in_err-put-clause-front
 returns-in_err-put-clause-front g c =
