@@ -7,8 +7,8 @@ use Rattle.event_csv.proofs.TextLaws.{text_read}
 use Rattle.event_runs.specs.EventRuns.{IsEventTraceOf}
 use Rattle.event_runs.specs.Readings.{read_end, read_rows}
 use Rattle.event_runs.proofs.SystemTraces.{tells}
-use Rattle.serial_run.specs.Reports.{PutsFront as RunFront, ReportsTrace}
-use Rattle.serial_run.specs.declared.report.Report.{Report}
+use Rattle.trace_rows.specs.Reports.{PutsFront as RunFront, ReportsTrace}
+use Rattle.trace_rows.specs.declared.report.Report.{Report}
 use Rattle.super_time.specs.declared.point.Point.{Point}
 use Rattle.text_accept.specs.Accepting.{IsAcceptedAs}
 use Rattle.trace_csv.specs.TraceText.{trace_text}

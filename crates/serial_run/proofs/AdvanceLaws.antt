@@ -2,7 +2,7 @@
 use Rattle.std.proofs.Common.{◌≡◌, ℕ, ◌+◌, true, false, List, [], ◌++◌, length, map, Option, Some, None, inl, inr, refl, sym, ap, subst, ◌∙◌, arith}
 use Rattle.std.specs.List.{count_by}
 use Rattle.std.proofs.lemmas.Slice.Zip.{AllZip-long}
-use Rattle.trace_core.specs.Runs.{Cell, RunState, Stands, IsPhase, arrived, cells_of, cell_of, first_end, phase_or, is_empty_cell, is_ended}
+use Rattle.trace_core.specs.Runs.{Cell, RunState, Stands, IsPhase, arrived, cells_of, cell_of, first_end, is_empty_cell}
 use Rattle.trace_core.specs.Settling.{IsRedoDue, Moves, Ends, Settled}
 use Rattle.trace_core.specs.declared.phase.Phase.{Phase}
 use Rattle.trace_core.specs.declared.phase.Phase.TheVariants.{Trial, Redo, Ended}
@@ -12,76 +12,12 @@ use Rattle.unit_tree.specs.Compositions.{Composition}
 use Rattle.unit_tree.specs.Successor.{proposed, agreed, trial_end, is_redone, successor, ends}
 use Rattle.unit_tree.specs.Trace.{Stand, AreWordsOf, cells_of_trial, cells_at}
 use Rattle.unit_tree.specs.declared.ending.Ending.{Ending}
-use Rattle.serial_run.specs.Advances.{IsFresh, CameToNext, EndsThere, Advanced, StepsAreMade, with_cells}
-use Rattle.serial_run.proofs.CellLaws.{wanted_are_steps, cells_ended, cells_redone, cells_tried}
-
--- ---- The phase of a run that has made no step where it stands
-
--- a trial of the proposal
-pub record IsTried (r : RunState) : Type 0 where
-  pub going : first_end r.plan.run r.stand ≡ None
-  pub phase : r.phase ≡ Trial (proposed r.plan.run r.stand.at r.stand.ports)
-  pub cells : r.cells ≡ map (cell_of r.stand.at.point.t (proposed r.plan.run r.stand.at r.stand.ports)) r.plan.run.members
-
--- or the end
-pub record IsOver (r : RunState) (ending : Ending) : Type 0 where
-  pub over : first_end r.plan.run r.stand ≡ Some ending
-  pub phase : r.phase ≡ Ended ending
-  pub none : r.cells ≡ []
-
-abbrev pub By : RunState → Option Ending → Type 0
-By r (Some ending) = IsOver r ending
-By r None = IsTried r
-
-pub phase_by : (r : RunState) (end : Option Ending) → IsFresh r → first_end r.plan.run r.stand ≡ end → By r end
-phase_by r (Some ending) fresh is =
-    let phase : r.phase ≡ Ended ending = ap (λ (s : RunState). s.phase) fresh ∙ ap (λ end. phase_or end (proposed r.plan.run r.stand.at r.stand.ports)) is in
-    record {
-      over = is;
-      phase = phase;
-      none = ap (λ (s : RunState). s.cells) fresh
-          ∙ ap (cells_of r.plan.run r.stand.at.point.t) (ap (λ end. phase_or end (proposed r.plan.run r.stand.at r.stand.ports)) is);
-    }
-phase_by r None fresh is =
-    let phase : r.phase ≡ Trial (proposed r.plan.run r.stand.at r.stand.ports) = ap (λ (s : RunState). s.phase) fresh
-    ∙ ap (λ end. phase_or end (proposed r.plan.run r.stand.at r.stand.ports)) is in
-    record {
-      going = is;
-      phase = phase;
-      cells = ap (λ (s : RunState). s.cells) fresh
-          ∙ ap (cells_of r.plan.run r.stand.at.point.t) (ap (λ end. phase_or end (proposed r.plan.run r.stand.at r.stand.ports)) is);
-    }
-
-tried_from : (r : RunState) (end : Option Ending) → By r end → ((ending : Ending) → r.phase ≡ Ended ending → ⊥) → IsTried r
-tried_from r None by not = by
-tried_from r (Some ending) by not = absurd (not ending by.phase)
-
-pub fresh_tried : (r : RunState) → IsFresh r → ((ending : Ending) → r.phase ≡ Ended ending → ⊥) → IsTried r
-fresh_tried r fresh not = tried_from r (first_end r.plan.run r.stand) (phase_by r (first_end r.plan.run r.stand) fresh refl) not
-
-pub trial_going : (r : RunState) → IsFresh r → ((ending : Ending) → r.phase ≡ Ended ending → ⊥) → is_ended r.phase ≡ false
-trial_going r fresh not = ap is_ended (fresh_tried r fresh not).phase
-
-over_from : (r : RunState) (end : Option Ending) (ending : Ending) → By r end → r.phase ≡ Ended ending → IsOver r ending
-over_from r None ending by is = absurd (differ (sym by.phase ∙ is))
-  where
-    differ : Trial (proposed r.plan.run r.stand.at r.stand.ports) ≡ Ended ending → ⊥
-    differ e = cc
-over_from r (Some end) ending by is = subst (IsOver r) (same (sym by.phase ∙ is)) by
-  where
-    same : Ended end ≡ Ended ending → end ≡ ending
-    same e = cc
+use Rattle.trace_rows.specs.Passing.{IsFresh}
+use Rattle.trace_rows.proofs.FreshRuns.{IsTried, phase_by, fresh_tried, over_from, ended_as, cells_ended}
+use Rattle.serial_run.specs.Advances.{CameToNext, EndsThere, Advanced, StepsAreMade, with_cells}
+use Rattle.serial_run.proofs.CellLaws.{wanted_are_steps, cells_redone, cells_tried}
 
 -- ---- The run is at its end already
-
-pub ended_as : (run : Composition) (stand : Stand) (phase : Phase) (ending : Ending) → IsPhase run stand phase [] → phase ≡ Ended ending
-    → successor run stand.at stand.ports ≡ ends ending
-ended_as run stand (Ended end) ending is same = is.is ∙ ap ends (ending_same same)
-  where
-    ending_same : Ended end ≡ Ended ending → end ≡ ending
-    ending_same e = cc
-ended_as run stand (Trial h) ending is same = absurd (cc)
-ended_as run stand (Redo h) ending is same = absurd (cc)
 
 pub ends_already : (r : RunState) (ending : Ending) → IsFresh r → Stands r → r.phase ≡ Ended ending → Advanced r r false
 ends_already r ending fresh stands phase =

@@ -187,13 +187,7 @@ wanted_are_steps run stand h as_many = wanted_along stand.at.point.t h stand.por
 
 -- ---- The cells of a stand
 
--- where the run ends before a trial there are none
-pub cells_ended : (run : Composition) (stand : Stand) (ending : Ending) → first_end run stand ≡ Some ending → cells_at run stand ≡ 0
-cells_ended run stand ending ends =
-    ap (λ (end : Option Ending). cond (is_some end) 0
-    (cells_of_trial run stand + cond (is_none (trial_end run stand.at stand.ports) && is_redone run stand.at stand.ports) (cells_of_redo run stand) 0)) ends
-
--- else those of the trial
+-- where it goes on, those of the trial
 cells_of_both : (run : Composition) (stand : Stand) → first_end run stand ≡ None
     → cells_at run stand
     ≡ cells_of_trial run stand + cond (is_none (trial_end run stand.at stand.ports) && is_redone run stand.at stand.ports) (cells_of_redo run stand) 0

@@ -26,10 +26,6 @@ pub record StepsAreMade (old new : RunState) : Type 0 where
 
 -- ---- From row to row
 
--- The run has come to its stand, and made no step there.
-abbrev pub IsFresh : RunState → Type 0
-IsFresh r = r ≡ arrived r.plan r.opened r.stand r.before r.found r.own
-
 -- It came to the next stand, and made all cells of the one before by its own steps. The inputs of the row before are those that it
 -- had there.
 pub record CameToNext (old new : RunState) : Type 0 where

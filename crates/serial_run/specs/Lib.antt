@@ -1,5 +1,2 @@
 pub mod Advances
-pub mod Bounds
-pub mod Lines
-pub mod Reports
-pub mod Sums
+pub mod Alone

@@ -1,7 +1,8 @@
 //! From one row to the next.
 ghost use Rattle.std.specs.Prelude.{◌≡◌, length};
-ghost use Rattle.serial_run.specs.Advances.{Advanced, StepsAreMade, IsFresh};
+ghost use Rattle.serial_run.specs.Advances.{Advanced, StepsAreMade};
 ghost use Rattle.trace_core.specs.Runs.{Stands};
+ghost use Rattle.trace_rows.specs.Passing.{IsFresh};
 
 use trace_core::{Phase, Run, Settle};
 

@@ -1,6 +1,6 @@
 use Rattle.std.proofs.Common.{Err, refl, ap, subst, ◌∙◌}
-use Rattle.serial_run.specs.Reports.{PutsFront, ReportsTrace}
-use Rattle.serial_run.specs.declared.fault.CrewFault.{CrewFault}
+use Rattle.trace_rows.specs.Reports.{PutsFront, ReportsTrace}
+use Rattle.trace_rows.specs.declared.fault.CrewFault.{CrewFault}
 use Rattle.trace_plan.specs.Plans.{Planned}
 use Rattle.cosim_app.specs.Answer.{traced_note}
 use Rattle.cosim_app.specs.SourcePlaces.{source_end}

@@ -1,7 +1,8 @@
 use Rattle.std.proofs.Common.{ap, ◌∙◌}
 use Rattle.trace_core.specs.Runs.{RunState, is_ended}
 use Rattle.trace_core.specs.declared.phase.Settle.TheVariants as settle
-use Rattle.serial_run.proofs.AdvanceLaws.{IsRedone, settled_trial, settled_redo, no_row, trial_going}
+use Rattle.trace_rows.proofs.FreshRuns.{trial_going}
+use Rattle.serial_run.proofs.AdvanceLaws.{IsRedone, settled_trial, settled_redo, no_row}
 use Rattle.serial_run.proofs.CellLaws.{cells_full}
 use Rattle.serial_run.proofs.advance.advance.Goals as goal
 

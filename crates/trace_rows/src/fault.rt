@@ -15,7 +15,7 @@ pub enum CrewFault {
 }
 
 impl From<Failed> for CrewFault {
-    ghost use Rattle.serial_run.specs.declared.fault.CrewFault.TheVariants.{WriteFault};
+    ghost use Rattle.trace_rows.specs.declared.fault.CrewFault.TheVariants.{WriteFault};
 
     ghost from_gives = { λ _ fault. fault ≡ WriteFault };
 
@@ -25,7 +25,7 @@ impl From<Failed> for CrewFault {
 }
 
 impl From<NoMemory> for CrewFault {
-    ghost use Rattle.serial_run.specs.declared.fault.CrewFault.TheVariants as faults;
+    ghost use Rattle.trace_rows.specs.declared.fault.CrewFault.TheVariants as faults;
 
     ghost from_gives = { λ _ fault. fault ≡ faults.NoMemory };
 

@@ -1,9 +1,9 @@
 use Rattle.std.proofs.Common.{◌≡◌, ◌+◌, ◌*◌, ◌^◌, ◌+ℤ◌, drop, to_z, of_z, sym, ap, subst, ◌∙◌, arith}
 use Rattle.std.specs.Int.{w128}
 use Rattle.std.proofs.lemmas.Int.{ints, to_z-of_z}
-use Rattle.serial_run.specs.Sums.{IsBoundedBy, row_sum}
-use Rattle.serial_run.proofs.RowLaws.{summed_more, within_more}
-use Rattle.serial_run.proofs.rows.row_sum.Goals as goal
+use Rattle.trace_rows.specs.Sums.{IsBoundedBy, row_sum}
+use Rattle.trace_rows.proofs.RowLaws.{summed_more, within_more}
+use Rattle.trace_rows.proofs.rows.row_sum.Goals as goal
 
 pub loop-column-preserved : goal.loop-column-preserved
 loop-column-preserved c =

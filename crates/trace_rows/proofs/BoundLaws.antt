@@ -20,7 +20,7 @@ use Rattle.unit_tree.specs.declared.ending.Ending.{Ending}
 use Rattle.run_laws.proofs.PositionLaws.{system_has_members, positions_keep}
 use Rattle.run_laws.proofs.RunSteps.{step_is_right, first_within}
 use Rattle.run_laws.proofs.RunTraces.{goes_to}
-use Rattle.serial_run.specs.Bounds.{CellsAreBounded, TimesAreBounded, rows_at}
+use Rattle.trace_rows.specs.Bounds.{CellsAreBounded, TimesAreBounded, rows_at}
 
 -- ---- Cells
 

@@ -1,16 +1,17 @@
 ghost use Rattle.std.specs.Prelude.{◌≡◌, ◌<◌, ◌+◌, ◌*◌, ◌^◌, pos, ◌+ℤ◌};
-ghost use Rattle.serial_run.specs.Sums.{IsBoundedBy};
+ghost use Rattle.trace_rows.specs.Sums.{IsBoundedBy};
 
 /// How many rows were put, and the sum of the words that they show.
 #[derive(Clone, Copy, Debug)]
-pub(crate) struct Tally {
-    pub(crate) rows: u64,
-    pub(crate) sum: i128,
+pub struct Tally {
+    pub rows: u64,
+    pub sum: i128,
     ghost in_bounds: { IsBoundedBy (rows * 2 ^ 95) sum },
 }
 
 impl Tally {
-    pub(crate) fn new() -> Tally
+    /// That of no row.
+    pub fn new() -> Tally
         ensures rows { result.rows ≡ 0 }
         ensures sum { result.sum ≡ pos 0 }
     {

@@ -2,25 +2,38 @@
 use Rattle.std.proofs.Common.{◌≡◌, ℕ, ◌+◌, ◌*◌, ◌<◌, ◌^◌, ℤ, pos, neg_ℤ, ◌+ℤ◌, ◌≤ℤ◌, List, [], ◌∷◌, ◌++◌, length, drop, get_or, Option, Some, None, Result, Ok}
 use Rattle.std.proofs.Common.{Err, refl, sym, ap, subst, ◌∙◌, append-nil, arith}
 use Rattle.std.specs.Io.KnownBytes.{Appends}
-use Rattle.std.specs.List.{cons_option}
+use Rattle.std.specs.Prelude.{OnErr}
+use Rattle.std.specs.List.{AllByRecursion, cons_option, filter_map}
 use Rattle.std.specs.Option.{option_map}
 use Rattle.std.specs.Result.{IsErrAnd}
 use Rattle.std.proofs.KnownBytes.{Appends-nil}
 use Rattle.std.proofs.lemmas.Int.{ints}
 use Rattle.std.proofs.lemmas.List.{at_drop_more}
+use Rattle.std.proofs.lemmas.Slice.Zip.{AllZip-long}
+use Rattle.cosim_io.specs.Faults.{Rose}
 use Rattle.cosim_io.specs.Pieces.{AppendsPrefix}
+use Rattle.cosim_io.proofs.PieceLemmas.{AppendsPrefix-nil}
+use Rattle.super_time.specs.declared.point.Point.{Point}
+use Rattle.trace_core.specs.Runs.{RunState, Stands, row_told}
+use Rattle.trace_core.specs.declared.phase.Row as lent
 use Rattle.trace_csv.specs.Columns.{columns_of}
-use Rattle.trace_csv.specs.TraceText.{row_line, trace_text}
+use Rattle.trace_csv.specs.TraceText.{HasWord, header_line, row_line, trace_text}
+use Rattle.trace_plan.specs.Laws.{HasRows}
 use Rattle.trace_plan.specs.Plans.{Planned}
-use Rattle.unit_tree.specs.Trace.{Stand, Row, row_at}
+use Rattle.unit_tree.specs.Compositions.{Composition, run_of}
+use Rattle.unit_tree.specs.Ports.{Ports, IsAssignment, IsPlaceOrder, port_fault}
+use Rattle.unit_tree.specs.Trace.{Stand, IsStand, Row, row_at, row_unless, AreWordsOf, HasWords}
 use Rattle.unit_tree.specs.WellFormed.{resolution_of}
+use Rattle.unit_tree.specs.declared.ending.Ending.{Ending}
 use Rattle.unit_tree.specs.declared.system.Column.{Column}
 use Rattle.unit_tree.specs.declared.system.System.{System}
-use Rattle.serial_run.specs.Lines.{PutsRow, header_of, lines_of, rows_here}
-use Rattle.serial_run.specs.Reports.{TellsFault}
-use Rattle.serial_run.specs.Sums.{IsBoundedBy, word_shown, row_sum, sum_shown}
-use Rattle.serial_run.specs.declared.fault.CrewFault.{CrewFault}
-use Rattle.serial_run.specs.declared.tally.Tally.{Tally}
+use Rattle.run_laws.proofs.AssignmentLaws.{undefined_faults}
+use Rattle.trace_rows.specs.Faults.{TellsFault}
+use Rattle.trace_rows.specs.Lines.{PutsRow, header_of, lines_of, rows_here}
+use Rattle.trace_rows.specs.Sums.{IsBoundedBy, word_shown, row_sum, sum_shown}
+use Rattle.trace_rows.specs.declared.fault.CrewFault.{CrewFault}
+use Rattle.trace_rows.specs.declared.fault.CrewFault.TheVariants.{NoMemory, WriteFault}
+use Rattle.trace_rows.specs.declared.tally.Tally.{Tally}
 
 -- ---- Sums
 
@@ -126,7 +139,79 @@ row_broken plan stand row resolution columns held held' faults faults' tally fau
       cause = tells;
     })
 
+-- a row for which there is no memory
+pub row_refused : (plan : Planned) (stand : Stand) (held : Option (List ℕ)) (faults : ℕ) (tally : Tally)
+    → PutsRow plan stand held held faults faults tally tally (Err NoMemory)
+row_refused plan stand held faults tally = record {
+  whole = tt;
+  front = AppendsPrefix-nil held (lines_of plan.system (rows_here plan stand));
+  cause = record { later = omega arith; failed = λ e. absurd (cc); same = λ _. refl };
+}
+
 -- what a `?` gives up with
 pub err_is : {T : Type 0} (result : Result T CrewFault) (fault : CrewFault) → IsErrAnd result (λ e. e ≡ fault) → result ≡ Err fault
 err_is (Ok done) fault is = absurd is
 err_is (Err other) fault is = ap (λ e. Err e) is
+
+-- ---- The header
+
+pub header_is : (plan : Planned) (system : System) (columns : List Column) (line bytes : List ℕ) → system ≡ plan.system → columns ≡ columns_of plan.system
+    → line ≡ header_line system columns → bytes ≡ line → bytes ≡ header_of plan.system
+unfolding header_of
+header_is plan system columns line bytes system_is columns_are line_is bytes_are =
+    bytes_are ∙ line_is ∙ ap (header_line system) columns_are ∙ ap (λ system. header_line system (columns_of plan.system)) system_is
+
+-- ---- The words of rows
+
+row_of_none : (point : Point) (ports : Ports) (row : Row) → row_unless None point ports ≡ Some row → filter_map (λ word. word) ports ≡ row.words
+row_of_none point ports row is = let same : record { point = point; words = filter_map (λ word. word) ports } ≡ row = cc in ap (λ (r : Row). r.words) same
+
+words_by : (plan : Planned) (stand : Stand) (row : Row) (order : List ℕ) (fault : Option Ending) → plan.run ≡ run_of plan.system → IsPlaceOrder plan.run order
+    → HasRows plan.system → HasWords plan.run stand.at → IsStand plan.run stand → port_fault plan.run stand.at.states stand.ports ≡ fault
+    → row_unless fault stand.at.point stand.ports ≡ Some row → AllByRecursion (HasWord row.words) (columns_of plan.system)
+words_by plan stand row order (Some ending) run ordered rows words is_stand fault is = absurd (cc)
+words_by plan stand row order None run ordered rows words is_stand fault is =
+    let as_many = AllZip-long (λ member state. AreWordsOf member.component.unit.states state) plan.run.members stand.at.states words in
+    let there = (undefined_faults plan.run order stand.at.states stand.ports ordered as_many is_stand).0 fault in
+    subst (λ words. AllByRecursion (HasWord words) (columns_of plan.system)) (row_of_none stand.at.point stand.ports row is)
+    (rows stand.at.states stand.ports (as_many ∙ ap (λ (run : Composition). length run.members) run)
+    (subst (λ run. IsAssignment run stand.at.states stand.ports) run is_stand) there)
+
+-- the columns have their words in the row where a run stands
+pub row_shows : (plan : Planned) (r : RunState) (row : lent.Row) (columns : List Column) → r.plan ≡ plan → Stands r → HasRows plan.system
+    → row_at plan.run r.stand ≡ Some (row_told row) → columns ≡ columns_of plan.system → AllByRecursion (HasWord row.ports.now) columns
+row_shows plan r row columns own stands rows is columns_are =
+    subst (AllByRecursion (HasWord row.ports.now)) (sym columns_are)
+    (words_by plan r.stand (row_told row) stands.order (port_fault plan.run r.stand.at.states r.stand.ports)
+    (subst (λ (p : Planned). p.run ≡ run_of p.system) own stands.composed) (subst (λ (p : Planned). IsPlaceOrder p.run stands.order) own stands.ordered) rows
+    (subst (λ (p : Planned). HasWords p.run r.stand.at) own stands.words) (subst (λ (p : Planned). IsStand p.run r.stand) own stands.is_stand) refl is)
+
+-- ---- Faults
+
+-- what a `?` gives up with is the fault of the call
+abbrev err : (T : Type 0) → CrewFault → Result T CrewFault
+err T fault = Err fault
+
+err_as : (T U : Type 0) (fault : CrewFault) → err T fault ≡ err T WriteFault → err U fault ≡ err U WriteFault
+err_as T U fault is = let same : fault ≡ WriteFault = cc in ap (err U) same
+
+pub tells_given_up : {A B : Type 0} (faults0 faults faults' : ℕ) (fault : CrewFault) (result : Result A CrewFault) → faults ≡ faults0
+    → TellsFault faults faults' (err B fault) → result ≡ Err fault → TellsFault faults0 faults' result
+tells_given_up {A} {B} faults0 faults faults' fault result same tells is =
+    let later = tells.later in
+    record {
+      later = omega arith;
+      failed = λ e. subst (λ f. Rose f faults') same (tells.failed (err_as A B fault (sym is ∙ e)));
+      same = λ other. tells.same (λ e. other (is ∙ err_as B A fault e)) ∙ same;
+    }
+
+pub tells_none : {T : Type 0} (faults0 faults : ℕ) (done : T) → faults ≡ faults0 → TellsFault {T = T} faults0 faults (Ok done)
+tells_none faults0 faults done same = record { later = omega arith; failed = λ e. absurd (cc); same = λ other. same }
+
+pub tells_after : {T : Type 0} (faults0 faults faults' : ℕ) (result : Result T CrewFault) → faults ≡ faults0 → TellsFault faults faults' result
+    → TellsFault faults0 faults' result
+tells_after faults0 faults faults' result same tells = subst (λ f. TellsFault f faults' result) same tells
+
+pub on_err : {T : Type 0} {P : Type 0} (result : Result T CrewFault) → P → OnErr result P
+on_err (Ok done) holds = tt
+on_err (Err fault) holds = holds

@@ -1,6 +1,6 @@
 use Rattle.std.proofs.Common.{◌≡◌, ◌*◌, ◌^◌, ◌+ℤ◌, drop}
-use Rattle.serial_run.specs.Sums.{IsBoundedBy, row_sum}
-use Rattle.serial_run.proofs.rows.row_sum.Given as goal
+use Rattle.trace_rows.specs.Sums.{IsBoundedBy, row_sum}
+use Rattle.trace_rows.proofs.rows.row_sum.Given as goal
 
 abbrev pub invariant-loop-column : goal.invariant-loop-column
 invariant-loop-column l = record {

@@ -1,3 +1,7 @@
+ghost use Rattle.std.specs.Prelude.{◌≡◌};
+
+use crate::tally::Tally;
+use trace_core::Run;
 use unit_tree::{Ending, Point};
 
 /// What a run that came to its end reports. The counts of answers and tickets are those of a run with workers,
@@ -24,4 +28,25 @@ pub struct Report {
     pub back: u64,
     /// How many were neither posted nor given back.
     pub lapsed: u64,
+}
+
+impl Report {
+    /// The report of a run that ended so where it stands, with this tally of its rows and without a ticket. Where tickets were
+    /// given out, their counts are set afterwards.
+    pub fn of_run(run: &Run, outcome: Ending, tally: Tally) -> Report
+        ensures { result ≡ record { outcome = outcome; last = run.now.stand.at.point; rows = tally.rows; sum = tally.sum; found = run.now.found; own = run.now.own; tickets = 0; posted = 0; back = 0; lapsed = 0 } }
+    {
+        Report {
+            outcome,
+            last: run.point(),
+            rows: tally.rows,
+            sum: tally.sum,
+            found: run.found(),
+            own: run.own(),
+            tickets: 0,
+            posted: 0,
+            back: 0,
+            lapsed: 0,
+        }
+    }
 }

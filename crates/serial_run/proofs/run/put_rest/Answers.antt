@@ -1,0 +1,149 @@
+use Rattle.std.proofs.Common.{Err, Ok, refl, sym, ap, subst, ◌∙◌, arith}
+use Rattle.trace_rows.specs.Reports.{ReportsRest}
+use Rattle.trace_rows.proofs.RowLaws.{err_is, on_err, tells_given_up, tells_none}
+use Rattle.trace_rows.proofs.RunEnds.{front_come, reports_rest}
+use Rattle.trace_rows.proofs.RunKept.{come_first, come_next, fewer_left, given_by, kept_by, number_within}
+use Rattle.serial_run.specs.Alone.{IsAlone}
+use Rattle.serial_run.proofs.RunLaws.{done_by, ended_by, found_last, found_next, going_on, passes}
+use Rattle.serial_run.proofs.run.put_rest.Goals as goal
+
+-- ---- The row at which the run was opened
+
+pub returns-in_err-put_row-clause-front : goal.returns-in_err-put_row-clause-front
+returns-in_err-put_row-clause-front g c =
+    let come =
+    come_first c.args.plan.now c.args.run.now.opened c.args.run.now (g.O.Sink.held c.args.out.now) (g.O.Sink.faults c.args.out.now) c.new-tally.result
+    c.requires.opened c.requires.stands c.new-tally.ensures.rows c.new-tally.ensures.sum in
+    on_err c.from_residual-in_err-put_row.result
+    (front_come c.args.plan.now c.args.run.now.opened c.args.run.now (g.O.Sink.held c.args.out.now) (g.O.Sink.held c.args.out.now)
+    (g.O.Sink.held c.put_row.new.out) (g.O.Sink.faults c.args.out.now) (g.O.Sink.faults c.args.out.now) c.new-tally.result come
+    c.in_err-put_row.ensures.front)
+
+pub returns-in_err-put_row-clause-cause : goal.returns-in_err-put_row-clause-cause
+returns-in_err-put_row-clause-cause g c =
+    tells_given_up (g.O.Sink.faults c.args.out.now) (g.O.Sink.faults c.args.out.now) (g.O.Sink.faults c.put_row.new.out) c.in_err-put_row.field-0.0
+    c.from_residual-in_err-put_row.result refl c.in_err-put_row.ensures.cause
+    (err_is c.from_residual-in_err-put_row.result c.in_err-put_row.field-0.0 c.from_residual-in_err-put_row.ensures.1)
+
+pub put_row-requires-clause-own : goal.put_row-requires-clause-own
+put_row-requires-clause-own g c = ap (λ s. s.plan) c.requires.opened.is
+
+pub rows-init : goal.rows-init
+rows-init g c =
+    let come =
+    come_first c.args.plan.now c.args.run.now.opened c.args.run.now (g.O.Sink.held c.args.out.now) (g.O.Sink.faults c.args.out.now) c.new-tally.result
+    c.requires.opened c.requires.stands c.new-tally.ensures.rows c.new-tally.ensures.sum in
+    record {
+      kept =
+          kept_by c.args.plan.now c.args.run.now.opened c.args.run.now (g.O.Sink.held c.args.out.now) (g.O.Sink.held c.args.out.now)
+          (g.O.Sink.held c.put_row.new.out) (g.O.Sink.faults c.args.out.now) (g.O.Sink.faults c.args.out.now)
+          (g.O.Sink.faults c.put_row.new.out) c.new-tally.result c.put_row.new.tally come c.in_ok-put_row.ensures;
+      alone = ap (λ s. s.found) c.requires.opened.is;
+    }
+
+-- ---- From row to row
+
+pub put_row-requires-in-rows-clause-own : goal.put_row-requires-in-rows-clause-own
+put_row-requires-in-rows-clause-own g c =
+    let given = given_by c.args.plan.now c.args.run.now.opened c.args.run.now c.requires.opened c.requires.stands in
+    let on = passes c.rows.run c.advance.new.run (going_on c.rows.run c.advance.new.run c.advance.result c.rows-test.true c.advance.ensures.advanced) in
+    (come_next c.args.plan.now c.args.run.now.opened c.rows.run c.advance.new.run (g.O.Sink.held c.args.out.now) (g.O.Sink.held c.rows.out)
+    (g.O.Sink.faults c.args.out.now)
+    (g.O.Sink.faults c.rows.out) c.rows.tally given c.rows.invariant.kept on c.advance.ensures.stands).at.planned
+
+pub put_row-requires-in-rows-clause-rows : goal.put_row-requires-in-rows-clause-rows
+put_row-requires-in-rows-clause-rows g c =
+    let given = given_by c.args.plan.now c.args.run.now.opened c.args.run.now c.requires.opened c.requires.stands in
+    let on = passes c.rows.run c.advance.new.run (going_on c.rows.run c.advance.new.run c.advance.result c.rows-test.true c.advance.ensures.advanced) in
+    let come =
+    come_next c.args.plan.now c.args.run.now.opened c.rows.run c.advance.new.run (g.O.Sink.held c.args.out.now) (g.O.Sink.held c.rows.out)
+    (g.O.Sink.faults c.args.out.now)
+    (g.O.Sink.faults c.rows.out) c.rows.tally given c.rows.invariant.kept on c.advance.ensures.stands in
+    let few = come.few in
+    let within = number_within c.args.plan.now c.args.run.now.opened c.advance.new.run given come.at.planned c.advance.ensures.stands in
+    omega arith
+
+pub rows-smaller : goal.rows-smaller
+rows-smaller g c =
+    let given = given_by c.args.plan.now c.args.run.now.opened c.args.run.now c.requires.opened c.requires.stands in
+    let on = passes c.rows.run c.advance.new.run (going_on c.rows.run c.advance.new.run c.advance.result c.rows-test.true c.advance.ensures.advanced) in
+    let within = number_within c.args.plan.now c.args.run.now.opened c.rows.run given c.rows.invariant.kept.at.planned c.rows.invariant.kept.at.stands in
+    let next = fewer_left c.rows.run c.advance.new.run on in
+    omega (arith, within, next)
+
+pub rows-preserved : goal.rows-preserved
+rows-preserved g c =
+    let given = given_by c.args.plan.now c.args.run.now.opened c.args.run.now c.requires.opened c.requires.stands in
+    let moved = going_on c.rows.run c.advance.new.run c.advance.result c.rows-test.true c.advance.ensures.advanced in
+    let come =
+    come_next c.args.plan.now c.args.run.now.opened c.rows.run c.advance.new.run (g.O.Sink.held c.args.out.now) (g.O.Sink.held c.rows.out)
+    (g.O.Sink.faults c.args.out.now)
+    (g.O.Sink.faults c.rows.out) c.rows.tally given c.rows.invariant.kept (passes c.rows.run c.advance.new.run moved) c.advance.ensures.stands in
+    record {
+      kept =
+          kept_by c.args.plan.now c.args.run.now.opened c.advance.new.run (g.O.Sink.held c.args.out.now) (g.O.Sink.held c.rows.out)
+          (g.O.Sink.held c.put_row-in-rows.new.out) (g.O.Sink.faults c.args.out.now) (g.O.Sink.faults c.rows.out)
+          (g.O.Sink.faults c.put_row-in-rows.new.out) c.rows.tally c.put_row-in-rows.new.tally come c.in_ok-put_row-2.ensures;
+      alone = found_next c.rows.run c.advance.new.run moved c.rows.invariant.alone;
+    }
+
+pub returns-in_err-put_row-2-clause-front : goal.returns-in_err-put_row-2-clause-front
+returns-in_err-put_row-2-clause-front g c =
+    let given = given_by c.args.plan.now c.args.run.now.opened c.args.run.now c.requires.opened c.requires.stands in
+    let on = passes c.rows.run c.advance.new.run (going_on c.rows.run c.advance.new.run c.advance.result c.rows-test.true c.advance.ensures.advanced) in
+    let come =
+    come_next c.args.plan.now c.args.run.now.opened c.rows.run c.advance.new.run (g.O.Sink.held c.args.out.now) (g.O.Sink.held c.rows.out)
+    (g.O.Sink.faults c.args.out.now)
+    (g.O.Sink.faults c.rows.out) c.rows.tally given c.rows.invariant.kept on c.advance.ensures.stands in
+    on_err c.from_residual-in_err-put_row-2.result
+    (front_come c.args.plan.now c.args.run.now.opened c.advance.new.run (g.O.Sink.held c.args.out.now) (g.O.Sink.held c.rows.out)
+    (g.O.Sink.held c.put_row-in-rows.new.out) (g.O.Sink.faults c.args.out.now) (g.O.Sink.faults c.rows.out) c.rows.tally come
+    c.in_err-put_row-2.ensures.front)
+
+pub returns-in_err-put_row-2-clause-cause : goal.returns-in_err-put_row-2-clause-cause
+returns-in_err-put_row-2-clause-cause g c =
+    tells_given_up (g.O.Sink.faults c.args.out.now) (g.O.Sink.faults c.rows.out) (g.O.Sink.faults c.put_row-in-rows.new.out) c.in_err-put_row-2.field-0.0
+    c.from_residual-in_err-put_row-2.result c.rows.invariant.kept.same c.in_err-put_row-2.ensures.cause
+    (err_is c.from_residual-in_err-put_row-2.result c.in_err-put_row-2.field-0.0 c.from_residual-in_err-put_row-2.ensures.1)
+
+-- ---- The end
+
+pub unreachable-requires : goal.unreachable-requires
+unreachable-requires g c =
+    let given = given_by c.args.plan.now c.args.run.now.opened c.args.run.now c.requires.opened c.requires.stands in
+    let done =
+    done_by c.args.plan.now c.args.run.now.opened c.rows.run c.advance.new.run (g.O.Sink.held c.args.out.now) (g.O.Sink.held c.rows.out)
+    (g.O.Sink.faults c.args.out.now)
+    (g.O.Sink.faults c.rows.out) c.rows.tally given c.rows.invariant.kept
+    (ended_by c.rows.run c.advance.new.run c.advance.result c.rows-test.false c.advance.ensures.advanced) c.advance.ensures.stands in
+    c.in_default.not-Ended done.ending (c.phase.ensures.phase ∙ done.phase)
+
+pub returns-clause-whole : goal.returns-clause-whole
+returns-clause-whole g c =
+    let given = given_by c.args.plan.now c.args.run.now.opened c.args.run.now c.requires.opened c.requires.stands in
+    let done =
+    done_by c.args.plan.now c.args.run.now.opened c.rows.run c.advance.new.run (g.O.Sink.held c.args.out.now) (g.O.Sink.held c.rows.out)
+    (g.O.Sink.faults c.args.out.now)
+    (g.O.Sink.faults c.rows.out) c.rows.tally given c.rows.invariant.kept
+    (ended_by c.rows.run c.advance.new.run c.advance.result c.rows-test.false c.advance.ensures.advanced) c.advance.ensures.stands in
+    subst (ReportsRest c.args.plan.now c.args.run.now.opened (g.O.Sink.held c.args.out.now) (g.O.Sink.held c.rows.out)) (sym c.of_run.ensures)
+    (reports_rest c.args.plan.now c.args.run.now.opened c.advance.new.run (g.O.Sink.held c.args.out.now) (g.O.Sink.held c.rows.out) c.rows.tally
+    c.in-Ended.outcome _ given done
+    (sym c.phase.ensures.phase ∙ c.in-Ended.is)
+    (record { outcome = refl; last = refl; rows = refl; sum = refl; found = refl; own = refl; tickets = refl }))
+
+pub returns-clause-alone : goal.returns-clause-alone
+returns-clause-alone g c =
+    subst IsAlone (sym c.of_run.ensures)
+    (record {
+      found =
+          found_last c.rows.run c.advance.new.run (ended_by c.rows.run c.advance.new.run c.advance.result c.rows-test.false c.advance.ensures.advanced)
+          c.rows.invariant.alone;
+      tickets = refl;
+      posted = refl;
+      back = refl;
+      lapsed = refl;
+    })
+
+pub returns-clause-cause : goal.returns-clause-cause
+returns-clause-cause g c = tells_none (g.O.Sink.faults c.args.out.now) (g.O.Sink.faults c.rows.out) c.of_run.result c.rows.invariant.kept.same

@@ -1,9 +1,0 @@
-use Rattle.std.proofs.Common.{◌-◌}
-use Rattle.serial_run.proofs.RunKept.{Kept}
-use Rattle.serial_run.proofs.run.run_alone.Given as goal
-
-abbrev pub invariant-rows : goal.invariant-rows
-invariant-rows g l = Kept l.plan.value l.run (g.O.Sink.held l.fn.out) (g.O.Sink.held l.out) (g.O.Sink.faults l.fn.out) (g.O.Sink.faults l.out) l.tally
-
-abbrev pub decreases-rows : goal.decreases-rows
-decreases-rows g l = 100000 - l.run.stand.at.number

@@ -1,0 +1,31 @@
+-- How a run passes from stand to stand, whoever fills its cells.
+use Rattle.std.specs.Prelude.{◌≡◌, ◌+◌}
+use Rattle.trace_core.specs.Runs.{RunState, arrived}
+use Rattle.trace_core.specs.declared.phase.Phase.TheVariants.{Ended}
+use Rattle.unit_tree.specs.Successor.{ends, successor}
+use Rattle.unit_tree.specs.Trace.{Goes, cells_at}
+use Rattle.unit_tree.specs.declared.ending.Ending.{Ending}
+
+-- The run has come to its stand, and no cell was filled there.
+abbrev pub IsFresh : RunState → Type 0
+IsFresh r = r ≡ arrived r.plan r.opened r.stand r.before r.found r.own
+
+-- All cells of the stand were filled, from answers or by the run's own steps.
+abbrev pub AreCellsFilled : RunState → RunState → Type 0
+AreCellsFilled old new = new.found + new.own ≡ old.found + old.own + cells_at old.plan.run old.stand
+
+-- The run came to the next stand, when all cells of the one before were filled.
+pub record Passes (old new : RunState) : Type 0 where
+  pub planned : new.plan ≡ old.plan
+  pub goes : Goes old.plan.run old.stand new.stand
+  pub fresh : IsFresh new
+  pub filled : AreCellsFilled old new
+
+-- It ends where it stands, when all cells there were filled.
+pub record Stops (old new : RunState) : Type 0 where
+  pub ending : Ending
+  pub ended : successor old.plan.run old.stand.at old.stand.ports ≡ ends ending
+  pub planned : new.plan ≡ old.plan
+  pub stand : new.stand ≡ old.stand
+  pub phase : new.phase ≡ Ended ending
+  pub filled : AreCellsFilled old new

@@ -1,0 +1,134 @@
+//! The header and rows: their text, put as one piece each, and the sums of rows.
+ghost use Rattle.std.specs.Prelude.{◌≡◌, ◌<◌, ◌≤◌, ◌^◌, length, OnOk, OnErr};
+ghost use Rattle.std.specs.List.{AllByRecursion};
+ghost use Rattle.std.specs.Io.KnownBytes.{Appends};
+ghost use Rattle.cosim_io.specs.Pieces.{AppendsPrefix};
+ghost use Rattle.trace_rows.specs.Lines.{PutsRow, header_of};
+ghost use Rattle.trace_rows.specs.Faults.{TellsFault};
+ghost use Rattle.trace_rows.specs.Sums.{IsBoundedBy, word_shown, row_sum};
+ghost use Rattle.trace_core.specs.Runs.{Stands};
+ghost use Rattle.trace_csv.specs.TraceText.{HasWord, row_line};
+
+use crate::fault::CrewFault;
+use crate::tally::Tally;
+use cosim_io::Sink;
+use std::alloc::Global;
+use trace_core::{Plan, Row, Run};
+use trace_csv::{RowWriter, header_text};
+use unit_tree::Column;
+
+/// No line in memory has more columns.
+const MOST_COLUMNS: usize = 1 << 32;
+
+/// What the field of a column counts in a sum.
+fn word_shown(column: Column, ports: &[i64]) -> i64
+    requires { HasWord ports.now column }
+    ensures { result ≡ word_shown ports.now column }
+{
+    let place = column.place as usize;
+    if column.event && ports[place - 1] == 0 {
+        return 0;
+    }
+    ports[place]
+}
+
+/// The sum of the words that a row shows.
+fn row_sum(columns: &[Column], ports: &[i64]) -> i128
+    requires words { AllByRecursion (HasWord ports.now) columns.now }
+    requires few { length columns.now ≤ 2 ^ 32 }
+    ensures sum { result ≡ row_sum columns.now ports.now }
+    ensures bound { IsBoundedBy (2 ^ 95) result }
+{
+    let mut sum = 0;
+    for column in columns {
+        sum += i128::from(word_shown(*column, ports));
+    }
+    sum
+}
+
+/// Puts a row as one piece. `writer` makes all rows of the run, and `line` is room for the text of one.
+fn put_line<O: Sink>(
+    writer: &mut RowWriter,
+    resolution: u8,
+    columns: &[Column],
+    row: Row<'_>,
+    line: &mut Vec<u8>,
+    out: &mut O,
+) -> Result<(), CrewFault>
+    requires resolution { resolution ≤ 9 }
+    requires words { AllByRecursion (HasWord row.ports.now) columns.now }
+    ensures whole { OnOk result (Appends (O.held out.old) (O.held out.new) (row_line resolution columns.now row.entry.point row.entry.ports.now)) }
+    ensures front { OnErr result (AppendsPrefix (O.held out.old) (O.held out.new) (row_line resolution columns.now row.entry.point row.entry.ports.now)) }
+    ensures cause { TellsFault (O.faults out.old) (O.faults out.new) result }
+{
+    writer.row_text(resolution, row.point, columns, row.ports, line)?;
+    out.put(line)?;
+    Ok(())
+}
+
+/// Puts the header of a plan's trace as one piece.
+///
+/// [`CrewFault::WriteFault`] where the put failed, and only there; then, or where there is no memory, what was put begins the
+/// header.
+pub fn put_header<O: Sink>(alloc: Global, plan: &Plan, out: &mut O) -> Result<(), CrewFault>
+    ensures whole { OnOk result (Appends (O.held out.old) (O.held out.new) (header_of plan.now.system)) }
+    ensures front { OnErr result (AppendsPrefix (O.held out.old) (O.held out.new) (header_of plan.now.system)) }
+    ensures cause { TellsFault (O.faults out.old) (O.faults out.new) result }
+{
+    let mut line = Vec::new(alloc);
+    header_text(alloc, plan.checked(), plan.columns(), &mut line)?;
+    out.put(&line)?;
+    Ok(())
+}
+
+/// What the rows of a run are made with: one writer for all of them, and room for the text of one.
+#[derive(Drop)]
+pub struct RowRoom {
+    writer: RowWriter,
+    line: Vec<u8>,
+}
+
+impl RowRoom {
+    /// Room that takes no memory yet; `alloc` is where it comes from later.
+    pub fn new(alloc: Global) -> RowRoom {
+        RowRoom {
+            writer: RowWriter::new(alloc),
+            line: Vec::new(alloc),
+        }
+    }
+
+    /// Puts the row where a run of the plan stands as one piece, if there is one, and counts it.
+    ///
+    /// [`CrewFault::WriteFault`] where the put failed, and only there; then, or where there is no memory, what was put begins the
+    /// line of the row.
+    pub fn put_row<O: Sink>(
+        &mut self,
+        plan: &Plan,
+        run: &Run,
+        tally: &mut Tally,
+        out: &mut O,
+    ) -> Result<(), CrewFault>
+        requires own { run.now.plan ≡ plan.now }
+        requires stands { Stands run.now }
+        requires rows { tally.old.rows < 100000 }
+        ensures { PutsRow plan.now run.now.stand (O.held out.old) (O.held out.new) (O.faults out.old) (O.faults out.new) tally.old tally.new result }
+    {
+        let Some(row) = run.row() else {
+            return Ok(());
+        };
+        let columns = plan.columns();
+        if columns.len() > MOST_COLUMNS {
+            return Err(CrewFault::NoMemory);
+        }
+        put_line(
+            &mut self.writer,
+            plan.resolution(),
+            columns,
+            row,
+            &mut self.line,
+            out,
+        )?;
+        tally.count(row_sum(columns, row.ports));
+        Ok(())
+    }
+}
