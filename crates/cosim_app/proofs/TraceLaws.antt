@@ -19,7 +19,7 @@ use Rattle.run_laws.proofs.PlainOrders.{plain_has_no_cycle, plain_of}
 use Rattle.run_laws.proofs.PositionLaws.{system_has_members}
 use Rattle.run_laws.proofs.RunOrders.{runs_have_orders}
 use Rattle.run_laws.proofs.RunTraces.{one_trace, one_trace_of}
-use Rattle.cosim_app.specs.Judgement.{IsWhole}
+use Rattle.cosim_app.specs.Serving.{IsWhole}
 
 -- what a text is accepted as keeps all rules
 pub whole_of : (text : List ℕ) (system : System) (lines : List ℕ) → IsAcceptedAs text system lines → IsWhole system
