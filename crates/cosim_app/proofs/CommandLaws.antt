@@ -10,8 +10,10 @@ use Rattle.unit_tree.specs.Texts.{text_limit}
 use Rattle.unit_tree.specs.declared.system.System.{System}
 use Rattle.cosim_call.specs.Answers.{Answer, refused_answer, usage_answer}
 use Rattle.cosim_call.proofs.ComingLaws.{IsAnswered}
+use Rattle.cosim_call.specs.declared.status.Status.{Status}
+use Rattle.cosim_call.specs.declared.status.Status.TheVariants as status
 use Rattle.cosim_app.specs.Answer.{Answers, AnswersOf, AnswersRun, RefusedBy, ServedBy, accepted_answer, printed_answer, run_answer}
-use Rattle.cosim_app.specs.Commands.{command_of, input_of}
+use Rattle.cosim_app.specs.Commands.{UsageClause, command_of, input_of}
 use Rattle.cosim_app.specs.Laws.{AnswersAgree, EveryCallIsAnswered, NoCallIsAnsweredTwice}
 use Rattle.cosim_app.specs.declared.command_words.Command.{Command}
 use Rattle.cosim_app.specs.declared.command_words.Command.TheVariants.{Run, Check, Print}
@@ -107,6 +109,7 @@ too_long limit text is long = inl (long_refused text (more (some_is text_limit l
   where
     some_is : (one other : ℕ) → Some one ≡ Some other → one ≡ other
     some_is one other is = cc
+
     more : text_limit ≡ limit → length text ≤ size_of text → limit < length text → text_limit < size_of text
     more is size long = omega (arith, is, size, long)
 
@@ -161,3 +164,16 @@ agree_by command text one other a b =
 
 pub answers_agree : AnswersAgree
 answers_agree words text one other a b = agree_by (command_of words) text one other a b
+
+-- ---- Words with a form and without one
+
+pub has_form : (words : List (List ℕ)) (command : Command) (given : Status) → Some command ≡ command_of words → (given ≡ status.Usage → ⊥)
+    → UsageClause words given
+has_form words command given is never = record { only = λ usage. absurd (never usage); due = λ none. absurd (some_is_none (is ∙ none)) }
+  where
+    some_is_none : Some command ≡ None → ⊥
+    some_is_none is = cc
+
+pub has_no_form : (words : List (List ℕ)) (given : Status) → None ≡ command_of words → (given ≡ status.Usage) ⊎ (given ≡ status.WriteFault)
+    → UsageClause words given
+has_no_form words given is due = record { only = λ _. sym is; due = λ _. due }

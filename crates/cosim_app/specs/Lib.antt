@@ -6,3 +6,4 @@ pub mod Options
 pub mod Serving
 pub mod SourcePlaces
 pub mod Words
+pub mod WorkedWords

@@ -2,6 +2,7 @@
 ghost use Rattle.std.specs.Prelude.{◌≡◌};
 ghost use Rattle.cosim_app.specs.Commands.{command_of, form_of, input_of, without_options};
 ghost use Rattle.cosim_app.specs.Words.{bytes_of};
+ghost use Rattle.cosim_app.specs.WorkedWords.{CommandsAreWorked, NumbersAreWorked, OptionsAreWorked};
 
 use crate::options::{Given, settings};
 use unit_text::LONGEST_TEXT;
@@ -32,11 +33,7 @@ impl Command {
 fn without_options(command: Command, given: Given) -> Option<Command>
     ensures { result ≡ without_options command given }
 {
-    if given.is_none() {
-        Some(command)
-    } else {
-        None
-    }
+    if given.is_none() { Some(command) } else { None }
 }
 
 /// The command of a word with the options that were given: a row for each command, with the options that it takes.
@@ -63,3 +60,10 @@ pub(crate) fn command_of(words: &[String]) -> Option<Command>
         [word, options @ ..] => form_of(word.as_str(), settings(options)?),
     }
 }
+
+/// A law: words that were worked out by hand give the options and are of the commands that they should.
+pub fn words_are_worked()
+    ensures numbers { NumbersAreWorked }
+    ensures options { OptionsAreWorked }
+    ensures commands { CommandsAreWorked }
+{}

@@ -23,7 +23,10 @@ pub(crate) fn make(alloc: Global, text: &[u8]) -> Result<Vec<u8>, Stopped>
     ensures { Makes (Answers Check text.now) result }
 {
     match accept(alloc, text) {
-        Ok(_) => accepted(alloc),
+        Ok(read) => {
+            drop(read);
+            accepted(alloc)
+        }
         Err(why) => Err(why),
     }
 }

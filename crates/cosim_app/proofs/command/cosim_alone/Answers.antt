@@ -1,11 +1,12 @@
-use Rattle.std.proofs.Common.{◌≡◌, Option, Some, None, refl, sym, subst, ◌∙◌}
+use Rattle.std.proofs.Common.{Option, subst}
 use Rattle.cosim_call.specs.Calls.{Promises, Streams, stream, streams}
-use Rattle.cosim_call.specs.declared.status.Status.TheVariants as status
 use Rattle.cosim_call.proofs.CallLaws.{promises_kept}
 use Rattle.cosim_call.proofs.UsageLaws.{never_usage, promises_usage, usage_due}
 use Rattle.cosim_app.specs.Answer.{Answers, AnswersOf}
 use Rattle.cosim_app.specs.Commands.{input_of, input_of_words}
+use Rattle.cosim_app.specs.Words.{bytes_of}
 use Rattle.cosim_app.specs.declared.command_words.Command.{Command}
+use Rattle.cosim_app.proofs.CommandLaws.{has_form, has_no_form}
 use Rattle.cosim_app.proofs.command.cosim_alone.Goals as goal
 
 pub returns-in-Some : goal.returns-in-Some
@@ -23,15 +24,10 @@ returns-in-Some g c =
     record {
       headline = subst (λ (words : Option Command). Promises (input_of_words words) (AnswersOf words) before now c.finish.result) c.in-Some.ensures
           (promises_kept input IsAnswer before now c.come-came.result c.finish.result c.come-came.ensures c.finish.ensures.told);
-      usage = record {
-        only = λ is. absurd (never_usage input IsAnswer source source' out out' notes notes' c.come-came.result c.finish.result
-            c.come-came.ensures c.finish.ensures.told is);
-        due = λ none. absurd (some_is_none (c.in-Some.ensures ∙ none));
-      };
+      usage = has_form (bytes_of c.args.words.now) c.in-Some.command c.finish.result c.in-Some.ensures
+          (never_usage input IsAnswer source source' out out' notes notes' c.come-came.result c.finish.result c.come-came.ensures
+          c.finish.ensures.told);
     }
-  where
-    some_is_none : {A : Type 0} {a : A} → Some a ≡ None → ⊥
-    some_is_none is = cc
 
 pub returns-in-None : goal.returns-in-None
 returns-in-None g c =
@@ -44,5 +40,5 @@ returns-in-None g c =
     record {
       headline = subst (λ (words : Option Command). Promises (input_of_words words) (AnswersOf words) before now c.tell.result) c.in-None.ensures
           (promises_usage source out notes notes' c.tell.result c.tell.ensures);
-      usage = record { only = λ _. sym c.in-None.ensures; due = λ _. usage_due notes notes' c.tell.result c.tell.ensures };
+      usage = has_no_form (bytes_of c.args.words.now) c.tell.result c.in-None.ensures (usage_due notes notes' c.tell.result c.tell.ensures);
     }

@@ -11,7 +11,7 @@ pub returns-in-Ok : goal.returns-in-Ok
 returns-in-Ok g c =
     runs_accepted c.args.text.now c.in-Ok.read.checked c.in-Ok.read.lines
     (stream (g.O.Sink.held c.args.out.now) (g.O.Sink.faults c.args.out.now))
-        (stream (g.O.Sink.held c.run_system.new.out) (g.O.Sink.faults c.run_system.new.out))
+    (stream (g.O.Sink.held c.run_system.new.out) (g.O.Sink.faults c.run_system.new.out))
     c.run_system.result c.in-Ok.ensures c.run_system.ensures
 
 pub returns-in-Err : goal.returns-in-Err
