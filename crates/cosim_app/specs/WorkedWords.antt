@@ -7,7 +7,7 @@ use Rattle.cosim_app.specs.declared.options.Given.{Given}
 use Rattle.cosim_app.specs.declared.options.Policy.TheVariants.{Hold, Linear}
 
 abbrev all_options : Given
-all_options = record { workers = Some 4; window = Some 0; guess = Some Linear; report = true }
+all_options = record no_options { workers = Some 4; window = Some 0; guess = Some Linear; report = true }
 
 -- A number has one to nineteen digits, and nothing else.
 pub record NumbersAreWorked : Type 0 where
