@@ -1,77 +1,43 @@
--- Each command has exactly one answer for each text.
-use Rattle.std.proofs.Common.{◌≡◌, ℕ, ◌⊎◌, Bool, true, false, List, [], ◌∷◌, refl, sym, ap, subst, ◌∙◌, inl, inr}
-use Rattle.std.specs.Prelude.{codes}
-use Rattle.std.specs.Str.{bytes_eq}
+-- What each command's answers keep: there is one for each text, and there are no two.
+use Rattle.std.proofs.Common.{◌≡◌, ℕ, ◌<◌, ◌≤◌, ◌⊎◌, List, length, Option, Some, None, refl, sym, ap, subst, ◌∙◌, inl, inr, arith}
 use Rattle.text_accept.specs.Accepting.{IsAcceptedAs, IsRefusedAt}
 use Rattle.text_accept.proofs.Acceptance.{judged_once}
+use Rattle.text_tokens.proofs.LineLemmas.{length_le_size_of}
 use Rattle.event_runs.specs.EventRuns.{IsEventTraceOf}
-use Rattle.unit_tree.specs.declared.ending.Ending.{Ending}
-use Rattle.unit_tree.specs.declared.ending.Ending.TheVariants.{Completed, RowBudget, ZeroBudget, UnitFault, StepRefused}
+use Rattle.unit_text.proofs.ReadingLaws.{long_refused}
+use Rattle.unit_tree.specs.Lines.{size_of}
+use Rattle.unit_tree.specs.Texts.{text_limit}
 use Rattle.unit_tree.specs.declared.system.System.{System}
-use Rattle.cosim_app.specs.Answer.{Answer, AnswersRun, Serves, CommandAnswers, run_answer, refused_answer, accepted_answer}
-use Rattle.cosim_app.specs.Answer.{printed_answer, status_of}
-use Rattle.cosim_app.specs.Commands.{words_of_command}
+use Rattle.cosim_call.specs.Answers.{Answer, refused_answer, usage_answer}
+use Rattle.cosim_call.proofs.ComingLaws.{IsAnswered}
+use Rattle.cosim_call.specs.declared.status.Status.{Status}
+use Rattle.cosim_call.specs.declared.status.Status.TheVariants as status
+use Rattle.cosim_app.specs.Answer.{Answers, AnswersOf, AnswersRun, RefusedBy, ServedBy, accepted_answer, printed_answer, run_answer}
+use Rattle.cosim_app.specs.Commands.{UsageClause, command_of, input_of}
+use Rattle.cosim_app.specs.Laws.{AnswersAgree, EveryCallIsAnswered, NoCallIsAnsweredTwice}
 use Rattle.cosim_app.specs.declared.command_words.Command.{Command}
 use Rattle.cosim_app.specs.declared.command_words.Command.TheVariants.{Run, Check, Print}
-use Rattle.cosim_app.specs.declared.status.Status.{Status}
-use Rattle.cosim_app.specs.declared.status.Status.TheVariants as status
 use Rattle.cosim_app.proofs.TraceLaws.{one_outcome, whole_of}
 
--- ---- Words
+-- ---- Commands on texts that keep all rules
 
--- whether words are one word of these bytes
-abbrev is_word : List ℕ → List (List ℕ) → Bool
-is_word word (one ∷ []) = bytes_eq one word
-is_word word words = false
-
-told_apart : (word : List ℕ) (one other : Command) → words_of_command one ≡ words_of_command other → is_word word (words_of_command one) ≡ true
-    → is_word word (words_of_command other) ≡ false → ⊥
-told_apart word one other is first second = let same = sym first ∙ ap (is_word word) is ∙ second in true_is_not_false same
+-- what is refused by the rules of the language is refused by the command, and what is accepted has an answer
+judged_answered : (command : Command) (text : List ℕ) → ((line rule : ℕ) → IsRefusedAt text line rule → RefusedBy command text line rule)
+    → ((system : System) (lines : List ℕ) → IsAcceptedAs text system lines → (answer : Answer) × ServedBy command text answer)
+    → (answer : Answer) × Answers command text answer
+judged_answered command text refuses serves = by (judged_once text).judged
   where
-    true_is_not_false : true ≡ false → ⊥
-    true_is_not_false same = cc
+    by : ((system : System) × (lines : List ℕ) × IsAcceptedAs text system lines) ⊎ ((line : ℕ) × (rule : ℕ) × IsRefusedAt text line rule)
+        → (answer : Answer) × Answers command text answer
+    by (inl (system, lines, accepted)) = let served = serves system lines accepted in (served.0, inr served.1)
+    by (inr (line, rule, refused)) =
+        (refused_answer line rule, inl (record { line = line; rule = rule; refused = refuses line rule refused; is = refl }))
 
--- commands of the same words are one
-pub one_command : (one other : Command) → words_of_command one ≡ words_of_command other → one ≡ other
-one_command Run Run is = refl
-one_command Run Check is = absurd (told_apart (codes "run") Run Check is refl refl)
-one_command Run Print is = absurd (told_apart (codes "run") Run Print is refl refl)
-one_command Check Run is = absurd (told_apart (codes "check") Check Run is refl refl)
-one_command Check Check is = refl
-one_command Check Print is = absurd (told_apart (codes "check") Check Print is refl refl)
-one_command Print Run is = absurd (told_apart (codes "print") Print Run is refl refl)
-one_command Print Check is = absurd (told_apart (codes "print") Print Check is refl refl)
-one_command Print Print is = refl
-
--- ---- Statuses
-
--- the statuses of a trace's ends are no refusal
-pub ends_unrefused : (ending : Ending) (given : Status) → given ≡ status_of ending → given ≡ status.Refused → ⊥
-ends_unrefused Completed given is refused = cc
-ends_unrefused RowBudget given is refused = cc
-ends_unrefused ZeroBudget given is refused = cc
-ends_unrefused (StepRefused instance asked accepted) given is refused = cc
-ends_unrefused (UnitFault instance place fault) given is refused = cc
-
-done_is_no_refusal : status.Done ≡ status.Refused → ⊥
-done_is_no_refusal is = cc
-
--- nor is that of a text that is served
-pub served_unrefused : (command : Command) (text : List ℕ) (answer : Answer) → Serves command text answer → answer.status ≡ status.Refused → ⊥
-served_unrefused Run text answer serves is = ends_unrefused serves.ending answer.status (ap (λ (x : Answer). x.status) serves.is) is
-served_unrefused Check text answer serves is = done_is_no_refusal (sym (ap (λ (x : Answer). x.status) serves.is) ∙ is)
-served_unrefused Print text answer serves is = done_is_no_refusal (sym (ap (λ (x : Answer). x.status) serves.is) ∙ is)
-
--- ---- Some answer
-
-check_answered : (text : List ℕ) (system : System) (lines : List ℕ) → IsAcceptedAs text system lines → (answer : Answer) × CommandAnswers Check text answer
-check_answered text system lines accepted = (accepted_answer, inr (record { system = system; lines = lines; accepted = accepted; is = refl }))
-
-run_answered : (text : List ℕ) (system : System) (lines : List ℕ) → IsAcceptedAs text system lines → (answer : Answer) × CommandAnswers Run text answer
+run_answered : (text : List ℕ) (system : System) (lines : List ℕ) → IsAcceptedAs text system lines → (answer : Answer) × ServedBy Run text answer
 run_answered text system lines accepted =
     let trace = one_outcome system (whole_of text system lines accepted) in (
       run_answer system trace.rows trace.last trace.ending,
-      inr (record {
+      record {
         system = system;
         lines = lines;
         accepted = accepted;
@@ -80,28 +46,8 @@ run_answered text system lines accepted =
         ending = trace.ending;
         trace = trace.is_trace;
         is = refl;
-      }),
+      },
     )
-
-judged_answered : (command : Command) (text : List ℕ)
-    → ((system : System) (lines : List ℕ) → IsAcceptedAs text system lines → (answer : Answer) × CommandAnswers command text answer)
-    → (answer : Answer) × CommandAnswers command text answer
-judged_answered command text serves = by (judged_once text).judged
-  where
-    by : ((system : System) × (lines : List ℕ) × IsAcceptedAs text system lines) ⊎ ((line : ℕ) × (rule : ℕ) × IsRefusedAt text line rule)
-        → (answer : Answer) × CommandAnswers command text answer
-    by (inl (system, lines, accepted)) = serves system lines accepted
-    by (inr (line, rule, refused)) = (refused_answer line rule, inl (record { line = line; rule = rule; refused = refused; is = refl }))
-
--- a command has an answer for each text
-pub command_answered : (command : Command) (text : List ℕ) → (answer : Answer) × CommandAnswers command text answer
-command_answered Run text = judged_answered Run text (run_answered text)
-command_answered Check text = judged_answered Check text (check_answered text)
-command_answered Print text =
-    judged_answered Print text
-    (λ system lines accepted. (printed_answer system, inr (record { system = system; lines = lines; accepted = accepted; is = refl })))
-
--- ---- No two answers
 
 -- two runs of a text answer the same
 runs_same : (text : List ℕ) (one other : Answer) (a : AnswersRun text one) (b : AnswersRun text other) → one ≡ other
@@ -115,23 +61,119 @@ runs_same text one other a b =
     ∙ ap (λ last. run_answer b.system b.rows last a.ending) (first.1 ∙ sym second.1) ∙ ap (run_answer b.system b.rows b.last) (first.2 ∙ sym second.2)
     ∙ sym b.is
 
--- texts are served with one answer
-served_same : (command : Command) (text : List ℕ) (one other : Answer) → Serves command text one → Serves command text other → one ≡ other
-served_same Run text one other a b = runs_same text one other a b
-served_same Check text one other a b = a.is ∙ sym b.is
-served_same Print text one other a b =
-    a.is ∙ ap printed_answer ((judged_once text).one_system a.system b.system a.lines b.lines a.accepted b.accepted).0 ∙ sym b.is
+-- ---- Each command
 
-refused_or_served : (command : Command) (text : List ℕ) (line rule : ℕ) (answer : Answer) → IsRefusedAt text line rule → Serves command text answer → ⊥
-refused_or_served Run text line rule answer refused serves = (judged_once text).not_both serves.system serves.lines line rule serves.accepted refused
-refused_or_served Print text line rule answer refused serves = (judged_once text).not_both serves.system serves.lines line rule serves.accepted refused
-refused_or_served Check text line rule answer refused serves = (judged_once text).not_both serves.system serves.lines line rule serves.accepted refused
+-- what a command supplies: an answer for each text, be it that the text is refused; one refusal at most; never both; and no two
+-- answers for a text that it serves
+record IsLawful (command : Command) : Type 0 where
+  some : (text : List ℕ) → (answer : Answer) × Answers command text answer
+  one_refusal : (text : List ℕ) (line by other rule : ℕ) → RefusedBy command text line by → RefusedBy command text other rule → (line ≡ other) × (by ≡ rule)
+  not_both : (text : List ℕ) (line rule : ℕ) (answer : Answer) → RefusedBy command text line rule → ServedBy command text answer → ⊥
+  same : (text : List ℕ) (one other : Answer) → ServedBy command text one → ServedBy command text other → one ≡ other
 
--- a command has no two answers for a text
-pub answers_same : (command : Command) (text : List ℕ) (one other : Answer) → CommandAnswers command text one → CommandAnswers command text other → one ≡ other
+run_is_lawful : IsLawful Run
+run_is_lawful = record {
+  some = λ text. judged_answered Run text (λ line rule refused. refused) (run_answered text);
+  one_refusal = λ text. (judged_once text).one_refusal;
+  not_both = λ text line rule answer refused serves. (judged_once text).not_both serves.system serves.lines line rule serves.accepted refused;
+  same = runs_same;
+}
+
+check_is_lawful : IsLawful Check
+check_is_lawful = record {
+  some = λ text. judged_answered Check text (λ line rule refused. refused)
+      (λ system lines accepted. (accepted_answer, record { system = system; lines = lines; accepted = accepted; is = refl }));
+  one_refusal = λ text. (judged_once text).one_refusal;
+  not_both = λ text line rule answer refused serves. (judged_once text).not_both serves.system serves.lines line rule serves.accepted refused;
+  same = λ text one other a b. a.is ∙ sym b.is;
+}
+
+print_is_lawful : IsLawful Print
+print_is_lawful = record {
+  some = λ text. judged_answered Print text (λ line rule refused. refused)
+      (λ system lines accepted. (printed_answer system, record { system = system; lines = lines; accepted = accepted; is = refl }));
+  one_refusal = λ text. (judged_once text).one_refusal;
+  not_both = λ text line rule answer refused serves. (judged_once text).not_both serves.system serves.lines line rule serves.accepted refused;
+  same = λ text one other a b.
+      a.is ∙ ap printed_answer ((judged_once text).one_system a.system b.system a.lines b.lines a.accepted b.accepted).0 ∙ sym b.is;
+}
+
+lawful : (command : Command) → IsLawful command
+lawful Run = run_is_lawful
+lawful Check = check_is_lawful
+lawful Print = print_is_lawful
+
+-- an input that is too long breaks the rule of its length
+too_long : (limit : ℕ) (text : List ℕ) → Some text_limit ≡ Some limit → limit < length text → IsRefusedAt text 1 2
+too_long limit text is long = inl (long_refused text (more (some_is text_limit limit is) (length_le_size_of text) long))
+  where
+    some_is : (one other : ℕ) → Some one ≡ Some other → one ≡ other
+    some_is one other is = cc
+
+    more : text_limit ≡ limit → length text ≤ size_of text → limit < length text → text_limit < size_of text
+    more is size long = omega (arith, is, size, long)
+
+long_by : (command : Command) (limit : ℕ) (text : List ℕ) → input_of command ≡ Some limit → limit < length text → RefusedBy command text 1 2
+long_by Run limit text is long = too_long limit text is long
+long_by Check limit text is long = too_long limit text is long
+long_by Print limit text is long = too_long limit text is long
+
+-- a command that reads nothing has the same answers for all inputs
+free_by : (command : Command) → input_of command ≡ None → (one other : List ℕ) (answer : Answer) → Answers command one answer
+    → Answers command other answer
+free_by Run is one other answer answers = absurd (cc)
+free_by Check is one other answer answers = absurd (cc)
+free_by Print is one other answer answers = absurd (cc)
+
+-- ---- All commands
+
+pub is_answered : (command : Command) → IsAnswered (input_of command) (Answers command)
+is_answered command = record {
+  some = (lawful command).some;
+  long = λ limit text is long. inl (record { line = 1; rule = 2; refused = long_by command limit text is long; is = refl });
+  free = free_by command;
+}
+
+answers_same : (command : Command) (text : List ℕ) (one other : Answer) → Answers command text one → Answers command text other → one ≡ other
 answers_same command text one other (inl a) (inl b) =
-    let same = (judged_once text).one_refusal a.line a.rule b.line b.rule a.refused b.refused in
-    a.is ∙ ap (λ l. refused_answer l a.rule) same.0 ∙ ap (refused_answer b.line) same.1 ∙ sym b.is
-answers_same command text one other (inl a) (inr b) = absurd (refused_or_served command text a.line a.rule other a.refused b)
-answers_same command text one other (inr a) (inl b) = absurd (refused_or_served command text b.line b.rule one b.refused a)
-answers_same command text one other (inr a) (inr b) = served_same command text one other a b
+    let same = (lawful command).one_refusal text a.line a.rule b.line b.rule a.refused b.refused in
+    a.is ∙ ap (λ line. refused_answer line a.rule) same.0 ∙ ap (refused_answer b.line) same.1 ∙ sym b.is
+answers_same command text one other (inl a) (inr b) = absurd ((lawful command).not_both text a.line a.rule other a.refused b)
+answers_same command text one other (inr a) (inl b) = absurd ((lawful command).not_both text b.line b.rule one b.refused a)
+answers_same command text one other (inr a) (inr b) = (lawful command).same text one other a b
+
+answered_by : (command : Option Command) (text : List ℕ) → (answer : Answer) × AnswersOf command text answer
+answered_by (Some command) text = (lawful command).some text
+answered_by None text = (usage_answer, refl)
+
+pub every_call_is_answered : EveryCallIsAnswered
+every_call_is_answered words text = answered_by (command_of words) text
+
+same_by : (command : Option Command) (text : List ℕ) (one other : Answer) → AnswersOf command text one → AnswersOf command text other → one ≡ other
+same_by (Some command) text one other a b = answers_same command text one other a b
+same_by None text one other a b = a ∙ sym b
+
+pub no_call_is_answered_twice : NoCallIsAnsweredTwice
+no_call_is_answered_twice words text one other a b = same_by (command_of words) text one other a b
+
+agree_by : (command : Option Command) (text : List ℕ) (one other : Answer) → AnswersOf command text one → AnswersOf command text other
+    → (one.out ≡ other.out) × (one.status ≡ other.status)
+agree_by command text one other a b =
+    let same = same_by command text one other a b in
+    (ap (λ (x : Answer). x.out) same, ap (λ (x : Answer). x.status) same)
+
+pub answers_agree : AnswersAgree
+answers_agree words text one other a b = agree_by (command_of words) text one other a b
+
+-- ---- Words with a form and without one
+
+pub has_form : (words : List (List ℕ)) (command : Command) (given : Status) → Some command ≡ command_of words → (given ≡ status.Usage → ⊥)
+    → UsageClause words given
+has_form words command given is never = record { only = λ usage. absurd (never usage); due = λ none. absurd (some_is_none (is ∙ none)) }
+  where
+    some_is_none : Some command ≡ None → ⊥
+    some_is_none is = cc
+
+pub has_no_form : (words : List (List ℕ)) (given : Status) → None ≡ command_of words → (given ≡ status.Usage) ⊎ (given ≡ status.WriteFault)
+    → UsageClause words given
+has_no_form words given is due = record { only = λ _. sym is; due = λ _. due }

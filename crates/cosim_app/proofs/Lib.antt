@@ -1,8 +1,7 @@
-pub mod AnswerLaws
-pub mod CallLaws
 pub mod CommandLaws
-pub mod JudgeLaws
+pub mod MakingLaws
+pub mod NumberLaws
+pub mod OptionLaws
 pub mod OutputNames
 pub mod RunLaws
 pub mod TraceLaws
-pub mod WordLaws

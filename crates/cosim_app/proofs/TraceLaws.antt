@@ -1,25 +1,17 @@
 -- The one trace of a system that keeps all rules.
-use Rattle.std.proofs.Common.{◌≡◌, ℕ, ◌==◌, cond, ◌⊎◌, inl, inr, List, [], ◌∷◌, ◌++◌, sym, subst}
-use Rattle.std.specs.List.{AllByRecursion}
+use Rattle.std.proofs.Common.{◌≡◌, ℕ, ◌==◌, ◌⊎◌, List, [], ◌∷◌, ◌++◌}
 use Rattle.event_runs.specs.EventRuns.{HasOneEventTraceOf}
 use Rattle.event_runs.proofs.SystemTraces.{one_outcome as one_event_outcome}
 use Rattle.text_laws.proofs.ReadIsPrintable.{read_is_printable}
-use Rattle.trace_plan.specs.Faults.{IsRightPlanFault}
-use Rattle.trace_plan.specs.declared.fault.PlanFault.TheVariants.{Loop}
 use Rattle.text_accept.specs.Accepting.{IsAcceptedAs}
 use Rattle.unit_tree.specs.Compositions.{run_of}
-use Rattle.unit_tree.specs.Orders.{IsIn, HasNoCycle, IsFirstWithoutOrder}
 use Rattle.unit_tree.specs.Plain.{plain_form}
-use Rattle.unit_tree.specs.declared.system.PortName.{PortName}
 use Rattle.unit_tree.specs.declared.system.System.{System}
 use Rattle.run_laws.specs.RunLaws.{HasOneTraceOf}
-use Rattle.list_laws.proofs.Truths.{one_or_two}
-use Rattle.run_laws.proofs.EventLaws.{plain_form_1}
-use Rattle.run_laws.proofs.PlainOrders.{plain_has_no_cycle, plain_of}
 use Rattle.run_laws.proofs.PositionLaws.{system_has_members}
 use Rattle.run_laws.proofs.RunOrders.{runs_have_orders}
 use Rattle.run_laws.proofs.RunTraces.{one_trace, one_trace_of}
-use Rattle.cosim_app.specs.Judgement.{IsWhole}
+use Rattle.cosim_app.specs.Serving.{IsWhole}
 
 -- what a text is accepted as keeps all rules
 pub whole_of : (text : List ℕ) (system : System) (lines : List ℕ) → IsAcceptedAs text system lines → IsWhole system
@@ -38,24 +30,3 @@ pub plain_outcome : (system : System) → IsWhole system → HasOneTraceOf syste
 plain_outcome system whole =
     let order = runs_have_orders system whole.ranged whole.well_formed whole.ordered in
     one_trace_of system (one_trace (run_of system) order.0 (system_has_members (plain_form system)) order.1)
-
--- whose outputs have an order
-in_front : (order : List PortName) (before later : List PortName) (port : PortName) → AllByRecursion (IsIn order) (before ++ (port ∷ later)) → IsIn order port
-in_front order [] later port all = all.0
-in_front order (first ∷ before) later port all = in_front order before later port all.1
-
-has_order : (system : System) (port : PortName) → HasNoCycle system → IsFirstWithoutOrder system port → ⊥
-has_order system port (order, orderly, all) first =
-    first.has_no_order order orderly (in_front order first.before first.later port (subst (AllByRecursion (IsIn order)) first.cut all))
-
-plain_ordered : (system : System) → IsWhole system → HasNoCycle (plain_form system)
-plain_ordered system whole = by (one_or_two system.version whole.ranged.version.0 whole.ranged.version.1)
-  where
-    by : (system.version ≡ 1) ⊎ (system.version ≡ 2) → HasNoCycle (plain_form system)
-    by (inl is) = subst HasNoCycle (sym (plain_form_1 system is)) whole.ordered
-    by (inr is) =
-        subst (λ version. HasNoCycle (cond (version == 2) (plain_of system) system)) (sym is)
-        (plain_has_no_cycle system whole.ranged whole.well_formed whole.ordered)
-
-pub no_loop : (system : System) (instance output : ℕ) → IsWhole system → IsRightPlanFault system (Loop instance output) → ⊥
-no_loop system instance output whole (port, numbered, first) = has_order (plain_form system) port (plain_ordered system whole) first

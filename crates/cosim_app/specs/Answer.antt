@@ -1,6 +1,6 @@
--- Answer: what the program puts out and notes, and how it ends, for the words of a command line and the bytes
+-- Answers: what the program puts out and notes, and how it ends, for the words of a command line and the bytes
 -- of its input.
-use Rattle.std.specs.Prelude.{◌≡◌, ℕ, List, [], ◌++◌, codes, ◌⊎◌}
+use Rattle.std.specs.Prelude.{◌≡◌, ℕ, List, ◌++◌, Option, Some, None, codes, ◌⊎◌}
 use Rattle.event_csv.specs.EventText.{event_text}
 use Rattle.event_runs.specs.EventRuns.{IsEventTraceOf}
 use Rattle.event_runs.specs.EventTrace.{EventRow}
@@ -11,23 +11,14 @@ use Rattle.unit_tree.specs.WellFormed.{resolution_of}
 use Rattle.unit_tree.specs.declared.ending.Ending.{Ending}
 use Rattle.unit_tree.specs.declared.ending.Ending.TheVariants.{Completed, RowBudget, ZeroBudget, UnitFault, StepRefused}
 use Rattle.unit_tree.specs.declared.system.System.{System}
-use Rattle.cosim_app.specs.Commands.{words_of_command, HaveNoForm}
-use Rattle.cosim_app.specs.Notes.{line_end, usage_note, refused_note, ending_note}
+use Rattle.cosim_call.specs.Answers.{Answer, piece_answer, refused_answer, usage_answer}
+use Rattle.cosim_call.specs.Notes.{line_end}
+use Rattle.cosim_call.specs.declared.status.Status.{Status}
+use Rattle.cosim_call.specs.declared.status.Status.TheVariants as status
+use Rattle.cosim_app.specs.Commands.{command_of}
+use Rattle.cosim_app.specs.Notes.{ending_notes}
 use Rattle.cosim_app.specs.declared.command_words.Command.{Command}
 use Rattle.cosim_app.specs.declared.command_words.Command.TheVariants.{Run, Check, Print}
-use Rattle.cosim_app.specs.declared.status.Status.{Status}
-use Rattle.cosim_app.specs.declared.status.Status.TheVariants as status
-
-pub record Answer : Type 0 where
-  pub out : List ℕ
-  pub notes : List ℕ
-  pub status : Status
-
-abbrev pub usage_answer : Answer
-usage_answer = record { out = []; notes = usage_note; status = status.Usage }
-
-abbrev pub refused_answer : ℕ → ℕ → Answer
-refused_answer line rule = record { out = []; notes = refused_note line rule; status = status.Refused }
 
 abbrev pub status_of : Ending → Status
 status_of Completed = status.Done
@@ -41,13 +32,13 @@ unfoldable pub traced_text : System → List EventRow → List ℕ
 traced_text system rows = event_text system rows
 
 -- What is noted of its end, by the names in the system, and with times in seconds as in the trace.
-unfoldable pub traced_note : System → Ending → Point → List ℕ
-traced_note system ending last = ending_note system (resolution_of system) ending last
+unfoldable pub traced_notes : System → Ending → Point → List (List ℕ)
+traced_notes system ending last = ending_notes system (resolution_of system) ending last
 
 -- The text of a trace, and how and where it ended.
 abbrev pub run_answer : System → List EventRow → Point → Ending → Answer
 run_answer system rows last ending =
-    record { out = traced_text system rows; notes = traced_note system ending last; status = status_of ending }
+    record { out = traced_text system rows; notes = traced_notes system ending last; status = status_of ending }
 
 -- ---- What each command answers
 
@@ -62,8 +53,11 @@ pub record AnswersRun (text : List ℕ) (answer : Answer) : Type 0 where
   pub trace : IsEventTraceOf system rows last ending
   pub is : answer ≡ run_answer system rows last ending
 
+abbrev pub accepted_text : List ℕ
+accepted_text = codes "accepted" ++ line_end
+
 abbrev pub accepted_answer : Answer
-accepted_answer = record { out = codes "accepted" ++ line_end; notes = []; status = status.Done }
+accepted_answer = piece_answer accepted_text
 
 -- A text that keeps all rules is told to be accepted.
 pub record AnswersCheck (text : List ℕ) (answer : Answer) : Type 0 where
@@ -77,7 +71,7 @@ unfoldable pub printed_text : System → List ℕ
 printed_text system = canonical_text system
 
 abbrev pub printed_answer : System → Answer
-printed_answer system = record { out = printed_text system; notes = []; status = status.Done }
+printed_answer system = piece_answer (printed_text system)
 
 -- A text that keeps all rules is answered by the canonical text of its system.
 pub record AnswersPrint (text : List ℕ) (answer : Answer) : Type 0 where
@@ -87,31 +81,35 @@ pub record AnswersPrint (text : List ℕ) (answer : Answer) : Type 0 where
   pub is : answer ≡ printed_answer system
 
 -- The answer of a command for a text that it serves.
-abbrev pub Serves : Command → List ℕ → Answer → Type 0
-Serves Run text answer = AnswersRun text answer
-Serves Check text answer = AnswersCheck text answer
-Serves Print text answer = AnswersPrint text answer
+abbrev pub ServedBy : Command → List ℕ → Answer → Type 0
+ServedBy Run text answer = AnswersRun text answer
+ServedBy Check text answer = AnswersCheck text answer
+ServedBy Print text answer = AnswersPrint text answer
+
+-- The line and the rule by which a command refuses a text.
+abbrev pub RefusedBy : Command → List ℕ → ℕ → ℕ → Type 0
+RefusedBy Run text line rule = IsRefusedAt text line rule
+RefusedBy Check text line rule = IsRefusedAt text line rule
+RefusedBy Print text line rule = IsRefusedAt text line rule
 
 -- A text that is refused is answered by its line and rule.
-pub record AnswersRefusal (text : List ℕ) (answer : Answer) : Type 0 where
+pub record AnswersRefusal (command : Command) (text : List ℕ) (answer : Answer) : Type 0 where
   pub line : ℕ
   pub rule : ℕ
-  pub refused : IsRefusedAt text line rule
+  pub refused : RefusedBy command text line rule
   pub is : answer ≡ refused_answer line rule
 
--- The answer of a command for a text.
-abbrev pub CommandAnswers : Command → List ℕ → Answer → Type 0
-CommandAnswers command text answer = AnswersRefusal text answer ⊎ Serves command text answer
+-- The answers of a command for a text.
+abbrev pub Answers : Command → List ℕ → Answer → Type 0
+Answers command text answer = AnswersRefusal command text answer ⊎ ServedBy command text answer
 
--- ---- The answer
+-- ---- The answer of a call
 
--- The answer for the words of a command on its input.
-pub record AnswersCommand (words : List (List ℕ)) (text : List ℕ) (answer : Answer) : Type 0 where
-  pub command : Command
-  pub words_are : words ≡ words_of_command command
-  pub is : CommandAnswers command text answer
+-- The answers for a text of the command that words are of; words without a form have one answer, and the input does not matter.
+abbrev pub AnswersOf : Option Command → List ℕ → Answer → Type 0
+AnswersOf (Some command) text answer = Answers command text answer
+AnswersOf None text answer = answer ≡ usage_answer
 
--- The answer for the words and the input: that of the command; words that are those of no command have no form, and the input
--- does not matter.
+-- The answers for the words and the input.
 abbrev pub IsAnswer : List (List ℕ) → List ℕ → Answer → Type 0
-IsAnswer words text answer = AnswersCommand words text answer ⊎ (HaveNoForm words × (answer ≡ usage_answer))
+IsAnswer words = AnswersOf (command_of words)

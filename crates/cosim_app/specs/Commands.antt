@@ -1,19 +1,47 @@
--- The commands of the program, by their words.
-use Rattle.std.specs.Prelude.{◌≡◌, ℕ, List, [], ◌∷◌, codes, Option, Some, None}
+-- The commands of the program, by their words, and what each reads.
+use Rattle.std.specs.Prelude.{◌≡◌, ℕ, List, [], ◌∷◌, codes, Option, Some, None, if◌then◌else◌, ◌⊎◌}
+use Rattle.std.specs.Str.{bytes_eq}
+use Rattle.unit_tree.specs.Texts.{text_limit}
+use Rattle.cosim_call.specs.declared.status.Status.{Status}
+use Rattle.cosim_call.specs.declared.status.Status.TheVariants as status
+use Rattle.cosim_app.specs.Options.{is_given_none, settings}
 use Rattle.cosim_app.specs.declared.command_words.Command.{Command}
 use Rattle.cosim_app.specs.declared.command_words.Command.TheVariants.{Run, Check, Print}
+use Rattle.cosim_app.specs.declared.options.Given.{Given}
 
--- The words of a command.
-abbrev pub words_of_command : Command → List (List ℕ)
-words_of_command Run = codes "run" ∷ []
-words_of_command Check = codes "check" ∷ []
-words_of_command Print = codes "print" ∷ []
+-- A command that takes no options.
+abbrev pub without_options : Command → Given → Option Command
+without_options command given = if is_given_none given then Some command else None
 
--- The words are those of no command.
-abbrev pub HaveNoForm : List (List ℕ) → Type 0
-HaveNoForm words = (command : Command) → words ≡ words_of_command command → ⊥
+-- The command of a word with the options that were given: a row for each command, with the options that it takes.
+abbrev pub form_of : List ℕ → Given → Option Command
+form_of word given =
+    if bytes_eq word (codes "run") then without_options Run given
+    else (if bytes_eq word (codes "check") then without_options Check given
+    else (if bytes_eq word (codes "print") then without_options Print given
+    else None))
 
--- The command that words are of, where they have a form.
-abbrev pub IsCommandOf : List (List ℕ) → Option Command → Type 0
-IsCommandOf words (Some command) = words ≡ words_of_command command
-IsCommandOf words None = HaveNoForm words
+abbrev pub form_with : List ℕ → Option Given → Option Command
+form_with word None = None
+form_with word (Some given) = form_of word given
+
+-- The command that words are of; words that are of none have no form.
+abbrev pub command_of : List (List ℕ) → Option Command
+command_of [] = None
+command_of (word ∷ words) = form_with word (settings words)
+
+-- How many bytes a command reads at most; none where it reads nothing.
+abbrev pub input_of : Command → Option ℕ
+input_of Run = Some text_limit
+input_of Check = Some text_limit
+input_of Print = Some text_limit
+
+-- Words without a form read nothing.
+abbrev pub input_of_words : Option Command → Option ℕ
+input_of_words (Some command) = input_of command
+input_of_words None = None
+
+-- Usage clause: words without a form are answered by Usage, where its note can be told, and no others are.
+pub record UsageClause (words : List (List ℕ)) (given : Status) : Type 0 where
+  pub only : given ≡ status.Usage → command_of words ≡ None
+  pub due : command_of words ≡ None → (given ≡ status.Usage) ⊎ (given ≡ status.WriteFault)

@@ -1,10 +1,9 @@
 pub mod Answer
 pub mod Commands
-pub mod ExitCodes
-pub mod Headline
-pub mod Judgement
 pub mod Laws
 pub mod Notes
-pub mod Pieces
+pub mod Options
+pub mod Serving
 pub mod SourcePlaces
 pub mod Words
+pub mod WorkedWords

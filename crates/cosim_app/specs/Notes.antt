@@ -1,7 +1,8 @@
--- Notes: the line that the program writes beside its output, for each way to end.
+-- Notes: the lines that commands write beside their output.
 use Rattle.std.specs.Prelude.{ℕ, List, [], ◌∷◌, ◌++◌, codes, Option, Some, None, slice_get}
 use Rattle.std.specs.Option.{option_and_then, option_map, unwrap_or}
 use Rattle.std.specs.Fmt.{decimal}
+use Rattle.cosim_call.specs.Notes.{note}
 use Rattle.fixed_words.specs.declared.types.Fault.{Fault}
 use Rattle.fixed_words.specs.declared.types.Fault.TheVariants.{Overflow, Range, ZeroDivisor, Accept, Max}
 use Rattle.super_time.specs.Seconds.{seconds_text_of}
@@ -13,29 +14,6 @@ use Rattle.unit_tree.specs.declared.ending.Place.TheVariants as place
 use Rattle.super_time.specs.declared.point.Point.{Point}
 use Rattle.unit_tree.specs.declared.system.System.{System}
 use Rattle.unit_tree.specs.declared.unit.Unit.{Unit}
-
-abbrev pub line_end : List ℕ
-line_end = 10 ∷ []
-
--- One line of the program's own.
-abbrev pub note : List ℕ → List ℕ
-note text = codes "cosim: " ++ text ++ line_end
-
-abbrev pub usage_note : List ℕ
-usage_note = note (codes "usage")
-
-abbrev pub read_fault_note : List ℕ
-read_fault_note = note (codes "read fault")
-
-abbrev pub write_fault_note : List ℕ
-write_fault_note = note (codes "write fault")
-
-abbrev pub no_memory_note : List ℕ
-no_memory_note = note (codes "no memory")
-
--- The line of the text and the rule that it breaks there.
-abbrev pub refused_note : ℕ → ℕ → List ℕ
-refused_note line rule = note (codes "line " ++ decimal line ++ codes ": rule " ++ decimal rule)
 
 abbrev pub fault_number : Fault → ℕ
 fault_number Overflow = 1
@@ -88,12 +66,12 @@ abbrev pub step_refused_text : ℕ → List ℕ → ℕ → ℕ → Point → Li
 step_refused_text resolution instance asked accepted point =
     note (instance ++ lengths_text asked accepted ++ codes ", at " ++ point_text resolution point)
 
--- The note of how a run of a system ended at its last point: none where it came to its stop.
-abbrev pub ending_note : System → ℕ → Ending → Point → List ℕ
-ending_note system resolution Completed point = []
-ending_note system resolution RowBudget point = budget_text resolution (codes "row") point
-ending_note system resolution ZeroBudget point = budget_text resolution (codes "zero") point
-ending_note system resolution (UnitFault instance where_ fault) point =
-    fault_text resolution (instance_name system instance) (place_text system instance where_) fault point
-ending_note system resolution (StepRefused instance asked accepted) point =
-    step_refused_text resolution (instance_name system instance) asked accepted point
+-- The lines that tell how a run of a system ended at its last point: none where it came to its stop.
+abbrev pub ending_notes : System → ℕ → Ending → Point → List (List ℕ)
+ending_notes system resolution Completed point = []
+ending_notes system resolution RowBudget point = budget_text resolution (codes "row") point ∷ []
+ending_notes system resolution ZeroBudget point = budget_text resolution (codes "zero") point ∷ []
+ending_notes system resolution (UnitFault instance where_ fault) point =
+    fault_text resolution (instance_name system instance) (place_text system instance where_) fault point ∷ []
+ending_notes system resolution (StepRefused instance asked accepted) point =
+    step_refused_text resolution (instance_name system instance) asked accepted point ∷ []

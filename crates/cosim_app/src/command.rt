@@ -1,38 +1,58 @@
-//! The commands of the program.
-ghost use Rattle.std.specs.Prelude.{◌≡◌, []};
-ghost use Rattle.cosim_app.specs.Headline.{Promises, streams};
-ghost use Rattle.cosim_app.specs.Judgement.{TellsNote};
-ghost use Rattle.cosim_app.specs.Laws.{EveryCallIsAnswered, NoCallIsAnsweredTwice};
+//! The call of the program.
+ghost use Rattle.cosim_call.specs.Calls.{Promises, stream, streams};
+ghost use Rattle.cosim_call.specs.Coming.{Comes, Serves};
+ghost use Rattle.cosim_app.specs.Answer.{Answers, IsAnswer};
+ghost use Rattle.cosim_app.specs.Commands.{UsageClause, command_of, input_of, input_of_words};
+ghost use Rattle.cosim_app.specs.Laws.{AnswersAgree, EveryCallIsAnswered, NoCallIsAnsweredTwice};
 ghost use Rattle.cosim_app.specs.Words.{bytes_of};
 
-use crate::command_words::command_of;
-use crate::judge::judge;
-use crate::status::Status;
-use crate::verdict::Verdict;
+use crate::command_words::{Command, command_of};
+use crate::commands::{check, print, run};
+use cosim_call::{Served, Status, Stopped, finish, put_made, read_input, tell};
 use cosim_io::{Sink, Source};
 use std::alloc::Global;
 use std::sync::Wait;
 use std::thread::Threads;
 
-/// Tells a note, where there is one, with the status that it is for. For an empty one the notes are not asked: they stay as they
-/// are, whatever they would answer.
-pub fn tell<N: Sink>(notes: &mut N, note: &[u8], status: Status) -> Status
-    ensures none { note.now ≡ [] → (notes.new ≡ notes.old) × (result ≡ status) }
-    ensures told { TellsNote (N.held notes.old) (N.held notes.new) (N.faults notes.old) (N.faults notes.new) note.now status result }
+/// A command on its whole text, in the calling thread.
+#[tactic(auto, using(cosim_call::proofs::ComingLaws::serves_made))]
+fn serve<O: Sink>(
+    alloc: Global,
+    command: Command,
+    text: &[u8],
+    out: &mut O,
+) -> Result<Served, Stopped>
+    ensures { Serves (Answers command text.now) (stream (O.held out.old) (O.faults out.old)) (stream (O.held out.new) (O.faults out.new)) result }
 {
-    if note.is_empty() {
-        return status;
+    match command {
+        Command::Run => run::serve(alloc, text, out),
+        Command::Check => put_made(alloc, check::make(alloc, text), out),
+        Command::Print => put_made(alloc, print::make(alloc, text), out),
     }
-    match notes.put(note) {
-        Ok(()) => status,
-        Err(_) => Status::WriteFault,
+}
+
+/// A command on what the source has left, as far as it asks for it.
+fn come<S: Source, O: Sink>(
+    alloc: Global,
+    command: Command,
+    source: &mut S,
+    out: &mut O,
+) -> Result<Served, Stopped>
+    ensures { Comes (input_of command) (Answers command)
+        (stream (S.left source.old) (S.faults source.old)) (stream (S.left source.new) (S.faults source.new))
+        (stream (O.held out.old) (O.faults out.old)) (stream (O.held out.new) (O.faults out.new))
+        result }
+{
+    match read_input(alloc, source, command.input()) {
+        Ok(text) => serve(alloc, command, &text, out),
+        Err(why) => Err(why),
     }
 }
 
 /// Serves every form of words in the calling thread, and returns.
 ///
-/// The words are those behind the program's name. The output gets the bytes of the command, the notes get at
-/// most one line, and the answer is the status of the call.
+/// The words are those behind the program's name. The output gets the bytes of the command, the notes get its lines, and the
+/// answer is the status of the call.
 pub fn cosim_alone<S: Source, O: Sink, N: Sink>(
     alloc: Global,
     words: &[String],
@@ -40,19 +60,18 @@ pub fn cosim_alone<S: Source, O: Sink, N: Sink>(
     out: &mut O,
     notes: &mut N,
 ) -> Status
-    ensures headline { Promises (bytes_of words.now)
+    ensures headline { Promises (input_of_words (command_of (bytes_of words.now))) (IsAnswer (bytes_of words.now))
         (streams (S.left source.old) (S.faults source.old) (O.held out.old) (O.faults out.old) (N.held notes.old) (N.faults notes.old))
         (streams (S.left source.new) (S.faults source.new) (O.held out.new) (O.faults out.new) (N.held notes.new) (N.faults notes.new))
         result }
+    ensures usage { UsageClause (bytes_of words.now) result }
 {
-    let Some(command) = command_of(words) else {
-        return tell(notes, b"cosim: usage\n", Status::Usage);
-    };
-    match judge(alloc, command, source, out) {
-        Verdict::Answered { status, note } => tell(notes, &note, status),
-        Verdict::ReadFault => tell(notes, b"cosim: read fault\n", Status::ReadFault),
-        Verdict::WriteFault => tell(notes, b"cosim: write fault\n", Status::WriteFault),
-        Verdict::NoMemory => tell(notes, b"cosim: no memory\n", Status::NoMemory),
+    match command_of(words) {
+        Some(command) => {
+            let came = come(alloc, command, source, out);
+            finish(alloc, notes, came)
+        }
+        None => tell(notes, b"cosim: usage\n", Status::Usage),
     }
 }
 
@@ -65,17 +84,20 @@ pub fn cosim<R: Threads + Wait + Copy + Send, S: Source, O: Sink, N: Sink>(
     out: &mut O,
     notes: &mut N,
 ) -> Status
-    ensures headline { Promises (bytes_of words.now)
+    ensures headline { Promises (input_of_words (command_of (bytes_of words.now))) (IsAnswer (bytes_of words.now))
         (streams (S.left source.old) (S.faults source.old) (O.held out.old) (O.faults out.old) (N.held notes.old) (N.faults notes.old))
         (streams (S.left source.new) (S.faults source.new) (O.held out.new) (O.faults out.new) (N.held notes.new) (N.faults notes.new))
         result }
+    ensures usage { UsageClause (bytes_of words.now) result }
 {
     let _unused = rt;
     cosim_alone(alloc, words, source, out, notes)
 }
 
-/// A law: for each list of words and each input there is exactly one answer.
+/// A law: for each list of words and each input there is an answer, all answers put the same and have the same status, and there
+/// are no two.
 pub fn one_answer()
     ensures some { EveryCallIsAnswered }
+    ensures agree { AnswersAgree }
     ensures only { NoCallIsAnsweredTwice }
 {}

@@ -1,10 +1,13 @@
 //! The words of the commands.
-ghost use Rattle.std.specs.Prelude.{◌≡◌, ◌∷◌, []};
-ghost use Rattle.std.specs.Prelude.{string_bytes};
-ghost use Rattle.cosim_app.specs.Commands.{IsCommandOf};
+ghost use Rattle.std.specs.Prelude.{◌≡◌};
+ghost use Rattle.cosim_app.specs.Commands.{command_of, form_of, input_of, without_options};
 ghost use Rattle.cosim_app.specs.Words.{bytes_of};
+ghost use Rattle.cosim_app.specs.WorkedWords.{CommandsAreWorked, NumbersAreWorked, OptionsAreWorked};
 
-/// A command of the program.
+use crate::options::{Given, settings};
+use unit_text::LONGEST_TEXT;
+
+/// A command of the program, with its options.
 #[derive(Clone, Copy, Debug, PartialEq, Eq)]
 pub enum Command {
     /// Puts the trace of the text's system.
@@ -15,16 +18,34 @@ pub enum Command {
     Print,
 }
 
-/// The command of a word.
-fn command_named(word: &str) -> Option<Command>
-    ensures { IsCommandOf (word.now ∷ []) result }
+impl Command {
+    /// How many bytes it reads at most; none where it reads nothing.
+    pub(crate) fn input(self) -> Option<usize>
+        ensures { result ≡ input_of self }
+    {
+        match self {
+            Command::Run | Command::Check | Command::Print => Some(LONGEST_TEXT),
+        }
+    }
+}
+
+/// A command that takes no options.
+fn without_options(command: Command, given: Given) -> Option<Command>
+    ensures { result ≡ without_options command given }
+{
+    if given.is_none() { Some(command) } else { None }
+}
+
+/// The command of a word with the options that were given: a row for each command, with the options that it takes.
+fn form_of(word: &str, given: Given) -> Option<Command>
+    ensures { result ≡ form_of word.now given }
 {
     if word == "run" {
-        Some(Command::Run)
+        without_options(Command::Run, given)
     } else if word == "check" {
-        Some(Command::Check)
+        without_options(Command::Check, given)
     } else if word == "print" {
-        Some(Command::Print)
+        without_options(Command::Print, given)
     } else {
         None
     }
@@ -32,10 +53,17 @@ fn command_named(word: &str) -> Option<Command>
 
 /// The command that words are of; none where they have no form.
 pub(crate) fn command_of(words: &[String]) -> Option<Command>
-    ensures { IsCommandOf (bytes_of words.now) result }
+    ensures { result ≡ command_of (bytes_of words.now) }
 {
     match words {
-        [word] => command_named(word.as_str()),
-        _ => None,
+        [] => None,
+        [word, options @ ..] => form_of(word.as_str(), settings(options)?),
     }
 }
+
+/// A law: words that were worked out by hand give the options and are of the commands that they should.
+pub fn words_are_worked()
+    ensures numbers { NumbersAreWorked }
+    ensures options { OptionsAreWorked }
+    ensures commands { CommandsAreWorked }
+{}

@@ -1,12 +1,13 @@
 //! The notes of the program.
-ghost use Rattle.std.specs.Prelude.{◌≡◌, ◌≤◌, ◌++◌, IfOk, OnOk};
-ghost use Rattle.cosim_app.specs.Answer.{traced_note};
+ghost use Rattle.std.specs.Prelude.{◌≡◌, ◌≤◌, ◌∷◌, [], ◌++◌, IfOk, OnOk};
+ghost use Rattle.cosim_call.specs.Notes.{line_end};
+ghost use Rattle.cosim_app.specs.Answer.{traced_notes};
 ghost use Rattle.cosim_app.specs.SourcePlaces.{instance_shape, source_end, source_place};
 ghost use Rattle.event_runs.specs.Readings.{event_shape, output_read};
-ghost use Rattle.cosim_app.specs.Notes.{fault_number, instance_name, name_in, output_name, place_text, refused_note, point_text, fault_text, budget_text, lengths_text, step_refused_text, ending_note, line_end};
+ghost use Rattle.cosim_app.specs.Notes.{fault_number, instance_name, name_in, output_name, place_text, point_text, fault_text, budget_text, lengths_text, step_refused_text, ending_notes};
 
-use crate::pieces::append_all;
-use fixed_words::{Fault, NoMemory};
+use cosim_call::append_all;
+use fixed_words::{Fault, List, NoMemory};
 use itoa::Buffer;
 use std::alloc::Global;
 use super_time::seconds_text;
@@ -24,25 +25,6 @@ fn number(fault: Fault) -> u8
         Fault::Accept => 4,
         Fault::Max => 5,
     }
-}
-
-/// The line of the text and the rule that it breaks there.
-pub fn refusal(alloc: Global, line: u32, rule: u8) -> Result<Vec<u8>, NoMemory>
-    ensures { IfOk result (λ note. note.items ≡ refused_note line rule) }
-{
-    let (mut line_text, mut rule_text) = (Buffer::new(), Buffer::new());
-    let mut note = Vec::new(alloc);
-    append_all(
-        &mut note,
-        &[
-            b"cosim: line ",
-            line_text.format(line).as_bytes(),
-            b": rule ",
-            rule_text.format(rule).as_bytes(),
-            b"\n",
-        ],
-    )?;
-    Ok(note)
 }
 
 /// Ends a note by the point that it tells, its time in seconds with `resolution` decimals.
@@ -187,41 +169,61 @@ fn refused_step_note(
     Ok(note)
 }
 
-/// How the plain form of a system ended at its last point, by the names in the system: nothing where it came to its stop.
-fn ending_note(
+/// One line of notes.
+fn one(alloc: Global, line: Vec<u8>) -> Result<List<List<u8>>, NoMemory>
+    ensures { IfOk result (λ lines. lines ≡ line.items ∷ []) }
+{
+    let mut lines = List::new(alloc);
+    lines.push(List::from_vec(line))?;
+    Ok(lines)
+}
+
+/// How the plain form of a system ended at its last point, by the names in the system: no line where it came to its stop.
+fn ending_notes(
     alloc: Global,
     system: &System,
     resolution: u8,
     ending: Ending,
     last: Point,
-) -> Result<Vec<u8>, NoMemory>
+) -> Result<List<List<u8>>, NoMemory>
     requires { resolution ≤ 9 }
-    ensures { IfOk result (λ note. note.items ≡ ending_note system.now resolution (source_end system.now ending) last) }
+    ensures { IfOk result (λ lines. lines ≡ ending_notes system.now resolution (source_end system.now ending) last) }
 {
     match ending {
-        Ending::Completed => Ok(Vec::new(alloc)),
-        Ending::RowBudget => budget_note(alloc, resolution, b"row", last),
-        Ending::ZeroBudget => budget_note(alloc, resolution, b"zero", last),
+        Ending::Completed => Ok(List::new(alloc)),
+        Ending::RowBudget => one(alloc, budget_note(alloc, resolution, b"row", last)?),
+        Ending::ZeroBudget => one(alloc, budget_note(alloc, resolution, b"zero", last)?),
         Ending::UnitFault {
             instance,
             place,
             fault,
-        } => fault_note(alloc, system, resolution, instance, place, fault, last),
+        } => one(
+            alloc,
+            fault_note(alloc, system, resolution, instance, place, fault, last)?,
+        ),
         Ending::StepRefused {
             instance,
             asked,
             accepted,
         } => {
             let name = instance_name(system, instance);
-            refused_step_note(alloc, resolution, name, asked, accepted, last)
+            one(
+                alloc,
+                refused_step_note(alloc, resolution, name, asked, accepted, last)?,
+            )
         }
     }
 }
 
-/// How the run of a plan ended at its last point: nothing where it came to its stop.
-pub fn ending(alloc: Global, plan: &Plan, ending: Ending, last: Point) -> Result<Vec<u8>, NoMemory>
-    ensures { IfOk result (λ note. note.items ≡ traced_note plan.now.system (source_end plan.now.system ending) last) }
+/// How the run of a plan ended at its last point: no line where it came to its stop.
+pub fn ending(
+    alloc: Global,
+    plan: &Plan,
+    ending: Ending,
+    last: Point,
+) -> Result<List<List<u8>>, NoMemory>
+    ensures { IfOk result (λ lines. lines ≡ traced_notes plan.now.system (source_end plan.now.system ending) last) }
 {
     let system = plan.checked().source();
-    ending_note(alloc, system, plan.resolution(), ending, last)
+    ending_notes(alloc, system, plan.resolution(), ending, last)
 }

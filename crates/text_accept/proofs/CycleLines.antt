@@ -1,13 +1,12 @@
 -- The line at which the code names a cycle.
 use Rattle.std.proofs.Common.{◌≡◌, ℕ, List, Option, Some, Result, Ok, Err, ◌⊎◌, inl, inr, refl, ap, sym, subst, ◌∙◌}
 use Rattle.std.specs.Prelude.{slice_get, IsSome}
-use Rattle.text_laws.proofs.ReadIsPrintable.{read_is_printable}
 use Rattle.text_accept.specs.Accepting.{AnswersAcceptance, AnswersSystem}
 use Rattle.text_accept.specs.declared.accepting.AcceptedText.{AcceptedText}
 use Rattle.unit_text.specs.declared.fault.TextFault.{TextFault}
 use Rattle.unit_text.specs.declared.fault.TextFault.TheVariants as fault
 use Rattle.text_accept.specs.Marks.{IsWithoutMark}
-use Rattle.text_accept.proofs.SourceCycles.{IsMadeOf, SourceOutput, source_of, without_cycle, name_is_plain}
+use Rattle.text_accept.proofs.SourceCycles.{IsMadeOf, SourceOutput, source_of, name_is_plain}
 use Rattle.unit_tree.specs.Compositions.{run_of}
 use Rattle.unit_tree.specs.Orders.{HasNoCycle, IsFirstWithoutOrder, line_of_output}
 use Rattle.unit_tree.specs.Plain.{plain_form}

@@ -1,4 +1,4 @@
-use Rattle.std.proofs.Common.{Err, Ok, refl, sym, ap, subst, ◌∙◌, arith}
+use Rattle.std.proofs.Common.{refl, sym, ap, subst, ◌∙◌, arith}
 use Rattle.trace_rows.specs.Reports.{ReportsRest}
 use Rattle.trace_rows.proofs.RowLaws.{err_is, on_err, tells_given_up, tells_none}
 use Rattle.trace_rows.proofs.RunEnds.{front_come, reports_rest}

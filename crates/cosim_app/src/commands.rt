@@ -1,0 +1,22 @@
+//! The commands, one a module. A command that makes one piece has a `make`, any other a `serve`.
+ghost use Rattle.cosim_app.specs.Serving.{Accepts};
+
+pub(crate) mod check;
+pub(crate) mod print;
+pub(crate) mod run;
+
+use cosim_call::Stopped;
+use std::alloc::Global;
+use text_accept::{AcceptedText, accept_text};
+use unit_text::TextFault;
+
+/// Judges a text by all rules.
+pub(crate) fn accept(alloc: Global, text: &[u8]) -> Result<AcceptedText, Stopped>
+    ensures { Accepts text.now result }
+{
+    match accept_text(alloc, text) {
+        Ok(read) => Ok(read),
+        Err(TextFault::Line { line, rule }) => Err(Stopped::Refused { line, rule }),
+        Err(TextFault::NoMemory) => Err(Stopped::NoMemory),
+    }
+}

@@ -1,0 +1,102 @@
+-- What a command owes before it is told: what it has read and put, and what it came to.
+use Rattle.std.specs.Prelude.{◌≡◌, ℕ, ◌<◌, List, [], ◌∷◌, length, Option, Some, None, IfSome, Result, Ok, Err, ◌⊎◌, ⊤, Vec}
+use Rattle.std.specs.declared.alloc.Global.{Global}
+use Rattle.std.specs.Io.KnownBytes.{Appends, IsAtEnd}
+use Rattle.cosim_io.specs.Pieces.{AppendsPrefix}
+use Rattle.cosim_call.specs.Answers.{Answer, piece_answer, refused_answer}
+use Rattle.cosim_call.specs.Calls.{Stream, Fails, HasAnswer, PutsFront, TakesAtMost}
+use Rattle.cosim_call.specs.Notes.{refused_note}
+use Rattle.cosim_call.specs.declared.coming.Served.{Served}
+use Rattle.cosim_call.specs.declared.coming.Stopped.{Stopped}
+use Rattle.cosim_call.specs.declared.coming.Stopped.TheVariants as stopped
+use Rattle.cosim_call.specs.declared.status.Status.{Status}
+use Rattle.cosim_call.specs.declared.status.Status.TheVariants as status
+
+-- A status with which a command ends that did its work.
+abbrev pub IsEnd : Status → Type 0
+IsEnd status.Done = ⊤
+IsEnd status.ZeroBudget = ⊤
+IsEnd status.RowBudget = ⊤
+IsEnd status.UnitFault = ⊤
+IsEnd status.StepRefused = ⊤
+IsEnd _ = ⊥
+
+-- ---- On a whole text
+
+-- What was put begins the bytes of one of these answers, or nothing was put.
+abbrev pub Begins : (Answer → Type 0) → Stream → Stream → Type 0
+Begins IsAnswer out out' = (out'.bytes ≡ out.bytes) ⊎ ((answer : Answer) × IsAnswer answer × AppendsPrefix out.bytes out'.bytes answer.out)
+
+-- The answer was put, and its notes and status are these.
+pub record PutsAnswer (IsAnswer : Answer → Type 0) (out out' : Stream) (served : Served) : Type 0 where
+  pub answer : Answer
+  pub is : IsAnswer answer
+  pub put : Appends out.bytes out'.bytes answer.out
+  pub notes : served.notes ≡ answer.notes
+  pub status : served.status ≡ answer.status
+  pub ends : IsEnd served.status
+
+-- What a command owes on a whole text, whose answers are these.
+abbrev pub Serves : (Answer → Type 0) → Stream → Stream → Result Served Stopped → Type 0
+Serves IsAnswer out out' (Ok served) = PutsAnswer IsAnswer out out' served × (out'.faults ≡ out.faults)
+Serves IsAnswer out out' (Err (stopped.Refused line rule)) = IsAnswer (refused_answer line rule) × (out' ≡ out)
+Serves IsAnswer out out' (Err stopped.WriteFault) = Begins IsAnswer out out' × Fails out out'
+Serves IsAnswer out out' (Err stopped.NoMemory) = Begins IsAnswer out out' × (out'.faults ≡ out.faults)
+Serves IsAnswer out out' (Err stopped.ReadFault) = ⊥
+
+-- What a command owes that makes one piece of a whole text: the bytes of an answer without notes, or a refusal.
+abbrev pub Makes : (Answer → Type 0) → Result (Vec ℕ Global) Stopped → Type 0
+Makes IsAnswer (Ok bytes) = IsAnswer (piece_answer bytes.items)
+Makes IsAnswer (Err (stopped.Refused line rule)) = IsAnswer (refused_answer line rule)
+Makes IsAnswer (Err stopped.NoMemory) = ⊤
+Makes IsAnswer (Err _) = ⊥
+
+-- The piece was put, and there is nothing to note; or the put failed, and what was put begins the piece.
+abbrev pub PutsPiece : List ℕ → Stream → Stream → Result Served Stopped → Type 0
+PutsPiece bytes out out' (Ok served) = (served.status ≡ status.Done) × (served.notes ≡ []) × Appends out.bytes out'.bytes bytes × (out'.faults ≡ out.faults)
+PutsPiece bytes out out' (Err stopped.WriteFault) = AppendsPrefix out.bytes out'.bytes bytes × Fails out out'
+PutsPiece bytes out out' (Err _) = ⊥
+
+-- What was made is put, or why it was not made is handed on.
+abbrev pub PutsMade : Result (Vec ℕ Global) Stopped → Stream → Stream → Result Served Stopped → Type 0
+PutsMade (Ok bytes) out out' result = PutsPiece bytes.items out out' result
+PutsMade (Err why) out out' result = (result ≡ Err why) × (out' ≡ out)
+
+-- ---- On the source
+
+-- The input was read as far as it is asked for.
+abbrev pub ReadsInput : Option ℕ → Stream → Stream → Result (Vec ℕ Global) Stopped → Type 0
+ReadsInput None source source' (Ok text) = source' ≡ source
+ReadsInput None source source' (Err _) = ⊥
+ReadsInput (Some limit) source source' (Ok text) =
+    IfSome source.bytes (λ left. text.items ≡ left) × IsAtEnd source'.bytes × (source'.faults ≡ source.faults)
+ReadsInput (Some limit) source source' (Err (stopped.Refused line rule)) =
+    (line ≡ 1) × (rule ≡ 2) × IfSome source.bytes (λ left. limit < length left) × (source'.faults ≡ source.faults)
+ReadsInput (Some limit) source source' (Err stopped.ReadFault) = Fails source source'
+ReadsInput (Some limit) source source' (Err stopped.NoMemory) = source'.faults ≡ source.faults
+ReadsInput (Some limit) source source' (Err stopped.WriteFault) = ⊥
+
+-- An answer was put, and its notes and status are these; the source was read as far as it is asked for.
+pub record ComesToAnswer (input : Option ℕ) (IsAnswer : List ℕ → Answer → Type 0) (source source' out out' : Stream) (given : Status)
+    (notes : List (List ℕ)) : Type 0 where
+  pub gives : HasAnswer IsAnswer source (λ answer. Appends out.bytes out'.bytes answer.out × (notes ≡ answer.notes) × (given ≡ answer.status))
+  pub source_quiet : source'.faults ≡ source.faults
+  pub out_quiet : out'.faults ≡ out.faults
+  pub read : (limit : ℕ) → input ≡ Some limit → IsAtEnd source'.bytes ⊎ ((given ≡ status.Refused) × IfSome source.bytes (λ text. limit < length text))
+
+-- What a command came to.
+abbrev pub CameTo : Option ℕ → (List ℕ → Answer → Type 0) → Stream → Stream → Stream → Stream → Result Served Stopped → Type 0
+CameTo input IsAnswer source source' out out' (Ok served) = ComesToAnswer input IsAnswer source source' out out' served.status served.notes
+    × IsEnd served.status
+CameTo input IsAnswer source source' out out' (Err (stopped.Refused line rule)) =
+    ComesToAnswer input IsAnswer source source' out out' status.Refused (refused_note line rule ∷ []) × (out' ≡ out)
+CameTo input IsAnswer source source' out out' (Err stopped.ReadFault) = PutsFront IsAnswer source out out' × Fails source source' × (out' ≡ out)
+CameTo input IsAnswer source source' out out' (Err stopped.WriteFault) =
+    PutsFront IsAnswer source out out' × (source'.faults ≡ source.faults) × Fails out out'
+CameTo input IsAnswer source source' out out' (Err stopped.NoMemory) =
+    PutsFront IsAnswer source out out' × (source'.faults ≡ source.faults) × (out'.faults ≡ out.faults)
+
+-- And no more was taken from the source than the command asks for.
+pub record Comes (input : Option ℕ) (IsAnswer : List ℕ → Answer → Type 0) (source source' out out' : Stream) (came : Result Served Stopped) : Type 0 where
+  pub taken : TakesAtMost input source source'
+  pub to : CameTo input IsAnswer source source' out out' came

@@ -1,0 +1,89 @@
+//! What a command comes to, before it is told.
+ghost use Rattle.std.specs.Prelude.{◌≡◌};
+ghost use Rattle.cosim_call.specs.Calls.{TakesAtMost, stream};
+ghost use Rattle.cosim_call.specs.Coming.{ReadsInput, PutsPiece, PutsMade};
+
+use crate::status::Status;
+use cosim_io::{ReadEnd, Sink, Source, read_all};
+use fixed_words::{List, NoMemory};
+use std::alloc::Global;
+
+/// A command did its work, and put what its answer puts: how it ended, and the lines of its notes, which are told now.
+#[derive(Debug, Drop)]
+pub struct Served {
+    pub status: Status,
+    pub notes: List<List<u8>>,
+}
+
+/// Why a command did not come to an end of its own.
+#[derive(Clone, Copy, Debug, PartialEq, Eq)]
+pub enum Stopped {
+    /// The text breaks a rule. Nothing was put.
+    Refused { line: u32, rule: u8 },
+    ReadFault,
+    WriteFault,
+    NoMemory,
+}
+
+impl From<NoMemory> for Stopped {
+    ghost use Rattle.cosim_call.specs.declared.coming.Stopped.TheVariants.{NoMemory};
+
+    ghost from_gives = { λ _ why. why ≡ NoMemory };
+
+    fn from(_: NoMemory) -> Stopped {
+        Stopped::NoMemory
+    }
+}
+
+/// The rule of an input that is too long.
+pub const SIZE_RULE: u8 = 2;
+
+/// Reads the whole input of a command that takes at most so many bytes, or nothing for a command that reads none.
+pub fn read_input<S: Source>(
+    alloc: Global,
+    source: &mut S,
+    input: Option<usize>,
+) -> Result<Vec<u8>, Stopped>
+    ensures reads { ReadsInput input (stream (S.left source.old) (S.faults source.old)) (stream (S.left source.new) (S.faults source.new)) result }
+    ensures taken { TakesAtMost input (stream (S.left source.old) (S.faults source.old)) (stream (S.left source.new) (S.faults source.new)) }
+{
+    let Some(limit) = input else {
+        return Ok(Vec::new(alloc));
+    };
+    match read_all(alloc, source, limit) {
+        Ok(text) => Ok(text),
+        Err(ReadEnd::TooLong) => Err(Stopped::Refused {
+            line: 1,
+            rule: SIZE_RULE,
+        }),
+        Err(ReadEnd::Fault) => Err(Stopped::ReadFault),
+        Err(ReadEnd::NoMemory) => Err(Stopped::NoMemory),
+    }
+}
+
+/// Puts the one piece of a command that did its work and has nothing to note.
+fn put_piece<O: Sink>(alloc: Global, bytes: &[u8], out: &mut O) -> Result<Served, Stopped>
+    ensures { PutsPiece bytes.now (stream (O.held out.old) (O.faults out.old)) (stream (O.held out.new) (O.faults out.new)) result }
+{
+    match out.put(bytes) {
+        Ok(()) => Ok(Served {
+            status: Status::Done,
+            notes: List::new(alloc),
+        }),
+        Err(_) => Err(Stopped::WriteFault),
+    }
+}
+
+/// Puts the one piece of a command that makes one, if it made it.
+pub fn put_made<O: Sink>(
+    alloc: Global,
+    made: Result<Vec<u8>, Stopped>,
+    out: &mut O,
+) -> Result<Served, Stopped>
+    ensures { PutsMade made (stream (O.held out.old) (O.faults out.old)) (stream (O.held out.new) (O.faults out.new)) result }
+{
+    match made {
+        Ok(bytes) => put_piece(alloc, &bytes, out),
+        Err(why) => Err(why),
+    }
+}
