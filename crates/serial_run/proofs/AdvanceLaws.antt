@@ -1,16 +1,15 @@
 -- How a run gets from one row to the next.
-use Rattle.std.proofs.Common.{◌≡◌, ℕ, ◌+◌, true, false, List, [], ◌++◌, length, map, Option, Some, None, inl, inr, refl, sym, ap, subst, ◌∙◌, arith}
+use Rattle.std.proofs.Common.{◌≡◌, ℕ, ◌+◌, true, false, List, [], length, None, inl, inr, refl, sym, ap, subst, ◌∙◌, arith}
 use Rattle.std.specs.List.{count_by}
 use Rattle.std.proofs.lemmas.Slice.Zip.{AllZip-long}
-use Rattle.trace_core.specs.Runs.{Cell, RunState, Stands, IsPhase, arrived, cells_of, cell_of, first_end, is_empty_cell}
+use Rattle.trace_core.specs.Runs.{Cell, RunState, Stands, IsPhase, arrived, cells_of, first_end, is_empty_cell}
 use Rattle.trace_core.specs.Settling.{IsRedoDue, Moves, Ends, Settled}
 use Rattle.trace_core.specs.declared.phase.Phase.{Phase}
 use Rattle.trace_core.specs.declared.phase.Phase.TheVariants.{Trial, Redo, Ended}
 use Rattle.trace_core.specs.declared.phase.Settle.{Settle}
 use Rattle.trace_core.specs.declared.phase.Settle.TheVariants as settle
-use Rattle.unit_tree.specs.Compositions.{Composition}
-use Rattle.unit_tree.specs.Successor.{proposed, agreed, trial_end, is_redone, successor, ends}
-use Rattle.unit_tree.specs.Trace.{Stand, AreWordsOf, cells_of_trial, cells_at}
+use Rattle.unit_tree.specs.Successor.{proposed, agreed, trial_end, is_redone}
+use Rattle.unit_tree.specs.Trace.{AreWordsOf, cells_of_trial, cells_at}
 use Rattle.unit_tree.specs.declared.ending.Ending.{Ending}
 use Rattle.trace_rows.specs.Passing.{IsFresh}
 use Rattle.trace_rows.proofs.FreshRuns.{IsTried, phase_by, fresh_tried, over_from, ended_as, cells_ended}

@@ -96,7 +96,8 @@ own_cells system held held' (Err fault) reports alone = tt
 
 pub own_bounded : (plan : Planned) (from : Position) (held held' : Option (List ℕ)) (result : Result Report CrewFault)
     → IfOk result (ReportsRest plan from held held') → IfOk result (λ report. report.own ≤ 2 * length plan.run.members * report.rows)
-own_bounded plan from held held' (Ok report) rest = own_at_most report.found report.own (2 * length plan.run.members * report.rows) (rest_bounded plan from held held' report rest)
+own_bounded plan from held held' (Ok report) rest =
+    own_at_most report.found report.own (2 * length plan.run.members * report.rows) (rest_bounded plan from held held' report rest)
   where
     own_at_most : (found own most : ℕ) → found + own ≤ most → own ≤ most
     own_at_most found own most all = omega (arith, all)

@@ -1,5 +1,5 @@
 -- The phase of a run at which no cell was filled where it stands.
-use Rattle.std.proofs.Common.{◌≡◌, ℕ, ◌+◌, false, [], map, cond, Option, Some, None, refl, sym, ap, subst, ◌∙◌}
+use Rattle.std.proofs.Common.{◌≡◌, ◌+◌, false, [], map, cond, Option, Some, None, refl, sym, ap, subst, ◌∙◌}
 use Rattle.std.specs.Prelude.{◌&&◌, is_some, is_none}
 use Rattle.trace_core.specs.Runs.{RunState, IsPhase, cells_of, cell_of, first_end, phase_or, is_ended}
 use Rattle.trace_core.specs.declared.phase.Phase.{Phase}

@@ -132,7 +132,8 @@ same_ending : (one other : Ending) → Ended one ≡ Ended other → one ≡ oth
 same_ending one other is = cc
 
 pub reports_rest : (plan : Planned) (from : Position) (r : RunState) (held0 held : Option (List ℕ)) (tally : Tally) (ending : Ending) (report : Report)
-    → Given plan from → IsDone plan from r held0 held tally → r.phase ≡ Ended ending → IsReportOf r ending tally report → ReportsRest plan from held0 held report
+    → Given plan from → IsDone plan from r held0 held tally → r.phase ≡ Ended ending → IsReportOf r ending tally report
+    → ReportsRest plan from held0 held report
 reports_rest plan from r held0 held tally ending report given done is told =
     let one = one_rest plan.run given.order given.members given.ordered from given.words given.in_bounds in
     let whole = walked_end plan.run from done.passed r.stand one.stands one.ending done.ending done.walked done.ended one.goes_on in
