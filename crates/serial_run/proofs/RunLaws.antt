@@ -7,10 +7,11 @@ use Rattle.trace_plan.specs.Plans.{Planned}
 use Rattle.unit_tree.specs.Compositions.{run_of}
 use Rattle.unit_tree.specs.Successor.{Position, first_position}
 use Rattle.unit_tree.specs.Trace.{HasCells, cells_at}
+use Rattle.unit_tree.specs.declared.ending.Ending.{Ending}
 use Rattle.unit_tree.specs.declared.system.System.{System}
 use Rattle.trace_rows.specs.Lines.{header_of}
 use Rattle.trace_rows.specs.Passing.{IsFresh, Passes, Stops}
-use Rattle.trace_rows.specs.Reports.{ReportsRest, PutsRestFront, ReportsTrace, PutsFront}
+use Rattle.trace_rows.specs.Reports.{report_of, ReportsRest, PutsRestFront, ReportsTrace, PutsFront}
 use Rattle.trace_rows.specs.declared.fault.CrewFault.{CrewFault}
 use Rattle.trace_rows.specs.declared.report.Report.{Report}
 use Rattle.trace_rows.specs.declared.tally.Tally.{Tally}
@@ -81,6 +82,10 @@ pub found_last : (old new : RunState) → Advanced old new false → old.found �
 found_last old new (inl (moved, unknown)) alone = found_next old new moved alone
 found_last old new (inr there) alone = ap (λ (s : RunState). s.found) there.is ∙ alone
 
+pub alone_by : (r : RunState) (ending : Ending) (tally : Tally) (report : Report) → report ≡ report_of r ending tally → r.found ≡ 0 → IsAlone report
+alone_by r ending tally report is none =
+    subst IsAlone (sym is) (record { found = none; tickets = refl; posted = refl; back = refl; lapsed = refl })
+
 own_alone : (found own : ℕ) → found ≡ 0 → found + own ≡ own
 own_alone found own none = omega (arith, none)
 
@@ -91,7 +96,8 @@ own_cells system held held' (Err fault) reports alone = tt
 
 pub own_bounded : (plan : Planned) (from : Position) (held held' : Option (List ℕ)) (result : Result Report CrewFault)
     → IfOk result (ReportsRest plan from held held') → IfOk result (λ report. report.own ≤ 2 * length plan.run.members * report.rows)
-own_bounded plan from held held' (Ok report) rest = own_at_most report.found report.own (2 * length plan.run.members * report.rows) (rest_bounded plan from held held' report rest)
+own_bounded plan from held held' (Ok report) rest =
+    own_at_most report.found report.own (2 * length plan.run.members * report.rows) (rest_bounded plan from held held' report rest)
   where
     own_at_most : (found own most : ℕ) → found + own ≤ most → own ≤ most
     own_at_most found own most all = omega (arith, all)

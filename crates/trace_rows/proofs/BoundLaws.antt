@@ -14,7 +14,8 @@ use Rattle.unit_tree.specs.Plain.{plain_form}
 use Rattle.unit_tree.specs.Negotiation.{step_at}
 use Rattle.unit_tree.specs.Ports.{Ports, first_some, port_fault}
 use Rattle.unit_tree.specs.Successor.{Position, proposed, agreed, is_redone, stop_end, row_end, max_end, trial_end, steps_by, standings, after}
-use Rattle.unit_tree.specs.Trace.{Stand, Row, row_unless, rows_of, Follows, Goes, IsTrace, HasWords, steps_there, cells_of_trial, cells_of_redo, cells_at, IsInBounds}
+use Rattle.unit_tree.specs.Trace.{Stand, Row, row_unless, rows_of, Follows, Goes, IsTrace, HasWords, steps_there, cells_of_trial, cells_of_redo, cells_at}
+use Rattle.unit_tree.specs.Trace.{IsInBounds}
 use Rattle.unit_tree.specs.Trace.{cells_of}
 use Rattle.unit_tree.specs.declared.ending.Ending.{Ending}
 use Rattle.run_laws.proofs.PositionLaws.{system_has_members, positions_keep}

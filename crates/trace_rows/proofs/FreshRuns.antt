@@ -77,6 +77,6 @@ ended_as run stand (Redo h) ending is same = absurd (cc)
 
 -- and there are no cells
 pub cells_ended : (run : Composition) (stand : Stand) (ending : Ending) → first_end run stand ≡ Some ending → cells_at run stand ≡ 0
-cells_ended run stand ending ends =
+cells_ended run stand ending over =
     ap (λ (end : Option Ending). cond (is_some end) 0
-    (cells_of_trial run stand + cond (is_none (trial_end run stand.at stand.ports) && is_redone run stand.at stand.ports) (cells_of_redo run stand) 0)) ends
+    (cells_of_trial run stand + cond (is_none (trial_end run stand.at stand.ports) && is_redone run stand.at stand.ports) (cells_of_redo run stand) 0)) over

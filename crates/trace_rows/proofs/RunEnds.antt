@@ -23,7 +23,7 @@ use Rattle.unit_tree.specs.declared.system.System.{System}
 use Rattle.run_laws.proofs.RunTraces.{one_rest}
 use Rattle.trace_rows.specs.Lines.{header_of, lines_of, rows_here}
 use Rattle.trace_rows.specs.Passing.{Passes, Stops}
-use Rattle.trace_rows.specs.Reports.{AreTicketsTold, ReportsRest, PutsRestFront, ReportsTrace, PutsFront}
+use Rattle.trace_rows.specs.Reports.{report_of, AreTicketsTold, ReportsRest, PutsRestFront, ReportsTrace, PutsFront}
 use Rattle.trace_rows.specs.Sums.{sum_shown}
 use Rattle.trace_rows.specs.declared.fault.CrewFault.{CrewFault}
 use Rattle.trace_rows.specs.declared.report.Report.{Report}
@@ -123,11 +123,17 @@ pub record IsReportOf (r : RunState) (ending : Ending) (tally : Tally) (report :
   pub own : report.own ≡ r.own
   pub tickets : AreTicketsTold report
 
+pub report_by : (r : RunState) (ending : Ending) (tally : Tally) (report : Report) → report ≡ report_of r ending tally → IsReportOf r ending tally report
+report_by r ending tally report is =
+    subst (IsReportOf r ending tally) (sym is)
+    (record { outcome = refl; last = refl; rows = refl; sum = refl; found = refl; own = refl; tickets = refl })
+
 same_ending : (one other : Ending) → Ended one ≡ Ended other → one ≡ other
 same_ending one other is = cc
 
 pub reports_rest : (plan : Planned) (from : Position) (r : RunState) (held0 held : Option (List ℕ)) (tally : Tally) (ending : Ending) (report : Report)
-    → Given plan from → IsDone plan from r held0 held tally → r.phase ≡ Ended ending → IsReportOf r ending tally report → ReportsRest plan from held0 held report
+    → Given plan from → IsDone plan from r held0 held tally → r.phase ≡ Ended ending → IsReportOf r ending tally report
+    → ReportsRest plan from held0 held report
 reports_rest plan from r held0 held tally ending report given done is told =
     let one = one_rest plan.run given.order given.members given.ordered from given.words given.in_bounds in
     let whole = walked_end plan.run from done.passed r.stand one.stands one.ending done.ending done.walked done.ended one.goes_on in

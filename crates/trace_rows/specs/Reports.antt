@@ -3,6 +3,7 @@ use Rattle.std.specs.Prelude.{◌≡◌, ℕ, ◌+◌, List, length, Option}
 use Rattle.std.specs.Io.KnownBytes.{Appends}
 use Rattle.cosim_io.specs.Pieces.{AppendsPrefix}
 use Rattle.super_time.specs.declared.point.Point.{Point}
+use Rattle.trace_core.specs.Runs.{RunState}
 use Rattle.trace_csv.specs.Columns.{columns_of}
 use Rattle.trace_csv.specs.TraceText.{trace_text}
 use Rattle.trace_plan.specs.Plans.{Planned}
@@ -13,6 +14,22 @@ use Rattle.unit_tree.specs.declared.system.System.{System}
 use Rattle.trace_rows.specs.Lines.{lines_of}
 use Rattle.trace_rows.specs.Sums.{sum_shown}
 use Rattle.trace_rows.specs.declared.report.Report.{Report}
+use Rattle.trace_rows.specs.declared.tally.Tally.{Tally}
+
+-- The report of a run that ended so where it stands, without a ticket.
+abbrev pub report_of : RunState → Ending → Tally → Report
+report_of r ending tally = record {
+  outcome = ending;
+  last = r.stand.at.point;
+  rows = tally.rows;
+  sum = tally.sum;
+  found = r.found;
+  own = r.own;
+  tickets = 0;
+  posted = 0;
+  back = 0;
+  lapsed = 0;
+}
 
 -- Each ticket of a report was posted, given back, or lapsed.
 abbrev pub AreTicketsTold : Report → Type 0

@@ -1,4 +1,5 @@
 ghost use Rattle.std.specs.Prelude.{◌≡◌};
+ghost use Rattle.trace_rows.specs.Reports.{report_of};
 
 use crate::tally::Tally;
 use trace_core::Run;
@@ -34,7 +35,7 @@ impl Report {
     /// The report of a run that ended so where it stands, with this tally of its rows and without a ticket. Where tickets were
     /// given out, their counts are set afterwards.
     pub fn of_run(run: &Run, outcome: Ending, tally: Tally) -> Report
-        ensures { result ≡ record { outcome = outcome; last = run.now.stand.at.point; rows = tally.rows; sum = tally.sum; found = run.now.found; own = run.now.own; tickets = 0; posted = 0; back = 0; lapsed = 0 } }
+        ensures { result ≡ report_of run.now outcome tally }
     {
         Report {
             outcome,

@@ -1,10 +1,8 @@
-use Rattle.std.proofs.Common.{refl, sym, ap, subst, ◌∙◌, arith}
-use Rattle.trace_rows.specs.Reports.{ReportsRest}
+use Rattle.std.proofs.Common.{refl, sym, ap, ◌∙◌, arith}
 use Rattle.trace_rows.proofs.RowLaws.{err_is, on_err, tells_given_up, tells_none}
-use Rattle.trace_rows.proofs.RunEnds.{front_come, reports_rest}
+use Rattle.trace_rows.proofs.RunEnds.{front_come, report_by, reports_rest}
 use Rattle.trace_rows.proofs.RunKept.{come_first, come_next, fewer_left, given_by, kept_by, number_within}
-use Rattle.serial_run.specs.Alone.{IsAlone}
-use Rattle.serial_run.proofs.RunLaws.{done_by, ended_by, found_last, found_next, going_on, passes}
+use Rattle.serial_run.proofs.RunLaws.{alone_by, done_by, ended_by, found_last, found_next, going_on, passes}
 use Rattle.serial_run.proofs.run.put_rest.Goals as goal
 
 -- ---- The row at which the run was opened
@@ -14,7 +12,7 @@ returns-in_err-put_row-clause-front g c =
     let come =
     come_first c.args.plan.now c.args.run.now.opened c.args.run.now (g.O.Sink.held c.args.out.now) (g.O.Sink.faults c.args.out.now) c.new-tally.result
     c.requires.opened c.requires.stands c.new-tally.ensures.rows c.new-tally.ensures.sum in
-    on_err c.from_residual-in_err-put_row.result
+    on_err c.from_residual.result
     (front_come c.args.plan.now c.args.run.now.opened c.args.run.now (g.O.Sink.held c.args.out.now) (g.O.Sink.held c.args.out.now)
     (g.O.Sink.held c.put_row.new.out) (g.O.Sink.faults c.args.out.now) (g.O.Sink.faults c.args.out.now) c.new-tally.result come
     c.in_err-put_row.ensures.front)
@@ -22,8 +20,8 @@ returns-in_err-put_row-clause-front g c =
 pub returns-in_err-put_row-clause-cause : goal.returns-in_err-put_row-clause-cause
 returns-in_err-put_row-clause-cause g c =
     tells_given_up (g.O.Sink.faults c.args.out.now) (g.O.Sink.faults c.args.out.now) (g.O.Sink.faults c.put_row.new.out) c.in_err-put_row.field-0.0
-    c.from_residual-in_err-put_row.result refl c.in_err-put_row.ensures.cause
-    (err_is c.from_residual-in_err-put_row.result c.in_err-put_row.field-0.0 c.from_residual-in_err-put_row.ensures.1)
+    c.from_residual.result refl c.in_err-put_row.ensures.cause
+    (err_is c.from_residual.result c.in_err-put_row.field-0.0 c.from_residual.ensures.1)
 
 pub put_row-requires-clause-own : goal.put_row-requires-clause-own
 put_row-requires-clause-own g c = ap (λ s. s.plan) c.requires.opened.is
@@ -126,24 +124,16 @@ returns-clause-whole g c =
     (g.O.Sink.faults c.args.out.now)
     (g.O.Sink.faults c.rows.out) c.rows.tally given c.rows.invariant.kept
     (ended_by c.rows.run c.advance.new.run c.advance.result c.rows-test.false c.advance.ensures.advanced) c.advance.ensures.stands in
-    subst (ReportsRest c.args.plan.now c.args.run.now.opened (g.O.Sink.held c.args.out.now) (g.O.Sink.held c.rows.out)) (sym c.of_run.ensures)
-    (reports_rest c.args.plan.now c.args.run.now.opened c.advance.new.run (g.O.Sink.held c.args.out.now) (g.O.Sink.held c.rows.out) c.rows.tally
-    c.in-Ended.outcome _ given done
+    reports_rest c.args.plan.now c.args.run.now.opened c.advance.new.run (g.O.Sink.held c.args.out.now) (g.O.Sink.held c.rows.out) c.rows.tally
+    c.in-Ended.outcome c.of_run.result given done
     (sym c.phase.ensures.phase ∙ c.in-Ended.is)
-    (record { outcome = refl; last = refl; rows = refl; sum = refl; found = refl; own = refl; tickets = refl }))
+    (report_by c.advance.new.run c.in-Ended.outcome c.rows.tally c.of_run.result c.of_run.ensures)
 
 pub returns-clause-alone : goal.returns-clause-alone
 returns-clause-alone g c =
-    subst IsAlone (sym c.of_run.ensures)
-    (record {
-      found =
-          found_last c.rows.run c.advance.new.run (ended_by c.rows.run c.advance.new.run c.advance.result c.rows-test.false c.advance.ensures.advanced)
-          c.rows.invariant.alone;
-      tickets = refl;
-      posted = refl;
-      back = refl;
-      lapsed = refl;
-    })
+    alone_by c.advance.new.run c.in-Ended.outcome c.rows.tally c.of_run.result c.of_run.ensures
+    (found_last c.rows.run c.advance.new.run (ended_by c.rows.run c.advance.new.run c.advance.result c.rows-test.false c.advance.ensures.advanced)
+    c.rows.invariant.alone)
 
 pub returns-clause-cause : goal.returns-clause-cause
 returns-clause-cause g c = tells_none (g.O.Sink.faults c.args.out.now) (g.O.Sink.faults c.rows.out) c.of_run.result c.rows.invariant.kept.same

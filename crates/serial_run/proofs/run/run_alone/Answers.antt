@@ -1,4 +1,4 @@
-use Rattle.std.proofs.Common.{◌≡◌, ◌*◌, ◌≤◌, length, refl, sym, subst, ◌∙◌}
+use Rattle.std.proofs.Common.{◌*◌, ◌≤◌, length, refl, sym, subst, ◌∙◌}
 use Rattle.std.specs.Prelude.{IfOk}
 use Rattle.cosim_io.specs.Pieces.{AppendsPrefix}
 use Rattle.trace_plan.specs.Plans.{Planned}
@@ -12,7 +12,7 @@ use Rattle.serial_run.proofs.run.run_alone.Goals as goal
 -- ---- Nothing was put
 
 pub returns-in_err-clone-clause-front : goal.returns-in_err-clone-clause-front
-returns-in_err-clone-clause-front g c = on_err c.from_residual-in_err-clone.result (front_none c.args.plan.value.system (g.O.Sink.held c.args.out.now))
+returns-in_err-clone-clause-front g c = on_err c.from_residual.result (front_none c.args.plan.value.system (g.O.Sink.held c.args.out.now))
 
 pub returns-in_err-run-clause-front : goal.returns-in_err-run-clause-front
 returns-in_err-run-clause-front g c = on_err c.from_residual-in_err-run.result (front_none c.args.plan.value.system (g.O.Sink.held c.args.out.now))
