@@ -19,6 +19,11 @@ use Rattle.run_laws.proofs.PlainOrders.{plain_has_no_cycle, plain_of}
 use Rattle.run_laws.proofs.PositionLaws.{system_has_members}
 use Rattle.run_laws.proofs.RunOrders.{runs_have_orders}
 use Rattle.run_laws.proofs.RunTraces.{one_trace, one_trace_of}
+use Rattle.unit_tree.specs.declared.ending.Ending.{Ending}
+use Rattle.unit_tree.specs.declared.ending.Ending.TheVariants.{Completed, RowBudget, ZeroBudget, UnitFault, StepRefused}
+use Rattle.cosim_call.specs.Coming.{IsEnd}
+use Rattle.cosim_call.specs.declared.status.Status.{Status}
+use Rattle.cosim_app.specs.Answer.{status_of}
 use Rattle.cosim_app.specs.Serving.{IsWhole}
 
 -- what a text is accepted as keeps all rules
@@ -59,3 +64,13 @@ plain_ordered system whole = by (one_or_two system.version whole.ranged.version.
 
 pub no_loop : (system : System) (instance output : ℕ) → IsWhole system → IsRightPlanFault system (Loop instance output) → ⊥
 no_loop system instance output whole (port, numbered, first) = has_order (plain_form system) port (plain_ordered system whole) first
+
+-- ---- Ends
+
+-- a trace's ends are ends of a command
+pub is_end : (ending : Ending) (given : Status) → given ≡ status_of ending → IsEnd given
+is_end Completed given is = subst IsEnd (sym is) tt
+is_end RowBudget given is = subst IsEnd (sym is) tt
+is_end ZeroBudget given is = subst IsEnd (sym is) tt
+is_end (StepRefused instance asked accepted) given is = subst IsEnd (sym is) tt
+is_end (UnitFault instance place fault) given is = subst IsEnd (sym is) tt
