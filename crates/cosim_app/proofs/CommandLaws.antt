@@ -8,8 +8,7 @@ use Rattle.unit_text.proofs.ReadingLaws.{long_refused}
 use Rattle.unit_tree.specs.Lines.{size_of}
 use Rattle.unit_tree.specs.Texts.{text_limit}
 use Rattle.unit_tree.specs.declared.system.System.{System}
-use Rattle.cosim_call.specs.Answers.{Answer, refused_answer, usage_answer}
-use Rattle.cosim_call.specs.Coming.{IsEnd}
+use Rattle.cosim_call.specs.Answers.{Answer, IsEnd, refused_answer, usage_answer}
 use Rattle.cosim_call.proofs.ComingLaws.{IsAnswered}
 use Rattle.cosim_call.specs.declared.status.Status.{Status}
 use Rattle.cosim_call.specs.declared.status.Status.TheVariants as status
@@ -64,8 +63,8 @@ runs_same text one other a b =
 
 -- ---- Each command
 
--- what a command supplies: an answer for each text, be it that the text is refused; one refusal at most; never both; no two answers
--- for a text that it serves; and the statuses of these
+-- what a command supplies: an answer for each text, be it that the text is refused; one refusal at most; never both; no two
+-- answers for a text that it serves; and that these have the status of an end
 record IsLawful (command : Command) : Type 0 where
   some : (text : List ℕ) → (answer : Answer) × Answers command text answer
   one_refusal : (text : List ℕ) (line by other rule : ℕ) → RefusedBy command text line by → RefusedBy command text other rule → (line ≡ other) × (by ≡ rule)

@@ -21,7 +21,7 @@ use Rattle.run_laws.proofs.RunOrders.{runs_have_orders}
 use Rattle.run_laws.proofs.RunTraces.{one_trace, one_trace_of}
 use Rattle.unit_tree.specs.declared.ending.Ending.{Ending}
 use Rattle.unit_tree.specs.declared.ending.Ending.TheVariants.{Completed, RowBudget, ZeroBudget, UnitFault, StepRefused}
-use Rattle.cosim_call.specs.Coming.{IsEnd}
+use Rattle.cosim_call.specs.Answers.{IsEnd}
 use Rattle.cosim_call.specs.declared.status.Status.{Status}
 use Rattle.cosim_app.specs.Answer.{status_of}
 use Rattle.cosim_app.specs.Serving.{IsWhole}

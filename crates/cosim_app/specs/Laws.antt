@@ -1,7 +1,6 @@
 -- Laws of answers.
 use Rattle.std.specs.Prelude.{◌≡◌, ℕ, List, Some}
-use Rattle.cosim_call.specs.Answers.{Answer}
-use Rattle.cosim_call.specs.Coming.{IsEnd}
+use Rattle.cosim_call.specs.Answers.{Answer, IsEnd}
 use Rattle.cosim_call.specs.declared.status.Status.TheVariants as status
 use Rattle.cosim_app.specs.Answer.{AnswersRefusal, IsAnswer, ServedBy}
 use Rattle.cosim_app.specs.Commands.{command_of}

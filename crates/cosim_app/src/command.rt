@@ -94,16 +94,16 @@ pub fn cosim<R: Threads + Wait + Copy + Send, S: Source, O: Sink, N: Sink>(
     cosim_alone(alloc, words, source, out, notes)
 }
 
-/// A law: for each list of words and each input there is an answer, all answers put the same and have the same status, and there
-/// are no two.
+/// A law: for each list of words and each input there is an answer, all answers put the same and have the same status, and
+/// there are no two.
 pub fn one_answer()
     ensures some { EveryCallIsAnswered }
     ensures agree { AnswersAgree }
     ensures only { NoCallIsAnsweredTwice }
 {}
 
-/// A law: the status of an answer tells where it comes from. One by `Refused` is a refusal of the text by the command of the words,
-/// and one by which a command ends its work is of a text that this serves.
+/// A law: the status of an answer tells where it comes from. One by `Refused` is a refusal of the text by the command of the
+/// words, and one by which a command ends its work is of a text that this serves.
 pub fn statuses_have_causes()
     ensures refused { RefusalsAreOfRules }
     ensures served { EndsAreServed }
