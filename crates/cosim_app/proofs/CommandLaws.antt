@@ -8,16 +8,16 @@ use Rattle.unit_text.proofs.ReadingLaws.{long_refused}
 use Rattle.unit_tree.specs.Lines.{size_of}
 use Rattle.unit_tree.specs.Texts.{text_limit}
 use Rattle.unit_tree.specs.declared.system.System.{System}
-use Rattle.cosim_call.specs.Answers.{Answer, refused_answer, usage_answer}
+use Rattle.cosim_call.specs.Answers.{Answer, IsEnd, refused_answer, usage_answer}
 use Rattle.cosim_call.proofs.ComingLaws.{IsAnswered}
 use Rattle.cosim_call.specs.declared.status.Status.{Status}
 use Rattle.cosim_call.specs.declared.status.Status.TheVariants as status
-use Rattle.cosim_app.specs.Answer.{Answers, AnswersOf, AnswersRun, RefusedBy, ServedBy, accepted_answer, printed_answer, run_answer}
+use Rattle.cosim_app.specs.Answer.{Answers, AnswersOf, AnswersRefusal, AnswersRun, RefusedBy, ServedBy, accepted_answer, printed_answer, run_answer}
 use Rattle.cosim_app.specs.Commands.{UsageClause, command_of, input_of}
-use Rattle.cosim_app.specs.Laws.{AnswersAgree, EveryCallIsAnswered, NoCallIsAnsweredTwice}
+use Rattle.cosim_app.specs.Laws.{AnswersAgree, EndsAreServed, EveryCallIsAnswered, NoCallIsAnsweredTwice, RefusalsAreOfRules}
 use Rattle.cosim_app.specs.declared.command_words.Command.{Command}
 use Rattle.cosim_app.specs.declared.command_words.Command.TheVariants.{Run, Check, Print}
-use Rattle.cosim_app.proofs.TraceLaws.{one_outcome, whole_of}
+use Rattle.cosim_app.proofs.TraceLaws.{is_end, one_outcome, whole_of}
 
 -- ---- Commands on texts that keep all rules
 
@@ -63,13 +63,14 @@ runs_same text one other a b =
 
 -- ---- Each command
 
--- what a command supplies: an answer for each text, be it that the text is refused; one refusal at most; never both; and no two
--- answers for a text that it serves
+-- what a command supplies: an answer for each text, be it that the text is refused; one refusal at most; never both; no two
+-- answers for a text that it serves; and that these have the status of an end
 record IsLawful (command : Command) : Type 0 where
   some : (text : List ℕ) → (answer : Answer) × Answers command text answer
   one_refusal : (text : List ℕ) (line by other rule : ℕ) → RefusedBy command text line by → RefusedBy command text other rule → (line ≡ other) × (by ≡ rule)
   not_both : (text : List ℕ) (line rule : ℕ) (answer : Answer) → RefusedBy command text line rule → ServedBy command text answer → ⊥
   same : (text : List ℕ) (one other : Answer) → ServedBy command text one → ServedBy command text other → one ≡ other
+  ends : (text : List ℕ) (answer : Answer) → ServedBy command text answer → IsEnd answer.status
 
 run_is_lawful : IsLawful Run
 run_is_lawful = record {
@@ -77,6 +78,7 @@ run_is_lawful = record {
   one_refusal = λ text. (judged_once text).one_refusal;
   not_both = λ text line rule answer refused serves. (judged_once text).not_both serves.system serves.lines line rule serves.accepted refused;
   same = runs_same;
+  ends = λ text answer serves. is_end serves.ending answer.status (ap (λ (a : Answer). a.status) serves.is);
 }
 
 check_is_lawful : IsLawful Check
@@ -86,6 +88,7 @@ check_is_lawful = record {
   one_refusal = λ text. (judged_once text).one_refusal;
   not_both = λ text line rule answer refused serves. (judged_once text).not_both serves.system serves.lines line rule serves.accepted refused;
   same = λ text one other a b. a.is ∙ sym b.is;
+  ends = λ text answer serves. subst (λ (a : Answer). IsEnd a.status) (sym serves.is) tt;
 }
 
 print_is_lawful : IsLawful Print
@@ -96,6 +99,7 @@ print_is_lawful = record {
   not_both = λ text line rule answer refused serves. (judged_once text).not_both serves.system serves.lines line rule serves.accepted refused;
   same = λ text one other a b.
       a.is ∙ ap printed_answer ((judged_once text).one_system a.system b.system a.lines b.lines a.accepted b.accepted).0 ∙ sym b.is;
+  ends = λ text answer serves. subst (λ (a : Answer). IsEnd a.status) (sym serves.is) tt;
 }
 
 lawful : (command : Command) → IsLawful command
@@ -164,6 +168,29 @@ agree_by command text one other a b =
 
 pub answers_agree : AnswersAgree
 answers_agree words text one other a b = agree_by (command_of words) text one other a b
+
+-- ---- What a status tells
+
+no_refusal : status.Usage ≡ status.Refused → ⊥
+no_refusal is = cc
+
+refusal_by : (found : Option Command) (text : List ℕ) (answer : Answer) → AnswersOf found text answer → answer.status ≡ status.Refused
+    → (command : Command) × (Some command ≡ found) × AnswersRefusal command text answer
+refusal_by (Some command) text answer (inl refusal) is = (command, refl, refusal)
+refusal_by (Some command) text answer (inr serves) is = absurd (subst IsEnd is ((lawful command).ends text answer serves))
+refusal_by None text answer usage is = absurd (no_refusal (sym (ap (λ (a : Answer). a.status) usage) ∙ is))
+
+pub refusals_are_of_rules : RefusalsAreOfRules
+refusals_are_of_rules words text answer is refused = refusal_by (command_of words) text answer is refused
+
+served_by : (found : Option Command) (text : List ℕ) (answer : Answer) → AnswersOf found text answer → IsEnd answer.status
+    → (command : Command) × (Some command ≡ found) × ServedBy command text answer
+served_by (Some command) text answer (inl refusal) end = absurd (subst (λ (a : Answer). IsEnd a.status) refusal.is end)
+served_by (Some command) text answer (inr serves) end = (command, refl, serves)
+served_by None text answer usage end = absurd (subst (λ (a : Answer). IsEnd a.status) usage end)
+
+pub ends_are_served : EndsAreServed
+ends_are_served words text answer is end = served_by (command_of words) text answer is end
 
 -- ---- Words with a form and without one
 

@@ -15,29 +15,19 @@ use Rattle.trace_csv.specs.TraceText.{trace_text}
 use Rattle.unit_tree.specs.Trace.{Row, IsTraceOf}
 use Rattle.unit_tree.specs.WellFormed.{resolution_of}
 use Rattle.unit_tree.specs.declared.ending.Ending.{Ending}
-use Rattle.unit_tree.specs.declared.ending.Ending.TheVariants.{Completed, RowBudget, ZeroBudget, UnitFault, StepRefused}
 use Rattle.unit_tree.specs.declared.system.System.{System}
 use Rattle.cosim_call.specs.Calls.{Stream}
-use Rattle.cosim_call.specs.Coming.{Begins, IsEnd, Serves}
+use Rattle.cosim_call.specs.Coming.{Begins, Serves}
 use Rattle.cosim_call.specs.declared.coming.Served.{Served}
 use Rattle.cosim_call.specs.declared.coming.Stopped.{Stopped}
 use Rattle.cosim_call.specs.declared.coming.Stopped.TheVariants as stopped
-use Rattle.cosim_call.specs.declared.status.Status.{Status}
 use Rattle.cosim_app.specs.Answer.{Answers, run_answer, status_of, traced_notes, traced_text}
 use Rattle.cosim_app.specs.Notes.{ending_notes}
 use Rattle.cosim_app.specs.Serving.{BeginsTrace, IsWhole, PutsTrace, TellsTrace}
 use Rattle.cosim_app.specs.SourcePlaces.{source_end}
 use Rattle.cosim_app.specs.declared.command_words.Command.TheVariants.{Run}
 use Rattle.cosim_app.proofs.OutputNames.{ends_alike, same_status}
-use Rattle.cosim_app.proofs.TraceLaws.{one_outcome, plain_outcome}
-
--- a trace's ends are ends of a command
-is_end : (ending : Ending) (given : Status) → given ≡ status_of ending → IsEnd given
-is_end Completed given is = subst IsEnd (sym is) tt
-is_end RowBudget given is = subst IsEnd (sym is) tt
-is_end ZeroBudget given is = subst IsEnd (sym is) tt
-is_end (StepRefused instance asked accepted) given is = subst IsEnd (sym is) tt
-is_end (UnitFault instance place fault) given is = subst IsEnd (sym is) tt
+use Rattle.cosim_app.proofs.TraceLaws.{is_end, one_outcome, plain_outcome}
 
 -- ---- What a run tells
 

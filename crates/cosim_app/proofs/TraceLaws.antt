@@ -11,6 +11,11 @@ use Rattle.run_laws.specs.RunLaws.{HasOneTraceOf}
 use Rattle.run_laws.proofs.PositionLaws.{system_has_members}
 use Rattle.run_laws.proofs.RunOrders.{runs_have_orders}
 use Rattle.run_laws.proofs.RunTraces.{one_trace, one_trace_of}
+use Rattle.unit_tree.specs.declared.ending.Ending.{Ending}
+use Rattle.unit_tree.specs.declared.ending.Ending.TheVariants.{Completed, RowBudget, ZeroBudget, UnitFault, StepRefused}
+use Rattle.cosim_call.specs.Answers.{IsEnd}
+use Rattle.cosim_call.specs.declared.status.Status.{Status}
+use Rattle.cosim_app.specs.Answer.{status_of}
 use Rattle.cosim_app.specs.Serving.{IsWhole}
 
 -- what a text is accepted as keeps all rules
@@ -30,3 +35,13 @@ pub plain_outcome : (system : System) → IsWhole system → HasOneTraceOf syste
 plain_outcome system whole =
     let order = runs_have_orders system whole.ranged whole.well_formed whole.ordered in
     one_trace_of system (one_trace (run_of system) order.0 (system_has_members (plain_form system)) order.1)
+
+-- ---- Ends
+
+-- a trace's ends are ends of a command
+pub is_end : (ending : Ending) (given : Status) → given ≡ status_of ending → IsEnd given
+is_end Completed given is = subst IsEnd (sym is) tt
+is_end RowBudget given is = subst IsEnd (sym is) tt
+is_end ZeroBudget given is = subst IsEnd (sym is) tt
+is_end (StepRefused instance asked accepted) given is = subst IsEnd (sym is) tt
+is_end (UnitFault instance place fault) given is = subst IsEnd (sym is) tt

@@ -1,7 +1,10 @@
 -- Laws of answers.
-use Rattle.std.specs.Prelude.{◌≡◌, ℕ, List}
-use Rattle.cosim_call.specs.Answers.{Answer}
-use Rattle.cosim_app.specs.Answer.{IsAnswer}
+use Rattle.std.specs.Prelude.{◌≡◌, ℕ, List, Some}
+use Rattle.cosim_call.specs.Answers.{Answer, IsEnd}
+use Rattle.cosim_call.specs.declared.status.Status.TheVariants as status
+use Rattle.cosim_app.specs.Answer.{AnswersRefusal, IsAnswer, ServedBy}
+use Rattle.cosim_app.specs.Commands.{command_of}
+use Rattle.cosim_app.specs.declared.command_words.Command.{Command}
 
 -- For each list of words and each input there is an answer.
 abbrev pub EveryCallIsAnswered : Type 0
@@ -17,3 +20,15 @@ AnswersAgree =
 abbrev pub NoCallIsAnsweredTwice : Type 0
 NoCallIsAnsweredTwice =
     (words : List (List ℕ)) (text : List ℕ) (one other : Answer) → IsAnswer words text one → IsAnswer words text other → one ≡ other
+
+-- An answer by Refused is the refusal of the text by the command of the words.
+abbrev pub RefusalsAreOfRules : Type 0
+RefusalsAreOfRules =
+    (words : List (List ℕ)) (text : List ℕ) (answer : Answer) → IsAnswer words text answer → answer.status ≡ status.Refused
+    → (command : Command) × (Some command ≡ command_of words) × AnswersRefusal command text answer
+
+-- An answer by any status with which a command's work ends is one for a text that the command serves.
+abbrev pub EndsAreServed : Type 0
+EndsAreServed =
+    (words : List (List ℕ)) (text : List ℕ) (answer : Answer) → IsAnswer words text answer → IsEnd answer.status
+    → (command : Command) × (Some command ≡ command_of words) × ServedBy command text answer

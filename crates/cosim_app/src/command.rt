@@ -3,7 +3,7 @@ ghost use Rattle.cosim_call.specs.Calls.{Promises, stream, streams};
 ghost use Rattle.cosim_call.specs.Coming.{Comes, Serves};
 ghost use Rattle.cosim_app.specs.Answer.{Answers, IsAnswer};
 ghost use Rattle.cosim_app.specs.Commands.{UsageClause, command_of, input_of, input_of_words};
-ghost use Rattle.cosim_app.specs.Laws.{AnswersAgree, EveryCallIsAnswered, NoCallIsAnsweredTwice};
+ghost use Rattle.cosim_app.specs.Laws.{AnswersAgree, EndsAreServed, EveryCallIsAnswered, NoCallIsAnsweredTwice, RefusalsAreOfRules};
 ghost use Rattle.cosim_app.specs.Words.{bytes_of};
 
 use crate::command_words::{Command, command_of};
@@ -94,10 +94,17 @@ pub fn cosim<R: Threads + Wait + Copy + Send, S: Source, O: Sink, N: Sink>(
     cosim_alone(alloc, words, source, out, notes)
 }
 
-/// A law: for each list of words and each input there is an answer, all answers put the same and have the same status, and there
-/// are no two.
+/// A law: for each list of words and each input there is an answer, all answers put the same and have the same status, and
+/// there are no two.
 pub fn one_answer()
     ensures some { EveryCallIsAnswered }
     ensures agree { AnswersAgree }
     ensures only { NoCallIsAnsweredTwice }
+{}
+
+/// A law: the status of an answer tells where it comes from. One by `Refused` is a refusal of the text by the command of the
+/// words, and one by which a command ends its work is of a text that this serves.
+pub fn statuses_have_causes()
+    ensures refused { RefusalsAreOfRules }
+    ensures served { EndsAreServed }
 {}

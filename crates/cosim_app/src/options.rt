@@ -148,8 +148,8 @@ fn with_option(flag: &str, value: &str, given: Given) -> Option<Given>
     }
 }
 
-/// What the words give behind the options so far; none where one of them is no option, or is there twice. Each turn adds an option,
-/// and each may be there once, so there are few turns.
+/// What the words give behind the options so far; none where one of them is no option, or is there twice. Each turn adds an
+/// option, and each may be there once, so there are few turns.
 fn settings_behind(given: Given, words: &[String]) -> Option<Given>
     ensures { result ≡ settings_behind given (bytes_of words.now) }
 {

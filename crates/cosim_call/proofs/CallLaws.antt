@@ -4,9 +4,9 @@ use Rattle.std.specs.Prelude.{IfSome}
 use Rattle.std.specs.Io.KnownBytes.{Appends, IsAtEnd}
 use Rattle.cosim_io.specs.Pieces.{AppendsPrefix}
 use Rattle.cosim_io.proofs.PieceLemmas.{AppendsPrefix-whole}
-use Rattle.cosim_call.specs.Answers.{Answer}
+use Rattle.cosim_call.specs.Answers.{Answer, IsEnd}
 use Rattle.cosim_call.specs.Calls.{Stream, Streams, Fails, HasAnswer, IsOwn, IsQuiet, Gives, PutsFront, IsNotesText, TakesAtMost, Promises}
-use Rattle.cosim_call.specs.Coming.{IsEnd, ComesToAnswer, Comes}
+use Rattle.cosim_call.specs.Coming.{ComesToAnswer, Comes}
 use Rattle.cosim_call.specs.Notes.{whole, refused_note, read_fault_note, write_fault_note, no_memory_note}
 use Rattle.cosim_call.specs.Telling.{Tells, TellsEnd}
 use Rattle.cosim_call.specs.declared.coming.Served.{Served}

@@ -6,9 +6,9 @@ use Rattle.std.specs.Io.KnownBytes.{Appends, IsAtEnd}
 use Rattle.std.proofs.KnownBytes.{Appends-nil}
 use Rattle.cosim_io.specs.Pieces.{AppendsPrefix}
 use Rattle.cosim_io.proofs.PieceLemmas.{AppendsPrefix-nil}
-use Rattle.cosim_call.specs.Answers.{Answer, piece_answer, refused_answer}
+use Rattle.cosim_call.specs.Answers.{Answer, IsEnd, piece_answer, refused_answer}
 use Rattle.cosim_call.specs.Calls.{Stream, HasAnswer, PutsFront, TakesAtMost}
-use Rattle.cosim_call.specs.Coming.{Begins, IsEnd, Makes, PutsMade, PutsPiece, Serves, CameTo, Comes, ReadsInput}
+use Rattle.cosim_call.specs.Coming.{Begins, Makes, PutsMade, PutsPiece, Serves, CameTo, Comes, ReadsInput}
 use Rattle.cosim_call.specs.Notes.{refused_note}
 use Rattle.cosim_call.specs.declared.coming.Served.{Served}
 use Rattle.cosim_call.specs.declared.coming.Stopped.{Stopped}

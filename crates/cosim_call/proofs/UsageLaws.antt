@@ -3,9 +3,9 @@ use Rattle.std.proofs.Common.{◌≡◌, ℕ, ◌⊎◌, List, [], ◌∷◌, ap
 use Rattle.std.specs.Prelude.{IfSome}
 use Rattle.std.specs.Io.KnownBytes.{Appends}
 use Rattle.std.proofs.KnownBytes.{Appends-nil}
-use Rattle.cosim_call.specs.Answers.{Answer, usage_answer}
+use Rattle.cosim_call.specs.Answers.{Answer, IsEnd, usage_answer}
 use Rattle.cosim_call.specs.Calls.{Stream, Promises}
-use Rattle.cosim_call.specs.Coming.{Comes, ComesToAnswer, IsEnd}
+use Rattle.cosim_call.specs.Coming.{Comes, ComesToAnswer}
 use Rattle.cosim_call.specs.Notes.{whole, usage_note, refused_note, read_fault_note, write_fault_note, no_memory_note}
 use Rattle.cosim_call.specs.Telling.{Tells, TellsEnd}
 use Rattle.cosim_call.specs.declared.coming.Served.{Served}

@@ -3,7 +3,7 @@ use Rattle.std.specs.Prelude.{◌≡◌, ℕ, ◌<◌, List, [], ◌∷◌, leng
 use Rattle.std.specs.declared.alloc.Global.{Global}
 use Rattle.std.specs.Io.KnownBytes.{Appends, IsAtEnd}
 use Rattle.cosim_io.specs.Pieces.{AppendsPrefix}
-use Rattle.cosim_call.specs.Answers.{Answer, piece_answer, refused_answer}
+use Rattle.cosim_call.specs.Answers.{Answer, IsEnd, piece_answer, refused_answer}
 use Rattle.cosim_call.specs.Calls.{Stream, Fails, HasAnswer, PutsFront, TakesAtMost}
 use Rattle.cosim_call.specs.Notes.{refused_note}
 use Rattle.cosim_call.specs.declared.coming.Served.{Served}
@@ -11,15 +11,6 @@ use Rattle.cosim_call.specs.declared.coming.Stopped.{Stopped}
 use Rattle.cosim_call.specs.declared.coming.Stopped.TheVariants as stopped
 use Rattle.cosim_call.specs.declared.status.Status.{Status}
 use Rattle.cosim_call.specs.declared.status.Status.TheVariants as status
-
--- A status with which a command ends that did its work.
-abbrev pub IsEnd : Status → Type 0
-IsEnd status.Done = ⊤
-IsEnd status.ZeroBudget = ⊤
-IsEnd status.RowBudget = ⊤
-IsEnd status.UnitFault = ⊤
-IsEnd status.StepRefused = ⊤
-IsEnd _ = ⊥
 
 -- ---- On a whole text
 

@@ -36,7 +36,7 @@ impl From<NoMemory> for Stopped {
 }
 
 /// The rule of an input that is too long.
-pub const SIZE_RULE: u8 = 2;
+const SIZE_RULE: u8 = 2;
 
 /// Reads the whole input of a command that takes at most so many bytes, or nothing for a command that reads none.
 pub fn read_input<S: Source>(

@@ -69,8 +69,8 @@ fn tell_stopped<N: Sink>(alloc: Global, notes: &mut N, why: Stopped) -> Status
     }
 }
 
-/// Tells what a command came to, by the notes and with the status of it. Where it has none the notes are not asked: they stay as
-/// they are, whatever they would answer.
+/// Tells what a command came to, by the notes and with the status of it. Where it has none the notes are not asked: they stay
+/// as they are, whatever they would answer.
 pub fn finish<N: Sink>(alloc: Global, notes: &mut N, came: Result<Served, Stopped>) -> Status
     ensures told { TellsEnd came (stream (N.held notes.old) (N.faults notes.old)) (stream (N.held notes.new) (N.faults notes.new)) result }
     ensures none { IfOk came (λ served. served.notes ≡ [] → (notes.new ≡ notes.old) × (result ≡ served.status)) }
