@@ -9,7 +9,7 @@ returns-in-Ok c = record {
   same_lines = refl;
   order = c.in-Ok.ensures.ordered;
   well_formed = c.system.ensures.well_formed;
-  ordered = without_cycle c.args.checked c.system.ensures.ranged c.system.ensures.well_formed c.in-Ok.field-0.places c.in-Ok.ensures.ordered.places;
+  ordered = without_cycle c.args.checked c.system.ensures.ranged c.system.ensures.well_formed c.in-Ok.order.places c.in-Ok.ensures.ordered.places;
 }
 
 pub at_source-requires-clause-first : goal.at_source-requires-clause-first
