@@ -1,8 +1,8 @@
 //! The rows of a run that are put: header and rows, one piece each, with their tally, the report of the run and its faults.
 //!
 //! [`put_header`] puts the header of a trace, and [`RowRoom::put_row`] the row where a run stands, which a [`Tally`] counts; a
-//! run that came to its end is told by a [`Report`], and one that was given up by a [`CrewFault`]. How the run goes from one row
-//! to the next is the business of the layer above, by whose and by how many steps ever. No crate below takes a sink.
+//! run that came to its end is told by a [`Report`], and one that was given up by a [`CrewFault`]. How a run gets from one row to
+//! the next, and who steps its instances, is left to the layer above. No crate below but `cosim_io` knows of sinks.
 //!
 //! What contracts cite stands in `specs/`: `Reports` (what a run that was opened anywhere puts and reports, a whole trace as its
 //! case, and a front of its text), `Lines` (what putting a header and a row comes to), `Sums` (the sum of the words that a trace
