@@ -30,7 +30,7 @@ name_at outputs events number =
     name_or_none (option_and_then (λ (o : Port). Some o.name)
     (slice_get (map of_output outputs ++ map of_event events) (output_read (map is_event (map Plain outputs ++ map Event events)) number)))
 
-abbrev event_name : Option EventOut → List ℕ
+abbrev pub event_name : Option EventOut → List ℕ
 event_name given = name_or_none (option_map (λ (e : EventOut). e.name) given)
 
 pub plain_name : (outputs : List Output) (events : List EventOut) (number : ℕ) (output : Output) → slice_get outputs number ≡ Some output

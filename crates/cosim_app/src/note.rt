@@ -52,11 +52,11 @@ fn instance_name(system: &System, instance: u32) -> &[u8]
 fn name_in(unit: &Unit, number: usize) -> &[u8]
     ensures { result.now ≡ name_in unit.now (output_read (event_shape unit.now) number) }
 {
-    let (plain, events) = (unit.outputs.as_slice(), unit.events_out.as_slice());
+    let plain = unit.outputs.as_slice();
     if number < plain.len() {
         return plain[number].name.as_slice();
     }
-    match events.get((number - plain.len()) / 2) {
+    match unit.events_out.get((number - plain.len()) / 2) {
         Some(event) => event.name.as_slice(),
         None => &[],
     }

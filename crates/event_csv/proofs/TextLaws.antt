@@ -13,7 +13,7 @@ use Rattle.fixed_words.specs.declared.types.Ty.{Ty}
 use Rattle.super_time.specs.Seconds.{seconds_text_of}
 use Rattle.trace_csv.specs.Columns.{column_of, columns_of, output_number, port_title, title_of}
 use Rattle.trace_csv.specs.Lines.{line_of}
-use Rattle.trace_csv.specs.TraceText.{field_of, row_line, trace_text}
+use Rattle.trace_csv.specs.TraceText.{header_line, field_of, row_line, trace_text}
 use Rattle.unit_tree.specs.Compositions.{place_of}
 use Rattle.unit_tree.specs.Names.{Port, output_at, unit_of_instance}
 use Rattle.unit_tree.specs.Orders.{IsIn, outputs_of}
