@@ -1,5 +1,5 @@
 -- The one trace of a system that keeps all rules.
-use Rattle.std.proofs.Common.{◌≡◌, ℕ, ◌==◌, ◌⊎◌, List, [], ◌∷◌, ◌++◌}
+use Rattle.std.proofs.Common.{◌≡◌, sym, subst, ℕ, ◌==◌, ◌⊎◌, List, [], ◌∷◌, ◌++◌}
 use Rattle.event_runs.specs.EventRuns.{HasOneEventTraceOf}
 use Rattle.event_runs.proofs.SystemTraces.{one_outcome as one_event_outcome}
 use Rattle.text_laws.proofs.ReadIsPrintable.{read_is_printable}
