@@ -63,23 +63,37 @@ runs_same text one other a b =
 
 -- ---- Each command
 
--- what a command supplies: an answer for each text, be it that the text is refused; one refusal at most; never both; no two
--- answers for a text that it serves; and that these have the status of an end
+-- two answers put the same and have one status
+abbrev Agree : Answer → Answer → Type 0
+Agree one other = (one.out ≡ other.out) × (one.status ≡ other.status)
+
+agree_as_same : (one other : Answer) → one ≡ other → Agree one other
+agree_as_same one other same = (ap (λ (x : Answer). x.out) same, ap (λ (x : Answer). x.status) same)
+
+-- what a command supplies: an answer for each text, be it that the text is refused; one refusal at most; never both; answers for a
+-- text that it serves put the same and have one status; and this is the status of an end
 record IsLawful (command : Command) : Type 0 where
   some : (text : List ℕ) → (answer : Answer) × Answers command text answer
   one_refusal : (text : List ℕ) (line by other rule : ℕ) → RefusedBy command text line by → RefusedBy command text other rule → (line ≡ other) × (by ≡ rule)
   not_both : (text : List ℕ) (line rule : ℕ) (answer : Answer) → RefusedBy command text line rule → ServedBy command text answer → ⊥
-  same : (text : List ℕ) (one other : Answer) → ServedBy command text one → ServedBy command text other → one ≡ other
+  agree : (text : List ℕ) (one other : Answer) → ServedBy command text one → ServedBy command text other → Agree one other
   ends : (text : List ℕ) (answer : Answer) → ServedBy command text answer → IsEnd answer.status
+
+-- and a command whose answer is determined, notes and all: there are no two for a text that it serves
+abbrev IsDetermined : Command → Type 0
+IsDetermined command = (text : List ℕ) (one other : Answer) → ServedBy command text one → ServedBy command text other → one ≡ other
 
 run_is_lawful : IsLawful Run
 run_is_lawful = record {
   some = λ text. judged_answered Run text (λ line rule refused. refused) (run_answered text);
   one_refusal = λ text. (judged_once text).one_refusal;
   not_both = λ text line rule answer refused serves. (judged_once text).not_both serves.system serves.lines line rule serves.accepted refused;
-  same = runs_same;
+  agree = λ text one other a b. agree_as_same one other (runs_same text one other a b);
   ends = λ text answer serves. is_end serves.ending answer.status (ap (λ (a : Answer). a.status) serves.is);
 }
+
+checks_same : IsDetermined Check
+checks_same text one other a b = a.is ∙ sym b.is
 
 check_is_lawful : IsLawful Check
 check_is_lawful = record {
@@ -87,9 +101,13 @@ check_is_lawful = record {
       (λ system lines accepted. (accepted_answer, record { system = system; lines = lines; accepted = accepted; is = refl }));
   one_refusal = λ text. (judged_once text).one_refusal;
   not_both = λ text line rule answer refused serves. (judged_once text).not_both serves.system serves.lines line rule serves.accepted refused;
-  same = λ text one other a b. a.is ∙ sym b.is;
+  agree = λ text one other a b. agree_as_same one other (checks_same text one other a b);
   ends = λ text answer serves. subst (λ (a : Answer). IsEnd a.status) (sym serves.is) tt;
 }
+
+prints_same : IsDetermined Print
+prints_same text one other a b =
+    a.is ∙ ap printed_answer ((judged_once text).one_system a.system b.system a.lines b.lines a.accepted b.accepted).0 ∙ sym b.is
 
 print_is_lawful : IsLawful Print
 print_is_lawful = record {
@@ -97,8 +115,7 @@ print_is_lawful = record {
       (λ system lines accepted. (printed_answer system, record { system = system; lines = lines; accepted = accepted; is = refl }));
   one_refusal = λ text. (judged_once text).one_refusal;
   not_both = λ text line rule answer refused serves. (judged_once text).not_both serves.system serves.lines line rule serves.accepted refused;
-  same = λ text one other a b.
-      a.is ∙ ap printed_answer ((judged_once text).one_system a.system b.system a.lines b.lines a.accepted b.accepted).0 ∙ sym b.is;
+  agree = λ text one other a b. agree_as_same one other (prints_same text one other a b);
   ends = λ text answer serves. subst (λ (a : Answer). IsEnd a.status) (sym serves.is) tt;
 }
 
@@ -106,6 +123,11 @@ lawful : (command : Command) → IsLawful command
 lawful Run = run_is_lawful
 lawful Check = check_is_lawful
 lawful Print = print_is_lawful
+
+determined : (command : Command) → IsDetermined command
+determined Run = runs_same
+determined Check = checks_same
+determined Print = prints_same
 
 -- an input that is too long breaks the rule of its length
 too_long : (limit : ℕ) (text : List ℕ) → Some text_limit ≡ Some limit → limit < length text → IsRefusedAt text 1 2
@@ -138,13 +160,22 @@ is_answered command = record {
   free = free_by command;
 }
 
-answers_same : (command : Command) (text : List ℕ) (one other : Answer) → Answers command text one → Answers command text other → one ≡ other
-answers_same command text one other (inl a) (inl b) =
+refused_once : (command : Command) (text : List ℕ) (one other : Answer) → AnswersRefusal command text one → AnswersRefusal command text other → one ≡ other
+refused_once command text one other a b =
     let same = (lawful command).one_refusal text a.line a.rule b.line b.rule a.refused b.refused in
     a.is ∙ ap (λ line. refused_answer line a.rule) same.0 ∙ ap (refused_answer b.line) same.1 ∙ sym b.is
+
+answers_same : (command : Command) (text : List ℕ) (one other : Answer) → Answers command text one → Answers command text other → one ≡ other
+answers_same command text one other (inl a) (inl b) = refused_once command text one other a b
 answers_same command text one other (inl a) (inr b) = absurd ((lawful command).not_both text a.line a.rule other a.refused b)
 answers_same command text one other (inr a) (inl b) = absurd ((lawful command).not_both text b.line b.rule one b.refused a)
-answers_same command text one other (inr a) (inr b) = (lawful command).same text one other a b
+answers_same command text one other (inr a) (inr b) = determined command text one other a b
+
+answers_agree_by : (command : Command) (text : List ℕ) (one other : Answer) → Answers command text one → Answers command text other → Agree one other
+answers_agree_by command text one other (inl a) (inl b) = agree_as_same one other (refused_once command text one other a b)
+answers_agree_by command text one other (inl a) (inr b) = absurd ((lawful command).not_both text a.line a.rule other a.refused b)
+answers_agree_by command text one other (inr a) (inl b) = absurd ((lawful command).not_both text b.line b.rule one b.refused a)
+answers_agree_by command text one other (inr a) (inr b) = (lawful command).agree text one other a b
 
 answered_by : (command : Option Command) (text : List ℕ) → (answer : Answer) × AnswersOf command text answer
 answered_by (Some command) text = (lawful command).some text
@@ -162,9 +193,8 @@ no_call_is_answered_twice words text one other a b = same_by (command_of words) 
 
 agree_by : (command : Option Command) (text : List ℕ) (one other : Answer) → AnswersOf command text one → AnswersOf command text other
     → (one.out ≡ other.out) × (one.status ≡ other.status)
-agree_by command text one other a b =
-    let same = same_by command text one other a b in
-    (ap (λ (x : Answer). x.out) same, ap (λ (x : Answer). x.status) same)
+agree_by (Some command) text one other a b = answers_agree_by command text one other a b
+agree_by None text one other a b = agree_as_same one other (a ∙ sym b)
 
 pub answers_agree : AnswersAgree
 answers_agree words text one other a b = agree_by (command_of words) text one other a b

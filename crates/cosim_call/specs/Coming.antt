@@ -1,5 +1,5 @@
 -- What a command owes before it is told: what it has read and put, and what it came to.
-use Rattle.std.specs.Prelude.{◌≡◌, ℕ, ◌<◌, List, [], ◌∷◌, length, Option, Some, None, IfSome, Result, Ok, Err, ◌⊎◌, ⊤, Vec}
+use Rattle.std.specs.Prelude.{◌≡◌, ℕ, ◌<◌, ◌≤◌, List, [], ◌∷◌, length, Option, Some, None, IfSome, Result, Ok, Err, ◌⊎◌, ⊤, Vec, vec_len}
 use Rattle.std.specs.declared.alloc.Global.{Global}
 use Rattle.std.specs.Io.KnownBytes.{Appends, IsAtEnd}
 use Rattle.cosim_io.specs.Pieces.{AppendsPrefix}
@@ -66,6 +66,12 @@ ReadsInput (Some limit) source source' (Err (stopped.Refused line rule)) =
 ReadsInput (Some limit) source source' (Err stopped.ReadFault) = Fails source source'
 ReadsInput (Some limit) source source' (Err stopped.NoMemory) = source'.faults ≡ source.faults
 ReadsInput (Some limit) source source' (Err stopped.WriteFault) = ⊥
+
+-- What is handed on has at most as many bytes as the command takes.
+abbrev pub IsWithin : Option ℕ → Result (Vec ℕ Global) Stopped → Type 0
+IsWithin None result = ⊤
+IsWithin (Some limit) (Ok text) = vec_len text ≤ limit
+IsWithin (Some limit) (Err why) = ⊤
 
 -- An answer was put, and its notes and status are these; the source was read as far as it is asked for.
 pub record ComesToAnswer (input : Option ℕ) (IsAnswer : List ℕ → Answer → Type 0) (source source' out out' : Stream) (given : Status)

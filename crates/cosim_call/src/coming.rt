@@ -1,7 +1,7 @@
 //! What a command comes to, before it is told.
 ghost use Rattle.std.specs.Prelude.{◌≡◌};
 ghost use Rattle.cosim_call.specs.Calls.{TakesAtMost, stream};
-ghost use Rattle.cosim_call.specs.Coming.{ReadsInput, PutsPiece, PutsMade};
+ghost use Rattle.cosim_call.specs.Coming.{ReadsInput, IsWithin, PutsPiece, PutsMade};
 
 use crate::status::Status;
 use cosim_io::{ReadEnd, Sink, Source, read_all};
@@ -45,6 +45,7 @@ pub fn read_input<S: Source>(
     input: Option<usize>,
 ) -> Result<Vec<u8>, Stopped>
     ensures reads { ReadsInput input (stream (S.left source.old) (S.faults source.old)) (stream (S.left source.new) (S.faults source.new)) result }
+    ensures within { IsWithin input result }
     ensures taken { TakesAtMost input (stream (S.left source.old) (S.faults source.old)) (stream (S.left source.new) (S.faults source.new)) }
 {
     let Some(limit) = input else {
