@@ -31,6 +31,7 @@ use Rattle.unit_tree.specs.declared.unit.Output.{Output}
 use Rattle.unit_tree.specs.declared.unit.Unit.{Unit}
 use Rattle.language_laws.proofs.NameLaws.{same_bytes, bytes_of}
 use Rattle.language_laws.proofs.PlainNames.{word_is_plain, same_presence}
+use Rattle.list_laws.proofs.Lists.{each_part}
 use Rattle.event_runs.specs.Events.{Signal, Occurs, Absent, occurs, Occurring, Seen, value_in, event_in, effect_of_lines_in, word_seen, occurring_at}
 use Rattle.event_runs.specs.Events.{all_variables_of, all_words_of, environment_in, occurring_in, get_in, signal_as, get_event, limit_in, moved_in}
 use Rattle.event_runs.specs.Readings.{words_of_signal, plain_component, plain_words}
@@ -39,7 +40,19 @@ use Rattle.event_runs.proofs.EffectLaws.{Both, source_env, plain_env, IsBoth, sh
 use Rattle.event_runs.proofs.EventLaws.{two}
 use Rattle.event_runs.proofs.SlotLaws.{Slot, Same, Tells, source_variables, source_words, plain_variables, words_beside, plain_value, other_bytes, Fronts}
 use Rattle.event_runs.proofs.SlotLaws.{same_front}
-use Rattle.event_runs.proofs.ValueLaws.{Given, same, halves}
+use Rattle.event_runs.proofs.ValueLaws.{Given, same}
+
+-- The word that stands for no event is one of each type.
+pub zero_given : (ty : Ty) → given_as ty (zero_value ty) ≡ Ok (pos 0)
+zero_given types.Int8 = refl
+zero_given types.UInt8 = refl
+zero_given types.Int16 = refl
+zero_given types.UInt16 = refl
+zero_given types.Int32 = refl
+zero_given types.UInt32 = refl
+zero_given types.Int64 = refl
+zero_given types.Bool = refl
+zero_given (types.Fixed decimals) = refl
 
 -- ---- The slots of a component
 
@@ -294,8 +307,8 @@ module _ (component : Component) (state : List ℤ) (seen : Seen) (fits : Fits c
 
     pub is_both : (time step : ℕ) → IsBoth occurring events count (both_of time step)
     is_both time step =
-        let split = halves (λ variable. IsWord variable.name) (front_variables ++ map of_event unit.events_in) local_variables variables_said in
-        let split_front = halves (λ variable. IsWord variable.name) front_variables (map of_event unit.events_in) split.0 in
+        let split = each_part (λ variable. IsWord variable.name) (front_variables ++ map of_event unit.events_in) local_variables variables_said in
+        let split_front = each_part (λ variable. IsWord variable.name) front_variables (map of_event unit.events_in) split.0 in
         record {
           tells = λ name among.
               ap (λ slots. plain_value slots (presence_name name))
@@ -372,17 +385,6 @@ module _ (component : Component) (state : List ℤ) (seen : Seen) (fits : Fits c
         (lines_alike occurring events count lines said (both_of time step) (is_both time step))))
 
     -- ---- Event outputs
-
-    pub zero_given : (ty : Ty) → given_as ty (zero_value ty) ≡ Ok (pos 0)
-    zero_given types.Int8 = refl
-    zero_given types.UInt8 = refl
-    zero_given types.Int16 = refl
-    zero_given types.UInt16 = refl
-    zero_given types.Int32 = refl
-    zero_given types.UInt32 = refl
-    zero_given types.Int64 = refl
-    zero_given types.Bool = refl
-    zero_given (types.Fixed decimals) = refl
 
     pub two_given : (ty : Ty) (event : Result (Option Value) Fault) (tells word : Given) → AreTwo ty event tells word
         → AreTwoGets (event >>= signal_as ty) (tells >>= given_as types.Bool) (word >>= given_as ty)

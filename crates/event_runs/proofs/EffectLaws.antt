@@ -27,11 +27,12 @@ use Rattle.unit_tree.specs.declared.line_form.LineForm.TheVariants as form
 use Rattle.unit_tree.proofs.FoldLemmas.{fold-Assign, fold-If, fold-Repeat, fold-Accept}
 use Rattle.language_laws.proofs.MeaningLemmas.{effect-Assign, effect-Accept, effect-Repeat, effect-If, effect-IfElse}
 use Rattle.language_laws.proofs.PlainNames.{word_is_plain}
+use Rattle.list_laws.proofs.Lists.{each_part}
 use Rattle.event_runs.specs.Events.{Occurring, value_in, line_effect_in, effect_in}
 use Rattle.event_runs.specs.Laws.{Speaks, Shows, FormSpeaks, LineSpeaks}
 use Rattle.event_runs.proofs.SlotLaws.{Slot, source_variables, source_words, plain_variables, words_beside, plain_value, value_same, Slots, put, in_source}
 use Rattle.event_runs.proofs.SlotLaws.{in_plain, stored_source, stored_plain, Fronts, OkStays, put_stays}
-use Rattle.event_runs.proofs.ValueLaws.{Given, halves, same}
+use Rattle.event_runs.proofs.ValueLaws.{Given, same}
 
 -- ---- Two environments at once
 
@@ -66,7 +67,7 @@ pub of_joined : (P : LineForm → Type 0) (lines : List Line) → AllByRecursion
     → AllByRecursion (λ some. AllByRecursion P (line_forms some)) lines
 of_joined P [] all = tt
 of_joined P (some ∷ lines) all =
-    let both = halves P (line_forms some) (joined (map line_forms lines)) all in
+    let both = each_part P (line_forms some) (joined (map line_forms lines)) all in
     (both.0, of_joined P lines both.1)
 
 module _ (occurring : Occurring) (events : List (List ℕ)) (count : ℕ) where
@@ -218,7 +219,7 @@ module _ (occurring : Occurring) (events : List (List ℕ)) (count : ℕ) where
   pub says : (some : LineForm) (value : Expr) (front : List (List ℕ)) → names_on some ≡ front ++ names_in value → AllByRecursion IsWord (names_on some)
       → are_among events (events_asked_in value) ≡ true → AllByRecursion IsWord front × Speaks events value
   says some value front is words asked =
-      let both = halves IsWord front (names_in value) (subst (AllByRecursion IsWord) is words) in
+      let both = each_part IsWord front (names_in value) (subst (AllByRecursion IsWord) is words) in
       (both.0, record { names = both.1; asked = asked })
 
   pub claim-Assign : (target : List ℕ) (value : Expr) → Claim (line.Assign target value)
@@ -248,7 +249,7 @@ module _ (occurring : Occurring) (events : List (List ℕ)) (count : ℕ) where
       let lines = map bare body in
       let inside : AllByRecursion (FormSpeaks events) (joined (map line_forms lines) ++ (form.End ∷ [])) =
       (subst (AllByRecursion (FormSpeaks events)) (fold-Repeat (List LineForm) block_forms turns lines) said).1 in
-      let speaks = of_joined (FormSpeaks events) lines (halves (FormSpeaks events) (joined (map line_forms lines)) (form.End ∷ []) inside).0 in
+      let speaks = of_joined (FormSpeaks events) lines (each_part (FormSpeaks events) (joined (map line_forms lines)) (form.End ∷ []) inside).0 in
       alike_of (effect_of (plain_line (line.Repeat turns lines))) (line_effect (Line-F.Repeat turns (plain_effects lines)))
       (effect_in occurring (line.Repeat turns lines)) (line_effect_in occurring (Line-F.Repeat turns (source_effects lines)))
       (λ env. ap (λ some. effect_of some env) (fold-Repeat Line node_plain_line turns lines) ∙ effect-Repeat turns (map plain_line lines) env)
@@ -269,8 +270,8 @@ module _ (occurring : Occurring) (events : List (List ℕ)) (count : ℕ) where
       let all : AllByRecursion (FormSpeaks events) (form.If condition ∷ joined (map line_forms lines) ++ [] ++ (form.End ∷ [])) =
       subst (AllByRecursion (FormSpeaks events)) (fold-If (List LineForm) block_forms condition lines None) said in
       let says_both = says (form.If condition) condition [] refl all.0.names all.0.asked in
-      let inside = halves (FormSpeaks events) (joined (map line_forms lines) ++ []) (form.End ∷ []) all.1 in
-      let speaks = of_joined (FormSpeaks events) lines (halves (FormSpeaks events) (joined (map line_forms lines)) [] inside.0).0 in
+      let inside = each_part (FormSpeaks events) (joined (map line_forms lines) ++ []) (form.End ∷ []) all.1 in
+      let speaks = of_joined (FormSpeaks events) lines (each_part (FormSpeaks events) (joined (map line_forms lines)) [] inside.0).0 in
       alike_of (effect_of (plain_line (line.If condition lines None))) (line_effect (Line-F.If (plain_expression condition) (plain_effects lines) None))
       (effect_in occurring (line.If condition lines None)) (line_effect_in occurring (Line-F.If condition (source_effects lines) None))
       (λ env. ap (λ some. effect_of some env) (fold-If Line node_plain_line condition lines None)
@@ -288,8 +289,8 @@ module _ (occurring : Occurring) (events : List (List ℕ)) (count : ℕ) where
       (form.If condition ∷ joined (map line_forms lines) ++ (form.Else ∷ joined (map line_forms others)) ++ (form.End ∷ [])) =
       subst (AllByRecursion (FormSpeaks events)) (fold-If (List LineForm) block_forms condition lines (Some others)) said in
       let says_both = says (form.If condition) condition [] refl all.0.names all.0.asked in
-      let inside = halves (FormSpeaks events) (joined (map line_forms lines) ++ (form.Else ∷ joined (map line_forms others))) (form.End ∷ []) all.1 in
-      let blocks = halves (FormSpeaks events) (joined (map line_forms lines)) (form.Else ∷ joined (map line_forms others)) inside.0 in
+      let inside = each_part (FormSpeaks events) (joined (map line_forms lines) ++ (form.Else ∷ joined (map line_forms others))) (form.End ∷ []) all.1 in
+      let blocks = each_part (FormSpeaks events) (joined (map line_forms lines)) (form.Else ∷ joined (map line_forms others)) inside.0 in
       let on_then = all_alike then_lines (of_joined (FormSpeaks events) lines blocks.0) in
       let on_else = all_alike else_lines (of_joined (FormSpeaks events) others blocks.1.1) in
       alike_of (effect_of (plain_line (line.If condition lines (Some others))))

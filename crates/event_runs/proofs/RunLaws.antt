@@ -16,13 +16,13 @@ use Rattle.unit_tree.specs.Values.{◌>>=◌}
 use Rattle.unit_tree.specs.declared.unit.EventOut.{EventOut}
 use Rattle.unit_tree.specs.declared.unit.Output.{Output}
 use Rattle.run_laws.proofs.AssignmentLaws.{one_assignment}
+use Rattle.list_laws.proofs.Lists.{each_part}
 use Rattle.event_runs.specs.EventPorts.{Signals, EventMember, Out, Plain, Event, outs_of, needs_in, get_out, seen_for, EventStanding, signal_of, signals_at}
 use Rattle.event_runs.specs.EventPorts.{event_sides, IsEventAssignment}
 use Rattle.event_runs.specs.Readings.{is_event, shape_of, read_ports, plain_member, plain_component, plain_words}
 use Rattle.event_runs.specs.Laws.{AreTidy, IsWired, IsShaped, IsPlainRun, StatesFit, IsReadOf, HasOneEventAssignment}
 use Rattle.event_runs.specs.Events.{Signal, Occurs, Absent, Seen, word_seen, get_in}
 use Rattle.event_runs.proofs.SideLaws.{seen_is, first_of, second_of, member_front, member_tidy}
-use Rattle.event_runs.proofs.ValueLaws.{halves}
 
 -- ---- Right sides, member by member
 
@@ -116,7 +116,7 @@ module _ (shape : List Bool) (ports ports' : Ports) (tidy : AreTidy shape ports)
   pub member_same : (one : EventMember) (state : List ℤ) → IsWired shape one → words_at shape ports (one, state) ≡ words_at shape ports' (one, state)
   member_same one state wired =
       let unit = one.member.component.unit in
-      let needs = halves (λ out. AllByRecursion IsWord (needs_in out)) (map Plain unit.outputs) (map Event unit.events_out) wired.needs in
+      let needs = each_part (λ out. AllByRecursion IsWord (needs_in out)) (map Plain unit.outputs) (map Event unit.events_out) wired.needs in
       map-append (word_for shape ports (one, state)) (map (plain_output unit) unit.outputs) (flat_map (plain_outputs unit) unit.events_out)
       ∙ ap (λ front. front ++ map (word_for shape ports (one, state)) (flat_map (plain_outputs unit) unit.events_out))
       (plains_same one state wired unit.outputs needs.0)

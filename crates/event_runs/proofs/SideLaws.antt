@@ -25,25 +25,18 @@ use Rattle.unit_tree.specs.declared.unit.Unit.{Unit}
 use Rattle.list_laws.proofs.Members.{Has, has_map}
 use Rattle.language_laws.proofs.NameLaws.{bytes_of}
 use Rattle.list_laws.proofs.Members.{all_has, each_has}
+use Rattle.list_laws.proofs.Lists.{each_part}
+use Rattle.run_laws.proofs.PortLaws.{has_among}
 use Rattle.event_runs.specs.EventPorts.{Signals, EventMember, Plain, Event, needs_in, get_out, word_needed, signal_needed, seen_for, EventStanding, signal_of}
 use Rattle.event_runs.specs.EventPorts.{signals_at}
 use Rattle.event_runs.specs.Readings.{is_event, shape_of, read_pair, read_ports, plain_source, plain_feed, plain_member, plain_component, plain_words}
 use Rattle.event_runs.specs.Laws.{IsTidyPair, AreTidy, IsWired, Speaks, Fits, AreTwoGets, zero_value}
 use Rattle.event_runs.specs.Events.{Signal, Occurs, Absent, Seen, get_in, get_event}
-use Rattle.event_runs.proofs.CallLaws.{get_same, event_same, of_event, of_input}
+use Rattle.event_runs.proofs.CallLaws.{zero_given, get_same, event_same, of_event, of_input}
 use Rattle.event_runs.proofs.EventLaws.{plainly}
 use Rattle.event_runs.proofs.PortLaws.{joined, there_append, zip_append, there_length, plain_seen, events_seen, seen_joined, zero_start, seen_parts}
 use Rattle.event_runs.proofs.TidyLaws.{AreTidyValues, tidy}
-use Rattle.event_runs.proofs.ValueLaws.{Given, halves}
-
-pub among_has : (names : List (List ℕ)) (name : List ℕ) → Has names name → is_among names name ≡ true
-among_has [] name has = absurd has
-among_has (first ∷ names) name (inl is) = ap (λ told. told || is_among names name) (bytes_of name first (sym is))
-among_has (first ∷ names) name (inr has) = ap (λ rest. bytes_eq name first || rest) (among_has names name has) ∙ any_true (bytes_eq name first)
-  where
-    any_true : (told : Bool) → (told || true) ≡ true
-    any_true true = refl
-    any_true false = refl
+use Rattle.event_runs.proofs.ValueLaws.{Given}
 
 -- ---- One member
 
@@ -70,10 +63,10 @@ module _ (shape : List Bool) (ports : Ports) (one : EventMember) (state : List �
   pub events_named : AllByRecursion
       (λ event. IsWord event.name × (start_word event.ty (no_event event.ty) ≡ pos 0) × (is_among (event_input_names unit) event.name ≡ true)) unit.events_in
   events_named =
-      let front = halves (λ variable. IsWord variable.name)
+      let front = each_part (λ variable. IsWord variable.name)
       (map (λ param. variable param.name param.ty) unit.params ++ map (λ state. variable state.name state.ty) unit.states ++ map of_input unit.inputs
       ++ map of_event unit.events_in) (map (λ local. variable local.name local.ty) unit.locals) wired.said.variables in
-      let events = (halves (λ variable. IsWord variable.name)
+      let events = (each_part (λ variable. IsWord variable.name)
       (map (λ param. variable param.name param.ty) unit.params ++ map (λ state. variable state.name state.ty) unit.states ++ map of_input unit.inputs)
       (map of_event unit.events_in) front.0).1 in
       all_has (λ event. IsWord event.name × (start_word event.ty (no_event event.ty) ≡ pos 0)
@@ -81,18 +74,18 @@ module _ (shape : List Bool) (ports : Ports) (one : EventMember) (state : List �
       (λ event has. (
         each_has (λ variable. IsWord variable.name) (map of_event unit.events_in) (of_event event) events (has_map of_event unit.events_in event has),
         zero_start event.ty,
-        among_has (event_input_names unit) event.name (has_map (λ (e : EventIn). e.name) unit.events_in event has),
+        has_among (event_input_names unit) event.name (has_map (λ (e : EventIn). e.name) unit.events_in event has),
       ))
 
   pub inputs_named : AllByRecursion (λ input. IsWord input.name) unit.inputs
   inputs_named =
-      let front = halves (λ variable. IsWord variable.name)
+      let front = each_part (λ variable. IsWord variable.name)
       (map (λ param. variable param.name param.ty) unit.params ++ map (λ state. variable state.name state.ty) unit.states ++ map of_input unit.inputs
       ++ map of_event unit.events_in) (map (λ local. variable local.name local.ty) unit.locals) wired.said.variables in
-      let events = halves (λ variable. IsWord variable.name)
+      let events = each_part (λ variable. IsWord variable.name)
       (map (λ param. variable param.name param.ty) unit.params ++ map (λ state. variable state.name state.ty) unit.states ++ map of_input unit.inputs)
       (map of_event unit.events_in) front.0 in
-      let inputs = (halves (λ variable. IsWord variable.name)
+      let inputs = (each_part (λ variable. IsWord variable.name)
       (map (λ param. variable param.name param.ty) unit.params ++ map (λ state. variable state.name state.ty) unit.states)
       (map of_input unit.inputs) events.0).1 in
       all_has (λ input. IsWord input.name) unit.inputs
@@ -116,18 +109,7 @@ module _ (shape : List Bool) (ports : Ports) (one : EventMember) (state : List �
   tidy_given ty (Ok tells) (Ok word) (inr are) =
       subst (λ t. IsTidyPair (result_ok (given_as types.Bool t)) (result_ok (given_as ty word))) (sym are.0)
       (subst (λ w. IsTidyPair (Some (pos 0)) (result_ok (given_as ty w))) (sym are.1)
-      (subst (λ given. IsTidyPair (Some (pos 0)) (result_ok given)) (sym (zero_is ty)) (inr (refl, refl))))
-    where
-      zero_is : (ty : Ty) → given_as ty (zero_value ty) ≡ Ok (pos 0)
-      zero_is types.Int8 = refl
-      zero_is types.UInt8 = refl
-      zero_is types.Int16 = refl
-      zero_is types.UInt16 = refl
-      zero_is types.Int32 = refl
-      zero_is types.UInt32 = refl
-      zero_is types.Int64 = refl
-      zero_is types.Bool = refl
-      zero_is (types.Fixed decimals) = refl
+      (subst (λ given. IsTidyPair (Some (pos 0)) (result_ok given)) (sym (zero_given ty)) (inr (refl, refl))))
 
   abbrev pub first_of : EventOut → Output
   first_of event = record {
@@ -279,7 +261,7 @@ module _ (shape : List Bool) (ports : Ports) (one : EventMember) (state : List �
       pub member_front : (shape' : List Bool) (ports' : Ports)
           → read_ports (shape_of one ++ shape') (words_of (plain_unit unit).outputs ++ ports') ≡ signals_at signals at ++ read_ports shape' ports'
       member_front shape' ports' =
-          let needs = halves (λ out. AllByRecursion IsWord (needs_in out)) (map Plain unit.outputs) (map Event unit.events_out) wired.needs in
+          let needs = each_part (λ out. AllByRecursion IsWord (needs_in out)) (map Plain unit.outputs) (map Event unit.events_out) wired.needs in
           let plain_shape = map is_event (map Plain unit.outputs) in
           let event_shape = map is_event (map Event unit.events_out) in
           let plain_ports = words_of (map (plain_output unit) unit.outputs) in

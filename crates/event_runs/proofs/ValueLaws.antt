@@ -24,14 +24,11 @@ use Rattle.language_laws.proofs.MeaningLemmas.{value-Number, value-Truth, value-
 use Rattle.language_laws.proofs.MeaningLemmas.{value-Choose}
 use Rattle.language_laws.proofs.PlainLemmas.{plain-Number, plain-Truth, plain-Var, plain-Time, plain-Step, plain-Unary, plain-Binary, plain-Clamp}
 use Rattle.language_laws.proofs.PlainLemmas.{plain-Choose, plain-Absent, plain-Present}
+use Rattle.list_laws.proofs.Lists.{each_part}
 use Rattle.event_runs.specs.Events.{Occurring, node_in, value_in}
 use Rattle.event_runs.specs.Laws.{Speaks, Shows}
 
 -- ---- What the parts of an expression speak of
-
-pub halves : {A : Type 0} (P : A → Type 0) (one other : List A) → AllByRecursion P (one ++ other) → AllByRecursion P one × AllByRecursion P other
-halves P [] other all = (tt, all)
-halves P (first ∷ one) other all = let rest = halves P one other all.1 in ((all.0, rest.0), rest.1)
 
 pub all_halves : {A : Type 0} (test : A → Bool) (one other : List A) → list_all test (one ++ other) ≡ true
     → (list_all test one ≡ true) × (list_all test other ≡ true)
@@ -51,7 +48,7 @@ pub record Parts (events names asked names' asked' : List (List ℕ)) : Type 0 w
 pub parted : (events names asked names' asked' : List (List ℕ)) → AllByRecursion IsWord (names ++ names') → are_among events (asked ++ asked') ≡ true
     → Parts events names asked names' asked'
 parted events names asked names' asked' words among =
-    let on_names = halves IsWord names names' words in
+    let on_names = each_part IsWord names names' words in
     let on_asked = all_halves (is_among events) asked asked' among in
     record { names_one = on_names.0; asked_one = on_asked.0; names_other = on_names.1; asked_other = on_asked.1 }
 

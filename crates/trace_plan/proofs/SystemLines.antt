@@ -27,7 +27,7 @@ use Rattle.language_laws.proofs.NameLaws.{all_keep, Hold, instance_head, kept_pa
 use Rattle.language_laws.proofs.PlainNames.{has_flat, unit_line}
 use Rattle.language_laws.proofs.SiteLaws.{line_at, sites_are}
 use Rattle.list_laws.proofs.Members.{Has, has_front, has_behind, each_has}
-use Rattle.list_laws.proofs.Truths.{not_false}
+use Rattle.list_laws.proofs.Truths.{not_false, lt_not_told}
 
 -- ---- A rule that looks at the line alone
 
@@ -190,9 +190,6 @@ module _ (system : System) where
     abbrev becomes : LineForm → List LineForm
     becomes line = plain_forms system TopScope line
 
-    below : (limit count : ℕ) → nat_lt limit count ≡ false → count ≤ limit
-    below limit count is = grind (arith, nat_tests)
-
     tally_both : (one other : List LineForm) → tally (one ++ other) ≡ tally one + tally other
     tally_both one other = sum_by-append (λ x. cond (are_alike any_instance x) 1 0) one other
 
@@ -209,7 +206,7 @@ module _ (system : System) where
     counted earlier (instance ∷ instances) low hold =
         let line : LineForm = form.Instance instance.name instance.unit in
         let here : tally (flat_map becomes (earlier ++ (line ∷ []))) ≤ 64 =
-        below 64 (tally (flat_map becomes (earlier ++ (line ∷ [])))) (or_parts _ _ hold.0).0 in
+        lt_not_told 64 (tally (flat_map becomes (earlier ++ (line ∷ [])))) (or_parts _ _ hold.0).0 in
         let rest = counted (earlier ++ (line ∷ [])) instances here hold.2 in
         omega (arith, rest, next_tally earlier instance)
 
@@ -218,7 +215,7 @@ module _ (system : System) where
     few_from earlier (instance ∷ instances) hold =
         let line : LineForm = form.Instance instance.name instance.unit in
         let here : tally (flat_map becomes (earlier ++ (line ∷ []))) ≤ 64 =
-        below 64 (tally (flat_map becomes (earlier ++ (line ∷ [])))) (or_parts _ _ hold.0).0 in
+        lt_not_told 64 (tally (flat_map becomes (earlier ++ (line ∷ [])))) (or_parts _ _ hold.0).0 in
         let rest = counted (earlier ++ (line ∷ [])) instances here hold.2 in
         omega (arith, rest, next_tally earlier instance)
 

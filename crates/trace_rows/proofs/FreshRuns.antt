@@ -55,23 +55,20 @@ fresh_tried r fresh not = tried_from r (first_end r.plan.run r.stand) (phase_by 
 pub trial_going : (r : RunState) → IsFresh r → ((ending : Ending) → r.phase ≡ Ended ending → ⊥) → is_ended r.phase ≡ false
 trial_going r fresh not = ap is_ended (fresh_tried r fresh not).phase
 
+same_end : {one other : Ending} → Ended one ≡ Ended other → one ≡ other
+same_end e = cc
+
 pub over_from : (r : RunState) (end : Option Ending) (ending : Ending) → By r end → r.phase ≡ Ended ending → IsOver r ending
 over_from r None ending by is = absurd (differ (sym by.phase ∙ is))
   where
     differ : Trial (proposed r.plan.run r.stand.at r.stand.ports) ≡ Ended ending → ⊥
     differ e = cc
-over_from r (Some end) ending by is = subst (IsOver r) (same (sym by.phase ∙ is)) by
-  where
-    same : Ended end ≡ Ended ending → end ≡ ending
-    same e = cc
+over_from r (Some end) ending by is = subst (IsOver r) (same_end (sym by.phase ∙ is)) by
 
 -- where it ended, the successor does
 pub ended_as : (run : Composition) (stand : Stand) (phase : Phase) (ending : Ending) → IsPhase run stand phase [] → phase ≡ Ended ending
     → successor run stand.at stand.ports ≡ ends ending
-ended_as run stand (Ended end) ending is same = is.is ∙ ap ends (ending_same same)
-  where
-    ending_same : Ended end ≡ Ended ending → end ≡ ending
-    ending_same e = cc
+ended_as run stand (Ended end) ending is same = is.is ∙ ap ends (same_end same)
 ended_as run stand (Trial h) ending is same = absurd (cc)
 ended_as run stand (Redo h) ending is same = absurd (cc)
 

@@ -6,7 +6,8 @@ pub accept_system-requires-clause-ranged : goal.accept_system-requires-clause-ra
 accept_system-requires-clause-ranged c = c.in_ok-system.ensures.printable.ranged
 
 pub accept_system-requires-clause-one_for_one : goal.accept_system-requires-clause-one_for_one
-accept_system-requires-clause-one_for_one c = one_for_one c.args.text.now c.in_ok-system.field-0.system c.in_ok-system.field-0.lines c.in_ok-system.ensures.answer
+accept_system-requires-clause-one_for_one c =
+    one_for_one c.args.text.now c.in_ok-system.field-0.system c.in_ok-system.field-0.lines c.in_ok-system.ensures.answer
 
 pub returns : goal.returns
 returns c =
