@@ -8,7 +8,7 @@ use Rattle.unit_text.proofs.ReadingLaws.{long_refused}
 use Rattle.unit_tree.specs.Lines.{size_of}
 use Rattle.unit_tree.specs.Texts.{text_limit}
 use Rattle.unit_tree.specs.declared.system.System.{System}
-use Rattle.cosim_call.specs.Answers.{Answer, IsEnd, refused_answer, usage_answer}
+use Rattle.cosim_call.specs.Answers.{Answer, IsEndOfWork, refused_answer, usage_answer}
 use Rattle.cosim_call.proofs.ComingLaws.{IsAnswered}
 use Rattle.cosim_call.specs.declared.status.Status.{Status}
 use Rattle.cosim_call.specs.declared.status.Status.TheVariants as status
@@ -77,7 +77,7 @@ record IsLawful (command : Command) : Type 0 where
   one_refusal : (text : List ℕ) (line by other rule : ℕ) → RefusedBy command text line by → RefusedBy command text other rule → (line ≡ other) × (by ≡ rule)
   not_both : (text : List ℕ) (line rule : ℕ) (answer : Answer) → RefusedBy command text line rule → ServedBy command text answer → ⊥
   agree : (text : List ℕ) (one other : Answer) → ServedBy command text one → ServedBy command text other → Agree one other
-  ends : (text : List ℕ) (answer : Answer) → ServedBy command text answer → IsEnd answer.status
+  ends : (text : List ℕ) (answer : Answer) → ServedBy command text answer → IsEndOfWork answer.status
 
 -- and a command whose answer is determined, notes and all: there are no two for a text that it serves
 abbrev IsDetermined : Command → Type 0
@@ -102,7 +102,7 @@ check_is_lawful = record {
   one_refusal = λ text. (judged_once text).one_refusal;
   not_both = λ text line rule answer refused serves. (judged_once text).not_both serves.system serves.lines line rule serves.accepted refused;
   agree = λ text one other a b. agree_as_same one other (checks_same text one other a b);
-  ends = λ text answer serves. subst (λ (a : Answer). IsEnd a.status) (sym serves.is) tt;
+  ends = λ text answer serves. subst (λ (a : Answer). IsEndOfWork a.status) (sym serves.is) tt;
 }
 
 prints_same : IsDetermined Print
@@ -116,7 +116,7 @@ print_is_lawful = record {
   one_refusal = λ text. (judged_once text).one_refusal;
   not_both = λ text line rule answer refused serves. (judged_once text).not_both serves.system serves.lines line rule serves.accepted refused;
   agree = λ text one other a b. agree_as_same one other (prints_same text one other a b);
-  ends = λ text answer serves. subst (λ (a : Answer). IsEnd a.status) (sym serves.is) tt;
+  ends = λ text answer serves. subst (λ (a : Answer). IsEndOfWork a.status) (sym serves.is) tt;
 }
 
 lawful : (command : Command) → IsLawful command
@@ -207,17 +207,17 @@ no_refusal is = cc
 refusal_by : (found : Option Command) (text : List ℕ) (answer : Answer) → AnswersOf found text answer → answer.status ≡ status.Refused
     → (command : Command) × (Some command ≡ found) × AnswersRefusal command text answer
 refusal_by (Some command) text answer (inl refusal) is = (command, refl, refusal)
-refusal_by (Some command) text answer (inr serves) is = absurd (subst IsEnd is ((lawful command).ends text answer serves))
+refusal_by (Some command) text answer (inr serves) is = absurd (subst IsEndOfWork is ((lawful command).ends text answer serves))
 refusal_by None text answer usage is = absurd (no_refusal (sym (ap (λ (a : Answer). a.status) usage) ∙ is))
 
 pub refusals_are_of_rules : RefusalsAreOfRules
 refusals_are_of_rules words text answer is refused = refusal_by (command_of words) text answer is refused
 
-served_by : (found : Option Command) (text : List ℕ) (answer : Answer) → AnswersOf found text answer → IsEnd answer.status
+served_by : (found : Option Command) (text : List ℕ) (answer : Answer) → AnswersOf found text answer → IsEndOfWork answer.status
     → (command : Command) × (Some command ≡ found) × ServedBy command text answer
-served_by (Some command) text answer (inl refusal) end = absurd (subst (λ (a : Answer). IsEnd a.status) refusal.is end)
+served_by (Some command) text answer (inl refusal) end = absurd (subst (λ (a : Answer). IsEndOfWork a.status) refusal.is end)
 served_by (Some command) text answer (inr serves) end = (command, refl, serves)
-served_by None text answer usage end = absurd (subst (λ (a : Answer). IsEnd a.status) usage end)
+served_by None text answer usage end = absurd (subst (λ (a : Answer). IsEndOfWork a.status) usage end)
 
 pub ends_are_served : EndsAreServed
 ends_are_served words text answer is end = served_by (command_of words) text answer is end

@@ -1,11 +1,14 @@
 -- The one trace of a system that keeps all rules.
-use Rattle.std.proofs.Common.{◌≡◌, sym, subst, ℕ, ◌==◌, ◌⊎◌, List, [], ◌∷◌, ◌++◌}
+use Rattle.std.proofs.Common.{◌≡◌, sym, subst, ℕ, List}
 use Rattle.event_runs.specs.EventRuns.{HasOneEventTraceOf}
 use Rattle.event_runs.proofs.SystemTraces.{one_outcome as one_event_outcome}
 use Rattle.text_laws.proofs.ReadIsPrintable.{read_is_printable}
 use Rattle.text_accept.specs.Accepting.{IsAcceptedAs}
 use Rattle.unit_tree.specs.Compositions.{run_of}
+use Rattle.unit_tree.specs.Orders.{HasNoCycle}
 use Rattle.unit_tree.specs.Plain.{plain_form}
+use Rattle.unit_tree.specs.Printable.{IsRanged}
+use Rattle.unit_tree.specs.WellFormed.{IsWellFormed}
 use Rattle.unit_tree.specs.declared.system.System.{System}
 use Rattle.run_laws.specs.RunLaws.{HasOneTraceOf}
 use Rattle.run_laws.proofs.PositionLaws.{system_has_members}
@@ -13,10 +16,15 @@ use Rattle.run_laws.proofs.RunOrders.{runs_have_orders}
 use Rattle.run_laws.proofs.RunTraces.{one_trace, one_trace_of}
 use Rattle.unit_tree.specs.declared.ending.Ending.{Ending}
 use Rattle.unit_tree.specs.declared.ending.Ending.TheVariants.{Completed, RowBudget, ZeroBudget, UnitFault, StepRefused}
-use Rattle.cosim_call.specs.Answers.{IsEnd}
+use Rattle.cosim_call.specs.Answers.{IsEndOfWork}
 use Rattle.cosim_call.specs.declared.status.Status.{Status}
 use Rattle.cosim_app.specs.Answer.{status_of}
-use Rattle.cosim_app.specs.Serving.{IsWhole}
+
+-- a system that is in range and keeps all rules, and whose outputs have an order
+pub record IsWhole (system : System) : Type 0 where
+  pub ranged : IsRanged system
+  pub well_formed : IsWellFormed system
+  pub ordered : HasNoCycle system
 
 -- what a text is accepted as keeps all rules
 pub whole_of : (text : List ℕ) (system : System) (lines : List ℕ) → IsAcceptedAs text system lines → IsWhole system
@@ -39,9 +47,9 @@ plain_outcome system whole =
 -- ---- Ends
 
 -- a trace's ends are ends of a command
-pub is_end : (ending : Ending) (given : Status) → given ≡ status_of ending → IsEnd given
-is_end Completed given is = subst IsEnd (sym is) tt
-is_end RowBudget given is = subst IsEnd (sym is) tt
-is_end ZeroBudget given is = subst IsEnd (sym is) tt
-is_end (StepRefused instance asked accepted) given is = subst IsEnd (sym is) tt
-is_end (UnitFault instance place fault) given is = subst IsEnd (sym is) tt
+pub is_end : (ending : Ending) (given : Status) → given ≡ status_of ending → IsEndOfWork given
+is_end Completed given is = subst IsEndOfWork (sym is) tt
+is_end RowBudget given is = subst IsEndOfWork (sym is) tt
+is_end ZeroBudget given is = subst IsEndOfWork (sym is) tt
+is_end (StepRefused instance asked accepted) given is = subst IsEndOfWork (sym is) tt
+is_end (UnitFault instance place fault) given is = subst IsEndOfWork (sym is) tt

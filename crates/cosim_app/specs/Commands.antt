@@ -4,7 +4,7 @@ use Rattle.std.specs.Str.{bytes_eq}
 use Rattle.unit_tree.specs.Texts.{text_limit}
 use Rattle.cosim_call.specs.declared.status.Status.{Status}
 use Rattle.cosim_call.specs.declared.status.Status.TheVariants as status
-use Rattle.cosim_app.specs.Options.{is_given_none, settings}
+use Rattle.cosim_app.specs.Options.{◌>>=◌, given_by, is_given_none}
 use Rattle.cosim_app.specs.declared.command_words.Command.{Command}
 use Rattle.cosim_app.specs.declared.command_words.Command.TheVariants.{Run, Check, Print}
 use Rattle.cosim_app.specs.declared.options.Given.{Given}
@@ -14,21 +14,17 @@ abbrev pub without_options : Command → Given → Option Command
 without_options command given = if is_given_none given then Some command else None
 
 -- The command of a word with the options that were given: a row for each command, with the options that it takes.
-abbrev pub form_of : List ℕ → Given → Option Command
-form_of word given =
+abbrev pub command_with : List ℕ → Given → Option Command
+command_with word given =
     if bytes_eq word (codes "run") then without_options Run given
     else (if bytes_eq word (codes "check") then without_options Check given
     else (if bytes_eq word (codes "print") then without_options Print given
     else None))
 
-abbrev pub form_with : List ℕ → Option Given → Option Command
-form_with word None = None
-form_with word (Some given) = form_of word given
-
 -- The command that words are of; words that are of none have no form.
 abbrev pub command_of : List (List ℕ) → Option Command
 command_of [] = None
-command_of (word ∷ words) = form_with word (settings words)
+command_of (word ∷ words) = given_by words >>= command_with word
 
 -- How many bytes a command reads at most; none where it reads nothing.
 abbrev pub input_of : Command → Option ℕ

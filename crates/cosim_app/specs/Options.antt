@@ -1,12 +1,20 @@
 -- The options of a command line: in any order, each at most once, its value in the next word.
-use Rattle.std.specs.Prelude.{ℕ, Bool, true, false, ◌&&◌, not, nat_le, List, [], ◌∷◌, length, codes, Option, Some, None, is_none, if◌then◌else◌}
-use Rattle.std.specs.List.{list_all}
-use Rattle.std.specs.Option.{option_and_then}
+use Rattle.std.specs.Prelude.{◌≡◌, ℕ, Bool, true, false, ◌&&◌, not, nat_le, List, [], ◌∷◌, ◌++◌, length, codes, if◌then◌else◌}
+use Rattle.std.specs.Prelude.{Option, Some, None, is_none, is_some}
+use Rattle.std.specs.List.{filter_map, list_all}
+use Rattle.std.specs.Option.{option_and_then, option_map}
 use Rattle.std.specs.Str.{bytes_eq}
 use Rattle.fixed_words.specs.Digits.{is_digit, number_from}
 use Rattle.cosim_app.specs.declared.options.Given.{Given}
 use Rattle.cosim_app.specs.declared.options.Policy.{Policy}
 use Rattle.cosim_app.specs.declared.options.Policy.TheVariants.{Hold, Linear}
+use Rattle.cosim_app.specs.declared.options.CommandOption.{CommandOption}
+use Rattle.cosim_app.specs.declared.options.CommandOption.TheVariants.{Workers, Window, Guess, Report}
+
+-- What comes of the value, where there is one.
+infixl 10 ◌>>=◌
+abbrev pub ◌>>=◌ : {A B : Type 0} → Option A → (A → Option B) → Option B
+given >>= next = option_and_then next given
 
 -- No option was given.
 abbrev pub is_given_none : Given → Bool
@@ -15,46 +23,80 @@ is_given_none given = is_none given.workers && (is_none given.window && (is_none
 abbrev pub no_options : Given
 no_options = record { workers = None; window = None; guess = None; report = false }
 
--- The number that digits are written for, the digits before them counting first.
-abbrev pub number_behind : ℕ → List ℕ → Option ℕ
-number_behind before word = if list_all is_digit word then Some (number_from before word) else None
+-- ---- Words as options
 
 -- The number of a word: one to nineteen digits, leading zeros allowed.
-abbrev pub number_of : List ℕ → Option ℕ
-number_of word = if nat_le 1 (length word) && nat_le (length word) 19 then number_behind 0 word else None
+abbrev pub number_of_word : List ℕ → Option ℕ
+number_of_word word = if nat_le 1 (length word) && (nat_le (length word) 19 && list_all is_digit word) then Some (number_from 0 word) else None
 
 abbrev pub policy_named : List ℕ → Option Policy
 policy_named name = if bytes_eq name (codes "hold") then Some Hold else (if bytes_eq name (codes "linear") then Some Linear else None)
 
--- With a report asked for, which was not before.
-unfoldable pub with_report : Given → Option Given
-with_report given = if given.report then None else Some (record given { report = true })
+-- The option that a flag is with the word behind it; none where it is no flag, or the word no value of it.
+unfoldable pub option_of : List ℕ → List ℕ → Option CommandOption
+option_of flag word =
+    if bytes_eq flag (codes "--workers") then option_map Workers (number_of_word word)
+    else (if bytes_eq flag (codes "--window") then option_map Window (number_of_word word)
+    else (if bytes_eq flag (codes "--guess") then option_map Guess (policy_named word)
+    else None))
 
--- With a policy, where none was given before.
-abbrev pub with_guess : Option Policy → Given → Option Given
-with_guess None given = None
-with_guess (Some policy) given = if is_none given.guess then Some (record given { guess = Some policy }) else None
+-- Words as options: `--report` stands alone, any other flag has its value in the next word. None where some word is of no option.
+abbrev pub options_of : List (List ℕ) → Option (List CommandOption)
+options_of [] = Some []
+options_of (flag ∷ []) = if bytes_eq flag (codes "--report") then Some (Report ∷ []) else None
+options_of (flag ∷ word ∷ rest) =
+    if bytes_eq flag (codes "--report") then option_map (λ more. Report ∷ more) (options_of (word ∷ rest))
+    else (option_of flag word >>= λ first. option_map (λ more. first ∷ more) (options_of rest))
 
--- With the number of a flag, which had none before.
-abbrev pub with_number : List ℕ → Option ℕ → Given → Option Given
-with_number flag None given = None
-with_number flag (Some number) given =
-    if bytes_eq flag (codes "--workers") && is_none given.workers then Some (record given { workers = Some number })
-    else (if bytes_eq flag (codes "--window") && is_none given.window then Some (record given { window = Some number }) else None)
+-- ---- What options give
 
--- With the value of a flag, which had none before.
-unfoldable pub with_option : List ℕ → List ℕ → Given → Option Given
-with_option flag value given =
-    if bytes_eq flag (codes "--guess") then with_guess (policy_named value) given else with_number flag (number_of value) given
+-- The value of an option of each kind.
+abbrev pub workers_in : CommandOption → Option ℕ
+workers_in (Workers number) = Some number
+workers_in _ = None
 
--- What the words give behind the options so far.
-abbrev pub settings_behind : Given → List (List ℕ) → Option Given
-settings_behind given [] = Some given
-settings_behind given (flag ∷ []) = if bytes_eq flag (codes "--report") then with_report given else None
-settings_behind given (flag ∷ value ∷ rest) =
-    if bytes_eq flag (codes "--report") then option_and_then (λ more. settings_behind more (value ∷ rest)) (with_report given)
-    else option_and_then (λ more. settings_behind more rest) (with_option flag value given)
+abbrev pub window_in : CommandOption → Option ℕ
+window_in (Window number) = Some number
+window_in _ = None
 
--- The options that words give; none where one of the words is no option, or is there twice.
-abbrev pub settings : List (List ℕ) → Option Given
-settings words = settings_behind no_options words
+abbrev pub guess_in : CommandOption → Option Policy
+guess_in (Guess policy) = Some policy
+guess_in _ = None
+
+abbrev pub report_in : CommandOption → Option Bool
+report_in Report = Some true
+report_in _ = None
+
+-- The one of these, or that there is none. Where there are more, nothing.
+abbrev pub at_most_one : {A : Type 0} → List A → Option (Option A)
+at_most_one [] = Some None
+at_most_one (one ∷ []) = Some (Some one)
+at_most_one (one ∷ other ∷ rest) = None
+
+-- What options give: of each kind the one value that there is, or that there is none. Nothing, where there are two of a kind.
+unfoldable pub given_of : List CommandOption → Option Given
+given_of options = do
+  workers ← at_most_one (filter_map workers_in options)
+  window ← at_most_one (filter_map window_in options)
+  guess ← at_most_one (filter_map guess_in options)
+  report ← at_most_one (filter_map report_in options)
+  Some (record { workers = workers; window = window; guess = guess; report = is_some report })
+
+-- What words give; nothing, where they are no options, or two of them are of a kind.
+abbrev pub given_by : List (List ℕ) → Option Given
+given_by words = options_of words >>= given_of
+
+-- ---- What the reader has so far, which need not be believed
+
+-- The number that digits are written for, the digits before them counting first.
+abbrev pub number_behind : ℕ → List ℕ → Option ℕ
+number_behind before word = if list_all is_digit word then Some (number_from before word) else None
+
+-- What one option more gives, behind any that gave so much.
+abbrev pub GivesWith : Given → CommandOption → Option Given → Type 0
+GivesWith given option result = (before : List CommandOption) → given_of before ≡ Some given → result ≡ given_of (before ++ option ∷ [])
+
+-- What options give, where they are some, behind any that gave so much.
+abbrev pub GivesBehind : Given → Option (List CommandOption) → Option Given → Type 0
+GivesBehind given options result =
+    (before : List CommandOption) → given_of before ≡ Some given → result ≡ (options >>= λ more. given_of (before ++ more))

@@ -1,66 +1,44 @@
--- What the parts of commands have put and come to.
-use Rattle.std.specs.Prelude.{◌≡◌, ℕ, List, Result, Ok, Err, ⊤, Vec}
-use Rattle.std.specs.declared.alloc.Global.{Global}
-use Rattle.std.specs.Io.KnownBytes.{Appends}
-use Rattle.cosim_io.specs.Pieces.{AppendsPrefix}
-use Rattle.event_runs.specs.EventRuns.{IsEventTraceOf}
-use Rattle.event_runs.specs.EventTrace.{EventRow}
-use Rattle.super_time.specs.declared.point.Point.{Point}
+-- What the parts of commands do with a text and with the plan of a run.
+use Rattle.std.specs.Prelude.{◌≡◌, ℕ, List, Result, Ok, Err, ⊤}
 use Rattle.text_accept.specs.Accepting.{IsAcceptedAs, IsRefusedAt}
 use Rattle.text_accept.specs.declared.accepting.AcceptedText.{AcceptedText}
+use Rattle.trace_rows.specs.Reports.{PutsFront, ReportsTrace}
+use Rattle.trace_rows.specs.declared.report.Report.{Report}
 use Rattle.unit_tree.specs.Compositions.{run_of}
-use Rattle.unit_tree.specs.Orders.{HasNoCycle}
-use Rattle.unit_tree.specs.Printable.{IsRanged}
 use Rattle.unit_tree.specs.Routes.{IsOrderOf}
-use Rattle.unit_tree.specs.WellFormed.{IsWellFormed}
-use Rattle.unit_tree.specs.declared.ending.Ending.{Ending}
 use Rattle.unit_tree.specs.declared.system.System.{System}
 use Rattle.cosim_call.specs.Calls.{Stream, Fails}
 use Rattle.cosim_call.specs.declared.coming.Served.{Served}
 use Rattle.cosim_call.specs.declared.coming.Stopped.{Stopped}
 use Rattle.cosim_call.specs.declared.coming.Stopped.TheVariants as stopped
-use Rattle.cosim_app.specs.Answer.{status_of, traced_notes, traced_text}
+use Rattle.cosim_app.specs.Answer.{status_of, traced_notes}
+use Rattle.cosim_app.specs.SourcePlaces.{source_end}
 
--- The system is in range and keeps all rules, and its outputs have an order.
-pub record IsWhole (system : System) : Type 0 where
-  pub ranged : IsRanged system
-  pub well_formed : IsWellFormed system
-  pub ordered : HasNoCycle system
+-- Why a text was not accepted: the refusal of it, or want of memory, which says nothing.
+abbrev pub IsUnaccepted : List ℕ → Stopped → Type 0
+IsUnaccepted text (stopped.Refused line rule) = IsRefusedAt text line rule
+IsUnaccepted text stopped.NoMemory = ⊤
+IsUnaccepted text _ = ⊥
 
--- What a text was accepted as, with an order of its outputs, or its refusal; want of memory says nothing.
+-- What a text was accepted as, with an order of its outputs, or why it was not.
 abbrev pub Accepts : List ℕ → Result AcceptedText Stopped → Type 0
 Accepts text (Ok read) = IsAcceptedAs text read.checked read.lines × IsOrderOf (run_of read.checked) read.order
-Accepts text (Err (stopped.Refused line rule)) = IsRefusedAt text line rule
-Accepts text (Err stopped.NoMemory) = ⊤
-Accepts text (Err _) = ⊥
+Accepts text (Err why) = IsUnaccepted text why
 
--- The text of the system's trace was put, with the status and the notes of its end.
-pub record TellsTrace (system : System) (out out' : Stream) (served : Served) : Type 0 where
-  pub rows : List EventRow
-  pub last : Point
-  pub ending : Ending
-  pub trace : IsEventTraceOf system rows last ending
-  pub put : Appends out.bytes out'.bytes (traced_text system rows)
-  pub notes : served.notes ≡ traced_notes system ending last
-  pub status : served.status ≡ status_of ending
+-- The text is accepted as the system.
+abbrev pub IsAccepted : List ℕ → System → Type 0
+IsAccepted text system = (lines : List ℕ) × IsAcceptedAs text system lines
 
--- What was put begins the text of the system's trace.
-pub record BeginsTrace (system : System) (out out' : Stream) : Type 0 where
-  pub rows : List EventRow
-  pub last : Point
-  pub ending : Ending
-  pub trace : IsEventTraceOf system rows last ending
-  pub front : AppendsPrefix out.bytes out'.bytes (traced_text system rows)
+-- A system was run: the text of the trace of what is run was put, and the report is that of this trace; or the run was given up,
+-- and what was put begins that text.
+abbrev pub Runs : System → Stream → Stream → Result Report Stopped → Type 0
+Runs system out out' (Ok report) = ReportsTrace system out.bytes out'.bytes report × (out'.faults ≡ out.faults)
+Runs system out out' (Err stopped.WriteFault) = PutsFront system out.bytes out'.bytes × Fails out out'
+Runs system out out' (Err stopped.NoMemory) = PutsFront system out.bytes out'.bytes × (out'.faults ≡ out.faults)
+Runs system out out' (Err _) = ⊥
 
--- A system was run, or its run was given up.
-abbrev pub PutsTrace : System → Stream → Stream → Result Served Stopped → Type 0
-PutsTrace system out out' (Ok served) = TellsTrace system out out' served × (out'.faults ≡ out.faults)
-PutsTrace system out out' (Err stopped.WriteFault) = BeginsTrace system out out' × Fails out out'
-PutsTrace system out out' (Err stopped.NoMemory) = BeginsTrace system out out' × (out'.faults ≡ out.faults)
-PutsTrace system out out' (Err _) = ⊥
-
--- A text was made, or there was no memory.
-abbrev pub MakesText : List ℕ → Result (Vec ℕ Global) Stopped → Type 0
-MakesText text (Ok bytes) = bytes.items ≡ text
-MakesText text (Err stopped.NoMemory) = ⊤
-MakesText text (Err _) = ⊥
+-- The end of a run of the system is told by its status, and its notes by the names in the system; or there was no memory for these.
+abbrev pub TellsEnding : System → Report → Result Served Stopped → Type 0
+TellsEnding system report (Ok served) =
+    (served.status ≡ status_of report.outcome) × (served.notes ≡ traced_notes system (source_end system report.outcome) report.last)
+TellsEnding system report (Err why) = why ≡ stopped.NoMemory

@@ -43,10 +43,8 @@ fn come<S: Source, O: Sink>(
         (stream (O.held out.old) (O.faults out.old)) (stream (O.held out.new) (O.faults out.new))
         result }
 {
-    match read_input(alloc, source, command.input()) {
-        Ok(text) => serve(alloc, command, &text, out),
-        Err(why) => Err(why),
-    }
+    let text = read_input(alloc, source, command.input())?;
+    serve(alloc, command, &text, out)
 }
 
 /// Serves every form of words in the calling thread, and returns.

@@ -1,10 +1,10 @@
 //! The words of the commands.
 ghost use Rattle.std.specs.Prelude.{◌≡◌};
-ghost use Rattle.cosim_app.specs.Commands.{command_of, form_of, input_of, without_options};
+ghost use Rattle.cosim_app.specs.Commands.{command_of, command_with, input_of, without_options};
 ghost use Rattle.cosim_app.specs.Words.{bytes_of};
 ghost use Rattle.cosim_app.specs.WorkedWords.{CommandsAreWorked, NumbersAreWorked, OptionsAreWorked};
 
-use crate::options::{Given, settings};
+use crate::options::{Given, given_by};
 use unit_text::LONGEST_TEXT;
 
 /// A command of the program, with its options.
@@ -37,8 +37,8 @@ fn without_options(command: Command, given: Given) -> Option<Command>
 }
 
 /// The command of a word with the options that were given: a row for each command, with the options that it takes.
-fn form_of(word: &str, given: Given) -> Option<Command>
-    ensures { result ≡ form_of word.now given }
+fn command_with(word: &str, given: Given) -> Option<Command>
+    ensures { result ≡ command_with word.now given }
 {
     if word == "run" {
         without_options(Command::Run, given)
@@ -57,7 +57,7 @@ pub(crate) fn command_of(words: &[String]) -> Option<Command>
 {
     match words {
         [] => None,
-        [word, options @ ..] => form_of(word.as_str(), settings(options)?),
+        [word, options @ ..] => command_with(word.as_str(), given_by(options)?),
     }
 }
 

@@ -1,6 +1,7 @@
 //! The options of a command line: in any order, each at most once, its value in the next word.
 ghost use Rattle.std.specs.Prelude.{◌≡◌, ◌<◌, ◌≤◌, ◌∷◌, [], length};
-ghost use Rattle.cosim_app.specs.Options.{is_given_none, number_behind, number_of, policy_named, settings, settings_behind, with_guess, with_number, with_option, with_report};
+ghost use Rattle.cosim_app.specs.Laws.{OptionsHaveNoOrder};
+ghost use Rattle.cosim_app.specs.Options.{GivesBehind, GivesWith, given_by, is_given_none, number_behind, number_of_word, policy_named, option_of, options_of};
 ghost use Rattle.cosim_app.specs.Words.{bytes_of};
 
 /// How the words are guessed that a component will be given.
@@ -10,6 +11,19 @@ pub enum Policy {
     Hold,
     /// As far on from the last ones as these are from those before.
     Linear,
+}
+
+/// One option, with its value where it has one.
+#[derive(Clone, Copy, Debug)]
+pub enum CommandOption {
+    /// `--workers N`
+    Workers(u64),
+    /// `--window N`
+    Window(u64),
+    /// `--guess hold` or `--guess linear`
+    Guess(Policy),
+    /// `--report`
+    Report,
 }
 
 /// The options that were given.
@@ -35,6 +49,30 @@ impl Given {
         ensures { result ≡ is_given_none self }
     {
         self.workers.is_none() && self.window.is_none() && self.guess.is_none() && !self.report
+    }
+
+    /// With one option more; none where one of its kind was given before.
+    fn with(self, option: CommandOption) -> Option<Given>
+        ensures { GivesWith self option result }
+    {
+        match option {
+            CommandOption::Workers(number) => self.workers.is_none().then_some(Given {
+                workers: Some(number),
+                ..self
+            }),
+            CommandOption::Window(number) => self.window.is_none().then_some(Given {
+                window: Some(number),
+                ..self
+            }),
+            CommandOption::Guess(policy) => self.guess.is_none().then_some(Given {
+                guess: Some(policy),
+                ..self
+            }),
+            CommandOption::Report => (!self.report).then_some(Given {
+                report: true,
+                ..self
+            }),
+        }
     }
 }
 
@@ -67,7 +105,7 @@ fn number_of_digits(digits: &[u8]) -> Option<u64>
 
 /// The number that one to nineteen digits are written for, leading zeros allowed.
 fn number(word: &[u8]) -> Option<u64>
-    ensures { result ≡ number_of word.now }
+    ensures { result ≡ number_of_word word.now }
 {
     if word.is_empty() || word.len() > MOST_DIGITS {
         None
@@ -89,85 +127,47 @@ fn policy_named(name: &str) -> Option<Policy>
     }
 }
 
-/// With a report asked for, which was not before.
-#[tactic(auto, unfolding(crate::specs::Options::with_report))]
-fn with_report(given: Given) -> Option<Given>
-    ensures { result ≡ with_report given }
+/// The option that a flag is with the word behind it; none where it is no flag, or the word no value of it.
+#[tactic(auto, unfolding(crate::specs::Options::option_of))]
+fn option_of(flag: &str, word: &str) -> Option<CommandOption>
+    ensures { result ≡ option_of flag.now word.now }
 {
-    if given.report {
-        return None;
-    }
-    Some(Given {
-        report: true,
-        ..given
-    })
-}
-
-/// With a policy, where none was given before.
-fn with_guess(policy: Option<Policy>, given: Given) -> Option<Given>
-    ensures { result ≡ with_guess policy given }
-{
-    match (policy, given.guess) {
-        (Some(policy), None) => Some(Given {
-            guess: Some(policy),
-            ..given
-        }),
-        _ => None,
-    }
-}
-
-/// With the number of a flag, which had none before.
-fn with_number(flag: &str, number: Option<u64>, given: Given) -> Option<Given>
-    ensures { result ≡ with_number flag.now number given }
-{
-    let number = number?;
-    if flag == "--workers" && given.workers.is_none() {
-        Some(Given {
-            workers: Some(number),
-            ..given
-        })
-    } else if flag == "--window" && given.window.is_none() {
-        Some(Given {
-            window: Some(number),
-            ..given
-        })
+    if flag == "--workers" {
+        Some(CommandOption::Workers(number(word.as_bytes())?))
+    } else if flag == "--window" {
+        Some(CommandOption::Window(number(word.as_bytes())?))
+    } else if flag == "--guess" {
+        Some(CommandOption::Guess(policy_named(word)?))
     } else {
         None
     }
 }
 
-/// With the value of a flag, which had none before.
-#[tactic(auto, unfolding(crate::specs::Options::with_option))]
-fn with_option(flag: &str, value: &str, given: Given) -> Option<Given>
-    ensures { result ≡ with_option flag.now value.now given }
-{
-    if flag == "--guess" {
-        with_guess(policy_named(value), given)
-    } else {
-        with_number(flag, number(value.as_bytes()), given)
-    }
-}
-
-/// What the words give behind the options so far; none where one of them is no option, or is there twice. Each turn adds an
-/// option, and each may be there once, so there are few turns.
-fn settings_behind(given: Given, words: &[String]) -> Option<Given>
-    ensures { result ≡ settings_behind given (bytes_of words.now) }
+/// The same of words behind options that gave so much. Each turn adds an option, and each may be there once, so there are few
+/// turns.
+fn given_behind(given: Given, words: &[String]) -> Option<Given>
+    ensures { GivesBehind given (options_of (bytes_of words.now)) result }
 {
     match words {
         [] => Some(given),
         [flag, rest @ ..] if flag.as_str() == "--report" => {
-            settings_behind(with_report(given)?, rest)
+            given_behind(given.with(CommandOption::Report)?, rest)
         }
-        [flag, value, rest @ ..] => {
-            settings_behind(with_option(flag.as_str(), value.as_str(), given)?, rest)
+        [flag, word, rest @ ..] => {
+            given_behind(given.with(option_of(flag.as_str(), word.as_str())?)?, rest)
         }
         _ => None,
     }
 }
 
-/// The options that words give.
-pub(crate) fn settings(words: &[String]) -> Option<Given>
-    ensures { result ≡ settings (bytes_of words.now) }
+/// The options that words give; none where some word is of no option, or two options are of a kind.
+pub(crate) fn given_by(words: &[String]) -> Option<Given>
+    ensures { result ≡ given_by (bytes_of words.now) }
 {
-    settings_behind(Given::NONE, words)
+    given_behind(Given::NONE, words)
 }
+
+/// A law: the order of options doesn't matter.
+pub fn options_have_no_order()
+    ensures { OptionsHaveNoOrder }
+{}

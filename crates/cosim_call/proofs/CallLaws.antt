@@ -4,8 +4,8 @@ use Rattle.std.specs.Prelude.{IfSome}
 use Rattle.std.specs.Io.KnownBytes.{Appends, IsAtEnd}
 use Rattle.cosim_io.specs.Pieces.{AppendsPrefix}
 use Rattle.cosim_io.proofs.PieceLemmas.{AppendsPrefix-whole}
-use Rattle.cosim_call.specs.Answers.{Answer, IsEnd}
-use Rattle.cosim_call.specs.Calls.{Stream, Streams, Fails, HasAnswer, IsOwn, IsQuiet, Gives, PutsFront, IsNotesText, TakesAtMost, Promises}
+use Rattle.cosim_call.specs.Answers.{Answer, IsEndOfWork}
+use Rattle.cosim_call.specs.Calls.{Stream, Streams, Fails, HasAnswer, IsOwn, IsQuiet, Gives, BeginsAnswer, IsNotesText, TakesAtMost, Promises}
 use Rattle.cosim_call.specs.Coming.{ComesToAnswer, Comes}
 use Rattle.cosim_call.specs.Notes.{whole, refused_note, read_fault_note, write_fault_note, no_memory_note}
 use Rattle.cosim_call.specs.Telling.{Tells, TellsEnd}
@@ -20,7 +20,7 @@ use Rattle.cosim_call.specs.declared.status.Status.TheVariants as status
 -- what stands before a text is told with its status
 pub record Facts (input : Option ℕ) (IsAnswer : List ℕ → Answer → Type 0) (source source' out out' : Stream) (wanted : Status)
     (text_of_note : List ℕ) : Type 0 where
-  pub front : PutsFront IsAnswer source out out'
+  pub front : BeginsAnswer IsAnswer source out out'
   pub nothing : (wanted ≡ status.Usage) ⊎ ((wanted ≡ status.Refused) ⊎ (wanted ≡ status.ReadFault)) → out' ≡ out
   pub own : IsOwn wanted
       → HasAnswer IsAnswer source (λ answer. Appends out.bytes out'.bytes answer.out × (text_of_note ≡ whole answer.notes) × (wanted ≡ answer.status))
@@ -173,7 +173,7 @@ no_greater : (before now : Stream) → now.faults ≡ before.faults → before.f
 no_greater before now same more = omega (arith, same, more)
 
 fronts : (input : Option ℕ) (IsAnswer : List ℕ → Answer → Type 0) (source source' out out' : Stream) (given : Status) (notes : List (List ℕ))
-    → ComesToAnswer input IsAnswer source source' out out' given notes → PutsFront IsAnswer source out out'
+    → ComesToAnswer input IsAnswer source source' out out' given notes → BeginsAnswer IsAnswer source out out'
 fronts input IsAnswer source source' out out' given notes comes =
     mapped IsAnswer source (λ answer found. AppendsPrefix-whole out.bytes out'.bytes answer.out found.0) comes.gives
 
@@ -198,7 +198,7 @@ facts_answer input IsAnswer source source' out out' given notes taken own nothin
 }
 
 pub facts_no_memory : (input : Option ℕ) (IsAnswer : List ℕ → Answer → Type 0) (source source' out out' : Stream) → TakesAtMost input source source'
-    → PutsFront IsAnswer source out out' → source'.faults ≡ source.faults → out'.faults ≡ out.faults
+    → BeginsAnswer IsAnswer source out out' → source'.faults ≡ source.faults → out'.faults ≡ out.faults
     → Facts input IsAnswer source source' out out' status.NoMemory no_memory_note
 facts_no_memory input IsAnswer source source' out out' taken front reads puts = record {
   front = front;
@@ -220,7 +220,7 @@ facts_no_memory input IsAnswer source source' out out' taken front reads puts = 
     other (inr (inr is)) = cc
 
 pub facts_read_fault : (input : Option ℕ) (IsAnswer : List ℕ → Answer → Type 0) (source source' out out' : Stream) → TakesAtMost input source source'
-    → PutsFront IsAnswer source out out' → Fails source source' → out' ≡ out → Facts input IsAnswer source source' out out' status.ReadFault read_fault_note
+    → BeginsAnswer IsAnswer source out out' → Fails source source' → out' ≡ out → Facts input IsAnswer source source' out out' status.ReadFault read_fault_note
 facts_read_fault input IsAnswer source source' out out' taken front rose same = record {
   front = front;
   nothing = λ _. same;
@@ -236,7 +236,7 @@ facts_read_fault input IsAnswer source source' out out' taken front rose same = 
 }
 
 pub facts_write_fault : (input : Option ℕ) (IsAnswer : List ℕ → Answer → Type 0) (source source' out out' : Stream) → TakesAtMost input source source'
-    → PutsFront IsAnswer source out out' → source'.faults ≡ source.faults → Fails out out'
+    → BeginsAnswer IsAnswer source out out' → source'.faults ≡ source.faults → Fails out out'
     → Facts input IsAnswer source source' out out' status.WriteFault write_fault_note
 facts_write_fault input IsAnswer source source' out out' taken front reads rose = record {
   front = front;
@@ -257,7 +257,7 @@ facts_write_fault input IsAnswer source source' out out' taken front reads rose 
     other (inr (inl is)) = cc
     other (inr (inr is)) = cc
 
-ends_own : (given : Status) → IsEnd given → IsOwn given
+ends_own : (given : Status) → IsEndOfWork given → IsOwn given
 ends_own status.Done end = tt
 ends_own status.ZeroBudget end = tt
 ends_own status.RowBudget end = tt
@@ -269,10 +269,10 @@ ends_own status.ReadFault end = absurd end
 ends_own status.WriteFault end = absurd end
 ends_own status.NoMemory end = absurd end
 
-ends_other : (given : Status) {A : Type 0} → IsEnd given → (given ≡ status.Usage) ⊎ ((given ≡ status.Refused) ⊎ (given ≡ status.ReadFault)) → A
-ends_other given end (inl is) = absurd (subst IsEnd is end)
-ends_other given end (inr (inl is)) = absurd (subst IsEnd is end)
-ends_other given end (inr (inr is)) = absurd (subst IsEnd is end)
+ends_other : (given : Status) {A : Type 0} → IsEndOfWork given → (given ≡ status.Usage) ⊎ ((given ≡ status.Refused) ⊎ (given ≡ status.ReadFault)) → A
+ends_other given end (inl is) = absurd (subst IsEndOfWork is end)
+ends_other given end (inr (inl is)) = absurd (subst IsEndOfWork is end)
+ends_other given end (inr (inr is)) = absurd (subst IsEndOfWork is end)
 
 one_line : (line : List ℕ) → whole (line ∷ []) ≡ line
 one_line line = append-nil line

@@ -6,8 +6,8 @@ use Rattle.std.specs.Io.KnownBytes.{Appends, IsAtEnd}
 use Rattle.std.proofs.KnownBytes.{Appends-nil}
 use Rattle.cosim_io.specs.Pieces.{AppendsPrefix}
 use Rattle.cosim_io.proofs.PieceLemmas.{AppendsPrefix-nil}
-use Rattle.cosim_call.specs.Answers.{Answer, IsEnd, piece_answer, refused_answer}
-use Rattle.cosim_call.specs.Calls.{Stream, HasAnswer, PutsFront, TakesAtMost}
+use Rattle.cosim_call.specs.Answers.{Answer, IsEndOfWork, piece_answer, refused_answer}
+use Rattle.cosim_call.specs.Calls.{Stream, HasAnswer, BeginsAnswer, TakesAtMost}
 use Rattle.cosim_call.specs.Coming.{Begins, Makes, PutsMade, PutsPiece, Serves, CameTo, Comes, ReadsInput}
 use Rattle.cosim_call.specs.Notes.{refused_note}
 use Rattle.cosim_call.specs.declared.coming.Served.{Served}
@@ -32,7 +32,7 @@ any_text (Some text) a = a text
 
 -- nothing was put
 pub nothing_put : (input : Option ℕ) (IsAnswer : List ℕ → Answer → Type 0) (source out out' : Stream) → IsAnswered input IsAnswer → out'.bytes ≡ out.bytes
-    → PutsFront IsAnswer source out out'
+    → BeginsAnswer IsAnswer source out out'
 nothing_put input IsAnswer source out out' lawful same =
     any_text source.bytes (λ text.
     let some = lawful.some text in
@@ -157,7 +157,7 @@ comes_unread (Some limit) IsAnswer source source' out stopped.WriteFault lawful 
 puts_made : (IsAnswer : Answer → Type 0) (out out' : Stream) (bytes : List ℕ) (result : Result Served Stopped) → IsAnswer (piece_answer bytes)
     → PutsPiece bytes out out' result → Serves IsAnswer out out' result
 puts_made IsAnswer out out' bytes (Ok served) is (done, none, put, same) =
-    (record { answer = piece_answer bytes; is = is; put = put; notes = none; status = done; ends = subst IsEnd (sym done) tt }, same)
+    (record { answer = piece_answer bytes; is = is; put = put; notes = none; status = done; ends = subst IsEndOfWork (sym done) tt }, same)
 puts_made IsAnswer out out' bytes (Err stopped.WriteFault) is (front, rose) = (inr (piece_answer bytes, is, front), rose)
 puts_made IsAnswer out out' bytes (Err stopped.NoMemory) is puts = absurd puts
 puts_made IsAnswer out out' bytes (Err stopped.ReadFault) is puts = absurd puts

@@ -3,7 +3,7 @@ use Rattle.std.proofs.Common.{◌≡◌, ℕ, ◌⊎◌, List, [], ◌∷◌, ap
 use Rattle.std.specs.Prelude.{IfSome}
 use Rattle.std.specs.Io.KnownBytes.{Appends}
 use Rattle.std.proofs.KnownBytes.{Appends-nil}
-use Rattle.cosim_call.specs.Answers.{Answer, IsEnd, usage_answer}
+use Rattle.cosim_call.specs.Answers.{Answer, IsEndOfWork, usage_answer}
 use Rattle.cosim_call.specs.Calls.{Stream, Promises}
 use Rattle.cosim_call.specs.Coming.{Comes, ComesToAnswer}
 use Rattle.cosim_call.specs.Notes.{whole, usage_note, refused_note, read_fault_note, write_fault_note, no_memory_note}
@@ -59,7 +59,7 @@ pub never_usage : (input : Option ℕ) (IsAnswer : List ℕ → Answer → Type 
     (came : Result Served Stopped) (given : Status) → Comes input IsAnswer source source' out out' came → TellsEnd came notes notes' given
     → given ≡ status.Usage → ⊥
 never_usage input IsAnswer source source' out out' notes notes' (Ok served) given comes told =
-    other_told (whole served.notes) served.status given notes notes' (λ is. subst IsEnd is comes.to.1) told
+    other_told (whole served.notes) served.status given notes notes' (λ is. subst IsEndOfWork is comes.to.1) told
 never_usage input IsAnswer source source' out out' notes notes' (Err (stopped.Refused line rule)) given comes (inl told) =
     other_told (refused_note line rule) status.Refused given notes notes' (λ is. cc) told
 never_usage input IsAnswer source source' out out' notes notes' (Err (stopped.Refused line rule)) given comes (inr told) =

@@ -61,13 +61,13 @@ AnswerClause IsAnswer before now given =
     IsQuiet before now → (given ≡ status.NoMemory → ⊥) → HasAnswer IsAnswer before.source (Gives before now given)
 
 -- What was put begins an answer's bytes.
-abbrev pub PutsFront : (List ℕ → Answer → Type 0) → Stream → Stream → Stream → Type 0
-PutsFront IsAnswer source out now = HasAnswer IsAnswer source (λ answer. AppendsPrefix out.bytes now.bytes answer.out)
+abbrev pub BeginsAnswer : (List ℕ → Answer → Type 0) → Stream → Stream → Stream → Type 0
+BeginsAnswer IsAnswer source out now = HasAnswer IsAnswer source (λ answer. AppendsPrefix out.bytes now.bytes answer.out)
 
 -- Prefix clause: in every case what was put begins an answer's bytes, and a call that ends by Usage, Refused or ReadFault left
 -- the output as it was.
 pub record PrefixClause (IsAnswer : List ℕ → Answer → Type 0) (before now : Streams) (given : Status) : Type 0 where
-  pub front : PutsFront IsAnswer before.source before.out now.out
+  pub front : BeginsAnswer IsAnswer before.source before.out now.out
   pub nothing : (given ≡ status.Usage) ⊎ ((given ≡ status.Refused) ⊎ (given ≡ status.ReadFault)) → now.out ≡ before.out
 
 -- Cause clause: a fault comes only where its stream failed, and any status of an answer only where an answer has it; a count of

@@ -3,8 +3,8 @@ use Rattle.std.specs.Prelude.{◌≡◌, ℕ, ◌<◌, ◌≤◌, List, [], ◌�
 use Rattle.std.specs.declared.alloc.Global.{Global}
 use Rattle.std.specs.Io.KnownBytes.{Appends, IsAtEnd}
 use Rattle.cosim_io.specs.Pieces.{AppendsPrefix}
-use Rattle.cosim_call.specs.Answers.{Answer, IsEnd, piece_answer, refused_answer}
-use Rattle.cosim_call.specs.Calls.{Stream, Fails, HasAnswer, PutsFront, TakesAtMost}
+use Rattle.cosim_call.specs.Answers.{Answer, IsEndOfWork, piece_answer, refused_answer}
+use Rattle.cosim_call.specs.Calls.{Stream, Fails, HasAnswer, BeginsAnswer, TakesAtMost}
 use Rattle.cosim_call.specs.Notes.{refused_note}
 use Rattle.cosim_call.specs.declared.coming.Served.{Served}
 use Rattle.cosim_call.specs.declared.coming.Stopped.{Stopped}
@@ -25,7 +25,7 @@ pub record PutsAnswer (IsAnswer : Answer → Type 0) (out out' : Stream) (served
   pub put : Appends out.bytes out'.bytes answer.out
   pub notes : served.notes ≡ answer.notes
   pub status : served.status ≡ answer.status
-  pub ends : IsEnd served.status
+  pub ends : IsEndOfWork served.status
 
 -- What a command owes on a whole text, whose answers are these.
 abbrev pub Serves : (Answer → Type 0) → Stream → Stream → Result Served Stopped → Type 0
@@ -68,10 +68,10 @@ ReadsInput (Some limit) source source' (Err stopped.NoMemory) = source'.faults �
 ReadsInput (Some limit) source source' (Err stopped.WriteFault) = ⊥
 
 -- What is handed on has at most as many bytes as the command takes.
-abbrev pub IsWithin : Option ℕ → Result (Vec ℕ Global) Stopped → Type 0
-IsWithin None result = ⊤
-IsWithin (Some limit) (Ok text) = vec_len text ≤ limit
-IsWithin (Some limit) (Err why) = ⊤
+abbrev pub IsInLimit : Option ℕ → Result (Vec ℕ Global) Stopped → Type 0
+IsInLimit None result = ⊤
+IsInLimit (Some limit) (Ok text) = vec_len text ≤ limit
+IsInLimit (Some limit) (Err why) = ⊤
 
 -- An answer was put, and its notes and status are these; the source was read as far as it is asked for.
 pub record ComesToAnswer (input : Option ℕ) (IsAnswer : List ℕ → Answer → Type 0) (source source' out out' : Stream) (given : Status)
@@ -84,14 +84,14 @@ pub record ComesToAnswer (input : Option ℕ) (IsAnswer : List ℕ → Answer �
 -- What a command came to.
 abbrev pub CameTo : Option ℕ → (List ℕ → Answer → Type 0) → Stream → Stream → Stream → Stream → Result Served Stopped → Type 0
 CameTo input IsAnswer source source' out out' (Ok served) = ComesToAnswer input IsAnswer source source' out out' served.status served.notes
-    × IsEnd served.status
+    × IsEndOfWork served.status
 CameTo input IsAnswer source source' out out' (Err (stopped.Refused line rule)) =
     ComesToAnswer input IsAnswer source source' out out' status.Refused (refused_note line rule ∷ []) × (out' ≡ out)
-CameTo input IsAnswer source source' out out' (Err stopped.ReadFault) = PutsFront IsAnswer source out out' × Fails source source' × (out' ≡ out)
+CameTo input IsAnswer source source' out out' (Err stopped.ReadFault) = BeginsAnswer IsAnswer source out out' × Fails source source' × (out' ≡ out)
 CameTo input IsAnswer source source' out out' (Err stopped.WriteFault) =
-    PutsFront IsAnswer source out out' × (source'.faults ≡ source.faults) × Fails out out'
+    BeginsAnswer IsAnswer source out out' × (source'.faults ≡ source.faults) × Fails out out'
 CameTo input IsAnswer source source' out out' (Err stopped.NoMemory) =
-    PutsFront IsAnswer source out out' × (source'.faults ≡ source.faults) × (out'.faults ≡ out.faults)
+    BeginsAnswer IsAnswer source out out' × (source'.faults ≡ source.faults) × (out'.faults ≡ out.faults)
 
 -- And no more was taken from the source than the command asks for.
 pub record Comes (input : Option ℕ) (IsAnswer : List ℕ → Answer → Type 0) (source source' out out' : Stream) (came : Result Served Stopped) : Type 0 where

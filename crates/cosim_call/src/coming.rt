@@ -1,12 +1,12 @@
 //! What a command comes to, before it is told.
 ghost use Rattle.std.specs.Prelude.{◌≡◌};
 ghost use Rattle.cosim_call.specs.Calls.{TakesAtMost, stream};
-ghost use Rattle.cosim_call.specs.Coming.{ReadsInput, IsWithin, PutsPiece, PutsMade};
+ghost use Rattle.cosim_call.specs.Coming.{ReadsInput, IsInLimit, PutsPiece, PutsMade};
 
 use crate::status::Status;
 use cosim_io::{ReadEnd, Sink, Source, read_all};
 use fixed_words::{List, NoMemory};
-use std::alloc::Global;
+use std::alloc::{AllocFailed, Global};
 
 /// A command did its work, and put what its answer puts: how it ended, and the lines of its notes, which are told now.
 #[derive(Debug, Drop)]
@@ -35,6 +35,16 @@ impl From<NoMemory> for Stopped {
     }
 }
 
+impl<T: Drop> From<AllocFailed<T>> for Stopped {
+    ghost use Rattle.cosim_call.specs.declared.coming.Stopped.TheVariants.{NoMemory};
+
+    ghost from_gives = { λ _ why. why ≡ NoMemory };
+
+    fn from(_: AllocFailed<T>) -> Stopped {
+        Stopped::NoMemory
+    }
+}
+
 /// The rule of an input that is too long.
 const SIZE_RULE: u8 = 2;
 
@@ -45,7 +55,7 @@ pub fn read_input<S: Source>(
     input: Option<usize>,
 ) -> Result<Vec<u8>, Stopped>
     ensures reads { ReadsInput input (stream (S.left source.old) (S.faults source.old)) (stream (S.left source.new) (S.faults source.new)) result }
-    ensures within { IsWithin input result }
+    ensures within { IsInLimit input result }
     ensures taken { TakesAtMost input (stream (S.left source.old) (S.faults source.old)) (stream (S.left source.new) (S.faults source.new)) }
 {
     let Some(limit) = input else {
@@ -66,13 +76,11 @@ pub fn read_input<S: Source>(
 fn put_piece<O: Sink>(alloc: Global, bytes: &[u8], out: &mut O) -> Result<Served, Stopped>
     ensures { PutsPiece bytes.now (stream (O.held out.old) (O.faults out.old)) (stream (O.held out.new) (O.faults out.new)) result }
 {
-    match out.put(bytes) {
-        Ok(()) => Ok(Served {
-            status: Status::Done,
-            notes: List::new(alloc),
-        }),
-        Err(_) => Err(Stopped::WriteFault),
-    }
+    out.put(bytes).map_err(|_| Stopped::WriteFault)?;
+    Ok(Served {
+        status: Status::Done,
+        notes: List::new(alloc),
+    })
 }
 
 /// Puts the one piece of a command that makes one, if it made it.
@@ -83,8 +91,5 @@ pub fn put_made<O: Sink>(
 ) -> Result<Served, Stopped>
     ensures { PutsMade made (stream (O.held out.old) (O.faults out.old)) (stream (O.held out.new) (O.faults out.new)) result }
 {
-    match made {
-        Ok(bytes) => put_piece(alloc, &bytes, out),
-        Err(why) => Err(why),
-    }
+    put_piece(alloc, &made?, out)
 }

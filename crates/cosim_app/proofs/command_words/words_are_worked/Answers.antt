@@ -1,31 +1,28 @@
 use Rattle.std.proofs.Common.{refl}
-use Rattle.cosim_app.specs.Options.{with_option, with_report}
+use Rattle.cosim_app.specs.Options.{given_of, option_of}
 use Rattle.cosim_app.proofs.command_words.words_are_worked.Goals as goal
 
 pub returns-clause-numbers : goal.returns-clause-numbers
-unfolding with_option with_report
 returns-clause-numbers c = record { leading_zeros = refl; nineteen = refl; twenty = refl; no_digit = refl; signed = refl; behind = refl }
 
 pub returns-clause-options : goal.returns-clause-options
-unfolding with_option with_report
-returns-clause-options c =
-    record {
-      none = refl;
-      all = refl;
-      turned = refl;
-      one = refl;
-      number_twice = refl;
-      policy_twice = refl;
-      report_twice = refl;
-      no_value = refl;
-      other_value =
-          refl;
-      other_policy = refl;
-      joined = refl;
-      other_option = refl;
-    }
+unfolding given_of option_of
+returns-clause-options c = record {
+  none = refl;
+  all = refl;
+  turned = refl;
+  one = refl;
+  number_twice = refl;
+  policy_twice = refl;
+  report_twice = refl;
+  no_value = refl;
+  other_value = refl;
+  other_policy = refl;
+  joined = refl;
+  other_option = refl;
+}
 
 pub returns-clause-commands : goal.returns-clause-commands
-unfolding with_option with_report
+unfolding given_of option_of
 returns-clause-commands c =
     record { run = refl; check = refl; print = refl; no_word = refl; empty = refl; other_case = refl; two_commands = refl; option_of_none = refl }

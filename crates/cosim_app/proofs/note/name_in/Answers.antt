@@ -1,7 +1,6 @@
-use Rattle.std.proofs.Common.{◌≡◌, ℕ, zero, suc, ◌+◌, ◌-◌, ◌<◌, ◌≤◌, ◌/◌, length, List, [], ◌∷◌, Option, Some, None, refl, sym, ap, subst, ◌∙◌, arith}
+use Rattle.std.proofs.Common.{◌≡◌, ℕ, zero, suc, ◌+◌, ◌-◌, ◌<◌, ◌≤◌, ◌/◌, length, List, [], ◌∷◌, Some, None, refl, sym, ap, subst, ◌∙◌, arith}
 use Rattle.std.specs.Prelude.{slice_get, slice_index_or}
 use Rattle.std.specs.Option.{option_copied}
-use Rattle.unit_tree.specs.declared.unit.EventOut.{EventOut}
 use Rattle.unit_tree.specs.declared.unit.Output.{Output}
 use Rattle.cosim_app.proofs.OutputNames.{event_name, plain_name, name_behind}
 use Rattle.cosim_app.proofs.note.name_in.Goals as goal
@@ -30,7 +29,8 @@ returns-in-Some c =
     let behind = c.args.number - length c.as_slice-plain.result.now in
     let is : c.args.number ≡ length c.args.unit.now.outputs + behind =
     rest_of c.args.number (length c.as_slice-plain.result.now) c.if-number-plain.false ∙ ap (λ n. n + behind) same in
-    let there : slice_get c.args.unit.now.events_out (behind / 2) ≡ Some c.in-Some.event.now = sym (sym (ap option_copied c.in-Some.is) ∙ c.get.ensures.value) in
+    let there : slice_get c.args.unit.now.events_out (behind / 2) ≡ Some c.in-Some.event.now =
+    sym (sym (ap option_copied c.in-Some.is) ∙ c.get.ensures.value) in
     c.as_slice-in-Some.ensures
     ∙ sym (name_behind c.args.unit.now.outputs c.args.unit.now.events_out c.args.number behind is ∙ ap event_name there)
 

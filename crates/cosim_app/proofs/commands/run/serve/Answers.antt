@@ -1,22 +1,31 @@
+use Rattle.std.proofs.Common.{subst}
+use Rattle.trace_plan.specs.Plans.{Planned}
 use Rattle.cosim_call.specs.Calls.{stream}
-use Rattle.cosim_app.proofs.MakingLaws.{run_stops}
-use Rattle.cosim_app.proofs.RunLaws.{runs_accepted}
-use Rattle.cosim_app.proofs.TraceLaws.{whole_of}
+use Rattle.cosim_call.specs.Coming.{Serves}
+use Rattle.cosim_app.specs.Answer.{Answers}
+use Rattle.cosim_app.specs.Serving.{TellsEnding}
+use Rattle.cosim_app.specs.declared.command_words.Command.TheVariants.{Run}
+use Rattle.cosim_app.proofs.MakingLaws.{handed_on}
+use Rattle.cosim_app.proofs.RunLaws.{run_given_up, run_stops, run_told}
 use Rattle.cosim_app.proofs.commands.run.serve.Goals as goal
 
-pub run_system-requires : goal.run_system-requires
-run_system-requires g c = record {
-  whole = whole_of c.args.text.now c.in-Ok.read.checked c.in-Ok.read.lines c.in-Ok.ensures.0;
-  order = c.in-Ok.ensures.1;
-}
+pub returns-in_err-plan : goal.returns-in_err-plan
+returns-in_err-plan g c =
+    let out = stream (g.O.Sink.held c.args.out.now) (g.O.Sink.faults c.args.out.now) in
+    handed_on (Serves (Answers Run c.args.text.now) out out) c.from_residual.result c.in_err-plan.field-0.0 c.from_residual.ensures.1
+    (run_stops c.args.text.now out c.in_err-plan.field-0.0 c.in_err-plan.ensures.refused)
 
-pub returns-in-Ok : goal.returns-in-Ok
-returns-in-Ok g c =
-    runs_accepted c.args.text.now c.in-Ok.read.checked c.in-Ok.read.lines
+pub returns-in_err-report : goal.returns-in_err-report
+returns-in_err-report g c =
+    let out = stream (g.O.Sink.held c.args.out.now) (g.O.Sink.faults c.args.out.now) in
+    let out' = stream (g.O.Sink.held c.run_plan.new.out) (g.O.Sink.faults c.run_plan.new.out) in
+    handed_on (Serves (Answers Run c.args.text.now) out out') c.from_residual-in_err-report.result c.in_err-report.field-0.0
+    c.from_residual-in_err-report.ensures.1
+    (run_given_up c.args.text.now c.in_ok-plan.plan.value.system c.in_ok-plan.ensures.planned out out' c.in_err-report.field-0.0 c.in_err-report.ensures)
+
+pub returns : goal.returns
+returns g c =
+    run_told c.args.text.now c.in_ok-plan.plan.value.system c.in_ok-plan.ensures.planned
     (stream (g.O.Sink.held c.args.out.now) (g.O.Sink.faults c.args.out.now))
-    (stream (g.O.Sink.held c.run_system.new.out) (g.O.Sink.faults c.run_system.new.out))
-    c.run_system.result c.in-Ok.ensures.0 c.run_system.ensures
-
-pub returns-in-Err : goal.returns-in-Err
-returns-in-Err g c =
-    run_stops c.args.text.now (stream (g.O.Sink.held c.args.out.now) (g.O.Sink.faults c.args.out.now)) c.in-Err.why c.in-Err.ensures
+    (stream (g.O.Sink.held c.run_plan.new.out) (g.O.Sink.faults c.run_plan.new.out)) c.in_ok-report.report c.reported.result c.in_ok-report.ensures
+    (subst (λ (p : Planned). TellsEnding p.system c.in_ok-report.report c.reported.result) c.deref.ensures c.reported.ensures)
