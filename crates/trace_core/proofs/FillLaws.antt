@@ -9,7 +9,7 @@ use Rattle.std.specs.Option.{option_map, option_and_then}
 use Rattle.fixed_words.specs.declared.types.Fault.{Fault}
 use Rattle.super_time.specs.LocalTime.{local_time, local_step}
 use Rattle.trace_core.specs.Keeping.{stand_of, cells_seen, inputs_before, run_state, SeatsFit, IsRun}
-use Rattle.trace_core.specs.Runs.{Cell, Empty, Filled, RunState, Stands, IsWanted, IsComputed, is_ended, with_own, step_in, step_length}
+use Rattle.trace_core.specs.Runs.{Cell, Empty, Filled, RunState, Stands, IsWanted, IsComputed, is_ended, with_found, step_in, step_length}
 use Rattle.trace_core.specs.Seats.{IsSeat, AreSeats, SlotIs, cell_in, cells_in, saved, AreSaved}
 use Rattle.trace_core.specs.Slots.{slot_for, is_empty}
 use Rattle.trace_core.specs.declared.phase.Phase.{Phase}
@@ -21,7 +21,7 @@ use Rattle.trace_core.specs.declared.seat.Slot.TheVariants as slot
 use Rattle.trace_core.proofs.KeepLaws.{fit_as}
 use Rattle.trace_core.proofs.SeatLaws.{ids_of, own_kept, saved_kept, are_saved_kept, cells_long, cell_there, cells_set}
 use Rattle.trace_core.proofs.SlotLaws.{AreOfOneLength}
-use Rattle.trace_core.proofs.StandLaws.{stands_filled}
+use Rattle.trace_core.proofs.StandLaws.{filled, stands_filled}
 use Rattle.trace_plan.specs.Plans.{Planned}
 use Rattle.trace_units.specs.Fleets.{Fleet, ForUnit, Steps}
 use Rattle.unit_tree.specs.Components.{Moved, step_of}
@@ -223,8 +223,8 @@ step_keeps : (old new : Fleet) (instance time step : ℕ) (made : Result ℕ Fau
 step_keeps old new instance time step (Ok accepted) steps = (ap (λ (f : Fleet). f.plan) steps.1, ap (λ (f : Fleet). f.inputs) steps.1)
 step_keeps old new instance time step (Err fault) steps = (ap (λ (f : Fleet). f.plan) steps.1, ap (λ (f : Fleet). f.inputs) steps.1)
 
-abbrev pub stepped : Inside → Fleet → Vec Seat Global → Inside
-stepped r units seats = record r { units = units; seats = seats; own = r.own + 1 }
+abbrev pub stepped : Inside → Fleet → Vec Seat Global → ℕ → ℕ → Inside
+stepped r units seats found own = record r { units = units; seats = seats; found = found; own = own }
 
 -- ---- Which cells are wanted
 
@@ -372,8 +372,19 @@ module _ (r : Inside) (is : IsRun r) (seat : Seat) (instance : ℕ)
   pub the_seat : SeatAt r.point.t (step_length r.phase) stand.ports run.members stand.at.states r.units.states seat instance
   the_seat = seat_by r.phase refl is_going
 
+  -- Its unit still holds the state where the run stands.
+  pub holds_state : the_seat.unit ≡ the_seat.state
+  holds_state =
+      held_by (is_held the_seat.member.factor r.point.t (step_length r.phase))
+      (step_of the_seat.member.component the_seat.state (inputs_at stand.ports the_seat.member) (local_time the_seat.member.factor r.point.t)
+      (local_step the_seat.member.factor r.point.t (step_length r.phase)))
+      the_seat.unit the_seat.state
+      (subst (λ made. SlotIs (step_at r.point.t (step_length r.phase) stand.ports (the_seat.member, the_seat.state)) made the_seat.unit the_seat.state)
+      slot_is_empty the_seat.fits.slot)
+
   module _ (made : Result ℕ Fault) (units : Fleet) (steps : Steps r.units instance seat.time seat.step made units) (solved : r.solved ≡ true)
-      (seats : Vec Seat Global) (seats_are : seats.items ≡ set r.seats.items instance (record seat { slot = slot_for made })) where
+      (seats : Vec Seat Global) (seats_are : seats.items ≡ set r.seats.items instance (record seat { slot = slot_for made }))
+      (found own : ℕ) (one_more : found + own ≡ suc (r.found + r.own)) where
     abbrev new_seat : Seat
     new_seat = record seat { slot = slot_for made }
 
@@ -405,24 +416,23 @@ module _ (r : Inside) (is : IsRun r) (seat : Seat) (instance : ℕ)
     cells_by (Redo h) going = seen_by
     cells_by (Ended ending) going = absurd (cc)
 
-    abbrev with_step : List Cell
-    with_step = slice_set (cells_seen r.phase r.seats.items r.units.states) instance (Filled step)
+    abbrev with_made : List Cell
+    with_made = slice_set (cells_seen r.phase r.seats.items r.units.states) instance (Filled step)
 
-    abbrev with_parts : List (List ℤ) → List Cell → List (List ℤ) → ℕ → RunState
-    with_parts states cells before own = record (run_state r) {
+    abbrev with_parts : List (List ℤ) → List Cell → List (List ℤ) → RunState
+    with_parts states cells before = record (run_state r) {
       stand = record { at = record { point = r.point; states = states; number = r.number }; ports = stand.ports };
       cells = cells;
       before = before;
+      found = found;
       own = own;
     }
 
-    pub stepped_is : run_state (stepped r units seats) ≡ with_own (run_state r) instance step
+    pub stepped_is : run_state (stepped r units seats found own) ≡ filled (run_state r) instance step found own
     stepped_is =
-        let more : r.own + 1 ≡ suc r.own = omega arith in
-        ap (λ states. with_parts states (cells_seen r.phase seats.items units.states) (inputs_before seats.items) (r.own + 1)) states_same
-        ∙ ap (λ cells. with_parts stand.at.states cells (inputs_before seats.items) (r.own + 1)) (cells_by r.phase is_going)
-        ∙ ap (λ before. with_parts stand.at.states with_step before (r.own + 1)) before_same
-        ∙ ap (λ own. with_parts stand.at.states with_step (inputs_before r.seats.items) own) more
+        ap (λ states. with_parts states (cells_seen r.phase seats.items units.states) (inputs_before seats.items)) states_same
+        ∙ ap (λ cells. with_parts stand.at.states cells (inputs_before seats.items)) (cells_by r.phase is_going)
+        ∙ ap (λ before. with_parts stand.at.states with_made before) before_same
 
     keeps : (units.plan ≡ r.units.plan) × (units.inputs ≡ r.units.inputs)
     keeps = step_keeps r.units units instance seat.time seat.step made steps
@@ -433,7 +443,8 @@ module _ (r : Inside) (is : IsRun r) (seat : Seat) (instance : ℕ)
     fed : r.units.inputs ≡ all_inputs run stand.ports
     fed = is.inputs solved
 
-    fit_set : (phase : Phase) → r.phase ≡ phase → is_ended phase ≡ false → SeatsFit run (stand_of (stepped r units seats)) phase units.states seats.items
+    fit_set : (phase : Phase) → r.phase ≡ phase → is_ended phase ≡ false
+        → SeatsFit run (stand_of (stepped r units seats found own)) phase units.states seats.items
     fit_set (Trial h) same going =
         subst (λ states. AreSeats r.point.t h stand.ports (zip run.members states) units.states seats.items) (sym states_same)
         (subst (AreSeats r.point.t h stand.ports (zip run.members stand.at.states) units.states) (sym seats_are)
@@ -460,14 +471,30 @@ module _ (r : Inside) (is : IsRun r) (seat : Seat) (instance : ℕ)
     pub step_is : step_in (run_state r) instance ≡ Some step
     step_is = given_in r.phase refl is_going
 
-    -- So the step was computed.
-    pub is_computed : (seen : RunState) → run_state r ≡ seen → IsComputed seen instance (run_state (stepped r units seats))
-    is_computed seen seen_is =
-        subst (λ s. IsComputed s instance (run_state (stepped r units seats))) seen_is (record { step = step; gives = step_is; is = stepped_is })
+    -- So the step was computed, where the run made one more step itself.
+    pub is_computed : (seen : RunState) → run_state r ≡ seen → found ≡ r.found → own ≡ suc r.own
+        → IsComputed seen instance (run_state (stepped r units seats found own))
+    is_computed seen seen_is found_is own_is = subst (λ s. IsComputed s instance (run_state (stepped r units seats found own))) seen_is (record {
+      step = step;
+      gives = step_is;
+      is =
+          stepped_is
+          ∙ ap (λ count. filled (run_state r) instance step count own) found_is
+          ∙ ap (λ count. filled (run_state r) instance step r.found count) own_is;
+    })
 
-    pub stepped_run : IsRun (stepped r units seats)
+    -- And it was found, where one more was.
+    pub is_found : (seen : RunState) → run_state r ≡ seen → found ≡ suc r.found → own ≡ r.own
+        → run_state (stepped r units seats found own) ≡ with_found seen instance step
+    is_found seen seen_is found_is own_is =
+        stepped_is
+        ∙ ap (λ count. filled (run_state r) instance step count own) found_is
+        ∙ ap (λ count. filled (run_state r) instance step (suc r.found) count) own_is
+        ∙ ap (λ s. with_found s instance step) seen_is
+
+    pub stepped_run : IsRun (stepped r units seats found own)
     stepped_run = record {
-      stands = subst Stands (sym stepped_is) (stands_filled (run_state r) instance step is.stands wanted step_is);
+      stands = subst Stands (sym stepped_is) (stands_filled (run_state r) instance step found own one_more is.stands wanted step_is);
       tied = keeps.0 ∙ is.tied;
       room = record {
         ports = is.room.ports;

@@ -9,7 +9,7 @@ use Rattle.std.specs.List.{count_by}
 use Rattle.std.proofs.lemmas.Slice.Zip.{AllZip-long}
 use Rattle.fixed_words.specs.declared.types.Fault.{Fault}
 use Rattle.trace_core.specs.Runs.{Cell, Empty, Filled, RunState, Stands, IsPhase, IsTrial, AreCellsFull, IsWanted, ArePortsKnown, HoldSteps, arrived, phase_at}
-use Rattle.trace_core.specs.Runs.{with_own, step_in, is_ended, is_filled, cells_now, first_end}
+use Rattle.trace_core.specs.Runs.{step_in, is_ended, is_filled, cells_now, first_end}
 use Rattle.trace_core.specs.Settling.{with_redo}
 use Rattle.trace_core.specs.declared.phase.Phase.{Phase}
 use Rattle.trace_core.specs.declared.phase.Phase.TheVariants.{Trial, Redo, Ended}
@@ -22,7 +22,8 @@ use Rattle.unit_tree.specs.Compositions.{Composition, AreMembers, run_of}
 use Rattle.unit_tree.specs.Negotiation.{all_inputs}
 use Rattle.unit_tree.specs.Ports.{IsPlaceOrder}
 use Rattle.unit_tree.specs.Successor.{Position, agreed, ends, is_redone, proposed, steps_by, successor, trial_end}
-use Rattle.unit_tree.specs.Trace.{Stand, Goes, IsGoing, IsStand, HasWords, AreWordsOf, steps_there, cells_of_trial, cells_of_redo, cells_at, IsInBounds, IsInRows}
+use Rattle.unit_tree.specs.Trace.{Stand, Goes, IsGoing, IsStand, HasWords, AreWordsOf, steps_there, cells_of_trial, cells_of_redo, cells_at, IsInBounds}
+use Rattle.unit_tree.specs.Trace.{IsInRows}
 use Rattle.unit_tree.specs.declared.ending.Ending.{Ending}
 use Rattle.run_laws.proofs.RunSteps.{step_is_right}
 
@@ -243,7 +244,7 @@ one_more_now run stand (Ended ending) cells instance step wanted is =
     absurd (cc)
 
 hold_more : (old : RunState) (instance : ℕ) (step : Result Moved Fault) → HoldSteps old → IsWanted old instance → step_in old instance ≡ Some step
-    → HoldSteps (with_own old instance step)
+    → HoldSteps (record old { cells = filled_at old.cells instance step })
 hold_more old instance step hold wanted gives place held is = elim (eqb_tells place instance) [
   | inl same ↦
       let made : Filled step ≡ Filled held =
@@ -264,9 +265,14 @@ hold_more old instance step hold wanted gives place held is = elim (eqb_tells pl
     same_step : Filled step ≡ Filled held → step ≡ held
     same_step made = cc
 
-pub stands_filled : (old : RunState) (instance : ℕ) (step : Result Moved Fault) → Stands old → IsWanted old instance → step_in old instance ≡ Some step
-    → Stands (with_own old instance step)
-stands_filled old instance step stands wanted gives = record {
+-- With the cell of an instance filled, and these counts.
+abbrev pub filled : RunState → ℕ → Result Moved Fault → ℕ → ℕ → RunState
+filled old instance step found own = record old { cells = filled_at old.cells instance step; found = found; own = own }
+
+pub stands_filled : (old : RunState) (instance : ℕ) (step : Result Moved Fault) (found own : ℕ) → found + own ≡ suc (old.found + old.own) → Stands old
+    → IsWanted old instance → step_in old instance ≡ Some step
+    → Stands (filled old instance step found own)
+stands_filled old instance step found own one_more stands wanted gives = record {
   composed = stands.composed;
   order = stands.order;
   ordered = stands.ordered;
@@ -288,5 +294,5 @@ stands_filled old instance step stands wanted gives = record {
   steps = hold_more old instance step stands.steps wanted gives;
   counted =
       let more = one_more_now old.plan.run old.stand old.phase old.cells instance step wanted stands.phase_is in
-      omega (arith, stands.counted, more);
+      omega (arith, stands.counted, more, one_more);
 }

@@ -1,8 +1,11 @@
+pub mod Accepting
 pub mod Arriving
 pub mod Courses
 pub mod Keeping
+pub mod OpenedAt
 pub mod Opening
 pub mod Runs
 pub mod Seats
 pub mod Settling
 pub mod Slots
+pub mod StateWords

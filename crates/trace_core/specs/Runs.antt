@@ -1,14 +1,17 @@
 -- Runs: what contracts see of one, and what all of them keep.
-use Rattle.std.specs.Prelude.{◌≡◌, ◌≤◌, ℕ, suc, ◌+◌, ◌*◌, Bool, true, false, ℤ, List, [], ◌∷◌, map, length, slice_get, slice_set, if◌then◌else◌, Option, Some}
+use Rattle.std.specs.Prelude.{◌≡◌, ◌≤◌, ℕ, suc, ◌+◌, ◌*◌, ◌^◌, Bool, true, false, ℤ, List, [], ◌∷◌, map, length, slice_get, slice_set, if◌then◌else◌, Option, Some}
 use Rattle.std.specs.Prelude.{None, Result}
 use Rattle.std.specs.List.{AllByRecursion, count_by}
 use Rattle.std.specs.Option.{option_and_then}
+use Rattle.code_units.specs.Calls.{HasWordsFor}
+use Rattle.code_units.specs.UnitPrograms.{program_of}
 use Rattle.fixed_words.specs.declared.types.Fault.{Fault}
 use Rattle.super_time.specs.LocalTime.{local_time, local_step}
 use Rattle.trace_core.specs.declared.phase.Phase.{Phase}
 use Rattle.trace_core.specs.declared.phase.Phase.TheVariants.{Trial, Redo, Ended}
 use Rattle.trace_core.specs.declared.phase.Row as lent
 use Rattle.trace_plan.specs.Plans.{IsBounded, Planned}
+use Rattle.unit_answers.specs.Keys.{StepKey, key_of}
 use Rattle.unit_exec.specs.Images.{IsImageOf}
 use Rattle.unit_exec.specs.declared.want.Want.{Want}
 use Rattle.unit_tree.specs.Components.{Moved}
@@ -18,6 +21,7 @@ use Rattle.unit_tree.specs.Ports.{IsPlaceOrder, first_some, port_fault}
 use Rattle.unit_tree.specs.Successor.{Position, standings, ends, proposed, agreed, is_redone, stop_end, row_end, max_end, trial_end, successor}
 use Rattle.unit_tree.specs.Trace.{Stand, IsStand, IsGoing, Reaches, Row, HasWords, cells_of_trial, cells_at, IsInBounds, IsInRows}
 use Rattle.unit_tree.specs.declared.ending.Ending.{Ending}
+use Rattle.unit_vm.specs.Programs.{program_words}
 
 -- The step of an instance in a phase: the instance is held in it, the step is not there yet, or it is, with what it gave.
 pub data Cell : Type 0 where
@@ -197,20 +201,37 @@ abbrev pub is_ended : Phase → Bool
 is_ended (Ended ending) = true
 is_ended _ = false
 
--- What is wanted of an instance: its step of the phase, by its clock.
-pub record IsWantOf (r : RunState) (instance : ℕ) (want : Want) : Type 0 where
+-- The key of the step of an instance in the phase: the code of its component, the state and the words of the inputs where the run
+-- stands, and the step by its clock.
+pub record IsKeyAt (r : RunState) (instance : ℕ) (key : StepKey) : Type 0 where
   pub member : Member
   pub is_there : slice_get r.plan.run.members instance ≡ Some member
+  pub code : key.code ≡ program_words (program_of member.component.unit member.component.params)
+  pub state : slice_get r.stand.at.states instance ≡ Some key.state
+  pub inputs : slice_get (all_inputs r.plan.run r.stand.ports) instance ≡ Some key.inputs
+  pub time : key.time ≡ local_time member.factor r.stand.at.point.t
+  pub step : key.step ≡ local_step member.factor r.stand.at.point.t (step_length r.phase)
+
+-- What is wanted of an instance: its step of the phase, for the row where the run stands. Its words fit the code, and it ends
+-- within what times may be, so that whoever has a unit of this code can make it.
+pub record IsWantOf (r : RunState) (instance : ℕ) (want : Want) : Type 0 where
+  pub key : IsKeyAt r instance (key_of want)
   pub row : want.row ≡ r.stand.at.number
-  pub image : IsImageOf member.component want.image.now.value
-  pub state : slice_get r.stand.at.states instance ≡ Some want.state.now
-  pub inputs : slice_get (all_inputs r.plan.run r.stand.ports) instance ≡ Some want.inputs.now
-  pub time : want.time ≡ local_time member.factor r.stand.at.point.t
-  pub step : want.step ≡ local_step member.factor r.stand.at.point.t (step_length r.phase)
+  pub image : IsImageOf key.member.component want.image.now.value
+  pub words : HasWordsFor want.image.now.value.program want.state.now want.inputs.now
+  pub in_time : want.time + want.step ≤ 10 ^ 15
+
+-- The step of a key is wanted of an instance.
+abbrev pub IsKeyWanted : RunState → ℕ → StepKey → Type 0
+IsKeyWanted r instance key = IsWanted r instance × IsKeyAt r instance key
 
 -- The cell of an instance was filled with what its step gave, by the run's own step.
 abbrev pub with_own : RunState → ℕ → Result Moved Fault → RunState
 with_own r instance step = record r { cells = slice_set r.cells instance (Filled step); own = suc r.own }
+
+-- The same, by what an answer tells.
+abbrev pub with_found : RunState → ℕ → Result Moved Fault → RunState
+with_found r instance step = record r { cells = slice_set r.cells instance (Filled step); found = suc r.found }
 
 -- The run made the step that was wanted of an instance: the cell is filled with what this step gives.
 pub record IsComputed (old : RunState) (instance : ℕ) (new : RunState) : Type 0 where

@@ -1,7 +1,8 @@
 //! A run of a plan.
-ghost use Rattle.std.specs.Prelude.{◌≡◌, ◌<◌, ◌↔◌, length, slice_get, false, IsTrue, IsSome, Some, IfOk, IfSome, if◌then◌else◌};
+ghost use Rattle.std.specs.Prelude.{◌≡◌, ◌<◌, ◌↔◌, length, slice_get, false, true, IsTrue, IsSome, Some, IfOk, IfSome, if◌then◌else◌};
 ghost use Rattle.std.specs.Option.{option_map};
-ghost use Rattle.trace_core.specs.Runs.{Stands, IsOpened, IsWanted, IsWantOf, is_ended, IsComputed, row_told, AreCellsFull};
+ghost use Rattle.trace_core.specs.Accepting.{IsAnswerTo};
+ghost use Rattle.trace_core.specs.Runs.{Stands, IsOpened, IsWanted, IsWantOf, IsKeyWanted, is_ended, IsComputed, with_found, row_told, AreCellsFull};
 ghost use Rattle.trace_core.specs.Arriving.{position_with};
 ghost use Rattle.trace_core.specs.Settling.{Settled};
 ghost use Rattle.trace_core.specs.declared.phase.Settle.TheVariants as settled;
@@ -10,6 +11,7 @@ ghost use Rattle.unit_tree.specs.Negotiation.{all_inputs};
 ghost use Rattle.unit_tree.specs.Successor.{first_position};
 ghost use Rattle.unit_tree.specs.Trace.{row_at, HasWords, IsInBounds, IsInRows};
 
+use crate::accepting::take_step;
 use crate::course::{Course, course_of};
 use crate::opening::{seats_of, states_of};
 use crate::phase::{Phase, Row, Settle};
@@ -23,6 +25,7 @@ use std::marker::Model;
 use std::sync::Arc;
 use trace_plan::Plan;
 use trace_units::Units;
+use unit_answers::{Proven, same_key};
 use unit_exec::Want;
 use unit_tree::Point;
 
@@ -43,8 +46,9 @@ fn come_to(solved: bool) -> Settle
 
 /// The run of a plan, from one row to the next.
 ///
-/// In each phase every instance that [`Run::wants`] tells of has to be stepped once, in any order: by [`Run::compute`]. Then
-/// [`Run::settle`] goes on. Instances are told by their numbers from 0. No call but [`Run::open`] takes memory, and none waits.
+/// In each phase every instance that [`Run::wants`] tells of has to be stepped once, in any order: by [`Run::compute`], or by an
+/// answer that was made elsewhere and that [`Run::accept`] takes. Then [`Run::settle`] goes on. Instances are told by their
+/// numbers from 0. No call takes memory but [`Run::open`] and [`Run::open_at`], and none waits.
 #[derive(Drop)]
 pub struct Run {
     plan: Arc<Plan>,
@@ -101,7 +105,7 @@ impl Run {
     }
 
     /// The run of a plan from the position of its units.
-    fn open_from(
+    pub(crate) fn open_from(
         alloc: Global,
         plan: Arc<Plan>,
         units: Units,
@@ -267,6 +271,38 @@ impl Run {
         let seat = &mut self.seats[instance as usize];
         seat.slot = slot_of(self.units.do_step(instance, seat.time, seat.step));
         self.own += 1;
+    }
+
+    /// Fills the empty cell of an instance with what the answer to its step tells.
+    fn fill(&mut self, instance: u32, answer: &Proven)
+        requires wanted { IsWanted self.old instance }
+        requires answers { IsAnswerTo self.old instance answer.now }
+        ensures { self.new ≡ with_found self.old instance answer.now.answer }
+    {
+        // That there is a unit for each instance is known by the clauses of this call alone.
+        let _ = self.units.count();
+        let seat = &mut self.seats[instance as usize];
+        seat.slot = take_step(&mut self.units, instance, answer.answer());
+        self.found += 1;
+    }
+
+    /// Takes what an answer tells for the step of an instance, exactly where this step is wanted: where code, state, inputs, time and
+    /// step are those of the answer's key. The row for which it was made is not asked. Where it is not taken nothing changes.
+    pub fn accept(&mut self, instance: u32, answer: &Proven) -> bool
+        ensures exactly { IsTrue result ↔ IsKeyWanted self.old instance answer.now.key }
+        ensures found { result ≡ true → self.new ≡ with_found self.old instance answer.now.answer }
+        ensures kept { result ≡ false → self.new ≡ self.old }
+    {
+        let Some(want) = self.wants(instance) else {
+            return false;
+        };
+        if !same_key(answer, want) {
+            return false;
+        }
+        // That the code is valid is known by the clauses of these calls alone.
+        let _ = want.image.code().facts();
+        self.fill(instance, answer);
+        true
     }
 
     /// Goes on when all steps of the phase are there: makes the step anew where the trial asks for it, and else comes to the

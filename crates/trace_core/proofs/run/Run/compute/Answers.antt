@@ -1,4 +1,4 @@
-use Rattle.std.proofs.Common.{◌<◌, length, set, ap, sym, subst, arith}
+use Rattle.std.proofs.Common.{◌<◌, ◌+◌, length, set, refl, ap, sym, subst, arith}
 use Rattle.std.specs.Vec.{with_item}
 use Rattle.port_solve.specs.Solved.{HaveStates}
 use Rattle.trace_core.specs.Runs.{RunState, IsWanted, step_length}
@@ -57,7 +57,7 @@ invariant_of-self c =
     let solved = going_solved r is (is_going r is seat c.args.instance (long r is have) there wanted) in
     stepped_run r is seat c.args.instance (long r is have) there wanted c.do_step.result c.do_step.new.self c.do_step.ensures solved
     (with_item r.seats c.args.instance (record seat { slot = c.slot_of-seat.result }))
-    (ap (λ made. set r.seats.items c.args.instance (record seat { slot = made })) c.slot_of-seat.ensures)
+    (ap (λ made. set r.seats.items c.args.instance (record seat { slot = made })) c.slot_of-seat.ensures) r.found (r.own + 1) (omega arith)
 
 pub returns : goal.returns
 returns c =
@@ -70,4 +70,5 @@ returns c =
     let solved = going_solved r is (is_going r is seat c.args.instance (long r is have) there wanted) in
     is_computed r is seat c.args.instance (long r is have) there wanted c.do_step.result c.do_step.new.self c.do_step.ensures solved
     (with_item r.seats c.args.instance (record seat { slot = c.slot_of-seat.result }))
-    (ap (λ made. set r.seats.items c.args.instance (record seat { slot = made })) c.slot_of-seat.ensures) c.args.self.now c.self.view_is
+    (ap (λ made. set r.seats.items c.args.instance (record seat { slot = made })) c.slot_of-seat.ensures) r.found (r.own + 1) (omega arith)
+    c.args.self.now c.self.view_is refl (omega arith)
