@@ -1,0 +1,11 @@
+pub mod Booking
+pub mod Cells
+pub mod Chains
+pub mod Events
+pub mod Guesses
+pub mod Journals
+pub mod Keeping
+pub mod Lanes
+pub mod Laws
+pub mod Matching
+pub mod Slots
