@@ -4,12 +4,17 @@
 //! - `benches lanes COMPARISONS WORDS`: equal lists of so many words compared, by the kernel of lanes and by a plain loop.
 //! - `benches trace ROWS`: rows of the trace, by the writer of rows and by a plain loop.
 //! - `benches machine STEPS`: steps of a component on the stack machine.
+//! - `benches answers ROUNDS`: steps of light and of long components that a run makes itself, that are proved as answers, and that
+//!   it takes.
+//! - `benches board ROUNDS`: calls of lanes of such a light component, each with four cells that are guessed.
 //! - `benches words BITS DECIMALS`: the operations over a million pairs of words of at most so many bits beside the sign
 //!   (up to 63), with fixed point of so many decimals (up to 9), and the same in 128 bits.
 //! - `benches all`: each of them over small numbers. It tells what was computed and no times, so that what it prints is
 //!   the same each time.
 #![tactic(auto)]
 
+mod answers;
+mod board;
 mod lanes;
 mod machine;
 mod report;
@@ -22,7 +27,7 @@ use std::{env, io};
 
 /// What is told where the words ask for nothing that there is.
 const USAGE: &str =
-    "benches: give all, lanes COMPARISONS WORDS, trace ROWS, machine STEPS or words BITS DECIMALS";
+    "benches: give all, answers ROUNDS, board ROUNDS, lanes COMPARISONS WORDS, trace ROWS, machine STEPS or words BITS DECIMALS";
 
 /// The status where the words ask for nothing that there is.
 const MISUSED: u8 = 2;
@@ -33,6 +38,12 @@ const PAIRS: u32 = 1_000_000;
 /// A bench with its numbers.
 #[derive(Clone, Copy)]
 enum Bench {
+    Answers {
+        rounds: u32,
+    },
+    Board {
+        rounds: u32,
+    },
     Lanes {
         comparisons: u32,
         words: u32,
@@ -58,7 +69,9 @@ enum Request {
 }
 
 /// The benches over numbers so small that they are over at once. The lists of words don't fill the last vector of lanes.
-const SMALL: [Bench; 4] = [
+const SMALL: [Bench; 6] = [
+    Bench::Answers { rounds: 2 },
+    Bench::Board { rounds: 2 },
     Bench::Lanes {
         comparisons: 10,
         words: 100_003,
@@ -75,6 +88,8 @@ const SMALL: [Bench; 4] = [
 impl Bench {
     fn run(self, rt: &HostRuntime, telling: Telling) -> io::Result<()> {
         match self {
+            Bench::Answers { rounds } => answers::run(rt, telling, rounds),
+            Bench::Board { rounds } => board::run(rt, telling, rounds),
             Bench::Lanes { comparisons, words } => lanes::run(rt, telling, comparisons, words),
             Bench::Trace { rows } => trace::run(rt, telling, rows),
             Bench::Machine { steps } => machine::run(rt, telling, steps),
@@ -90,6 +105,12 @@ impl Bench {
 /// The bench of words; none where there is no such bench, or where a number is missing or is none.
 fn bench_of(words: &[String]) -> Option<Bench> {
     match words {
+        [name, rounds] if name.as_str() == "answers" => Some(Bench::Answers {
+            rounds: rounds.parse().ok()?,
+        }),
+        [name, rounds] if name.as_str() == "board" => Some(Bench::Board {
+            rounds: rounds.parse().ok()?,
+        }),
         [name, comparisons, words] if name.as_str() == "lanes" => Some(Bench::Lanes {
             comparisons: comparisons.parse().ok()?,
             words: words.parse().ok()?,
