@@ -30,6 +30,10 @@ fits role.Step Limit h = absurd (h refl)
 fits role.Step Done h = absurd (h refl)
 fits role.Step _ h = refl
 
+-- A branch ends no run.
+no_end : (d : ℕ) → flow.Branch d ≡ flow.End → ⊥
+no_end d e = cc
+
 module _ (sizes : Sizes) (use_of : Role) where
   none : AreAllowed sizes use_of []
   none = record { arguments = All-nil (λ i. IsTrue (is_argued sizes i)); endings = All-nil (λ i. IsTrue (fits_role use_of i)) }
@@ -60,21 +64,15 @@ module _ (sizes : Sizes) (use_of : Role) where
   allowed (Choice first second) m =
       let skips = length (flat first) + 2 in
       let over = length (flat second) + 1 in
-      allowed_more (JumpFalse skips) _ (le_asked 1 skips (omega arith)) (fits use_of (JumpFalse skips) (λ e. apart skips e))
+      allowed_more (JumpFalse skips) _ (le_asked 1 skips (omega arith)) (fits use_of (JumpFalse skips) (λ e. no_end skips e))
       (allowed_both (flat first) (Jump over ∷ flat second) (allowed first m.0)
       (allowed_more (Jump over) (flat second) (le_asked 1 over (omega arith)) (fits use_of (Jump over) (λ e. apart_too over e)) (allowed second m.1)))
     where
-      apart : (d : ℕ) → flow.Branch d ≡ flow.End → ⊥
-      apart d e = cc
-
       apart_too : (d : ℕ) → flow.Ahead d ≡ flow.End → ⊥
       apart_too d e = cc
   allowed (When body) m =
       let over = length (flat body) + 1 in
-      allowed_more (JumpFalse over) (flat body) (le_asked 1 over (omega arith)) (fits use_of (JumpFalse over) (λ e. apart over e)) (allowed body m)
-    where
-      apart : (d : ℕ) → flow.Branch d ≡ flow.End → ⊥
-      apart d e = cc
+      allowed_more (JumpFalse over) (flat body) (le_asked 1 over (omega arith)) (fits use_of (JumpFalse over) (λ e. no_end over e)) (allowed body m)
   allowed (Turns count body) m =
       allowed_more (Loop count) _ (and_from (nat_le 1 count) (nat_le count 1000) (le_asked 1 count m.0) (le_asked count 1000 m.1))
       (fits use_of (Loop count) (λ e. apart e))

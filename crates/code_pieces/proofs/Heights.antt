@@ -1,9 +1,9 @@
 -- The heights at the places of a piece.
-use Rattle.std.proofs.Common.{◌≡◌, ℕ, zero, suc, ◌+◌, ◌-◌, ◌≤◌, max, Bool, true, false, List, [], ◌∷◌, ◌++◌, length, Option, Some, None, refl, sym, ap, ◌∙◌}
+use Rattle.std.proofs.Common.{◌≡◌, ℕ, zero, suc, ◌+◌, ◌-◌, ◌≤◌, max, List, [], ◌∷◌, ◌++◌, length, Option, Some, None, refl, sym, ap, ◌∙◌}
 use Rattle.std.proofs.Common.{arith, length-append}
 use Rattle.std.proofs.lemmas.Bool.Decides.{nat_tests}
-use Rattle.std.specs.Prelude.{nat_eq, nat_le, slice_get, unwrap_or, IsTrue, if◌then◌else◌}
-use Rattle.std.proofs.lemmas.Option.{same_Some}
+use Rattle.std.specs.Prelude.{nat_eq, nat_le, slice_get, unwrap_or, IsTrue}
+use Rattle.std.proofs.lemmas.Option.{same_Some, cond_some}
 use Rattle.unit_vm.specs.declared.instruction.Instruction.{Instruction}
 use Rattle.unit_vm.specs.declared.instruction.Instruction.TheVariants.{Jump, Next}
 use Rattle.unit_vm.specs.Instructions.{takes, leaves}
@@ -49,18 +49,11 @@ marks_length (Turns count body) height =
     omega (arith, e, here, there)
 
 -- What it says that there is a height behind a piece.
-if_told : (b : Bool) (n told : ℕ) → (if b then Some n else None) ≡ Some told → IsTrue b × (n ≡ told)
-if_told true n told e = (refl, same_Some n told e)
-if_told false n told e = absurd (nothing told e)
-  where
-    nothing : (told : ℕ) → None ≡ Some told → ⊥
-    nothing told e = cc
-
 eq_told : (a b : ℕ) → IsTrue (nat_eq a b) → a ≡ b
 eq_told a b e = grind (arith, nat_tests)
 
 pub single_told : (i : Instruction) (height told : ℕ) → height_behind (One i) height ≡ Some told → (takes i ≤ height) × (height - takes i + leaves i ≡ told)
-single_told i height told e = let t = if_told (nat_le (takes i) height) (height - takes i + leaves i) told e in (le_told (takes i) height t.0, t.1)
+single_told i height told e = let t = cond_some (nat_le (takes i) height) (height - takes i + leaves i) told e in (le_told (takes i) height t.0, t.1)
 
 pub and_told : (o : Option ℕ) (behind : ℕ → Option ℕ) (told : ℕ) → and_height o behind ≡ Some told
     → (o ≡ Some (unwrap_or o 0)) × (behind (unwrap_or o 0) ≡ Some told)
@@ -75,7 +68,7 @@ pub both_told : (one other : Option ℕ) (told : ℕ) → one_height one other �
 both_told None other told e = absurd (cc)
 both_told (Some one) None told e = absurd (cc)
 both_told (Some one) (Some other) told e =
-    let t = if_told (nat_eq one other) one told e in
+    let t = cond_some (nat_eq one other) one told e in
     let same = eq_told one other t.0 in
     (ap (λ n. Some n) t.1, ap (λ n. Some n) (sym same ∙ t.1))
 

@@ -18,9 +18,6 @@ use Rattle.code_pieces.proofs.Heights.{marks, marks_length, under_top, first_mar
 use Rattle.code_pieces.proofs.PieceBlocks.{Placed, Block, block}
 use Rattle.code_pieces.proofs.AllowedInstructions.{allowed, allowed_both, allowed_end}
 
-same_instruction : (i j : Instruction) → Some i ≡ Some j → i ≡ j
-same_instruction i j e = cc
-
 -- Places that are each led to from an earlier one are reached.
 reach : (code : List Instruction) (heights : List ℕ) (behind : ℕ) → ((k : ℕ) → k < behind → Placed code heights k) → (bound place : ℕ) → place < bound
     → place ≤ behind → (steps : ℕ) × Reaches code steps place
@@ -40,11 +37,11 @@ module _ (code : List Instruction) (heights : List ℕ) (end last price : ℕ) (
   at_each : (P : ℕ → Instruction → Type 0) → ((place : ℕ) (h : Placed code heights place) → P place h.instruction) → P end finish
       → (place : ℕ) (i : Instruction) → slice_get code place ≡ Some i → P place i
   at_each P inner outer place i at = ⊎_elim
-      (λ l. let h = all.placed place (omega arith) l in subst (P place) (same_instruction h.instruction i (sym h.stands ∙ at)) (inner place h))
+      (λ l. let h = all.placed place (omega arith) l in subst (P place) (same_Some h.instruction i (sym h.stands ∙ at)) (inner place h))
       (λ g.
       let within = slice_get_within code place i at in
       let here : end ≡ place = omega (arith, g, within, long) in
-      subst (λ k. P k i) here (subst (P end) (same_instruction finish i (sym is_end ∙ (ap (λ n. slice_get code n) here ∙ at))) outer))
+      subst (λ k. P k i) here (subst (P end) (same_Some finish i (sym is_end ∙ (ap (λ n. slice_get code n) here ∙ at))) outer))
       (cases_lt place end)
 
   pub operands : takes finish ≤ last → last ≤ 64 → (place : ℕ) (i : Instruction) (height : ℕ) → slice_get code place ≡ Some i

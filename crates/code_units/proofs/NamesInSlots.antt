@@ -26,12 +26,9 @@ use Rattle.unit_tree.specs.declared.unit.Param.{Param}
 use Rattle.unit_tree.specs.declared.unit.Unit.{Unit}
 use Rattle.unit_vm.specs.Machine.{Did, Does, Fails, Lacks}
 use Rattle.unit_vm.specs.declared.program.Sizes.{Sizes}
+use Rattle.list_laws.proofs.Members.{at_seam}
 
 -- ---- Lists
-
-pub seam : (front behind : List ℤ) (word : ℤ) → slice_get (front ++ (word ∷ behind)) (length front) ≡ Some word
-seam [] behind word = refl
-seam (first ∷ front) behind word = seam front behind word
 
 -- What stands between others, told from one place further.
 pub further : (front words behind : List ℤ) (word : ℤ) → (front ++ (word ∷ [])) ++ (words ++ behind) ≡ front ++ ((word ∷ words) ++ behind)
@@ -59,7 +56,7 @@ slots_mean [] words front behind accepted slot name each is = λ agrees stack. (
 slots_mean (v ∷ variables) [] front behind accepted slot name each is = absurd (cc)
 slots_mean (v ∷ variables) (word ∷ words) front behind accepted slot name each is =
     let here : slice_get (front ++ ((word ∷ words) ++ behind)) slot ≡ Some word =
-    ap (slice_get (front ++ ((word ∷ words) ++ behind))) is ∙ seam front (words ++ behind) word in
+    ap (slice_get (front ++ ((word ∷ words) ++ behind))) is ∙ at_seam front word (words ++ behind) in
     let others : length words ≡ length variables = omega arith in
     let later = slots_mean variables words (front ++ (word ∷ [])) behind accepted (suc slot) name others (longer front word slot is) in
     found_means (front ++ ((word ∷ words) ++ behind)) accepted (bytes_eq v.name name) _ _ _ _
@@ -101,7 +98,7 @@ second (word ∷ words) one other = second words one other
 pub sees : (component : Component) (time step : ℕ) (held : CallWords) → Fits component held
     → Sees (held.words ++ (pos time ∷ pos step ∷ [])) held.accepted (scope_of component.unit component.params) (environment_at component time step held)
 sees component time step held fits = record {
-  time = ap (slice_get (held.words ++ (pos time ∷ pos step ∷ []))) (sym fits.words) ∙ seam held.words (pos step ∷ []) (pos time);
+  time = ap (slice_get (held.words ++ (pos time ∷ pos step ∷ []))) (sym fits.words) ∙ at_seam held.words (pos time) (pos step ∷ []);
   step = ap (λ n. slice_get (held.words ++ (pos time ∷ pos step ∷ [])) (suc n)) (sym fits.words) ∙ second held.words (pos time) (pos step);
   names = λ name.
       subst

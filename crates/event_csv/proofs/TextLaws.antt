@@ -3,7 +3,7 @@ use Rattle.std.proofs.Common.{◌≡◌, ℕ, zero, suc, ◌+◌, ◌-◌, Bool,
 use Rattle.std.proofs.Common.{sym, subst, ◌∙◌, arith}
 use Rattle.std.specs.Prelude.{◌&&◌, codes, is_none, slice_get, slice_index_or, if◌then◌else◌, unwrap_or}
 use Rattle.std.specs.Fmt.{decimal}
-use Rattle.std.specs.List.{AllByRecursion, cons_option, filter_map, find, flat_map}
+use Rattle.std.specs.List.{AllByRecursion, cons_option, filter_map, flat_map}
 use Rattle.std.specs.Option.{option_and_then, option_map}
 use Rattle.std.specs.Ordering.{int_eq}
 use Rattle.std.specs.Str.{bytes_eq}
@@ -37,19 +37,9 @@ use Rattle.event_runs.specs.Events.{Signal, Occurs, Absent}
 use Rattle.event_runs.proofs.SystemTraces.{rows_shaped}
 use Rattle.event_runs.proofs.SplitPlaces.{event, shape, place_of_plain, place_of_event, shape_at_place}
 use Rattle.event_runs.proofs.SystemMembers.{place_kept, shape_is}
+use Rattle.list_laws.proofs.Members.{found_passes}
 use Rattle.event_csv.specs.Laws.{HeadersAreRead, LinesAreRead, TextsAreRead}
 use Rattle.event_csv.specs.EventText.{EventColumn, event_column, event_field, event_header, event_line, event_text, signal_text}
-
--- ---- What is found by a test passes it
-
-found_by : {A : Type 0} (test : A → Bool) (told : Bool) (first x : A) (rest : Option A) → test first ≡ told → (rest ≡ Some x → test x ≡ true)
-    → cond told (Some first) rest ≡ Some x → test x ≡ true
-found_by test true first x rest is later same = let here : first ≡ x = cc in subst (λ y. test y ≡ true) here is
-found_by test false first x rest is later same = later same
-
-found_passes : {A : Type 0} (test : A → Bool) (xs : List A) (x : A) → find test xs ≡ Some x → test x ≡ true
-found_passes test [] x is = absurd (cc)
-found_passes test (first ∷ xs) x is = found_by test (test first) first x (find test xs) refl (found_passes test xs x) is
 
 -- ---- Words of a row
 

@@ -32,6 +32,7 @@ use Rattle.unit_tree.specs.declared.unit.Unit.{Unit}
 use Rattle.language_laws.proofs.NameLaws.{same_bytes, bytes_of}
 use Rattle.language_laws.proofs.PlainNames.{word_is_plain, same_presence}
 use Rattle.list_laws.proofs.Lists.{each_part}
+use Rattle.list_laws.proofs.Truths.{true_is_false}
 use Rattle.event_runs.specs.Events.{Signal, Occurs, Absent, occurs, Occurring, Seen, value_in, event_in, effect_of_lines_in, word_seen, occurring_at}
 use Rattle.event_runs.specs.Events.{all_variables_of, all_words_of, environment_in, occurring_in, get_in, signal_as, get_event, limit_in, moved_in}
 use Rattle.event_runs.specs.Readings.{words_of_signal, plain_component, plain_words}
@@ -182,16 +183,13 @@ told_by true event signal events signals behind name is named later =
     (bytes_of (presence_name event.name) (presence_name name) (ap presence_name (same_bytes event.name name is)))
     ∙ truth_bit signal
 told_by false event signal events signals behind name is named later =
-    let differ : event.name ≡ name → ⊥ = λ same. apart (bytes_of event.name name same) is in
+    let differ : event.name ≡ name → ⊥ = λ same. true_is_false (bytes_eq event.name name) (bytes_of event.name name same) is in
     ap (λ told. if told then record { kind = kind_of types.Bool; word = bit signal } else plain_value
     (Same (of_event event) (word_seen signal) ∷ event_slots events signals ++ behind) (presence_name name))
     (other_bytes (presence_name event.name) (presence_name name) (λ same. differ (same_presence event.name name same)))
     ∙ ap (λ told. if told then record { kind = kind_of event.ty; word = word_seen signal } else plain_value (event_slots events signals ++ behind)
     (presence_name name)) (other_bytes event.name (presence_name name) (λ same. word_is_plain event.name named name same))
     ∙ later refl
-  where
-    apart : {b : Bool} → b ≡ true → b ≡ false → ⊥
-    apart one other = absurd (cc)
 
 pub events_told : (events : List EventIn) (signals : List Signal) (behind : List Slot) (name : List ℕ) → length signals ≡ length events
     → AllByRecursion (λ one. IsWord one.name) (map of_event events) → is_among (map (λ event. event.name) events) name ≡ true
@@ -204,10 +202,7 @@ events_told (event ∷ events) (signal ∷ signals) behind name is named among =
     (later_among (bytes_eq name event.name) (is_among (map (λ event. event.name) events) name) (turned other) among))
   where
     turned : bytes_eq event.name name ≡ false → bytes_eq name event.name ≡ false
-    turned other = other_bytes name event.name (λ same. apart (bytes_of event.name name (sym same)) other)
-      where
-        apart : {b : Bool} → b ≡ true → b ≡ false → ⊥
-        apart one other = absurd (cc)
+    turned other = other_bytes name event.name (λ same. true_is_false (bytes_eq event.name name) (bytes_of event.name name (sym same)) other)
 
 -- ---- Both environments of a component
 

@@ -26,6 +26,7 @@ use Rattle.unit_tree.specs.declared.unit.Output.{Output}
 use Rattle.unit_tree.specs.declared.unit.Unit.{Unit}
 use Rattle.language_laws.proofs.NameLaws.{same_bytes, bytes_of}
 use Rattle.language_laws.proofs.PlainNames.{IsPlain, word_is_plain, same_presence}
+use Rattle.list_laws.proofs.Truths.{true_is_false}
 use Rattle.event_runs.specs.EventPorts.{Signals, word_from, signal_from, word_needed, signal_needed, seen_both}
 use Rattle.event_runs.specs.Readings.{read_pair, read_ports, plain_place, plain_source, plain_feed, words_of_signal, plain_words}
 use Rattle.event_runs.specs.Laws.{IsTidyPair, AreTidy, SourceFits, FeedFits}
@@ -141,10 +142,7 @@ among_plain unit (need ∷ needs) name plain =
 pub presence_bytes_by : (told : Bool) (one other : List ℕ) → bytes_eq one other ≡ told → bytes_eq (presence_name one) (presence_name other) ≡ told
 presence_bytes_by true one other is = bytes_of (presence_name one) (presence_name other) (ap presence_name (same_bytes one other is))
 presence_bytes_by false one other is =
-    other_bytes (presence_name one) (presence_name other) (λ same. apart (bytes_of one other (same_presence one other same)) is)
-  where
-    apart : {b : Bool} → b ≡ true → b ≡ false → ⊥
-    apart yes_it isnt = absurd (cc)
+    other_bytes (presence_name one) (presence_name other) (λ same. true_is_false (bytes_eq one other) (bytes_of one other (same_presence one other same)) is)
 
 pub presence_bytes : (one other : List ℕ) → bytes_eq (presence_name one) (presence_name other) ≡ bytes_eq one other
 presence_bytes one other = presence_bytes_by (bytes_eq one other) one other refl
@@ -169,10 +167,9 @@ among_presence unit (need ∷ needs) name words event =
     (among_presence unit needs name words.1 event)
   where
     differ : is_among (event_input_names unit) need ≡ false → bytes_eq name need ≡ false
-    differ none = other_bytes name need (λ same. apart (ap (is_among (event_input_names unit)) (sym same) ∙ event) none)
-      where
-        apart : {b : Bool} → b ≡ true → b ≡ false → ⊥
-        apart yes_it isnt = absurd (cc)
+    differ none =
+        other_bytes name need (λ same.
+        true_is_false (is_among (event_input_names unit) need) (ap (is_among (event_input_names unit)) (sym same) ∙ event) none)
 
 -- ---- What an output sees
 

@@ -29,81 +29,16 @@ use Rattle.unit_tree.specs.declared.unit.Param.{Param}
 use Rattle.unit_tree.specs.declared.unit.State.{State}
 use Rattle.unit_tree.specs.declared.unit.Unit.{Unit}
 use Rattle.language_laws.proofs.BlockLaws.{all_step_lines}
-use Rattle.language_laws.proofs.Declarations.{Declared, OfParam, OfState, OfLocal, OfInput, OfEventIn, OfOutput, OfEventOut, line_of, declarations, ports}
-use Rattle.language_laws.proofs.Declarations.{Declares, AtLine, each_line, front_lines}
+use Rattle.language_laws.proofs.Declarations.{Declared, OfParam, OfState, OfLocal, OfInput, OfEventIn, OfOutput, OfEventOut, line_of, declarations}
+use Rattle.language_laws.proofs.Declarations.{Declares, AtLine, declared_line, param_is_declared, state_is_declared, local_is_declared, input_is_declared}
+use Rattle.language_laws.proofs.Declarations.{event_in_is_declared, output_is_declared, event_out_is_declared}
 use Rattle.language_laws.proofs.NameLaws.{Hold}
 use Rattle.language_laws.proofs.UnitSites.{Passes}
-use Rattle.list_laws.proofs.Lists.{back_of, of_flat, each_append}
-use Rattle.list_laws.proofs.Members.{Has, all_has, has_behind, has_front, has_map}
+use Rattle.list_laws.proofs.Lists.{back_of, of_flat, each_append, front_of}
+use Rattle.list_laws.proofs.Members.{Has, all_has}
 use Rattle.list_laws.proofs.Truths.{not_false}
 use Rattle.event_runs.specs.EventPorts.{Plain, Event, outs_of, needs_in}
 use Rattle.event_runs.specs.Laws.{Speaks, FormSpeaks, LineSpeaks, IsSaid, asks_of}
-
--- ---- Where what is declared stands
-
-module _ (unit : Unit) where
-  abbrev params : List Declared
-  params = map OfParam unit.params
-
-  abbrev states : List Declared
-  states = map OfState unit.states
-
-  abbrev locals : List Declared
-  locals = map OfLocal unit.locals
-
-  abbrev inputs : List Declared
-  inputs = map OfInput unit.inputs
-
-  abbrev events : List Declared
-  events = map OfEventIn unit.events_in
-
-  abbrev outputs : List Declared
-  outputs = map OfOutput unit.outputs
-
-  abbrev event_outs : List Declared
-  event_outs = map OfEventOut unit.events_out
-
-  at_ports : (one : Declared) → Has (ports unit) one → Has (declarations unit) one
-  at_ports one has =
-      has_behind params (states ++ (locals ++ ports unit)) one
-      (has_behind states (locals ++ ports unit) one (has_behind locals (ports unit) one has))
-
-  has_param : (param : Param) → Has unit.params param → Has (declarations unit) (OfParam param)
-  has_param param has = has_front params (states ++ (locals ++ ports unit)) (OfParam param) (has_map OfParam unit.params param has)
-
-  has_state : (state : State) → Has unit.states state → Has (declarations unit) (OfState state)
-  has_state state has =
-      has_behind params (states ++ (locals ++ ports unit)) (OfState state)
-      (has_front states (locals ++ ports unit) (OfState state) (has_map OfState unit.states state has))
-
-  has_local : (local : Local) → Has unit.locals local → Has (declarations unit) (OfLocal local)
-  has_local local has =
-      has_behind params (states ++ (locals ++ ports unit)) (OfLocal local)
-      (has_behind states (locals ++ ports unit) (OfLocal local)
-      (has_front locals (ports unit) (OfLocal local) (has_map OfLocal unit.locals local has)))
-
-  has_input : (input : Input) → Has unit.inputs input → Has (declarations unit) (OfInput input)
-  has_input input has = at_ports (OfInput input) (has_front inputs (events ++ (outputs ++ event_outs)) (OfInput input) (has_map OfInput unit.inputs input has))
-
-  has_event : (event : EventIn) → Has unit.events_in event → Has (declarations unit) (OfEventIn event)
-  has_event event has =
-      at_ports (OfEventIn event)
-      (has_behind inputs (events ++ (outputs ++ event_outs)) (OfEventIn event)
-      (has_front events (outputs ++ event_outs) (OfEventIn event) (has_map OfEventIn unit.events_in event has)))
-
-  has_output : (output : Output) → Has unit.outputs output → Has (declarations unit) (OfOutput output)
-  has_output output has =
-      at_ports (OfOutput output)
-      (has_behind inputs (events ++ (outputs ++ event_outs)) (OfOutput output)
-      (has_behind events (outputs ++ event_outs) (OfOutput output)
-      (has_front outputs event_outs (OfOutput output) (has_map OfOutput unit.outputs output has))))
-
-  has_event_out : (event : EventOut) → Has unit.events_out event → Has (declarations unit) (OfEventOut event)
-  has_event_out event has =
-      at_ports (OfEventOut event)
-      (has_behind inputs (events ++ (outputs ++ event_outs)) (OfEventOut event)
-      (has_behind events (outputs ++ event_outs) (OfEventOut event)
-      (has_behind outputs event_outs (OfEventOut event) (has_map OfEventOut unit.events_out event has))))
 
 -- ---- Lists
 
@@ -124,16 +59,16 @@ module _ (system : System) (unit : Unit) (declared : Declares (Passes system) un
   asks = event_input_names unit
 
   at : (one : Declared) → Has (declarations unit) one → AtLine (Passes system) unit (line_of one)
-  at one has = each_line (Passes system) unit (front_lines unit.resolution) (declarations unit) declared.declared one has
+  at one has = declared_line (Passes system) unit declared one has
 
   pub input_word : (input : Input) → Has unit.inputs input → IsWord input.name
-  input_word input has = (at (OfInput input) (has_input unit input has)).1.words.0
+  input_word input has = (at (OfInput input) (input_is_declared unit input has)).1.words.0
 
   pub event_word : (event : EventIn) → Has unit.events_in event → IsWord event.name
-  event_word event has = (at (OfEventIn event) (has_event unit event has)).1.words.0
+  event_word event has = (at (OfEventIn event) (event_in_is_declared unit event has)).1.words.0
 
   pub output_line : (output : Output) → Has unit.outputs output → AtLine (Passes system) unit (form.Output output)
-  output_line output has = at (OfOutput output) (has_output unit output has)
+  output_line output has = at (OfOutput output) (output_is_declared unit output has)
 
   -- What an output may use, it keeps to.
   used : (needs : List (List ℕ)) (value : Expr) → (not (keeps_to (output_uses unit) value) || not (are_among (input_names unit) needs)) ≡ false
@@ -144,25 +79,21 @@ module _ (system : System) (unit : Unit) (declared : Declares (Passes system) un
 
   output_speaks : (output : Output) → Has unit.outputs output → Speaks asks output.value
   output_speaks output has =
-      let line = (at (OfOutput output) (has_output unit output has)).1 in
+      let line = (at (OfOutput output) (output_is_declared unit output has)).1 in
       record { names = back_of IsWord (names_said (form.Output output)) (names_in output.value) line.words; asked = used output.needs output.value line.named }
 
   event_speaks : (event : EventOut) → Has unit.events_out event → Speaks asks event.value
   event_speaks event has =
-      let line = (at (OfEventOut event) (has_event_out unit event has)).1 in
+      let line = (at (OfEventOut event) (event_out_is_declared unit event has)).1 in
       record { names = back_of IsWord (names_said (form.EventOutput event)) (names_in event.value) line.words; asked = used event.needs event.value line.named }
 
   -- ---- What is needed
 
-  front_words : (names more : List (List ℕ)) → AllByRecursion IsWord (names ++ more) → AllByRecursion IsWord names
-  front_words [] more all = tt
-  front_words (name ∷ names) more all = (all.0, front_words names more all.1)
-
   output_needs : (output : Output) → Has unit.outputs output → AllByRecursion IsWord output.needs
-  output_needs output has = front_words output.needs (names_in output.value) (at (OfOutput output) (has_output unit output has)).1.words.1
+  output_needs output has = front_of IsWord output.needs (names_in output.value) (at (OfOutput output) (output_is_declared unit output has)).1.words.1
 
   event_needs : (event : EventOut) → Has unit.events_out event → AllByRecursion IsWord event.needs
-  event_needs event has = front_words event.needs (names_in event.value) (at (OfEventOut event) (has_event_out unit event has)).1.words.1
+  event_needs event has = front_of IsWord event.needs (names_in event.value) (at (OfEventOut event) (event_out_is_declared unit event has)).1.words.1
 
   pub needs_are_words : AllByRecursion (λ out. AllByRecursion IsWord (needs_in out)) (outs_of unit)
   needs_are_words =
@@ -243,15 +174,15 @@ module _ (system : System) (unit : Unit) (declared : Declares (Passes system) un
             (each_append (λ v. IsWord v.name) _ _
             (each_append (λ v. IsWord v.name) _ _
             (each_mapped (λ v. IsWord v.name) (λ (param : Param). variable param.name param.ty) unit.params
-            (λ param has. (at (OfParam param) (has_param unit param has)).1.words.0))
+            (λ param has. (at (OfParam param) (param_is_declared unit param has)).1.words.0))
             (each_mapped (λ v. IsWord v.name) (λ (state : State). variable state.name state.ty) unit.states
-            (λ state has. (at (OfState state) (has_state unit state has)).1.words.0)))
+            (λ state has. (at (OfState state) (state_is_declared unit state has)).1.words.0)))
             (each_mapped (λ v. IsWord v.name) (λ (input : Input). variable input.name input.ty) unit.inputs
-            (λ input has. (at (OfInput input) (has_input unit input has)).1.words.0)))
+            (λ input has. (at (OfInput input) (input_is_declared unit input has)).1.words.0)))
             (each_mapped (λ v. IsWord v.name) (λ (event : EventIn). variable event.name event.ty) unit.events_in
-            (λ event has. (at (OfEventIn event) (has_event unit event has)).1.words.0)))
+            (λ event has. (at (OfEventIn event) (event_in_is_declared unit event has)).1.words.0)))
             (each_mapped (λ v. IsWord v.name) (λ (local : Local). variable local.name local.ty) unit.locals
-            (λ local has. (at (OfLocal local) (has_local unit local has)).1.words.0));
+            (λ local has. (at (OfLocal local) (local_is_declared unit local has)).1.words.0));
         outputs = all_has (λ (output : Output). Speaks asks output.value) unit.outputs output_speaks;
         events = all_has (λ (event : EventOut). Speaks asks event.value) unit.events_out event_speaks;
         limit = tail.0;

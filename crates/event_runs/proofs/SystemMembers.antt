@@ -1,7 +1,7 @@
 -- The members of a system's plain form are those of the system, read.
-use Rattle.std.proofs.Common.{◌≡◌, ℕ, zero, suc, ◌-◌, ◌^◌, Bool, true, false, cond, pos, List, [], ◌∷◌, ◌++◌, map, Option, Some, None, inl, inr, refl}
+use Rattle.std.proofs.Common.{◌≡◌, ◌-◌, ◌^◌, Bool, true, false, cond, pos, List, [], ◌∷◌, ◌++◌, map, Option, Some, None, inl, inr, refl}
 use Rattle.std.proofs.Common.{ap, sym, subst, ◌∙◌}
-use Rattle.std.specs.Prelude.{◌||◌, ◌==◌, is_none, slice_get, unwrap_or}
+use Rattle.std.specs.Prelude.{◌||◌, ◌==◌, is_none, unwrap_or}
 use Rattle.std.specs.Bool.{beq}
 use Rattle.std.specs.List.{AllByRecursion, flat_map, filter_map, cons_option}
 use Rattle.std.specs.Option.{option_map}
@@ -35,7 +35,7 @@ use Rattle.run_laws.proofs.EventLaws.{plain_form_1, version_1_without_events}
 use Rattle.run_laws.proofs.PlainCycles.{comes_from_output, of_input, of_event_in}
 use Rattle.run_laws.proofs.PlainKept.{alike_by}
 use Rattle.run_laws.proofs.PlainOrders.{declared, input_is, is_event_is, named_has, plain_named, plain_of, wired}
-use Rattle.list_laws.proofs.Members.{Has, has_behind, has_front, has_map, each_has}
+use Rattle.list_laws.proofs.Members.{Has, has_behind, has_front, has_map, each_has, has_place, map_same}
 use Rattle.list_laws.proofs.Truths.{not_false, one_or_two}
 use Rattle.event_runs.specs.EventPorts.{EventMember, Plain, Event}
 use Rattle.event_runs.specs.Readings.{is_event, shape_of, plain_place, plain_source, plain_feed, plain_member}
@@ -45,17 +45,6 @@ use Rattle.event_runs.proofs.PortLaws.{zero_start}
 use Rattle.event_runs.proofs.SaidUnits.{is_said, needs_are_words, input_word, event_word, output_line}
 use Rattle.event_runs.proofs.SplitPlaces.{event, shape, place_of_plain, place_of_event, place_of_presence, shape_at_place, sources_of_plain}
 use Rattle.event_runs.proofs.SplitPlaces.{sources_of_presence}
-
--- ---- Lists
-
-place_there : {A : Type 0} (xs : List A) (x : A) → Has xs x → (number : ℕ) × (slice_get xs number ≡ Some x)
-place_there [] x has = absurd has
-place_there (first ∷ xs) x (inl is) = (zero, ap Some is)
-place_there (first ∷ xs) x (inr has) = let later = place_there xs x has in (suc later.0, later.1)
-
-same_map : {A : Type 0} (f : A → A) (xs : List A) → ((x : A) → Has xs x → f x ≡ x) → map f xs ≡ xs
-same_map f [] each = refl
-same_map f (x ∷ xs) each = ap (λ y. y ∷ map f xs) (each x (inl refl)) ∙ ap (λ ys. x ∷ ys) (same_map f xs (λ y has. each y (inr has)))
 
 beq_same : (one other : Bool) → beq one other ≡ true → one ≡ other
 beq_same true true is = refl
@@ -72,7 +61,7 @@ module _ (system : System) (ranged : IsRanged system) (kept : IsWellFormed syste
 
   pub unit_declares : (unit : Unit) → Has system.units unit → Declares (Passes system) unit
   unit_declares unit has =
-      let there = place_there system.units unit has in
+      let there = has_place system.units unit has in
       declares (Passes system) unit (unit_passes system ranged kept there.0 unit there.1)
 
   -- ---- The outputs that inputs are connected to
@@ -352,7 +341,7 @@ module _ (system : System) (ranged : IsRanged system) (kept : IsWellFormed syste
     none_of unit has = each_has NoEvents system.units unit (version_1_without_events system ranged first) has
 
     units_stay : map plain_unit system.units ≡ system.units
-    units_stay = same_map plain_unit system.units (λ unit has.
+    units_stay = map_same plain_unit system.units (λ unit has.
         let none = none_of unit has in
         unit_stays system first unit (unit_declares unit has) none.0 none.1 (output_line system unit (unit_declares unit has)))
 

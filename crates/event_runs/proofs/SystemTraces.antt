@@ -1,5 +1,5 @@
 -- The trace of a system's plain form, read, is that of the system, which has no other.
-use Rattle.std.proofs.Common.{◌≡◌, ℕ, ℤ, List, [], ◌∷◌, map, length, Option, refl, ap, sym, subst, ◌∙◌}
+use Rattle.std.proofs.Common.{◌≡◌, ℕ, ℤ, List, [], ◌∷◌, map, length, Option, refl, ap, sym, subst, ◌∙◌, map-id}
 use Rattle.std.specs.List.{AllByRecursion, flat_map}
 use Rattle.std.specs.Option.{unwrap_or}
 use Rattle.fixed_words.specs.declared.types.Literal.{Literal}
@@ -63,10 +63,6 @@ plain_factors given made same (x ∷ xs) =
     ap (λ one. one ∷ map (λ (m : Member). m.factor) (map made xs)) (same x)
     ∙ ap (λ rest. (given x).member.factor ∷ rest) (plain_factors given made same xs)
 
-map_itself : {A : Type 0} (xs : List A) → map (λ x. x) xs ≡ xs
-map_itself [] = refl
-map_itself (x ∷ xs) = ap (λ rest. x ∷ rest) (map_itself xs)
-
 -- ---- The last point
 
 last_read : (members : List EventMember) (stands : List Stand) → last_point stands ≡ last_event_point (map (read_stand members) stands)
@@ -95,7 +91,7 @@ module _ (system : System) (ranged : IsRanged system) (kept : IsWellFormed syste
       pace_alike system (plain_form system) (map (λ (one : EventMember). one.member.factor) members) (alike system)
       (ap (map (λ (one : Member). one.factor)) plain.members_are
       ∙ plain_factors (λ one. one) (plain_member (flat_map shape_of members)) (λ one. refl) members
-      ∙ ap (map (λ (one : EventMember). one.member.factor)) (map_itself members))
+      ∙ ap (map (λ (one : EventMember). one.member.factor)) (map-id members))
 
   abbrev with_pace : Pace → EventRun
   with_pace pace = record { members = members; pace = pace }

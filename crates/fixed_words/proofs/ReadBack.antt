@@ -71,7 +71,7 @@ integer_text (negsuc n) fits =
     }
 
 -- padded digits with a point are a number with these decimals
-padded_number : (decimals n : ℕ) → decimals ≤ 9 → n ≤ 2 ^ 63 → IsNumber n decimals (fixed_text decimals n)
+pub padded_number : (decimals n : ℕ) → decimals ≤ 9 → n ≤ 2 ^ 63 → IsNumber n decimals (fixed_text decimals n)
 padded_number decimals n few bounded =
     let digits = padded decimals (decimal n) in
     let place = length digits - decimals in

@@ -1,11 +1,12 @@
 -- Each step keeps the rule of a cell.
 use Rattle.std.proofs.Common.{◌≡◌, ◌≢◌, ℕ, zero, suc, ◌+◌, List, [], ◌∷◌, ◌++◌, set, sym, refl, ap, ◌∙◌, subst, le_refl, le_trans}
 use Rattle.std.specs.Prelude.{All}
-use Rattle.std.proofs.lemmas.List.Elements.{All-head, All-tail, All-set, All-push, All-weaker}
+use Rattle.std.proofs.lemmas.List.Elements.{All-set, All-push, All-weaker}
 use Rattle.atomic_table.proofs.Lists.{set_again}
-use mathlib.Core.Option.{some, some-injective, some-ne-none}
+use mathlib.Core.Option.{some, some-injective}
 use lib.ListN.{get_elem?}
 use Rattle.crossbeam_utils.specs.Register.{Turns, Forks, Merges}
+use Rattle.list_laws.proofs.Members.{all_at}
 use Rattle.front_cell.specs.Front.{IsBehind}
 use Rattle.front_cell.specs.Rule.{Follows, IsInStep}
 use Rattle.front_cell.specs.Steps.{Stores, Loads, reader_of, after_join}
@@ -32,11 +33,6 @@ wrote_of other _ = other
 abbrev IsWrote : View → Type 0
 IsWrote (Wrote front stores joined) = Unit {0}
 IsWrote _ = ⊥
-
-all_at : (P : View → Type 0) (views : List View) (pass : ℕ) (v : View) → All P views → get_elem? views pass ≡ some v → P v
-all_at P [] pass v all at = absurd (some-ne-none v (sym at))
-all_at P (u ∷ us) zero v all at = subst P (some-injective u v at) (All-head P u us all)
-all_at P (u ∷ us) (suc pass) v all at = all_at P us pass v (All-tail P u us all) at
 
 -- what holds of the views in the form that the rule gives them
 in_form : (x : Front) (views : List View) (P : List View → Type 0) (h : IsInStep x views) → P (Wrote x h.stores h.joined ∷ h.others) → P views

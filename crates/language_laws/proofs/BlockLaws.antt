@@ -23,7 +23,7 @@ use Rattle.unit_tree.specs.declared.system.System.{System}
 use Rattle.unit_tree.specs.declared.unit.Unit.{Unit}
 use Rattle.unit_tree.proofs.FoldLemmas.{fold-Assign, fold-If, fold-Repeat, fold-Accept}
 use Rattle.language_laws.proofs.PartLaws.{grouped, unit_is}
-use Rattle.list_laws.proofs.Lists.{all_of_two, each_append}
+use Rattle.list_laws.proofs.Lists.{all_of_two, each_append, none_cut, each_map}
 
 -- ---- Lists that are cut at a member
 
@@ -286,12 +286,8 @@ alone_at scope lines before later site is =
           let no_block : at.this.block ≡ [] =
           (each_front (λ one. one.block ≡ []) at.front at.this at.others
           (subst (AllByRecursion (λ one. one.block ≡ [])) at.cut (each_alone (λ one. one.block ≡ []) lines (λ one. refl)))).1 in
-          absurd (none_of at.inner at.rest site (sym no_block ∙ at.block))
+          absurd (none_cut at.inner site at.rest (sym no_block ∙ at.block))
     ]
-  where
-    none_of : (inner rest : List Site) (site : Site) → [] ≡ inner ++ (site ∷ rest) → ⊥
-    none_of [] rest site is = absurd (cc)
-    none_of (x ∷ inner) rest site is = absurd (cc)
 
 -- What is known of a site in a block that the site `head` opens, behind `front`.
 in_alone_block : (system : System) (front : List Site) (head : Site) (scope : Scope) (lines : List LineForm) (inner rest : List Site) (site : Site)
@@ -379,10 +375,6 @@ each_in_step : (P : Site → Type 0) (unit : Unit)
     → AllByRecursion (IsUnitHead unit) all → AllByRecursion (λ one. AllByRecursion P one.block) all
 each_in_step P unit on_step [] are = _
 each_in_step P unit on_step (one ∷ all) are = (in_step_block P unit on_step one are.0, each_in_step P unit on_step all are.1)
-
-none_cut : {A : Type 0} (front : List A) (x : A) (rest : List A) → [] ≡ front ++ (x ∷ rest) → ⊥
-none_cut [] x rest is = absurd (cc)
-none_cut (y ∷ front) x rest is = absurd (cc)
 
 -- What is known of a site in the block of a unit that the site `head` opens, behind `front`.
 in_unit_block : (system : System) (front : List Site) (head : Site) (unit : Unit) (inside : List UnitPart) (inner rest : List Site) (site : Site)
@@ -608,10 +600,6 @@ instance_behind (unit ∷ units) instances others (x ∷ before) later instance 
     let tail : map unit_part units ++ (map parts.HasInstance instances ++ others) ≡ before ++ (parts.HasInstance instance ∷ later) = cc in
     subst (λ p. slice_get instances (length (filter is_instance_part (p ∷ before))) ≡ Some instance) (sym here)
     (instance_behind units instances others before later instance none tail)
-
-each_map : {A : Type 0} (P : Part → Type 0) (f : A → Part) (xs : List A) → ((x : A) → P (f x)) → AllByRecursion P (map f xs)
-each_map P f [] on = _
-each_map P f (x ∷ xs) on = (on x, each_map P f xs on)
 
 each_optional : {A : Type 0} (P : Part → Type 0) (f : A → Part) (given : Option A) → ((x : A) → P (f x)) → AllByRecursion P (optional f given)
 each_optional P f None on = _

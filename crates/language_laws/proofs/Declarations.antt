@@ -34,7 +34,7 @@ use Rattle.unit_tree.specs.declared.unit.State.{State}
 use Rattle.unit_tree.specs.declared.unit.Unit.{Unit}
 use Rattle.language_laws.proofs.NameLaws.{bytes_of, Hold, hold_front, hold_behind, not_among, name_unsaid}
 use Rattle.language_laws.proofs.UnitSites.{Passes, UnitHolds}
-use Rattle.list_laws.proofs.Members.{Has, Distinct, has_front, has_behind}
+use Rattle.list_laws.proofs.Members.{Has, Distinct, has_front, has_behind, has_map}
 use Rattle.list_laws.proofs.Truths.{lt_not_told}
 
 -- ---- The list
@@ -95,6 +95,73 @@ ports unit = map OfInput unit.inputs ++ (map OfEventIn unit.events_in ++ (map Of
 
 abbrev pub declarations : Unit → List Declared
 declarations unit = map OfParam unit.params ++ (map OfState unit.states ++ (map OfLocal unit.locals ++ ports unit))
+
+-- Each is on the list.
+module _ (unit : Unit) where
+  abbrev its_params : List Declared
+  its_params = map OfParam unit.params
+
+  abbrev its_states : List Declared
+  its_states = map OfState unit.states
+
+  abbrev its_locals : List Declared
+  its_locals = map OfLocal unit.locals
+
+  abbrev its_inputs : List Declared
+  its_inputs = map OfInput unit.inputs
+
+  abbrev its_events_in : List Declared
+  its_events_in = map OfEventIn unit.events_in
+
+  abbrev its_outputs : List Declared
+  its_outputs = map OfOutput unit.outputs
+
+  abbrev its_events_out : List Declared
+  its_events_out = map OfEventOut unit.events_out
+
+  port_is_declared : (one : Declared) → Has (ports unit) one → Has (declarations unit) one
+  port_is_declared one has =
+      has_behind its_params (its_states ++ (its_locals ++ ports unit)) one
+      (has_behind its_states (its_locals ++ ports unit) one (has_behind its_locals (ports unit) one has))
+
+  pub param_is_declared : (param : Param) → Has unit.params param → Has (declarations unit) (OfParam param)
+  param_is_declared param has = has_front its_params (its_states ++ (its_locals ++ ports unit)) (OfParam param) (has_map OfParam unit.params param has)
+
+  pub state_is_declared : (state : State) → Has unit.states state → Has (declarations unit) (OfState state)
+  state_is_declared state has =
+      has_behind its_params (its_states ++ (its_locals ++ ports unit)) (OfState state)
+      (has_front its_states (its_locals ++ ports unit) (OfState state) (has_map OfState unit.states state has))
+
+  pub local_is_declared : (local : Local) → Has unit.locals local → Has (declarations unit) (OfLocal local)
+  local_is_declared local has =
+      has_behind its_params (its_states ++ (its_locals ++ ports unit)) (OfLocal local)
+      (has_behind its_states (its_locals ++ ports unit) (OfLocal local)
+      (has_front its_locals (ports unit) (OfLocal local) (has_map OfLocal unit.locals local has)))
+
+  pub input_is_declared : (input : Input) → Has unit.inputs input → Has (declarations unit) (OfInput input)
+  input_is_declared input has =
+      port_is_declared (OfInput input)
+      (has_front its_inputs (its_events_in ++ (its_outputs ++ its_events_out)) (OfInput input) (has_map OfInput unit.inputs input has))
+
+  pub event_in_is_declared : (event : EventIn) → Has unit.events_in event → Has (declarations unit) (OfEventIn event)
+  event_in_is_declared event has =
+      port_is_declared (OfEventIn event)
+      (has_behind its_inputs (its_events_in ++ (its_outputs ++ its_events_out)) (OfEventIn event)
+      (has_front its_events_in (its_outputs ++ its_events_out) (OfEventIn event) (has_map OfEventIn unit.events_in event has)))
+
+  pub output_is_declared : (output : Output) → Has unit.outputs output → Has (declarations unit) (OfOutput output)
+  output_is_declared output has =
+      port_is_declared (OfOutput output)
+      (has_behind its_inputs (its_events_in ++ (its_outputs ++ its_events_out)) (OfOutput output)
+      (has_behind its_events_in (its_outputs ++ its_events_out) (OfOutput output)
+      (has_front its_outputs its_events_out (OfOutput output) (has_map OfOutput unit.outputs output has))))
+
+  pub event_out_is_declared : (event : EventOut) → Has unit.events_out event → Has (declarations unit) (OfEventOut event)
+  event_out_is_declared event has =
+      port_is_declared (OfEventOut event)
+      (has_behind its_inputs (its_events_in ++ (its_outputs ++ its_events_out)) (OfEventOut event)
+      (has_behind its_events_in (its_outputs ++ its_events_out) (OfEventOut event)
+      (has_behind its_outputs its_events_out (OfEventOut event) (has_map OfEventOut unit.events_out event has))))
 
 heads : (unit : Unit) (all : List Declared) → flat_map (headed_unit_part unit) (map part_of all) ≡ map head_of all
 heads unit [] = refl
@@ -186,6 +253,9 @@ module _ (P : Site → Type 0) where
   each_line unit earlier [] hold one has = absurd has
   each_line unit earlier (first ∷ all) hold one (inl is) = subst (λ (d : Declared). AtLine unit (line_of d)) is (earlier, hold.0)
   each_line unit earlier (first ∷ all) hold one (inr has) = each_line unit (earlier ++ (line_of first ∷ [])) all hold.2 one has
+
+  pub declared_line : (unit : Unit) → Declares unit → (one : Declared) → Has (declarations unit) one → AtLine unit (line_of one)
+  declared_line unit declared one has = each_line unit (front_lines unit.resolution) (declarations unit) declared.declared one has
 
 -- ---- Names differ
 

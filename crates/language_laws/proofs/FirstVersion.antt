@@ -1,13 +1,13 @@
 -- A system of version 1 speaks of no events, so that each of its units is what is run of it.
-use Rattle.std.proofs.Common.{◌≡◌, Bool, true, false, ℕ, List, [], ◌∷◌, ◌++◌, map, Option, Some, None, inl, inr, refl, sym, ap, ◌∙◌, subst}
+use Rattle.std.proofs.Common.{◌≡◌, Bool, false, ℕ, List, [], ◌∷◌, ◌++◌, map, Option, Some, None, refl, sym, ap, ◌∙◌, subst}
 use Rattle.std.specs.Prelude.{◌==◌, ◌&&◌, cond}
 use Rattle.std.specs.List.{AllByRecursion, flat_map}
 use Rattle.std.specs.Option.{option_map}
 use Rattle.std.proofs.lemmas.Grind.{flat_map-append}
 use Rattle.std.proofs.lemmas.List.{append-nil}
-use Rattle.std.proofs.lemmas.Bool.{or_parts}
+use Rattle.std.proofs.lemmas.Bool.{or_parts, true≢false}
 use Rattle.unit_tree.specs.Canonical.{optional}
-use Rattle.unit_tree.specs.LineForms.{tail_of, tail_speaks_of_events, node_speaks_of_events, speaks_of_events}
+use Rattle.unit_tree.specs.LineForms.{tail_of, tail_speaks_of_events, node_speaks_of_events, speaks_of_events, HasForm, is_of_version_2}
 use Rattle.unit_tree.specs.Names.{is_among}
 use Rattle.unit_tree.specs.Parts as parts
 use Rattle.unit_tree.specs.Parts.{UnitPart, joined, block_forms, line_forms}
@@ -31,13 +31,14 @@ use Rattle.unit_tree.specs.declared.line_form.LineForm.TheVariants as form
 use Rattle.unit_tree.specs.declared.system.System.{System}
 use Rattle.unit_tree.specs.declared.unit.Output.{Output}
 use Rattle.unit_tree.specs.declared.unit.Unit.{Unit}
+use Rattle.unit_tree.specs.Texts.{HasFormIn}
 use Rattle.unit_tree.proofs.FoldLemmas.{fold-Unary, fold-Binary, fold-Clamp, fold-Choose, fold-Absent, fold-Present, fold-Assign, fold-If, fold-Repeat}
 use Rattle.unit_tree.proofs.FoldLemmas.{fold-Accept}
 use Rattle.language_laws.proofs.NameLaws.{Hold}
 use Rattle.language_laws.proofs.PlainLemmas.{plain-Number, plain-Truth, plain-Var, plain-Time, plain-Step, plain-Unary, plain-Binary, plain-Clamp, plain-Choose}
 use Rattle.language_laws.proofs.Declarations.{Declares, AtLine}
 use Rattle.language_laws.proofs.UnitSites.{Passes}
-use Rattle.list_laws.proofs.Members.{Has}
+use Rattle.list_laws.proofs.Members.{Has, map_same}
 use Rattle.list_laws.proofs.Lists.{each_part}
 
 -- ---- Expressions
@@ -72,15 +73,9 @@ node (Expr-F.Choose c a b) = subst Stays (sym (rolls-Choose (bare c) (bare a) (b
     let rest = or_parts _ _ parts.1 in
     plain-Choose (bare c) (bare a) (bare b) ∙ ap (λ x. expr.Choose x (plain_expression (bare a)) (plain_expression (bare b))) (c.1 parts.0)
     ∙ ap (λ x. expr.Choose (bare c) x (plain_expression (bare b))) (a.1 rest.0) ∙ ap (expr.Choose (bare c) (bare a)) (b.1 rest.1))
-node Expr-F.Absent = subst Stays (sym rolls-Absent) (λ silent. absurd (true_false (sym (fold-Absent Bool node_speaks_of_events) ∙ silent)))
-  where
-    true_false : true ≡ false → ⊥
-    true_false is = cc
+node Expr-F.Absent = subst Stays (sym rolls-Absent) (λ silent. absurd (true≢false (sym (fold-Absent Bool node_speaks_of_events) ∙ silent)))
 node (Expr-F.Present name) =
-    subst Stays (sym (rolls-Present name)) (λ silent. absurd (true_false (sym (fold-Present Bool node_speaks_of_events name) ∙ silent)))
-  where
-    true_false : true ≡ false → ⊥
-    true_false is = cc
+    subst Stays (sym (rolls-Present name)) (λ silent. absurd (true≢false (sym (fold-Present Bool node_speaks_of_events name) ∙ silent)))
 
 expression_stays : (value : Expr) → Stays value
 expression_stays = ind-Expr Stays (λ x y is. subst (λ z. Stays (roll-Expr z)) is (node y))
@@ -169,13 +164,9 @@ module _ (system : System) (first : system.version ≡ 1) (unit : Unit) (declare
       ap (λ needs. record output { needs = needs; value = plain_expression output.value }) (needs_stay unit none output.needs)
       ∙ ap (λ value. record output { value = value }) (expression_stays output.value (silent _ at.1))
 
-  mapped_stays : {A : Type 0} (f : A → A) (xs : List A) → ((x : A) → Has xs x → f x ≡ x) → map f xs ≡ xs
-  mapped_stays f [] each = refl
-  mapped_stays f (x ∷ xs) each = ap (λ y. y ∷ map f xs) (each x (inl refl)) ∙ ap (λ ys. x ∷ ys) (mapped_stays f xs (λ y has. each y (inr has)))
-
   outputs_stay : unit.events_in ≡ [] → ((output : Output) → Has unit.outputs output → AtLine (Passes system) unit (form.Output output))
       → map (plain_output unit) unit.outputs ≡ unit.outputs
-  outputs_stay none at = mapped_stays (plain_output unit) unit.outputs (λ output has. output_stays none output (at output has))
+  outputs_stay none at = map_same (plain_output unit) unit.outputs (λ output has. output_stays none output (at output has))
 
   forms_silent : (earlier forms : List LineForm) → AllByRecursion (Passes system) (sites (StepScope unit) earlier (map alone forms))
       → AllByRecursion Silent forms
@@ -215,3 +206,9 @@ module _ (system : System) (first : system.version ≡ 1) (unit : Unit) (declare
       ∙ ap (λ x. record (plain_unit unit) { inputs = unit.inputs; outputs = unit.outputs; max = unit.max; step = x }) step
       ∙ ap (λ x. record unit { events_in = x; events_out = [] }) (sym none_in)
       ∙ ap (λ x. record unit { events_out = x }) (sym none_out)
+
+-- ---- Lines
+
+-- A form that both versions have is one of any text.
+pub old_form : (text : List (List ℕ)) (line : List ℕ) (some : LineForm) → HasForm some line → is_of_version_2 some ≡ false → HasFormIn text some line
+old_form text line some has old = record { has_form = has; of_version = λ told. absurd (true≢false (sym told ∙ old)) }

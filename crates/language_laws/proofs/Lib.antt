@@ -10,6 +10,7 @@ pub mod NameLaws
 pub mod OpenBlocks
 pub mod OrderLaws
 pub mod PartLaws
+pub mod PartsSaidOnce
 pub mod PhraseLaws
 pub mod PlainLemmas
 pub mod PlainLines
@@ -20,3 +21,4 @@ pub mod ScopeLaws
 pub mod SiteLaws
 pub mod SourceLaws
 pub mod UnitSites
+pub mod UnitsInOrder

@@ -1,7 +1,7 @@
 -- Each output of a well-formed system has its canonical line.
 use Rattle.std.proofs.Common.{◌≡◌, ℕ, ◌+◌, Bool, true, false, cond, List, [], ◌∷◌, ◌++◌, append_assoc, map, Option, Some, None, ◌⊎◌, inl, inr, refl, ap, sym}
 use Rattle.std.proofs.Common.{subst, ◌∙◌}
-use Rattle.std.specs.Prelude.{◌&&◌, ◌||◌}
+use Rattle.std.specs.Prelude.{◌||◌}
 use Rattle.std.specs.List.{AllByRecursion, flat_map, filter_map, cons_option, list_any, find, enumerate_from}
 use Rattle.std.specs.Option.{option_map, option_and_then}
 use Rattle.std.specs.Str.{bytes_eq}
@@ -25,6 +25,7 @@ use Rattle.language_laws.proofs.BlockLaws.{heads, site_at, headed_of, in_unit, u
 use Rattle.language_laws.proofs.BlockLaws.{canonical_are}
 use Rattle.language_laws.proofs.PartLaws.{grouped_ten, unit_is}
 use Rattle.list_laws.proofs.Lists.{each_so, of_mapped, front_of, back_of, of_flat, each_append}
+use Rattle.list_laws.proofs.Truths.{other_fails}
 use Rattle.language_laws.proofs.NameLaws.{all_keep}
 
 -- ---- Facts of each of many
@@ -215,15 +216,11 @@ no_output name unit none =
     (mapped (λ (one : Port). bytes_eq one.name name ≡ false)
     (λ output. record { name = output.name; ty = output.ty; is_event = false; needs = output.needs }) unit.outputs
     (each_so (λ output. R (parts.HasOutput output)) (λ output. bytes_eq output.name name ≡ false)
-    (λ output facts. and_false (bytes_eq said.name unit.name) (bytes_eq output.name name) own_name facts.0.0) unit.outputs outputs))
+    (λ output facts. other_fails (bytes_eq said.name unit.name) (bytes_eq output.name name) own_name facts.0.0) unit.outputs outputs))
     (mapped (λ (one : Port). bytes_eq one.name name ≡ false)
     (λ event. record { name = event.name; ty = event.ty; is_event = true; needs = event.needs }) unit.events_out
     (each_so (λ event. R (parts.HasEventOut event)) (λ event. bytes_eq event.name name ≡ false)
-    (λ event facts. and_false (bytes_eq said.name unit.name) (bytes_eq event.name name) own_name facts.0.0) unit.events_out events))
-  where
-    and_false : (one other : Bool) → one ≡ true → (one && other) ≡ false → other ≡ false
-    and_false true other is none = none
-    and_false false other is none = absurd (cc is)
+    (λ event facts. other_fails (bytes_eq said.name unit.name) (bytes_eq event.name name) own_name facts.0.0) unit.events_out events))
 
 pub none_found : (test : Site → Bool) (number : ℕ) (all : List Site) → find (λ at. test at.1) (enumerate_from number all) ≡ None
     → AllByRecursion (λ site. test site ≡ false) all

@@ -1,6 +1,6 @@
--- Which blocks are open behind the lines of a part, and that a step line stands in its step.
+-- What lines leave behind them: the lines before the next one, and the open blocks; and that a step line stands in its step.
 use Rattle.std.specs.Prelude.{⊤}
-use Rattle.std.proofs.Common.{◌≡◌, ℕ, true, false, List, [], ◌∷◌, ◌++◌, append_assoc, map, Some, None, refl, ap, sym, subst, ◌∙◌}
+use Rattle.std.proofs.Common.{◌≡◌, ℕ, true, false, List, [], ◌∷◌, ◌++◌, append_assoc, map, Some, None, refl, ap, sym, subst, ◌∙◌, append-nil}
 use Rattle.std.specs.List.{flat_map, fold}
 use Rattle.std.proofs.lemmas.List.Sums.{fold-append}
 use Rattle.unit_tree.specs.Blocks.{Block, InUnit, InStep, InIf, InElse, InRepeat, InInstance, behind, Before, and_line, and_lines, in_step}
@@ -19,6 +19,11 @@ use Rattle.unit_tree.specs.declared.line_form.LineForm.TheVariants as form
 use Rattle.unit_tree.specs.declared.system.Setting.{Setting}
 use Rattle.unit_tree.specs.declared.unit.Unit.{Unit}
 use Rattle.unit_tree.proofs.FoldLemmas.{fold-Assign, fold-If, fold-Repeat, fold-Accept}
+
+-- All lines of the text so far.
+pub all_in_text : (lines : List LineForm) (before : Before) → (and_lines before lines).in_text ≡ before.in_text ++ lines
+all_in_text [] before = sym (append-nil before.in_text)
+all_in_text (some ∷ lines) before = all_in_text lines (and_line before some) ∙ append_assoc before.in_text (some ∷ []) lines
 
 -- The open blocks behind lines are told from those before them alone.
 pub blocks_behind : (before : Before) (lines : List LineForm) → (and_lines before lines).open_blocks ≡ fold behind before.open_blocks lines
@@ -169,6 +174,13 @@ is_in_step = ind-Line IsInStep (λ x y is. subst (λ z. IsInStep (roll-Line z)) 
 
 pub line_leaves : (some : Line) (blocks : List Block) → fold behind blocks (line_forms some) ≡ blocks
 line_leaves some = (is_in_step some).closed
+
+pub joined_leave : (lines : List Line) (blocks : List Block) → fold behind blocks (joined (map line_forms lines)) ≡ blocks
+joined_leave [] blocks = refl
+joined_leave (one ∷ lines) blocks =
+    fold-append behind blocks (line_forms one) (joined (map line_forms lines))
+    ∙ ap (λ all. fold behind all (joined (map line_forms lines))) (line_leaves one blocks)
+    ∙ joined_leave lines blocks
 
 pub lines_leave : (lines : List Line) (blocks : List Block) → fold behind blocks (flat_map line_forms lines) ≡ blocks
 lines_leave [] blocks = refl

@@ -7,7 +7,7 @@ use Rattle.unit_tree.specs.Names.{Port, output_ports}
 use Rattle.unit_tree.specs.Parts as parts
 use Rattle.unit_tree.specs.Parts.{Part, UnitPart, unit_part_forms, part_forms}
 use Rattle.unit_tree.specs.Plain.{presence_name}
-use Rattle.unit_tree.specs.Printable.{IsRanged, names_on, names_said, names_on_expression}
+use Rattle.unit_tree.specs.Printable.{IsInRange, IsRanged, names_on, names_said, names_on_expression}
 use Rattle.unit_tree.specs.Names.{expression_on}
 use Rattle.unit_tree.specs.Tokens.{IsWord, is_word_byte, is_letter}
 use Rattle.unit_tree.specs.declared.line_form.LineForm.{LineForm}
@@ -94,6 +94,9 @@ pub record PlainNames (port : Port) : Type 0 where
 module _ (system : System) (ranged : IsRanged system) where
   pub words_on : (line : LineForm) → Has (canonical_forms system) line → AllByRecursion IsWord (names_on line)
   words_on line has = each_has (λ l. AllByRecursion IsWord (names_on l)) (canonical_forms system) line ranged.names has
+
+  pub in_range : (line : LineForm) → Has (canonical_forms system) line → IsInRange line
+  in_range line has = each_has IsInRange (canonical_forms system) line ranged.numbers has
 
   pub plain_on : (line : LineForm) (name : List ℕ) → Has (canonical_forms system) line → Has (names_said line) name → IsPlain name
   plain_on line name has said =

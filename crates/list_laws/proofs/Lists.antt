@@ -2,9 +2,9 @@
 use Rattle.std.proofs.Common.{◌≡◌, ℕ, zero, suc, ◌+◌, ◌<◌, ◌≤◌, Bool, true, false, List, [], ◌∷◌, ◌++◌, map, length, Option, Some, None, Result, Ok, Err, inl}
 use Rattle.std.proofs.Common.{inr, refl, ap, sym, subst, ◌∙◌, ◌⊎◌, arith}
 use Rattle.std.specs.Prelude.{⊤, ◌&&◌}
-use Rattle.std.specs.List.{AllByRecursion, flat_map, list_all}
-use Rattle.std.proofs.lemmas.Bool.{and_parts}
-use Rattle.std.proofs.lemmas.List.Folds.{list_all-append}
+use Rattle.std.specs.List.{AllByRecursion, flat_map, list_all, list_any}
+use Rattle.std.proofs.lemmas.Bool.{and_parts, or_left, or_right}
+use Rattle.std.proofs.lemmas.List.Folds.{list_all-append, list_any-append}
 
 pub each_so : {A : Type 0} (P Q : A → Type 0) → ((x : A) → P x → Q x) → (xs : List A) → AllByRecursion P xs → AllByRecursion Q xs
 each_so P Q so [] all = _
@@ -50,3 +50,28 @@ mapped_all test forms part [] = refl
 mapped_all test forms part (x ∷ xs) =
     list_all-append test (forms (part x)) (flat_map forms (map part xs)) ∙ ap (λ rest. list_all test (forms (part x)) && rest)
     (mapped_all test forms part xs)
+
+-- one element more at the end
+pub each_more : {A : Type 0} (P : A → Type 0) (xs : List A) (x : A) → AllByRecursion P xs → P x → AllByRecursion P (xs ++ (x ∷ []))
+each_more P xs x all holds = each_append P xs (x ∷ []) all (holds, tt)
+
+pub each_map : {A B : Type 0} (P : B → Type 0) (f : A → B) (xs : List A) → ((x : A) → P (f x)) → AllByRecursion P (map f xs)
+each_map P f [] holds = tt
+each_map P f (x ∷ xs) holds = (holds x, each_map P f xs holds)
+
+pub any_front : {A : Type 0} (test : A → Bool) (front behind : List A) → list_any test front ≡ true → list_any test (front ++ behind) ≡ true
+any_front test front behind holds = list_any-append test front behind ∙ or_left (list_any test front) (list_any test behind) holds
+
+pub any_behind : {A : Type 0} (test : A → Bool) (front behind : List A) → list_any test behind ≡ true → list_any test (front ++ behind) ≡ true
+any_behind test front behind holds = list_any-append test front behind ∙ or_right (list_any test front) (list_any test behind) holds
+
+-- the empty list is not cut at an element
+pub none_cut : {A : Type 0} (front : List A) (x : A) (behind : List A) → [] ≡ front ++ (x ∷ behind) → ⊥
+none_cut [] x behind is = absurd (cc)
+none_cut (y ∷ front) x behind is = absurd (cc)
+
+pub same_first : {A : Type 0} (x y : A) (xs ys : List A) → x ∷ xs ≡ y ∷ ys → x ≡ y
+same_first x y xs ys same = cc
+
+pub same_rest : {A : Type 0} (x y : A) (xs ys : List A) → x ∷ xs ≡ y ∷ ys → xs ≡ ys
+same_rest x y xs ys same = cc

@@ -1,8 +1,13 @@
 -- What a list has, and lists whose elements differ.
 use Rattle.std.proofs.Common.{◌≡◌, ℕ, zero, suc, ◌+◌, ◌<◌, ◌≤◌, Bool, true, false, List, [], ◌∷◌, ◌++◌, map, length, Option, Some, None, Result, Ok, Err, inl}
-use Rattle.std.proofs.Common.{inr, refl, ap, sym, subst, ◌∙◌, ◌⊎◌, arith}
+use Rattle.std.proofs.Common.{inr, refl, ap, sym, subst, ◌∙◌, ◌⊎◌, arith, cond, find, get_or, set, take}
 use Rattle.std.specs.Prelude.{⊤, slice_get}
-use Rattle.std.specs.List.{AllByRecursion}
+use Rattle.std.specs.List.{All, AllByRecursion}
+use Rattle.std.proofs.lemmas.List.{take_more}
+use Rattle.std.proofs.lemmas.List.Elements.{All-head, All-tail}
+use Rattle.std.proofs.lemmas.Option.{same_Some, slice_get_read, slice_get_within, get_or_from_slice_get}
+use lib.ListN.{get_elem?}
+use mathlib.Core.Option.{some, some-injective, some-ne-none}
 
 abbrev pub Has : {A : Type 0} → List A → A → Type 0
 Has [] x = ⊥
@@ -54,3 +59,50 @@ pub each_has : {A : Type 0} (P : A → Type 0) (xs : List A) (x : A) → AllByRe
 each_has P [] x all has = absurd has
 each_has P (first ∷ xs) x all (inl is) = subst P is all.0
 each_has P (first ∷ xs) x all (inr has) = each_has P xs x all.1 has
+
+pub has_place : {A : Type 0} (xs : List A) (x : A) → Has xs x → (k : ℕ) × (slice_get xs k ≡ Some x)
+has_place [] x has = absurd has
+has_place (first ∷ xs) x (inl is) = (zero, ap Some is)
+has_place (first ∷ xs) x (inr has) = let later = has_place xs x has in (suc later.0, later.1)
+
+pub at_front : {A : Type 0} (front behind : List A) (k : ℕ) (x : A) → slice_get front k ≡ Some x → slice_get (front ++ behind) k ≡ Some x
+at_front [] behind k x is = absurd (cc)
+at_front (first ∷ front) behind zero x is = is
+at_front (first ∷ front) behind (suc k) x is = at_front front behind k x is
+
+pub at_seam : {A : Type 0} (front : List A) (x : A) (behind : List A) → slice_get (front ++ (x ∷ behind)) (length front) ≡ Some x
+at_seam [] x behind = refl
+at_seam (first ∷ front) x behind = at_seam front x behind
+
+-- what is read at a place stands there
+pub read_at : {A : Type 0} (xs : List A) (k : ℕ) (x : A) → k < length xs → x ≡ get_or xs k x → slice_get xs k ≡ Some x
+read_at xs k x within is = slice_get_read xs (length xs) k x refl within is
+
+pub take_next : {A : Type 0} (xs : List A) (k : ℕ) (x : A) → slice_get xs k ≡ Some x → take (k + 1) xs ≡ take k xs ++ (x ∷ [])
+take_next xs k x is = take_more xs k x (slice_get_within xs k x is) ∙ ap (λ y. take k xs ++ (y ∷ [])) (get_or_from_slice_get xs k x x is)
+
+-- what a place has already, put there, changes nothing
+pub set_same : {A : Type 0} (xs : List A) (k : ℕ) (x : A) → slice_get xs k ≡ Some x → set xs k x ≡ xs
+set_same [] k x is = refl
+set_same (first ∷ xs) zero x is = ap (λ y. y ∷ xs) (sym (same_Some first x is))
+set_same (first ∷ xs) (suc k) x is = ap (λ ys. first ∷ ys) (set_same xs k x is)
+
+pub map_same : {A : Type 0} (f : A → A) (xs : List A) → ((x : A) → Has xs x → f x ≡ x) → map f xs ≡ xs
+map_same f [] each = refl
+map_same f (x ∷ xs) each = ap (λ y. y ∷ map f xs) (each x (inl refl)) ∙ ap (λ ys. x ∷ ys) (map_same f xs (λ y has. each y (inr has)))
+
+-- what a test finds passes it
+found_by : {A : Type 0} (test : A → Bool) (told : Bool) (first x : A) (rest : Option A) → test first ≡ told → (rest ≡ Some x → test x ≡ true)
+    → cond told (Some first) rest ≡ Some x → test x ≡ true
+found_by test true first x rest is later same = subst (λ y. test y ≡ true) (same_Some first x same) is
+found_by test false first x rest is later same = later same
+
+pub found_passes : {A : Type 0} (test : A → Bool) (xs : List A) (x : A) → find test xs ≡ Some x → test x ≡ true
+found_passes test [] x is = absurd (cc)
+found_passes test (first ∷ xs) x is = found_by test (test first) first x (find test xs) refl (found_passes test xs x) is
+
+-- of lists whose elements are looked up as mathlib does
+pub all_at : {A : Type 0} (P : A → Type 0) (xs : List A) (k : ℕ) (x : A) → All P xs → get_elem? xs k ≡ some x → P x
+all_at P [] k x all is = absurd (some-ne-none x (sym is))
+all_at P (first ∷ xs) zero x all is = subst P (some-injective first x is) (All-head P first xs all)
+all_at P (first ∷ xs) (suc k) x all is = all_at P xs k x (All-tail P first xs all) is

@@ -1,7 +1,7 @@
 -- What may be there, and results.
 use Rattle.std.proofs.Common.{◌≡◌, ℕ, zero, suc, ◌+◌, ◌<◌, ◌≤◌, Bool, true, false, List, [], ◌∷◌, ◌++◌, map, length, Option, Some, None, Result, Ok, Err, inl}
 use Rattle.std.proofs.Common.{inr, refl, ap, sym, subst, ◌∙◌, ◌⊎◌, arith}
-use Rattle.std.specs.Prelude.{⊤, OnOk}
+use Rattle.std.specs.Prelude.{⊤, OnOk, cond, is_some}
 use Rattle.std.specs.Result.{result_and}
 use Rattle.std.specs.Option.{option_or}
 
@@ -17,3 +17,15 @@ pub and_kept : {T X E : Type 0} (done : Result T E) (value kept : X) {Done : Typ
     → (kept ≡ value) × Done
 and_kept (Ok _) value kept is_done is = (cc (is), is_done)
 and_kept (Err why) value kept is_done is = absurd (cc (is))
+
+pub none_told : {A : Type 0} (found : Option A) → is_some found ≡ false → found ≡ None
+none_told None is = refl
+none_told (Some x) is = absurd (cc)
+
+-- what is put where nothing was comes behind what was there
+pub put_behind : {A : Type 0} (asked stored : Bool) (old new : Option A) (value : A) → asked ≡ stored → (asked ≡ true → old ≡ None)
+    → new ≡ cond stored (Some value) old → new ≡ option_or old (cond asked (Some value) None)
+put_behind true true old new value same none put = rw (none refl) put
+put_behind false false old new value same none put = put ∙ sym (or_none old)
+put_behind true false old new value same none put = absurd (cc)
+put_behind false true old new value same none put = absurd (cc)

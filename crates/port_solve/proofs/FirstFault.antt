@@ -1,7 +1,7 @@
 -- The first fault by place is the port fault.
 use Rattle.std.proofs.Common.{◌≡◌, ◌∙◌, ℕ, zero, suc, ◌<◌, ◌≤◌, Bool, true, false, cond, ℤ, List, [], ◌∷◌, ◌++◌, map, length, Option, Some, None}
 use Rattle.std.proofs.Common.{refl, ap, sym, arith}
-use Rattle.std.proofs.lemmas.Option.{slice_get-map, slice_get_within}
+use Rattle.std.proofs.lemmas.Option.{slice_get-map, slice_get_within, none-some}
 use Rattle.std.specs.Prelude.{slice_get, nat_lt}
 use Rattle.std.specs.List.{AllByRecursion}
 use Rattle.std.specs.Option.{option_map, option_and_then}
@@ -15,9 +15,10 @@ use Rattle.unit_tree.specs.declared.ending.Ending.{Ending}
 use Rattle.unit_tree.specs.declared.ending.Ending.TheVariants.{UnitFault}
 use Rattle.unit_tree.specs.declared.ending.Place.TheVariants as place
 use Rattle.run_laws.proofs.AssignmentLaws.{outlets_count}
-use Rattle.run_laws.proofs.EquationLaws.{each_among, all_behind, among_last, among_front}
+use Rattle.run_laws.proofs.EquationLaws.{each_place, among_last, among_front}
 use Rattle.port_solve.proofs.Fronts.{mapped}
 use Rattle.list_laws.proofs.Truths.{lt_not_told, lt_told}
+use Rattle.list_laws.proofs.Lists.{each_more}
 
 -- ---- One output more
 
@@ -40,27 +41,27 @@ module _ (run : Composition) (states : List (List ℤ)) (right : Ports) where
   noted_by true front place first fault lower is was = (
     among_front front (place ∷ []) first.place was.0,
     was.1,
-    all_behind (λ q. q < first.place → NoFault q) front place was.2 (λ above. absurd (omega (arith, above, lt_told first.place place lower))),
+    each_more (λ q. q < first.place → NoFault q) front place was.2 (λ above. absurd (omega (arith, above, lt_told first.place place lower))),
   )
   noted_by false front place first fault lower is was = (
     among_last front place,
     is,
-    all_behind (λ q. q < place → NoFault q) front place (nearer front first.place place (lt_not_told first.place place lower) was.2)
+    each_more (λ q. q < place → NoFault q) front place (nearer front first.place place (lt_not_told first.place place lower) was.2)
         (λ above. absurd (omega (arith, above))),
   )
 
   pub first_noted : (front : List ℕ) (place : ℕ) (first : Option Faulted) (fault : Option Fault) → fault_there run states right place ≡ fault
       → IsFirst run states right front first → IsFirst run states right (front ++ (place ∷ [])) (noted first place fault)
-  first_noted front place None None is was = all_behind NoFault front place was is
+  first_noted front place None None is was = each_more NoFault front place was is
   first_noted front place (Some first) None is was = (
     among_front front (place ∷ []) first.place was.0,
     was.1,
-    all_behind (λ q. q < first.place → NoFault q) front place was.2 (λ lower. is),
+    each_more (λ q. q < first.place → NoFault q) front place was.2 (λ lower. is),
   )
   first_noted front place None (Some fault) is was = (
     among_last front place,
     is,
-    all_behind (λ q. q < place → NoFault q) front place (weaker front place was) (λ above. absurd (omega (arith, above))),
+    each_more (λ q. q < place → NoFault q) front place (weaker front place was) (λ above. absurd (omega (arith, above))),
   )
   first_noted front place (Some first) (Some fault) is was = noted_by (nat_lt first.place place) front place first fault refl is was
 
@@ -83,10 +84,7 @@ first_at [] k ending is each = absurd (cc)
 first_at (Some first ∷ all) zero ending is each = cc
 first_at (None ∷ all) zero ending is each = absurd (cc)
 first_at (None ∷ all) (suc k) ending is each = first_at all k ending is (λ j told lower there. each (suc j) told (omega (arith, lower)) there)
-first_at (Some first ∷ all) (suc k) ending is each = absurd (differ (each 0 (Some first) (omega arith) refl))
-  where
-    differ : Some first ≡ None → ⊥
-    differ is = cc
+first_at (Some first ∷ all) (suc k) ending is each = absurd (none-some first (sym (each 0 (Some first) (omega arith) refl)))
 
 module _ (run : Composition) (states : List (List ℤ)) (right : Ports) (order : List ℕ) (is_order : IsPlaceOrder run order)
     (same : length states ≡ length run.members) where
@@ -101,7 +99,7 @@ module _ (run : Composition) (states : List (List ℤ)) (right : Ports) (order :
       sym from.made ∙ fault_of run states right k from.one None from.is (none (is_order.all k within))
 
   pub no_port_fault : IsFirst run states right order None → port_fault run states right ≡ None
-  no_port_fault none = none_first faults (λ k told is. none_told k told is (λ among. each_among (NoFault run states right) order k none among))
+  no_port_fault none = none_first faults (λ k told is. none_told k told is (λ among. each_place (NoFault run states right) order k none among))
 
   pub is_port_fault : (first : Faulted) (outlet : Outlet) → slice_get (outlets run states) first.place ≡ Some outlet
       → IsFirst run states right order (Some first) → port_fault run states right ≡ Some (UnitFault outlet.instance (place.Output outlet.number) first.fault)
@@ -109,4 +107,4 @@ module _ (run : Composition) (states : List (List ℤ)) (right : Ports) (order :
       first_at faults first.place (UnitFault outlet.instance (place.Output outlet.number) first.fault)
       (slice_get-map (fault_at right) (outlets run states) first.place ∙ ap (option_map (fault_at right)) there
       ∙ ap Some (fault_of run states right first.place outlet (Some first.fault) there is.1))
-      (λ j told lower told_is. none_told j told told_is (λ among. each_among (λ q. q < first.place → NoFault run states right q) order j is.2 among lower))
+      (λ j told lower told_is. none_told j told told_is (λ among. each_place (λ q. q < first.place → NoFault run states right q) order j is.2 among lower))

@@ -3,7 +3,7 @@
 use Rattle.std.proofs.Common.{◌≡◌, ◌∙◌, ℕ, zero, suc, ◌<◌, Bool, true, false, cond, ℤ, pos, List, [], ◌∷◌, ◌++◌, map, length, get_or, set, Option, Some, None}
 use Rattle.std.proofs.Common.{Ok, Err, inl, inr, refl, ap, sym, subst, ◌⊎◌, arith}
 use Rattle.std.proofs.lemmas.Bool.{and_parts}
-use Rattle.std.proofs.lemmas.Option.{get_or_from_slice_get, slice_get_within}
+use Rattle.std.proofs.lemmas.Option.{get_or_from_slice_get, slice_get_within, same_Some, none-some}
 use Rattle.std.specs.Prelude.{slice_get, zip, IfSome, IsSome}
 use Rattle.std.specs.List.{AllByRecursion, list_all, filter_map, cons_option}
 use Rattle.std.specs.Option.{option_map, option_and_then}
@@ -30,7 +30,7 @@ use Rattle.unit_tree.specs.declared.order.StartWord.{StartWord}
 use Rattle.unit_tree.specs.declared.unit.Input.{Input}
 use Rattle.unit_tree.specs.declared.unit.Output.{Output}
 use Rattle.run_laws.proofs.AssignmentLaws.{Defined, needs_of, needs_here, all_seen, side_at}
-use Rattle.run_laws.proofs.EquationLaws.{all_among, all_behind, among_either}
+use Rattle.run_laws.proofs.EquationLaws.{all_among, among_either}
 use Rattle.language_laws.proofs.PlainNames.{map_has}
 use Rattle.run_laws.proofs.SeenLaws.{get_same, get_fits}
 use Rattle.port_solve.proofs.InputPlaces.{source_at, feed_is, has_feed}
@@ -38,6 +38,7 @@ use Rattle.port_solve.proofs.SetWords.{word_after, shape_after}
 use Rattle.port_solve.proofs.OutputPlaces.{OutletAt, outlet_of, given_is, type_is}
 use Rattle.list_laws.proofs.Members.{Has, has_map, has_at, at_place, all_has, each_has}
 use Rattle.list_laws.proofs.Pairs.{Beside, zip_at}
+use Rattle.list_laws.proofs.Lists.{each_more}
 
 -- ---- What is known at a front
 
@@ -300,11 +301,8 @@ module _ (run : Composition) (states : List (List ℤ)) (sound : IsSound run) (h
     state_length : length outlet.standing.1 ≡ length member.component.unit.states
     state_length =
         let beside = zip_at HasState run.members states route.instance member have at.member in
-        let same_state : beside.other ≡ outlet.standing.1 = some_same beside.other outlet.standing.1 (sym beside.is ∙ at.state) in
+        let same_state : beside.other ≡ outlet.standing.1 = same_Some beside.other outlet.standing.1 (sym beside.is ∙ at.state) in
         subst (λ (s : List ℤ). length s ≡ length member.component.unit.states) same_state beside.related
-      where
-        some_same : (one other : List ℤ) → Some one ≡ Some other → one ≡ other
-        some_same one other is = cc
 
     abbrev words_there : Beside HasWords member inputs route.instance
     words_there = zip_at HasWords run.members inputs route.instance member is_front.shape at.member
@@ -351,10 +349,7 @@ module _ (run : Composition) (states : List (List ℤ)) (sound : IsSound run) (h
         (known_defined right known words (needs_of outlet) same needs_agree (sym (ap (list_all (λ need. get_or known need false)) at.needs) ∙ all))
 
     by_known : (told : Bool) → are_known ≡ told → inputs_for right outlet ≡ None → asked run states inputs known route ≡ given_at right outlet
-    by_known true all none = let seen = seen_if all in absurd (differ seen.0 (sym none ∙ seen.1))
-      where
-        differ : (seen : List ℤ) → None ≡ Some seen → ⊥
-        differ seen is = cc
+    by_known true all none = let seen = seen_if all in absurd (none-some seen.0 (sym none ∙ seen.1))
     by_known false all none =
         ap (λ told. cond told (given_by run states inputs route.instance route.output) None) all
         ∙ sym (ap (option_map (λ seen. get_of member.component outlet.standing.1 seen output)) none)
@@ -418,7 +413,7 @@ module _ (run : Composition) (states : List (List ℤ)) (sound : IsSound run) (h
 
       all_agree : AllByRecursion (Agreed now right) (front ++ (place ∷ []))
       all_agree =
-          all_behind (Agreed now right) front place (still_agree front is_front.words apart)
+          each_more (Agreed now right) front place (still_agree front is_front.words apart)
           (get_same_place (ports_told known words) place (word_at right outlet) within ∙ sym right_is)
 
       abbrev sets : Option ℤ → List StartWord
@@ -460,12 +455,9 @@ module _ (run : Composition) (states : List (List ℤ)) (sound : IsSound run) (h
             let from = map_has (λ x. record { at = x; word = v }) route.feeds start has in
             let fed = feed_is run place from.one (subst (λ feeds. Has feeds from.one) at.feeds from.has) in
             let from_is : from.one ≡ a = ap (λ (s : StartWord). s.at) from.is ∙ same_at in
-            let source_is : source ≡ AtPlace place = some_same (sym is ∙ ap (source_at run) (sym from_is) ∙ fed) in
+            let source_is : source ≡ AtPlace place = same_Some source (AtPlace place) (sym is ∙ ap (source_at run) (sym from_is) ∙ fed) in
             let there : Known right (front ++ (place ∷ [])) (AtPlace place) word = subst (λ s. Known right (front ++ (place ∷ [])) s word) source_is is_known in
             sym (ap (λ (s : StartWord). s.word) from.is) ∙ same_word word there.1
-          where
-            some_same : Some source ≡ Some (AtPlace place) → source ≡ AtPlace place
-            some_same is = cc
 
         some_fed : (a : InputAt) (source : InputSource) (word : ℤ) → source_at run a ≡ Some source → Known right (front ++ (place ∷ [])) source word
             → word_in (with_words inputs (all_with v route.feeds)) a ≡ word

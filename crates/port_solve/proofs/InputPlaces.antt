@@ -1,7 +1,7 @@
 -- Inputs by instance and number: the source of each, and those that one output feeds.
 use Rattle.std.proofs.Common.{◌≡◌, ◌∙◌, ℕ, zero, suc, ◌+◌, Bool, true, false, cond, ℤ, List, [], ◌∷◌, Option, Some, None, inl, inr, refl, ap, sym, arith}
-use Rattle.std.proofs.lemmas.Bool.Decides.{eqb_tells}
 use Rattle.std.proofs.lemmas.Map.Views.{exact_unsigned_eq}
+use Rattle.std.proofs.lemmas.Bool.{eq-eqb}
 use Rattle.std.specs.Prelude.{slice_get, ◌==◌}
 use Rattle.std.specs.List.{enumerate_from, filter_map, cons_option}
 use Rattle.std.specs.Option.{option_and_then}
@@ -130,10 +130,7 @@ feed_is run place at has =
 pub has_feed : (run : Composition) (place : ℕ) (at : InputAt) → source_at run at ≡ Some (AtPlace place) → Has (feeds_of run place) at
 has_feed run place at is =
     has_kept (fed_from place) (inputs_of run) (at, AtPlace place) at (has_source run at (AtPlace place) is)
-    (ap (λ told. cond told (Some at) None) (eqb_same place))
-  where
-    eqb_same : (p : ℕ) → (p == p) ≡ true
-    eqb_same p = elim (eqb_tells p p) [ inl both ↦ both.0 | inr both ↦ absurd (both.1 refl) ]
+    (ap (λ told. cond told (Some at) None) (eq-eqb place place refl))
 
 start_is_by : (source : InputSource) (at : InputAt) (start : StartWord) → starts_at (at, source) ≡ Some start → (at ≡ start.at) × (source ≡ Start start.word)
 start_is_by (Start word) at start is =

@@ -2,6 +2,7 @@
 -- run.
 use Rattle.std.proofs.Common.{◌≡◌, ◌∙◌, true, false, List, [], ◌∷◌, ◌++◌, append-nil, map, Option, Some, None, inl, inr, refl, ap, sym, subst}
 use Rattle.std.proofs.lemmas.List.{length-map}
+use Rattle.std.proofs.lemmas.Option.{same_Some}
 use Rattle.std.specs.Prelude.{is_none, slice_get, zip}
 use Rattle.std.specs.List.{AllByRecursion, AllZip, flat_map, filter_map, cons_option}
 use Rattle.fixed_words.specs.declared.types.Ty.{Ty}
@@ -63,11 +64,8 @@ module _ (system : System) (plain : HasNoEvents system) (linked : Linked system)
           (map (λ (event : EventOut). record { name = event.name; ty = event.ty; is_event = true; needs = event.needs }) unit.events_out)
           (plain_port output) (has_map plain_port unit.outputs output (within output (inl refl))) in
           let own = output_is system linked.differ instance unit (plain_port output) instance_has unit_is has in
-          let same : other ≡ plain_port output = some_same (sym is ∙ own) in
+          let same : other ≡ plain_port output = same_Some other (plain_port output) (sym is ∙ own) in
           ap (λ (p : Port). p.ty) same
-        where
-          some_same : Some other ≡ Some (plain_port output) → other ≡ plain_port output
-          some_same is = cc
 
   ports_are : (unit : Unit) → Has system.units unit → output_ports unit ≡ map plain_port unit.outputs
   ports_are unit has =

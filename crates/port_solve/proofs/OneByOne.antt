@@ -1,6 +1,7 @@
 -- Ports one by one: what an output gives for words that are known, and inputs that are fed with a word from elsewhere.
 use Rattle.std.proofs.Common.{◌≡◌, ◌∙◌, ◌≢◌, ℕ, zero, suc, Bool, ℤ, List, [], ◌∷◌, length, set, Option, Some, None, inl, inr, refl, ap, sym, subst}
 use Rattle.std.proofs.lemmas.Bool.Decides.{eqb_tells}
+use Rattle.std.proofs.lemmas.Option.{same_Some}
 use Rattle.std.specs.Prelude.{slice_get, IfSome}
 use Rattle.std.specs.List.{AllByRecursion}
 use Rattle.std.specs.Option.{option_and_then}
@@ -112,11 +113,8 @@ module _ (run : Composition) (sound : IsSound run) (place : ℕ) (word : ℤ) wh
     kept at source had is differ was =
         word_after run (same_sources run sound) at source is had sets inputs shape (λ start has same. absurd (differ (same_source start has same))) (inl was)
       where
-        some_same : (one other : InputSource) → Some one ≡ Some other → one ≡ other
-        some_same one other is = cc
-
         same_source : (start : StartWord) → Has sets start → start.at ≡ at → source ≡ AtPlace place
-        same_source start has same = some_same source (AtPlace place) (sym is ∙ ap (source_at run) (sym same) ∙ (fed_of start has).source)
+        same_source start has same = same_Some source (AtPlace place) (sym is ∙ ap (source_at run) (sym same) ∙ (fed_of start has).source)
 
     -- One that it feeds has the word.
     fed : (at : InputAt) → source_at run at ≡ Some (AtPlace place) → word_in now at ≡ word

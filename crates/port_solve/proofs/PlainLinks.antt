@@ -1,6 +1,7 @@
 -- The plain form of a judged system is linked: its connections join equal types, and its outputs use their needs alone.
 use Rattle.std.proofs.Common.{◌≡◌, ◌∙◌, ℕ, ℤ, Bool, true, false, cond, List, [], ◌∷◌, ◌++◌, map, Option, Some, None, inl, inr, refl, ap, sym, subst, ◌⊎◌}
 use Rattle.std.proofs.lemmas.Bool.{and_parts, or_parts}
+use Rattle.std.proofs.lemmas.Option.{same_Some}
 use Rattle.std.specs.Prelude.{not, is_none, ◌&&◌}
 use Rattle.std.specs.Bool.{beq}
 use Rattle.std.specs.Cmp.{signed_Decides}
@@ -324,14 +325,11 @@ module _ (system : System) (ranged : IsRanged system) (kept : IsWellFormed syste
   made_output port output is =
       let d = declared system port (has_in (outputs_of system) port (output_has system port (ap is_none is))) in
       let own = output_is system apart d.instance d.unit d.output d.instance_has d.unit_is d.has in
-      let same : d.output ≡ output = some_same d.output output (sym own ∙ ap (output_at system) d.is ∙ is) in
+      let same : d.output ≡ output = same_Some d.output output (sym own ∙ ap (output_at system) d.is ∙ is) in
       let made =
       output_is plain (plain_differ system ranged kept) d.instance (plain_unit d.unit) (plain_one d.unit d.output) d.instance_has
       (plain_unit_is system ranged kept d.instance d.unit d.unit_is) (becomes d.unit d.output d.has).whole in
       (plain_one d.unit d.output, ap (output_at plain) (sym d.is) ∙ made, ap (λ (p : Port). p.ty) same)
-    where
-      some_same : (one other : Port) → Some one ≡ Some other → one ≡ other
-      some_same one other is = cc
 
   -- An input of the plain form: one of the unit's, one that tells of an event, or one with its word.
   record AskedFor (unit : Unit) (input : Input) : Type 0 where

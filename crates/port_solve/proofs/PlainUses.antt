@@ -1,5 +1,5 @@
 -- Outputs of the plain form use the inputs in their needs alone, where those of the system do.
-use Rattle.std.proofs.Common.{◌≡◌, ℕ, ℤ, zero, suc, Bool, true, false, List, [], ◌∷◌, ◌++◌, sym, subst, pos}
+use Rattle.std.proofs.Common.{◌≡◌, ℕ, ℤ, zero, suc, Bool, true, false, List, ◌++◌, sym, subst, pos}
 use Rattle.std.specs.List.{AllByRecursion}
 use Rattle.fixed_words.specs.declared.types.Ty.{Ty}
 use Rattle.fixed_words.specs.declared.types.Ty.TheVariants as types
@@ -20,19 +20,12 @@ use Rattle.unit_tree.proofs.FoldLemmas.{fold-Present}
 use Rattle.language_laws.proofs.PlainLemmas.{plain-Number, plain-Truth, plain-Var, plain-Time, plain-Step, plain-Unary, plain-Binary, plain-Clamp, plain-Choose}
 use Rattle.language_laws.proofs.PlainLemmas.{plain-Absent, plain-Present, choices-Number, choices-Truth, choices-Var, choices-Time, choices-Step, choices-Unary}
 use Rattle.language_laws.proofs.PlainLemmas.{choices-Binary, choices-Clamp, choices-Choose, choices-Absent, choices-Present}
+use Rattle.list_laws.proofs.Lists.{each_part, each_append}
 
 -- ---- Names in an expression
 
 abbrev pub Names : (List ℕ → Type 0) → Expr → Type 0
 Names Q value = AllByRecursion Q (names_in value)
-
-all_split : (Q : List ℕ → Type 0) (front behind : List (List ℕ)) → AllByRecursion Q (front ++ behind) → AllByRecursion Q front × AllByRecursion Q behind
-all_split Q [] behind all = (tt, all)
-all_split Q (name ∷ front) behind all = let rest = all_split Q front behind all.1 in ((all.0, rest.0), rest.1)
-
-all_join : (Q : List ℕ → Type 0) (front behind : List (List ℕ)) → AllByRecursion Q front → AllByRecursion Q behind → AllByRecursion Q (front ++ behind)
-all_join Q [] behind one other = other
-all_join Q (name ∷ front) behind one other = (one.0, all_join Q front behind one.1 other)
 
 module _ (Q : List ℕ → Type 0) where
   names-Number : (number : ℤ) (decimals : ℕ) → Names Q (expr.Number number decimals)
@@ -67,19 +60,19 @@ module _ (Q : List ℕ → Type 0) where
 
   names-Binary : (op : BinOp) (left right : Expr) → Names Q left → Names Q right → Names Q (expr.Binary op left right)
   names-Binary op left right one other =
-      subst (AllByRecursion Q) (sym (fold-Binary (List (List ℕ)) node_names op left right)) (all_join Q (names_in left) (names_in right) one other)
+      subst (AllByRecursion Q) (sym (fold-Binary (List (List ℕ)) node_names op left right)) (each_append Q (names_in left) (names_in right) one other)
 
   in-Binary : (op : BinOp) (left right : Expr) → Names Q (expr.Binary op left right) → Names Q left × Names Q right
   in-Binary op left right all =
-      all_split Q (names_in left) (names_in right) (subst (AllByRecursion Q) (fold-Binary (List (List ℕ)) node_names op left right) all)
+      each_part Q (names_in left) (names_in right) (subst (AllByRecursion Q) (fold-Binary (List (List ℕ)) node_names op left right) all)
 
   three : (a b c : Expr) → Names Q a → Names Q b → Names Q c → AllByRecursion Q ((names_in a ++ names_in b) ++ names_in c)
-  three a b c one two other = all_join Q (names_in a ++ names_in b) (names_in c) (all_join Q (names_in a) (names_in b) one two) other
+  three a b c one two other = each_append Q (names_in a ++ names_in b) (names_in c) (each_append Q (names_in a) (names_in b) one two) other
 
   of_three : (a b c : Expr) → AllByRecursion Q ((names_in a ++ names_in b) ++ names_in c) → Names Q a × Names Q b × Names Q c
   of_three a b c all =
-      let first = all_split Q (names_in a ++ names_in b) (names_in c) all in
-      let second = all_split Q (names_in a) (names_in b) first.0 in
+      let first = each_part Q (names_in a ++ names_in b) (names_in c) all in
+      let second = each_part Q (names_in a) (names_in b) first.0 in
       (second.0, second.1, first.1)
 
   names-Clamp : (value low high : Expr) → Names Q value → Names Q low → Names Q high → Names Q (expr.Clamp value low high)

@@ -15,7 +15,7 @@ use Rattle.unit_tree.specs.Ports.{Ports, IsAmong, IsAssignment, IsOrderedAfter, 
 use Rattle.unit_tree.specs.Routes.{inputs_of}
 use Rattle.unit_tree.specs.declared.order.InputAt.{InputAt}
 use Rattle.run_laws.proofs.AssignmentLaws.{are_equations, outlets_count}
-use Rattle.run_laws.proofs.EquationLaws.{each_among, same_lists}
+use Rattle.run_laws.proofs.EquationLaws.{each_place, same_lists}
 use Rattle.port_solve.proofs.Fronts.{Known, Agreed, IsFront, HasWords, one_state, sound_member, suits_at}
 use Rattle.port_solve.proofs.InputPlaces.{source_at, source_is, has_source}
 use Rattle.port_solve.proofs.OutputPlaces.{types_count}
@@ -69,7 +69,7 @@ module _ (run : Composition) (states : List (List ℤ)) (right told : Ports) (in
   pub told_right : told ≡ right
   told_right =
       same_lists told right (length (needs_of_places run)) count right_count
-      (λ place within. each_among (Agreed told right) order place is_front.words (is_order.all place within))
+      (λ place within. each_place (Agreed told right) order place is_front.words (is_order.all place within))
 
   found_word : (at : InputAt) (place : ℕ) (found : Option (Option ℤ)) → source_at run at ≡ Some (AtPlace place) → slice_get right place ≡ found
       → IfSome (option_and_then (λ word. word) found) (λ word. word_in inputs at ≡ word)

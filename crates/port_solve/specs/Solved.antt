@@ -1,7 +1,7 @@
 -- Solved ports: what is asked of components whose ports are to be solved, which of their inputs are set, and what is told of the
 -- answer.
-use Rattle.std.specs.Prelude.{◌≡◌, ℕ, Bool, ℤ, pos, List, [], ◌∷◌, map, length, zip, slice_get, slice_index_or, if◌then◌else◌, Option, Some, None, IfSome, Result}
-use Rattle.std.specs.Prelude.{Ok, Err}
+use Rattle.std.specs.Prelude.{◌≡◌, ℕ, Bool, ℤ, pos, List, [], ◌∷◌, map, length, zip, slice_get, slice_index_or, if◌then◌else◌, Option, Some, None, IfSome}
+use Rattle.std.specs.Prelude.{Result, Ok, Err}
 use Rattle.std.specs.List.{AllByRecursion, AllZip}
 use Rattle.std.specs.Option.{option_and_then}
 use Rattle.fixed_words.specs.Operations.{Outcome}

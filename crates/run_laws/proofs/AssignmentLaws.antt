@@ -2,12 +2,12 @@
 use Rattle.std.proofs.Common.{◌≡◌, ℕ, zero, suc, ◌+◌, ◌<◌, Bool, true, false, cond, ℤ, List, [], ◌∷◌, ◌++◌, map, length, Option, Some, None, Ok, Err, refl, ap}
 use Rattle.std.proofs.Common.{sym, subst, ◌∙◌, arith}
 use Rattle.std.proofs.lemmas.List.{length-map, map-append}
-use Rattle.std.proofs.lemmas.Option.{slice_get-map}
+use Rattle.std.proofs.lemmas.Option.{slice_get-map, none-some}
 use Rattle.std.specs.Prelude.{slice_get, zip, is_some, unwrap_or, ◌↔◌}
 use Rattle.std.specs.List.{AllByRecursion, enumerate_from, flat_map, filter_map, list_all, cons_option}
 use Rattle.std.specs.Option.{option_map, option_and_then}
 use Rattle.std.specs.Result.{result_ok, result_err}
-use Rattle.std.proofs.lemmas.Bool.{and_parts}
+use Rattle.std.proofs.lemmas.Bool.{and_parts, false≢true}
 use Rattle.fixed_words.specs.Operations.{Outcome}
 use Rattle.unit_tree.specs.Components.{start_word, get_of}
 use Rattle.unit_tree.specs.Compositions.{InputSource, Start, AtPlace, Member, Composition}
@@ -15,13 +15,14 @@ use Rattle.unit_tree.specs.Names.{is_among}
 use Rattle.unit_tree.specs.Ports.{Ports, Standing, Outlet, IsOrderedAfter, IsPlaceOrder, IsAssignment, input_word, seen_by, in_front, all_there, given_at}
 use Rattle.unit_tree.specs.Ports.{word_at, fault_at, port_fault, first_some, outlets, outlets_of, right_sides, place_in, place_needed, places_needed}
 use Rattle.unit_tree.specs.Ports.{needs_of_places, needs_at}
+use Rattle.list_laws.proofs.Lists.{each_more}
 use Rattle.run_laws.specs.RunLaws.{HasOneAssignment}
 use Rattle.unit_tree.specs.declared.ending.Ending.{Ending}
 use Rattle.unit_tree.specs.declared.ending.Ending.TheVariants.{UnitFault}
 use Rattle.unit_tree.specs.declared.ending.Place.TheVariants as place
 use Rattle.unit_tree.specs.declared.unit.Input.{Input}
 use Rattle.unit_tree.specs.declared.unit.Output.{Output}
-use Rattle.run_laws.proofs.EquationLaws.{AreEquations, one_solution, has_solution, each_among, all_among, all_behind}
+use Rattle.run_laws.proofs.EquationLaws.{AreEquations, one_solution, has_solution, all_among, each_place}
 
 -- ---- Outputs and their places
 
@@ -151,10 +152,8 @@ pub word_there : (ports : Ports) (outlet : Outlet) (given : Outcome) → given_a
     → (word : ℤ) × (word_at ports outlet ≡ Some word)
 word_there ports outlet (Ok word) is none = (word, ap (λ given. option_and_then result_ok given) is)
 word_there ports outlet (Err fault) is none =
-    absurd (some_is_none (sym (ap (λ given. option_map (UnitFault outlet.instance (place.Output outlet.number)) (option_and_then result_err given)) is) ∙ none))
-  where
-    some_is_none : {A : Type 0} {x : A} → Some x ≡ None → ⊥
-    some_is_none is = cc
+    absurd (none-some (UnitFault outlet.instance (place.Output outlet.number) fault)
+    (sym none ∙ ap (λ given. option_map (UnitFault outlet.instance (place.Output outlet.number)) (option_and_then result_err given)) is))
 
 pub outlet_is_there : (ports : Ports) (outlet : Outlet) → AllByRecursion (Defined ports) (needs_of outlet) → fault_at ports outlet ≡ None
     → (word : ℤ) × (word_at ports outlet ≡ Some word)
@@ -183,7 +182,7 @@ defined_along run states ports one_each is none before (place ∷ later) ordered
     let there = outlet_is_there ports at_place.outlet needs whole in
     let here : Defined ports place =
     (there.0, ap (λ all. slice_get all place) is ∙ side_at run states ports place at_place.outlet at_place.is ∙ ap Some there.1) in
-    (here, defined_along run states ports one_each is none (before ++ (place ∷ [])) later ordered.3 (all_behind (Defined ports) before place defined here))
+    (here, defined_along run states ports one_each is none (before ++ (place ∷ [])) later ordered.3 (each_more (Defined ports) before place defined here))
 
 pub all_defined : (ports : Ports) → ((place : ℕ) → place < length ports → Defined ports place) → list_all is_some ports ≡ true
 all_defined [] each = refl
@@ -198,10 +197,7 @@ pub no_fault_by : (ports : Ports) (outlet : Outlet) (given : Option Outcome) →
 no_fault_by ports outlet None is there = ap (λ given. option_map (UnitFault outlet.instance (place.Output outlet.number)) (option_and_then result_err given)) is
 no_fault_by ports outlet (Some (Ok word)) is there =
     ap (λ given. option_map (UnitFault outlet.instance (place.Output outlet.number)) (option_and_then result_err given)) is
-no_fault_by ports outlet (Some (Err fault)) is there = absurd (differ (sym (ap (λ given. is_some (option_and_then result_ok given)) is) ∙ there))
-  where
-    differ : false ≡ true → ⊥
-    differ is = cc
+no_fault_by ports outlet (Some (Err fault)) is there = absurd (false≢true (sym (ap (λ given. is_some (option_and_then result_ok given)) is) ∙ there))
 
 pub no_faults : (ports : Ports) (all : List Outlet) → list_all is_some (map (word_at ports) all) ≡ true → first_some (map (fault_at ports) all) ≡ None
 no_faults ports [] there = refl
@@ -216,7 +212,7 @@ undefined_faults run order states ports is_order one_each is = (
       let defined = defined_along run states ports one_each is none [] order is_order.ordered tt in
       all_defined ports
       (λ place within.
-      each_among (Defined ports) order place defined
+      each_place (Defined ports) order place defined
       (is_order.all place (omega (arith, within, ap length is, (are_equations run states one_each).count ports)))),
   λ there. no_faults ports (outlets run states) (ap (list_all is_some) (sym is) ∙ there),
 )

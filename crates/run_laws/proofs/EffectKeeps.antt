@@ -5,7 +5,7 @@ use Rattle.std.specs.Prelude.{⊤, int_le, unsigned_abs}
 use Rattle.std.specs.List.{AllByRecursion}
 use Rattle.std.specs.Option.{IfSome}
 use Rattle.std.specs.Str.{bytes_eq}
-use Rattle.std.proofs.lemmas.Bool.{and_parts}
+use Rattle.std.proofs.lemmas.Bool.{and_parts, false≢true}
 use Rattle.std.proofs.lemmas.List.{length-map}
 use Rattle.std.proofs.lemmas.Bool.Decides.{nat_tests}
 use Rattle.fixed_words.specs.Types.{is_word_of, is_between}
@@ -147,10 +147,7 @@ length_within (pos k) step within =
     grind (arith, nat_tests)
 length_within (negsuc k) step within =
     let both = and_parts (int_le (pos 0) (negsuc k)) (int_le (negsuc k) (pos step)) within in
-    absurd (differ both.0)
-  where
-    differ : false ≡ true → ⊥
-    differ is = cc
+    absurd (false≢true both.0)
 
 -- With whether the length is allowed.
 pub accepting_by : (allowed : Bool) (length : ℤ) (env after : Environment) → is_between (pos 0) (pos env.step) length ≡ allowed

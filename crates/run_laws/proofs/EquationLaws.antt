@@ -6,17 +6,18 @@ use Rattle.std.specs.Prelude.{slice_get}
 use Rattle.std.specs.List.{AllByRecursion}
 use Rattle.unit_tree.specs.Compositions.{Composition}
 use Rattle.unit_tree.specs.Ports.{Ports, IsAmong, IsOrderedAfter, IsPlaceOrder, needs_at, needs_of_places}
+use Rattle.list_laws.proofs.Lists.{each_more}
 
 -- ---- Lists of places
 
-pub each_among : (P : ℕ → Type 0) (places : List ℕ) (place : ℕ) → AllByRecursion P places → IsAmong places place → P place
-each_among P [] place all stands = absurd stands
-each_among P (first ∷ places) place all (inl is) = subst P is all.0
-each_among P (first ∷ places) place all (inr later) = each_among P places place all.1 later
+pub each_place : (P : ℕ → Type 0) (places : List ℕ) (place : ℕ) → AllByRecursion P places → IsAmong places place → P place
+each_place P [] place all stands = absurd stands
+each_place P (first ∷ places) place all (inl is) = subst P is all.0
+each_place P (first ∷ places) place all (inr later) = each_place P places place all.1 later
 
 pub all_among : (P : ℕ → Type 0) (places asked : List ℕ) → AllByRecursion P places → AllByRecursion (IsAmong places) asked → AllByRecursion P asked
 all_among P places [] all among = tt
-all_among P places (first ∷ asked) all among = (each_among P places first all among.0, all_among P places asked all among.1)
+all_among P places (first ∷ asked) all among = (each_place P places first all among.0, all_among P places asked all among.1)
 
 pub among_front : (places behind : List ℕ) (place : ℕ) → IsAmong places place → IsAmong (places ++ behind) place
 among_front [] behind place stands = absurd stands
@@ -32,10 +33,6 @@ among_either [] last place (inl is) = inr is
 among_either [] last place (inr none) = absurd none
 among_either (first ∷ places) last place (inl is) = inl (inl is)
 among_either (first ∷ places) last place (inr later) = elim (among_either places last place later) [ inl stands ↦ inl (inr stands) | inr is ↦ inr is ]
-
-pub all_behind : (P : ℕ → Type 0) (places : List ℕ) (place : ℕ) → AllByRecursion P places → P place → AllByRecursion P (places ++ (place ∷ []))
-all_behind P [] place all holds = (holds, tt)
-all_behind P (first ∷ places) place all holds = (all.0, all_behind P places place all.1 holds)
 
 -- Two lists that are as long and have the same at each place are one.
 pub same_lists : {A : Type 0} (xs ys : List A) (count : ℕ) → length xs ≡ count → length ys ≡ count
@@ -71,14 +68,14 @@ module _ (run : Composition) (sides : Ports → Ports) (equations : AreEquations
       ∙ ap (λ ports. slice_get ports place) (sym is_other) in (
         here,
         agree_along one other is_one is_other (before ++ (place ∷ [])) later ordered.3
-            (all_behind (λ place. slice_get one place ≡ slice_get other place) before place agree here),
+            (each_more (λ place. slice_get one place ≡ slice_get other place) before place agree here),
       )
 
   pub one_solution : (order : List ℕ) → IsPlaceOrder run order → (one other : Ports) → one ≡ sides one → other ≡ sides other → one ≡ other
   one_solution order is_order one other is_one is_other =
       let agree = agree_along one other is_one is_other [] order is_order.ordered tt in
       same_lists one other (length (needs_of_places run)) (ap length is_one ∙ equations.count one) (ap length is_other ∙ equations.count other)
-      (λ place within. each_among (λ place. slice_get one place ≡ slice_get other place) order place agree (is_order.all place within))
+      (λ place within. each_place (λ place. slice_get one place ≡ slice_get other place) order place agree (is_order.all place within))
 
   -- The right sides so many times, from ports that are given.
   abbrev pub repeated : Ports → ℕ → Ports
@@ -118,7 +115,7 @@ module _ (run : Composition) (sides : Ports → Ports) (equations : AreEquations
       repeated_at start (more + suc count) (suc (more + count)) place (omega arith)
       ∙ equations.looks_at_needs (repeated start (more + count)) (repeated start count) place ordered.0
       (agree_now start count more (needs_at run place) (all_among (Settled start count) before (needs_at run place) settled ordered.2)) in
-      let all = all_behind (Settled start (suc count)) before place (all_settled_on start count before settled) here in
+      let all = each_more (Settled start (suc count)) before place (all_settled_on start count before settled) here in
       let rest = settle_along start (suc count) (before ++ (place ∷ [])) later ordered.3 all in
       let at_end : AllByRecursion (Settled start (length (place ∷ later) + count)) ((before ++ (place ∷ [])) ++ later) =
       subst (λ k. AllByRecursion (Settled start k) ((before ++ (place ∷ [])) ++ later)) (omega arith) rest in
@@ -138,6 +135,6 @@ module _ (run : Composition) (sides : Ports → Ports) (equations : AreEquations
         repeated start (length order + 0),
         same_lists (repeated start (length order + 0)) (sides (repeated start (length order + 0))) (length (needs_of_places run)) length_is (equations.count _)
             (λ place within.
-            sym (each_among (Settled start (length order + 0)) order place settled (is_order.all place within) 1)
+            sym (each_place (Settled start (length order + 0)) order place settled (is_order.all place within) 1)
             ∙ repeated_at start (1 + (length order + 0)) (suc (length order + 0)) place (omega arith)),
       )

@@ -3,7 +3,7 @@ use Rattle.std.proofs.Common.{◌≡◌, ℕ, zero, suc, ◌+◌, ◌<◌, Bool,
 use Rattle.std.proofs.Common.{sym, subst, ◌∙◌, ◌⊎◌, arith, append-nil}
 use Rattle.std.proofs.lemmas.Bool.{and_parts}
 use Rattle.std.proofs.lemmas.List.{map-append}
-use Rattle.std.proofs.lemmas.Option.{slice_get_within}
+use Rattle.std.proofs.lemmas.Option.{slice_get_within, same_Some}
 use Rattle.std.specs.Prelude.{not, is_none, slice_get, zip, unwrap_or}
 use Rattle.std.specs.List.{AllByRecursion, AllZip, flat_map, filter_map, cons_option, position_or_len}
 use Rattle.std.specs.Option.{option_and_then}
@@ -26,9 +26,11 @@ use Rattle.unit_tree.specs.declared.unit.Unit.{Unit}
 use Rattle.language_laws.proofs.NameLaws.{NamesDiffer, Wired, same_port_of, same_bytes, found}
 use Rattle.language_laws.proofs.OrderLaws.{each_in}
 use Rattle.run_laws.proofs.PortLaws.{among, has_among, each_among, ports_in, output_has}
-use Rattle.list_laws.proofs.Members.{Has, Distinct, has_front, has_behind, has_either, has_map, has_at, at_place, all_has, distinct_append}
+use Rattle.run_laws.proofs.EquationLaws.{each_place}
+use Rattle.list_laws.proofs.Members.{Has, Distinct, has_front, has_behind, has_either, has_map, has_at, at_place, all_has, distinct_append, each_has}
 use Rattle.list_laws.proofs.Pairs.{zip_append, zip_at}
 use Rattle.list_laws.proofs.Truths.{true_is_false}
+use Rattle.list_laws.proofs.Lists.{each_more}
 
 -- ---- Ports in lists
 
@@ -304,10 +306,7 @@ module _ (system : System) (plain : HasNoEvents system) (differ : NamesDiffer sy
       let first = found_at (outputs_of system) one is_one in
       let second : slice_get (outputs_of system) (place_of system one) ≡ Some other = ap (slice_get (outputs_of system)) same
       ∙ found_at (outputs_of system) other is_other in
-      some_same (sym first ∙ second)
-    where
-      some_same : Some one ≡ Some other → one ≡ other
-      some_same is = cc
+      same_Some one other (sym first ∙ second)
 
   pub needs_among : (port : PortName) (before : List PortName) (needed : List ℕ) → Needs port needed → AllByRecursion (IsIn before) (needed_by system port)
       → AllByRecursion (IsAmong (places before)) needed
@@ -317,10 +316,6 @@ module _ (system : System) (plain : HasNoEvents system) (differ : NamesDiffer sy
         (among_places before needs.0.source (each_in (IsIn before) (needed_by system port) needs.0.source all needs.0.needs)),
     needs_among port before needed needs.1 all,
   )
-
-  pub all_in : (P : PortName → Type 0) (ports : List PortName) (port : PortName) → AllByRecursion P ports → P port → AllByRecursion P (ports ++ (port ∷ []))
-  all_in P [] port all holds = (holds, tt)
-  all_in P (first ∷ ports) port all holds = (all.0, all_in P ports port all.1 holds)
 
   pub ordered : (before order : List PortName) → AllByRecursion (IsIn (outputs_of system)) before → IsOrderlyAfter system before order
       → IsOrderedAfter (composition_of system) (places before) (places order)
@@ -337,7 +332,7 @@ module _ (system : System) (plain : HasNoEvents system) (differ : NamesDiffer sy
             orderly.1 (subst (IsIn before) (same_place one.0 port (each_in (IsIn (outputs_of system)) before one.0 outputs one.1) orderly.0 one.2) one.1)),
         subst (AllByRecursion (IsAmong (places before))) (sym needs) (needs_among port before beside.other beside.related orderly.2),
         subst (λ all. IsOrderedAfter (composition_of system) all (places later)) (map-append (place_of system) before (port ∷ []))
-            (ordered (before ++ (port ∷ [])) later (all_in (IsIn (outputs_of system)) before port outputs orderly.0) orderly.3),
+            (ordered (before ++ (port ∷ [])) later (each_more (IsIn (outputs_of system)) before port outputs orderly.0) orderly.3),
       )
 
   pub system_is_ordered : HasNoCycle system → (order : List ℕ) × IsPlaceOrder (composition_of system) order
@@ -468,11 +463,6 @@ module _ (system : System) (plain : HasNoEvents system) (differ : NamesDiffer sy
             place_among instance output unit.inputs input.0 (place_of system source) input.1 place_is_needed,
           );
     }
-      where
-        each_has : (P : Output → Type 0) (outputs : List Output) (output : Output) → AllByRecursion P outputs → Has outputs output → P output
-        each_has P [] output all has = absurd has
-        each_has P (first ∷ outputs) output all (inl is) = subst P is all.0
-        each_has P (first ∷ outputs) output all (inr has) = each_has P outputs output all.1 has
 
     told_sides : AllZip Told (outputs_of system) (needs_of_places (composition_of system))
     told_sides = sides_of Told told
@@ -508,15 +498,6 @@ module _ (system : System) (plain : HasNoEvents system) (differ : NamesDiffer sy
     place_of_one (first ∷ places) port all (inl is) = inl (sym (place_back first all.0) ∙ ap (place_of system) is)
     place_of_one (first ∷ places) port all (inr stands) = inr (place_of_one places port all.1 stands)
 
-    each_place : (P : ℕ → Type 0) (places : List ℕ) (place : ℕ) → AllByRecursion P places → IsAmong places place → P place
-    each_place P [] place all has = absurd has
-    each_place P (first ∷ places) place all (inl is) = subst P is all.0
-    each_place P (first ∷ places) place all (inr has) = each_place P places place all.1 has
-
-    all_places : (P : ℕ → Type 0) (places : List ℕ) (place : ℕ) → AllByRecursion P places → P place → AllByRecursion P (places ++ (place ∷ []))
-    all_places P [] place all holds = (holds, tt)
-    all_places P (first ∷ places) place all holds = (all.0, all_places P places place all.1 holds)
-
     pub orderly : (before order : List ℕ) → AllByRecursion IsPlace before → IsOrderedAfter (composition_of system) before order
         → IsOrderlyAfter system (ports_at before) (ports_at order)
     orderly before [] are is_ordered = tt
@@ -533,7 +514,7 @@ module _ (system : System) (plain : HasNoEvents system) (differ : NamesDiffer sy
               (among_ports before (place_of system source)
               (each_place (IsAmong before) beside.other (place_of system source) (subst (AllByRecursion (IsAmong before)) needs is_ordered.2) known_of.1))),
           subst (λ all. IsOrderlyAfter system all (ports_at later)) (map-append port_at before (place ∷ []))
-              (orderly (before ++ (place ∷ [])) later (all_places IsPlace before place are within) is_ordered.3),
+              (orderly (before ++ (place ∷ [])) later (each_more IsPlace before place are within) is_ordered.3),
         )
 
     pub has_no_cycle : (order : List ℕ) × IsPlaceOrder (composition_of system) order → HasNoCycle system

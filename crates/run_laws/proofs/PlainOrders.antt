@@ -2,6 +2,7 @@
 use Rattle.std.proofs.Common.{◌≡◌, ℕ, Bool, true, false, cond, List, [], ◌∷◌, ◌++◌, map, Option, Some, None, inl, inr, refl, ap, sym, subst, ◌∙◌, ◌⊎◌}
 use Rattle.std.proofs.Common.{append-nil, append_assoc}
 use Rattle.std.proofs.lemmas.Grind.{flat_map-append}
+use Rattle.std.proofs.lemmas.Option.{same_Some}
 use Rattle.std.specs.Prelude.{unwrap_or}
 use Rattle.std.specs.List.{AllByRecursion, flat_map, filter_map, cons_option}
 use Rattle.std.specs.Option.{option_map, option_and_then}
@@ -27,7 +28,7 @@ use Rattle.run_laws.proofs.PlaceOrders.{in_has, has_in, same_port_is}
 use Rattle.language_laws.proofs.PlainNames.{has_flat, Mapped, map_has, Flat, flat_has, IsPlain, same_presence, PlainNames, plain_wire}
 use Rattle.language_laws.proofs.PlainNames.{plain_port_names, of_output, of_event}
 use Rattle.list_laws.proofs.Members.{Has, Distinct, has_front, has_behind, has_either, has_map, all_has, each_has}
-use Rattle.list_laws.proofs.Lists.{each_so}
+use Rattle.list_laws.proofs.Lists.{each_so, each_more}
 
 -- ---- Outputs of a system with their declarations
 
@@ -355,18 +356,11 @@ same_ports one other same_instance same_name =
     ap (λ instance. record { instance = instance; port = one.port }) same_instance
     ∙ ap (λ port. record { instance = other.instance; port = port }) same_name
 
-pub all_longer : (P : PortName → Type 0) (ports : List PortName) (port : PortName) → AllByRecursion P ports → P port → AllByRecursion P (ports ++ (port ∷ []))
-all_longer P [] port all holds = (holds, tt)
-all_longer P (first ∷ ports) port all holds = (all.0, all_longer P ports port all.1 holds)
-
 -- A unit that the plain form has is that of one.
 pub comes_from : (units : List Unit) (name : List ℕ) (given : Option Unit) (plain : Unit) → unit_named units name ≡ given
     → option_map plain_unit given ≡ Some plain → (unit : Unit) × (unit_named units name ≡ Some unit) × (plain_unit unit ≡ plain)
 comes_from units name None plain is made = absurd (cc)
-comes_from units name (Some unit) plain is made = (unit, is, some_same (plain_unit unit) plain made)
-  where
-    some_same : (one other : Unit) → Some one ≡ Some other → one ≡ other
-    some_same one other same = cc
+comes_from units name (Some unit) plain is made = (unit, is, same_Some (plain_unit unit) plain made)
 
 module _ (system : System) (ranged : IsRanged system) (kept : IsWellFormed system) where
   abbrev pub plain : System
@@ -610,7 +604,7 @@ module _ (system : System) (ranged : IsRanged system) (kept : IsWellFormed syste
   ordered before (port ∷ later) outputs orderly =
       put (is_event_output system port) before (splits later) port (plain_name port orderly.0) (next before port outputs orderly.0 orderly.1 orderly.2)
       (subst (λ front. IsOrderlyAfter plain front (splits later)) (splits_longer before port)
-      (ordered (before ++ (port ∷ [])) later (all_longer (IsIn (outputs_of system)) before port outputs orderly.0) orderly.3))
+      (ordered (before ++ (port ∷ [])) later (each_more (IsIn (outputs_of system)) before port outputs orderly.0) orderly.3))
 
   -- ---- All outputs of the plain form stand there
 

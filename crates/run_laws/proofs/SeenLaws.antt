@@ -5,7 +5,7 @@ use Rattle.std.specs.Prelude.{Ok, Err, not, ◌&&◌, ◌||◌}
 use Rattle.std.specs.List.{list_any}
 use Rattle.std.specs.Str.{bytes_eq}
 use Rattle.std.proofs.lemmas.List.{length-map, length-append, map-append}
-use Rattle.std.proofs.lemmas.Bool.{or_parts}
+use Rattle.std.proofs.lemmas.Bool.{or_parts, or_right}
 use Rattle.fixed_words.specs.Types.{kind_of, is_word_of}
 use Rattle.fixed_words.specs.declared.types.Fault.TheVariants.{Range}
 use Rattle.fixed_words.specs.declared.types.Ty.{Ty}
@@ -27,6 +27,7 @@ use Rattle.unit_tree.specs.declared.unit.Unit.{Unit}
 use Rattle.run_laws.proofs.EffectKeeps.{bound}
 use Rattle.language_laws.proofs.NameLaws.{same_bytes, bytes_of}
 use Rattle.list_laws.proofs.Members.{Has, has_front, has_behind}
+use Rattle.list_laws.proofs.Lists.{any_front}
 
 -- Two environments show the same of some names, and their clocks are the same.
 pub record ShowSame (names : List (List ℕ)) (one other : Environment) : Type 0 where
@@ -141,24 +142,12 @@ kept_at test [] name none has = absurd has
 kept_at test (first ∷ names) name none (inl is) = subst (λ n. test n ≡ false) is (or_parts (test first) (list_any test names) none).0
 kept_at test (first ∷ names) name none (inr has) = kept_at test names name (or_parts (test first) (list_any test names) none).1 has
 
-pub any_front : (name : List ℕ) (front behind : List (List ℕ)) → is_among front name ≡ true → is_among (front ++ behind) name ≡ true
-any_front name [] behind is = absurd (cc)
-any_front name (first ∷ front) behind is = any_by (bytes_eq name first) (is_among front name) (is_among (front ++ behind) name) is (any_front name front behind)
-  where
-    any_by : (here later all : Bool) → (here || later) ≡ true → (later ≡ true → all ≡ true) → (here || all) ≡ true
-    any_by true later all is on = refl
-    any_by false later all is on = on is
-
 pub input_among : (inputs : List Input) (input : Input) (name : List ℕ) → Has inputs input → name ≡ input.name
     → is_among (map (λ (input : Input). input.name) inputs) name ≡ true
 input_among [] input name has is = absurd has
 input_among (first ∷ inputs) input name (inl same) is =
     ap (λ b. b || is_among (map (λ (input : Input). input.name) inputs) name) (bytes_of name first.name (is ∙ sym (ap (λ (i : Input). i.name) same)))
-input_among (first ∷ inputs) input name (inr has) is = or_later (bytes_eq name first.name) _ (input_among inputs input name has is)
-  where
-    or_later : (here later : Bool) → later ≡ true → (here || later) ≡ true
-    or_later true later so = refl
-    or_later false later so = so
+input_among (first ∷ inputs) input name (inr has) is = or_right (bytes_eq name first.name) _ (input_among inputs input name has is)
 
 pub names_of_inputs : (inputs : List Input)
     → map (λ (port : Port). port.name) (map (λ (input : Input). record { name = input.name; ty = input.ty; is_event = false; needs = [] }) inputs)
@@ -172,7 +161,7 @@ among_inputs unit input name has is =
     let plain : List Port = map (λ (input : Input). record { name = input.name; ty = input.ty; is_event = false; needs = [] }) unit.inputs in
     let events : List Port = map (λ event. record { name = event.name; ty = event.ty; is_event = true; needs = [] }) unit.events_in in
     subst (λ names. is_among names name ≡ true) (sym (map-append (λ (port : Port). port.name) plain events))
-    (any_front name (map (λ (port : Port). port.name) plain) (map (λ (port : Port). port.name) events)
+    (any_front (bytes_eq name) (map (λ (port : Port). port.name) plain) (map (λ (port : Port). port.name) events)
     (subst (λ names. is_among names name ≡ true) (sym (names_of_inputs unit.inputs)) (input_among unit.inputs input name has is)))
 
 pub is_covered : (unit : Unit) (needs : List (List ℕ)) (value : Expr) (name : List ℕ) → uses_other_input unit needs value ≡ false → Has (names_in value) name

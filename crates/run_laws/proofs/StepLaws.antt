@@ -3,7 +3,7 @@ use Rattle.std.proofs.Common.{◌≡◌, ℕ, ◌-◌, ◌<◌, ◌≤◌, ◌==
 use Rattle.std.proofs.lemmas.Bool.Decides.{nat_tests}
 use Rattle.std.specs.List.{AllByRecursion}
 use Rattle.super_time.specs.LocalTime.{local_step, limit_of}
-use Rattle.super_time.proofs.LimitLaws.{is_least}
+use Rattle.super_time.proofs.LimitLaws.{limit_is_at_most}
 use Rattle.unit_tree.specs.Negotiation.{least_of, proposal_of, reply_of, agreed_step}
 use Rattle.unit_tree.specs.Ports.{IsAmong}
 use Rattle.run_laws.specs.RunLaws.{IsAllowed, IsGreatest, IsLeastOf}
@@ -53,19 +53,10 @@ least_is_one first (other ∷ others) =
 pub agreed_is_least : (h first : ℕ) (others : List ℕ) → IsLeastOf (first ∷ others) (agreed_step h (first ∷ others))
 agreed_is_least h first others = record { is_one = least_is_one first others; is_least = least_below first others }
 
-pub reply_by : (whole : Bool) (factor t h accepted : ℕ) → 1 ≤ factor → accepted ≤ local_step factor t h → (accepted == local_step factor t h) ≡ whole
-    → cond whole h (limit_of factor t accepted) ≤ h
-reply_by true factor t h accepted some within is = omega arith
-reply_by false factor t h accepted some within is =
-    let less : accepted < local_step factor t h = grind (arith, nat_tests) in
-    by_test (nat_le (limit_of factor t accepted) h) refl
-  where
-    by_test : (below : Bool) → nat_le (limit_of factor t accepted) h ≡ below → limit_of factor t accepted ≤ h
-    by_test true told = grind (arith, nat_tests)
-    by_test false told =
-        let above : h < limit_of factor t accepted = grind (arith, nat_tests) in
-        let fewer : local_step factor t h < accepted = is_least factor t accepted h some above in
-        absurd (omega arith)
+-- With whether all of the local step was accepted.
+reply_by : (whole : Bool) (factor t h accepted : ℕ) → 1 ≤ factor → accepted ≤ local_step factor t h → cond whole h (limit_of factor t accepted) ≤ h
+reply_by true factor t h accepted some within = omega arith
+reply_by false factor t h accepted some within = limit_is_at_most factor t accepted h some within
 
 pub reply_is_at_most : (factor t h accepted : ℕ) → 1 ≤ factor → accepted ≤ local_step factor t h → reply_of factor t h accepted ≤ h
-reply_is_at_most factor t h accepted some within = reply_by (accepted == local_step factor t h) factor t h accepted some within refl
+reply_is_at_most factor t h accepted some within = reply_by (accepted == local_step factor t h) factor t h accepted some within

@@ -2,7 +2,7 @@
 use Rattle.std.proofs.Common.{◌≡◌, ℕ, ◌+◌, Bool, true, false, cond, List, [], ◌∷◌, ◌++◌, ◌⊎◌, inl, inr, refl, ap, sym, subst, ◌∙◌}
 use Rattle.std.specs.Prelude.{◌==◌}
 use Rattle.std.specs.List.{AllByRecursion}
-use Rattle.unit_tree.specs.Compositions.{composition_of, run_of}
+use Rattle.unit_tree.specs.Compositions.{run_of}
 use Rattle.unit_tree.specs.Orders.{IsIn, HasNoCycle, HasNoOrder, IsFirstWithoutOrder, outputs_of}
 use Rattle.unit_tree.specs.Plain.{plain_form, presence_name, presence_port, is_event_output}
 use Rattle.unit_tree.specs.Ports.{IsPlaceOrder}
@@ -10,16 +10,16 @@ use Rattle.unit_tree.specs.Printable.{IsRanged}
 use Rattle.unit_tree.specs.WellFormed.{IsWellFormed}
 use Rattle.unit_tree.specs.declared.system.PortName.{PortName}
 use Rattle.unit_tree.specs.declared.system.System.{System}
-use Rattle.run_laws.proofs.EventLaws.{plain_form_1, version_1_without_events, plain_of_without_events}
-use Rattle.language_laws.proofs.NameLaws.{names_differ, is_wired}
-use Rattle.run_laws.proofs.PlaceOrders.{has_no_cycle}
-use Rattle.run_laws.proofs.PlainCycles.{plain_is_wired, has_none_of_plain, is_output, outputs_among, orderly, kept_in, told_in}
+use Rattle.run_laws.proofs.EventLaws.{plain_form_1}
+use Rattle.run_laws.proofs.PlainCycles.{is_output, outputs_among, orderly, kept_in, told_in}
 use Rattle.language_laws.proofs.OrderLaws.{in_front}
-use Rattle.run_laws.proofs.PlainOrders.{plain_of, plain_names_differ, split_by, split}
+use Rattle.run_laws.proofs.PlainOrders.{plain_of, split_by, split}
 use Rattle.run_laws.proofs.PlainOrders.{splits, in_splits, ordered, plain_name}
 use Rattle.run_laws.proofs.SplitOutputs.{outputs_split}
+use Rattle.run_laws.proofs.RunOrders.{orders_have_runs}
 use Rattle.list_laws.proofs.Members.{Has}
 use Rattle.list_laws.proofs.Truths.{one_or_two}
+use Rattle.list_laws.proofs.Lists.{same_first, same_rest}
 
 module _ (system : System) (ranged : IsRanged system) (kept : IsWellFormed system) where
   -- ---- Where an output of the plain form comes from
@@ -54,36 +54,30 @@ module _ (system : System) (ranged : IsRanged system) (kept : IsWellFormed syste
       each [] some = tt
       each (q ∷ front) some = (wider q some.0, each front some.1)
 
-  heads : (a b : PortName) (xs ys : List PortName) → a ∷ xs ≡ b ∷ ys → a ≡ b
-  heads a b xs ys same = cc
-
-  tails : (a b : PortName) (xs ys : List PortName) → a ∷ xs ≡ b ∷ ys → xs ≡ ys
-  tails a b xs ys same = cc
-
   origin_by : (told : Bool) (port : PortName) (outputs later : List PortName) (made : PortName) → is_event_output system port ≡ told
       → ((before : List PortName) → splits system ranged kept outputs ≡ before ++ (made ∷ later) → Origin outputs before made) → (before : List PortName)
       → split_by system ranged kept told port ++ splits system ranged kept outputs ≡ before ++ (made ∷ later) → Origin (port ∷ outputs) before made
   origin_by false port outputs later made event on [] is =
       here port made outputs []
-      (subst (λ told. Has (split_by system ranged kept told port) made) (sym event) (inl (heads port made (splits system ranged kept outputs) later is)))
+      (subst (λ told. Has (split_by system ranged kept told port) made) (sym event) (inl (same_first port made (splits system ranged kept outputs) later is)))
   origin_by false port outputs later made event on (first ∷ before) is =
-      beyond port made outputs before (first ∷ before) (inl (sym (heads port first (splits system ranged kept outputs) (before ++ (made ∷ later)) is)))
+      beyond port made outputs before (first ∷ before) (inl (sym (same_first port first (splits system ranged kept outputs) (before ++ (made ∷ later)) is)))
       (λ q stands. inr stands)
-      (on before (tails port first (splits system ranged kept outputs) (before ++ (made ∷ later)) is))
+      (on before (same_rest port first (splits system ranged kept outputs) (before ++ (made ∷ later)) is))
   origin_by true port outputs later made event on [] is =
       here port made outputs []
       (subst (λ told. Has (split_by system ranged kept told port) made) (sym event)
-      (inl (heads (presence_port port) made (port ∷ splits system ranged kept outputs) later is)))
+      (inl (same_first (presence_port port) made (port ∷ splits system ranged kept outputs) later is)))
   origin_by true port outputs later made event on (first ∷ []) is =
-      let rest = tails (presence_port port) first (port ∷ splits system ranged kept outputs) (made ∷ later) is in
+      let rest = same_rest (presence_port port) first (port ∷ splits system ranged kept outputs) (made ∷ later) is in
       here port made outputs (first ∷ [])
       (subst (λ told. Has (split_by system ranged kept told port) made) (sym event)
-      (inr (inl (heads port made (splits system ranged kept outputs) later rest))))
+      (inr (inl (same_first port made (splits system ranged kept outputs) later rest))))
   origin_by true port outputs later made event on (first ∷ second ∷ before) is =
-      let rest = tails (presence_port port) first (port ∷ splits system ranged kept outputs) (second ∷ (before ++ (made ∷ later))) is in
+      let rest = same_rest (presence_port port) first (port ∷ splits system ranged kept outputs) (second ∷ (before ++ (made ∷ later))) is in
       beyond port made outputs before (first ∷ second ∷ before)
-      (inr (inl (sym (heads port second (splits system ranged kept outputs) (before ++ (made ∷ later)) rest)))) (λ q stands. inr (inr stands))
-      (on before (tails port second (splits system ranged kept outputs) (before ++ (made ∷ later)) rest))
+      (inr (inl (sym (same_first port second (splits system ranged kept outputs) (before ++ (made ∷ later)) rest)))) (λ q stands. inr (inr stands))
+      (on before (same_rest port second (splits system ranged kept outputs) (before ++ (made ∷ later)) rest))
 
   origin : (outputs before later : List PortName) (made : PortName) → splits system ranged kept outputs ≡ before ++ (made ∷ later) → Origin outputs before made
   origin [] [] later made is = absurd (cc)
@@ -178,16 +172,7 @@ source_of system made ranged kept first = by_version (one_or_two system.version 
 
 -- An order of what is run shows that the system has no cycle.
 pub without_cycle : (system : System) → IsRanged system → IsWellFormed system → (order : List ℕ) → IsPlaceOrder (run_of system) order → HasNoCycle system
-without_cycle system ranged kept order is_order = by_version (one_or_two system.version ranged.version.0 ranged.version.1)
-  where
-    by_version : (system.version ≡ 1) ⊎ (system.version ≡ 2) → HasNoCycle system
-    by_version (inl is) =
-        has_no_cycle system (version_1_without_events system ranged is) (names_differ system kept) (is_wired system kept)
-        (order, subst (λ s. IsPlaceOrder (composition_of s) order) (plain_form_1 system is) is_order)
-    by_version (inr is) =
-        has_none_of_plain system ranged kept
-        (has_no_cycle (plain_of system) (plain_of_without_events system) (plain_names_differ system ranged kept) (plain_is_wired system ranged kept)
-        (order, subst (λ version. IsPlaceOrder (composition_of (cond (version == 2) (plain_of system) system)) order) is is_order))
+without_cycle system ranged kept order is_order = orders_have_runs system ranged kept (order, is_order)
 
 -- Names of outputs are no names of presence.
 pub name_is_plain : (system : System) → IsRanged system → IsWellFormed system → (port : PortName) → IsIn (outputs_of system) port → (event : List ℕ)

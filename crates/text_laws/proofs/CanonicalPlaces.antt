@@ -26,6 +26,7 @@ use Rattle.unit_tree.specs.declared.system.System.{System}
 use Rattle.unit_tree.specs.declared.system.Wire.{Wire}
 use Rattle.unit_tree.specs.declared.unit.Unit.{Unit}
 use Rattle.language_laws.proofs.BlockLaws.{all_step_lines}
+use Rattle.language_laws.proofs.OpenBlocks.{all_in_text}
 use Rattle.text_laws.proofs.PlacedParts.{may_follow, is_shallow, unit_part_may_stand, inside_may_stand, part_may_stand, parts_may_stand, parts_placed, headed}
 use Rattle.text_laws.proofs.SpelledBytes.{all_pass}
 use Rattle.list_laws.proofs.Lists.{all_of_two}
@@ -329,11 +330,6 @@ common_lack key rare (some ∷ lines) common =
 -- None of the lines of parts is like it.
 abbrev Lack : LineForm → List Part → Type 0
 Lack key front = NonePasses (are_alike key) part_forms front
-
--- All lines of the text so far.
-pub all_in_text : (lines : List LineForm) (before : Before) → (and_lines before lines).in_text ≡ before.in_text ++ lines
-all_in_text [] before = sym (append-nil before.in_text)
-all_in_text (some ∷ lines) before = all_in_text lines (and_line before some) ∙ append_assoc before.in_text (some ∷ []) lines
 
 -- It has no rival behind the header and such parts.
 no_rival : (version : ℕ) (front : List Part) (key : LineForm) → IsRare key → Lack key front

@@ -1,9 +1,9 @@
--- Lines of a step: they close what they open, and they may stand exactly where their blocks are not too deep.
+-- Lines of a step may stand exactly where their blocks are not too deep.
 use Rattle.std.proofs.Common.{◌≡◌, ℕ, suc, ◌+◌, Bool, true, false, ◌&&◌, not, nat_le, nat_lt, max, cond, List, [], ◌∷◌, ◌++◌, append_assoc, map, drop, Some}
 use Rattle.std.proofs.Common.{None, refl, ap, sym, subst, ◌∙◌, arith}
 use Rattle.std.specs.List.{count_by, fold, flat_map}
 use Rattle.std.proofs.lemmas.Bool.Decides.{nat_tests}
-use Rattle.std.proofs.lemmas.List.Sums.{fold-append, sum_by-cons}
+use Rattle.std.proofs.lemmas.List.Sums.{sum_by-cons}
 use Rattle.unit_tree.specs.Blocks.{Block, InIf, InElse, InRepeat, behind, Before, and_line, and_lines, at_top, in_step, lacks_else, is_inner, may_stand}
 use Rattle.unit_tree.specs.Blocks.{are_placed}
 use Rattle.unit_tree.specs.Parts.{block_forms, joined, line_forms}
@@ -18,7 +18,7 @@ use Rattle.unit_tree.specs.declared.line.Line.TheViews.{roll-Line}
 use Rattle.unit_tree.specs.declared.line_form.LineForm.{LineForm}
 use Rattle.unit_tree.specs.declared.line_form.LineForm.TheVariants as form
 use Rattle.unit_tree.proofs.FoldLemmas.{fold-Assign, fold-If, fold-Repeat, fold-Accept}
-use Rattle.language_laws.proofs.OpenBlocks.{blocks_behind}
+use Rattle.language_laws.proofs.OpenBlocks.{blocks_behind, line_leaves, joined_leave}
 use Rattle.list_laws.proofs.Truths.{and_true, and_assoc}
 
 -- ---- Lines in a row
@@ -67,9 +67,8 @@ room_for_more blocks depth depths =
 
 -- ---- One line of a step
 
--- A line of a step closes what it opens, and may stand in a step exactly where its blocks have room.
+-- A line of a step may stand in a step exactly where its blocks have room.
 record IsDeep (some : Line) : Type 0 where
-  closed : (blocks : List Block) → fold behind blocks (line_forms some) ≡ blocks
   placed : (before : Before) (blocks : List Block) → IsStep before blocks → are_placed before (line_forms some) ≡ have_room blocks (line_depth some)
 
 -- A line with what is known of it.
@@ -88,20 +87,15 @@ forms_in lines = joined (map line_forms (map line_in lines))
 abbrev depth_of : List Deep → ℕ
 depth_of lines = deepest (map line_depth (map line_in lines))
 
--- They close what they open.
-all_closed : (lines : List Deep) (blocks : List Block) → fold behind blocks (forms_in lines) ≡ blocks
-all_closed [] blocks = refl
-all_closed (one ∷ lines) blocks = fold-append behind blocks (line_forms one.0) (forms_in lines)
-    ∙ ap (λ all. fold behind all (forms_in lines)) (one.1.closed blocks) ∙ all_closed lines blocks
-
 -- Behind such lines the same blocks are open.
 left_open : (lines : List Deep) (before : Before) (blocks : List Block) → before.open_blocks ≡ blocks → (and_lines before (forms_in lines)).open_blocks ≡ blocks
-left_open lines before blocks is = blocks_behind before (forms_in lines) ∙ ap (λ all. fold behind all (forms_in lines)) is ∙ all_closed lines blocks
+left_open lines before blocks is = blocks_behind before (forms_in lines) ∙ ap (λ all. fold behind all (forms_in lines)) is
+    ∙ joined_leave (map line_in lines) blocks
 
 -- The same behind one line.
-line_left_open : (some : Line) (before : Before) (blocks : List Block) → ((all : List Block) → fold behind all (line_forms some) ≡ all)
-    → before.open_blocks ≡ blocks → (and_lines before (line_forms some)).open_blocks ≡ blocks
-line_left_open some before blocks closed is = blocks_behind before (line_forms some) ∙ ap (λ all. fold behind all (line_forms some)) is ∙ closed blocks
+line_left_open : (some : Line) (before : Before) (blocks : List Block) → before.open_blocks ≡ blocks
+    → (and_lines before (line_forms some)).open_blocks ≡ blocks
+line_left_open some before blocks is = blocks_behind before (line_forms some) ∙ ap (λ all. fold behind all (line_forms some)) is ∙ line_leaves some blocks
 
 -- They may stand in a step exactly where the deepest has room.
 all_placed : (lines : List Deep) (before : Before) (blocks : List Block) → IsStep before blocks
@@ -110,7 +104,7 @@ all_placed [] before blocks is = sym is.room
 all_placed (one ∷ lines) before blocks is =
     let after = and_lines before (line_forms one.0) in
     let after_is : IsStep after blocks =
-    record { blocks_are = line_left_open one.0 before blocks one.1.closed is.blocks_are; step = is.step; room = is.room } in
+    record { blocks_are = line_left_open one.0 before blocks is.blocks_are; step = is.step; room = is.room } in
     placed_of_two before (line_forms one.0) (forms_in lines)
     ∙ ap (λ told. told && are_placed after (forms_in lines)) (one.1.placed before blocks is)
     ∙ ap (λ told. have_room blocks (line_depth one.0) && told) (all_placed lines after blocks after_is)
@@ -188,10 +182,9 @@ opens-Repeat count = record { behind_is = λ blocks. refl; inner = refl; step = 
 -- ---- Each line
 
 -- A line with no block.
-simple_placed : (some : Line) (own : LineForm) → line_forms some ≡ own ∷ [] → ((blocks : List Block) → behind blocks own ≡ blocks)
+simple_placed : (some : Line) (own : LineForm) → line_forms some ≡ own ∷ []
     → ((before : Before) → may_stand before own ≡ in_step before.open_blocks) → line_depth some ≡ 0 → IsDeep some
-simple_placed some own are same may_be depth = record {
-  closed = λ blocks. ap (fold behind blocks) are ∙ same blocks;
+simple_placed some own are may_be depth = record {
   placed = λ before blocks is.
       ap (are_placed before) are
       ∙ ap (λ told. told && true) (may_be before ∙ ap in_step is.blocks_are ∙ is.step)
@@ -201,26 +194,20 @@ simple_placed some own are same may_be depth = record {
 -- An assignment has no block.
 deep-Assign : (target : List ℕ) (value : Expr) → IsDeep (line.Assign target value)
 deep-Assign target value =
-    simple_placed (line.Assign target value) (form.Assign target value) (fold-Assign (List LineForm) block_forms target value) (λ blocks. refl)
+    simple_placed (line.Assign target value) (form.Assign target value) (fold-Assign (List LineForm) block_forms target value)
     (λ before. and_true (in_step before.open_blocks)) (fold-Assign ℕ block_depth target value)
 
 -- An `accept` has no block.
 deep-Accept : (value : Expr) → IsDeep (line.Accept value)
 deep-Accept value =
-    simple_placed (line.Accept value) (form.Accept value) (fold-Accept (List LineForm) block_forms value) (λ blocks. refl)
+    simple_placed (line.Accept value) (form.Accept value) (fold-Accept (List LineForm) block_forms value)
     (λ before. and_true (in_step before.open_blocks)) (fold-Accept ℕ block_depth value)
-
--- The lines of a block, and what closes it.
-block_closed : (lines : List Deep) (rest : List LineForm) (blocks after : List Block) → fold behind blocks rest ≡ after
-    → fold behind blocks (forms_in lines ++ rest) ≡ after
-block_closed lines rest blocks after is = fold-append behind blocks (forms_in lines) rest ∙ ap (λ all. fold behind all rest) (all_closed lines blocks) ∙ is
 
 -- A `repeat` is one deeper than its lines.
 deep-Repeat : (count : ℕ) (body : List Deep) → IsDeep (line.Repeat count (map line_in body))
 deep-Repeat count body =
     let are = fold-Repeat (List LineForm) block_forms count (map line_in body) in
     record {
-      closed = λ blocks. ap (fold behind blocks) are ∙ block_closed body (form.End ∷ []) (InRepeat ∷ blocks) blocks refl;
       placed = λ before blocks is.
           ap (are_placed before) are
           ∙ opened_placed (form.Repeat count) InRepeat (forms_in body ++ (form.End ∷ [])) before blocks (depth_of body) (opens-Repeat count) is
@@ -241,7 +228,6 @@ deep-IfNone condition then_lines =
     let depth : line_depth (line.If condition (map line_in then_lines) None) ≡ suc (depth_of then_lines) =
     fold-If ℕ block_depth condition (map line_in then_lines) None ∙ ap suc (omega arith) in
     record {
-      closed = λ blocks. ap (fold behind blocks) are ∙ block_closed then_lines (form.End ∷ []) (InIf ∷ blocks) blocks refl;
       placed = λ before blocks is.
           ap (are_placed before) are
           ∙ opened_placed (form.If condition) InIf (forms_in then_lines ++ (form.End ∷ [])) before blocks (depth_of then_lines) (opens-If condition) is
@@ -273,8 +259,6 @@ deep-IfElse condition then_lines else_lines =
     ≡ suc (max (depth_of then_lines) (depth_of else_lines)) =
     fold-If ℕ block_depth condition (map line_in then_lines) (Some (map line_in else_lines)) in
     record {
-      closed = λ blocks. ap (fold behind blocks) are
-          ∙ block_closed then_lines rest (InIf ∷ blocks) blocks (block_closed else_lines (form.End ∷ []) (InElse ∷ blocks) blocks refl);
       placed = λ before blocks is.
           ap (are_placed before) are
           ∙ opened_placed (form.If condition) InIf (forms_in then_lines ++ rest) before blocks (max (depth_of then_lines) (depth_of else_lines))
@@ -308,7 +292,7 @@ lines_placed [] before blocks is = sym is.room
 lines_placed (some ∷ lines) before blocks is =
     let after = and_lines before (line_forms some) in
     let deep = is_deep some in
-    let after_is : IsStep after blocks = record { blocks_are = line_left_open some before blocks deep.closed is.blocks_are; step = is.step; room = is.room } in
+    let after_is : IsStep after blocks = record { blocks_are = line_left_open some before blocks is.blocks_are; step = is.step; room = is.room } in
     placed_of_two before (line_forms some) (flat_map line_forms lines)
     ∙ ap (λ told. told && are_placed after (flat_map line_forms lines)) (deep.placed before blocks is)
     ∙ ap (λ told. have_room blocks (line_depth some) && told) (lines_placed lines after blocks after_is)

@@ -1,14 +1,13 @@
 -- The texts of tokens, and of tokens that stand apart: they spell these tokens.
-use Rattle.std.proofs.Common.{◌≡◌, ℕ, zero, suc, ◌+◌, ◌-◌, ◌^◌, ◌<◌, ◌≤◌, Bool, true, false, not, cond, ◌&&◌, ◌||◌, ◌==◌, Option, Some, None, List, [], ◌∷◌}
-use Rattle.std.proofs.Common.{◌++◌, length, take, drop, replicate, IsTrue, refl, ap, sym, subst, ◌∙◌, arith, append_assoc}
-use Rattle.std.specs.Fmt.{decimal}
+use Rattle.std.proofs.Common.{◌≡◌, ℕ, zero, suc, ◌<◌, ◌≤◌, Bool, true, false, not, cond, ◌&&◌, ◌||◌, ◌==◌, Option, Some, None, List, [], ◌∷◌}
+use Rattle.std.proofs.Common.{◌++◌, length, drop, IsTrue, refl, ap, sym, subst, ◌∙◌, arith, append_assoc}
 use Rattle.std.specs.List.{AllByRecursion, list_all, last_or}
 use Rattle.std.proofs.lemmas.Bool.{and_parts}
 use Rattle.std.proofs.lemmas.Bool.Decides.{nat_tests}
-use Rattle.std.proofs.lemmas.List.{append-nil, length-append, length-replicate, length-take-le, length-drop, take-append-drop}
-use Rattle.fixed_words.specs.Digits.{is_digit, number_from, pointed, IsNumber}
-use Rattle.fixed_words.specs.Texts.{padded, fixed_text}
-use Rattle.fixed_words.proofs.Numbers.{IsDecimal, decimal_is, zeros_before, all_digits_parts}
+use Rattle.std.proofs.lemmas.List.{append-nil}
+use Rattle.fixed_words.specs.Digits.{is_digit, pointed, IsNumber}
+use Rattle.fixed_words.specs.Texts.{fixed_text}
+use Rattle.fixed_words.proofs.ReadBack.{padded_number}
 use Rattle.unit_tree.specs.Canonical.{token_text, ends_in_word, spaced, tokens_text, form_tokens, line_text}
 use Rattle.unit_tree.specs.LineForms.{tail_of}
 use Rattle.unit_tree.specs.Printable.{names_on, IsInRange, is_writable}
@@ -25,35 +24,15 @@ use Rattle.text_laws.proofs.TokensApart.{can_grow, is_growth, is_point, starts_w
 use Rattle.text_laws.proofs.FitTokens.{IsFit, AreFit, form_fits}
 use Rattle.text_laws.proofs.SpelledBytes.{all_pass, word_bytes, keyword_bytes}
 use Rattle.text_tokens.proofs.TokenLemmas.{symbol_length}
-use Rattle.list_laws.proofs.Truths.{not_true}
+use Rattle.list_laws.proofs.Truths.{not_true, other_fails}
 
 -- ---- One token
-
--- A magnitude with its decimals is a number.
-fixed_number : (digits decimals : ℕ) → digits ≤ 2 ^ 63 → decimals ≤ 9 → IsNumber digits decimals (fixed_text decimals digits)
-fixed_number digits decimals bounded few =
-    let zeros = decimals + 1 - length (decimal digits) in
-    let all = padded decimals (decimal digits) in
-    let place = length all - decimals in
-    let is : IsDecimal digits all = zeros_before zeros digits (decimal digits) (decimal_is digits (omega arith)) in
-    let long : decimals + 1 ≤ length all = omega (arith, length-append (replicate {A = ℕ} zeros 48) (decimal digits), length-replicate {A = ℕ} zeros 48) in
-    let joined = take-append-drop place all in
-    let parts = all_digits_parts (take place all) (drop place all) (subst (λ bytes. IsTrue (list_all is_digit bytes)) (sym joined) is.0) in
-    record {
-      whole = take place all;
-      fraction = drop place all;
-      spelled = refl;
-      is_whole = (parts.0, omega (arith, length-take-le place all (omega arith)));
-      is_fraction = (parts.1, omega (arith, length-drop place all), few);
-      value = ap (number_from 0) joined ∙ is.1;
-      bounded = bounded;
-    }
 
 -- The text of a token that fits spells it.
 token_is_spelled : (some : Token) → IsFit some → IsSpelling some (token_text some)
 token_is_spelled (token.Keyword spelled) fits = refl
 token_is_spelled (token.Name name) fits = (refl, fits)
-token_is_spelled (token.Number digits decimals) fits = fixed_number digits decimals fits.0 fits.1
+token_is_spelled (token.Number digits decimals) fits = padded_number decimals digits fits.1 fits.0
 token_is_spelled (token.Symbol spelled) fits = refl
 
 -- ---- Symbols
@@ -181,7 +160,7 @@ keyword_begins spelled =
 pub token_some : (some : Token) → IsFit some → 0 < length (token_text some)
 token_some (token.Keyword spelled) fits = (keyword_begins spelled).some
 token_some (token.Name name) fits = (name_begins name fits.0).some
-token_some (token.Number digits decimals) fits = (number_begins digits decimals (fixed_text decimals digits) (fixed_number digits decimals fits.0 fits.1)).some
+token_some (token.Number digits decimals) fits = (number_begins digits decimals (fixed_text decimals digits) (padded_number decimals digits fits.1 fits.0)).some
 token_some (token.Symbol spelled) fits = (symbol_size spelled).0
 
 -- A test of bytes sees in the text of a token what a test of tokens sees in the token: no word passes, and symbols
@@ -198,7 +177,7 @@ token_first : (test : ℕ → Bool) (seen : Token → Bool) → SeesFirst test s
 token_first test seen sees (token.Keyword spelled) fits = (keyword_begins spelled).fails test sees.words ∙ sym (sees.keywords spelled)
 token_first test seen sees (token.Name name) fits = (name_begins name fits.0).fails test sees.words ∙ sym (sees.names name)
 token_first test seen sees (token.Number digits decimals) fits =
-    (number_begins digits decimals (fixed_text decimals digits) (fixed_number digits decimals fits.0 fits.1)).fails test sees.words
+    (number_begins digits decimals (fixed_text decimals digits) (padded_number decimals digits fits.1 fits.0)).fails test sees.words
     ∙ sym (sees.numbers digits decimals)
 token_first test seen sees (token.Symbol spelled) fits = sees.symbols spelled
 
@@ -340,7 +319,7 @@ token_ends : (some : Token) (rest : List ℕ) → IsFit some → StandsBefore so
 token_ends (token.Keyword spelled) rest fits before = before.apart (all_of_word (keyword_text spelled) (keyword_begins spelled).some (keyword_bytes spelled))
 token_ends (token.Name name) rest fits before = before.apart (all_of_word name (name_begins name fits.0).some (word_bytes name fits.0))
 token_ends (token.Number digits decimals) rest fits before = (
-  before.apart (number_ends digits decimals (fixed_text decimals digits) (fixed_number digits decimals fits.0 fits.1)),
+  before.apart (number_ends digits decimals (fixed_text decimals digits) (padded_number decimals digits fits.1 fits.0)),
   λ none. no_fraction rest (before.no_point digits decimals refl),
 )
 token_ends (token.Symbol spelled) rest fits before = symbol_longest spelled rest (before.no_growth spelled refl)
@@ -349,18 +328,13 @@ token_ends (token.Symbol spelled) rest fits before = symbol_longest spelled rest
 before_blank : (some : Token) (rest : List ℕ) → StandsBefore some (32 ∷ rest)
 before_blank some rest = record { apart = λ ends. refl; no_point = λ digits decimals is. refl; no_growth = λ spelled is. refl }
 
--- Where one of two tests holds and not both do, the other does not.
-other_false : (one other : Bool) → (one && other) ≡ false → one ≡ true → other ≡ false
-other_false true other both is = both
-other_false false other both is = absurd (cc)
-
 -- The text of tokens that stand apart from the one before them ends it.
 before_tokens : (some : Token) (others : List Token) → AreFit others → not (reads_on some others) ≡ true
     → (ends_in_word (token_text some) && begins_with is_word_byte (tokens_text others)) ≡ false → StandsBefore some (tokens_text others)
 before_tokens some others fit apart no_meeting =
     let alone : reads_on some others ≡ false = not_true (reads_on some others) apart in
     record {
-      apart = other_false (ends_in_word (token_text some)) (begins_with is_word_byte (tokens_text others)) no_meeting;
+      apart = λ ends. other_fails (ends_in_word (token_text some)) (begins_with is_word_byte (tokens_text others)) ends no_meeting;
       no_point = λ digits decimals is. tokens_first (λ byte. byte == 46) is_point point_seen others fit ∙ ap (λ t. reads_on t others) (sym is) ∙ alone;
       no_growth = λ spelled is. ap (λ first. first && can_grow spelled) (tokens_first grows is_growth growth_seen others fit)
           ∙ ap (λ t. reads_on t others) (sym is) ∙ alone;

@@ -1,6 +1,5 @@
 -- Each keyword and symbol is found by its text.
-use Rattle.std.proofs.Common.{◌≡◌, ℕ, Bool, true, false, not, cond, ◌&&◌, List, [], ◌∷◌, refl, sym, Some, None}
-use Rattle.std.specs.Prelude.{find}
+use Rattle.std.proofs.Common.{◌≡◌, ℕ, Bool, true, false, not, ◌&&◌, List, [], ◌∷◌, refl, sym, Some, None}
 use Rattle.std.specs.List.{list_all}
 use Rattle.std.specs.Str.{bytes_eq}
 use Rattle.std.proofs.lemmas.Slice.Eq.{bytes_eq-Decides}
@@ -9,17 +8,8 @@ use Rattle.unit_tree.specs.declared.token.Keyword.{Keyword}
 use Rattle.unit_tree.specs.declared.token.Keyword.TheVariants as word
 use Rattle.unit_tree.specs.declared.token.Symbol.{Symbol}
 use Rattle.unit_tree.specs.declared.token.Symbol.TheVariants as sign
+use Rattle.list_laws.proofs.Members.{found_passes}
 use Rattle.text_tokens.specs.Scanning.{keywords_like, symbols_like, keyword_of, symbol_of}
-
--- what is found passes the test, and what each element passes
-find_passes_case : {X : Type 0} (test : X → Bool) (y : X) (ys : List X) (x : X) (b : Bool) → test y ≡ b → (find test ys ≡ Some x → test x ≡ true)
-    → cond b (Some y) (find test ys) ≡ Some x → test x ≡ true
-find_passes_case test y ys x true passes later found = let same : y ≡ x = cc in rw (← same) passes
-find_passes_case test y ys x false fails later found = later found
-
-find_passes : {X : Type 0} (test : X → Bool) (xs : List X) (x : X) → find test xs ≡ Some x → test x ≡ true
-find_passes test [] x e = absurd cc
-find_passes test (y ∷ ys) x e = find_passes_case test y ys x (test y) refl (find_passes test ys x) e
 
 -- ---- keywords
 
@@ -70,7 +60,7 @@ keyword_of-keyword_text word.Absent = refl
 pub keyword_of_is : (text : List ℕ) (keyword : Keyword) → keyword_of text ≡ Some keyword → text ≡ keyword_text keyword
 unfolding keyword_of
 keyword_of_is text keyword e =
-    sym ((bytes_eq-Decides (keyword_text keyword) text).0 (find_passes (λ k. bytes_eq (keyword_text k) text) (keywords_like text) keyword e))
+    sym ((bytes_eq-Decides (keyword_text keyword) text).0 (found_passes (λ k. bytes_eq (keyword_text k) text) (keywords_like text) keyword e))
 
 pub keyword_of_none : (text : List ℕ) → keyword_of text ≡ None → IsReserved text → ⊥
 keyword_of_none text e (keyword, spelled) =
@@ -150,7 +140,7 @@ symbol_of-symbol_text sign.Point = refl
 pub symbol_of_is : (text : List ℕ) (symbol : Symbol) → symbol_of text ≡ Some symbol → text ≡ symbol_text symbol
 unfolding symbol_of
 symbol_of_is text symbol e =
-    sym ((bytes_eq-Decides (symbol_text symbol) text).0 (find_passes (λ k. bytes_eq (symbol_text k) text) (symbols_like text) symbol e))
+    sym ((bytes_eq-Decides (symbol_text symbol) text).0 (found_passes (λ k. bytes_eq (symbol_text k) text) (symbols_like text) symbol e))
 
 -- one byte or two, the first no blank, no letter and no digit, and the second no blank
 abbrev pub is_symbol_text : List ℕ → Bool

@@ -1,6 +1,6 @@
 -- What the rule comes to: each item once, and each place with one taker.
 use Rattle.std.proofs.Common.{◌≡◌, ◌≢◌, ◌==◌, ℕ, zero, suc, ◌+◌, ◌<◌, cond, true, false, List, [], ◌∷◌, ◌++◌, map, take, sym, refl, ap, ◌∙◌, subst, ⊎_elim}
-use Rattle.std.proofs.Common.{arith}
+use Rattle.std.proofs.Common.{arith, add-one}
 use Rattle.std.specs.Prelude.{All, slice_get, Some, IsPermutation}
 use Rattle.std.proofs.lemmas.List.{take-append-drop}
 use Rattle.std.proofs.lemmas.List.Elements.{All-nil, All-cons, All-head, All-tail}
@@ -11,6 +11,7 @@ use Rattle.std.proofs.lemmas.Bool.Decides.{eqb_tells}
 use native.Mathlib.Decide.{ℕ_discrete}
 use mathlib.Core.Option.{some, some-injective, some-ne-none}
 use lib.ListN.{get_elem?}
+use Rattle.list_laws.proofs.Members.{take_next}
 use Rattle.ticket_deque.specs.Rule.{taken, all_taken, times}
 use Rattle.ticket_deque.specs.Laws.{HasOneTaker, IsEachItemOnce, IsEachPlaceTakenOnce}
 use Rattle.ticket_deque.specs.declared.view.View.{View}
@@ -60,11 +61,6 @@ module _ {T : Type 0} where
       (λ (h : (e.0 == k ≡ false) × (e.0 ≢ k)). let other : e.0 ≢ k = h.1 in omega arith) (eqb_tells e.0 k) in
       All-cons (Before k) e es less (narrower k es (All-tail (Before (suc k)) e es all) rest)
 
-  take_one : (puts : List T) (k : ℕ) (x : T) → slice_get puts k ≡ Some x → take (suc k) puts ≡ take k puts ++ x ∷ []
-  take_one [] k x is = cc
-  take_one (y ∷ ys) zero x is = cc
-  take_one (y ∷ ys) (suc k) x is = ap (λ l. y ∷ l) (take_one ys k x is)
-
   at_one : (k : ℕ) (e : ℕ × T) → e.0 ≡ k → IsAt k e ≡ 1
   at_one k e is =
       ⊎_elim (λ (h : (e.0 == k ≡ true) × (e.0 ≡ k)). ap (λ b. cond {A = ℕ} b 1 0) h.0) (λ (h : (e.0 == k ≡ false) × (e.0 ≢ k)). absurd (h.1 is))
@@ -93,7 +89,7 @@ module _ {T : Type 0} where
       let p : times place rest ≡ 1 = omega (arith, split place, at_none place e other, once place (omega arith)) in p in
       let behind = taken_once puts k rest (narrower k rest (All-tail (Before (suc k)) e rest below') none) once' (All-tail (Matches puts) e rest matching') in
       let here : slice_get puts k ≡ Some e.1 = ap (slice_get puts) (sym b.place_is) ∙ All-head (Matches puts) e rest matching' in
-      subst (λ l. IsPermutation (map (λ (x : ℕ × T). x.1) es) l) (sym (take_one puts k e.1 here))
+      subst (λ l. IsPermutation (map (λ (x : ℕ × T). x.1) es) l) (sym (ap (λ n. take n puts) (sym (add-one k)) ∙ take_next puts k e.1 here))
       (IsPermutation-trans _ (e.1 ∷ map (λ (x : ℕ × T). x.1) rest) _ (IsPermutation-map (λ (x : ℕ × T). x.1) es (e ∷ rest) b.moved)
       (IsPermutation-trans _ (e.1 ∷ take k puts) _ (IsPermutation-cons e.1 _ _ behind) (IsPermutation-sym _ _ (IsPermutation-to_front (take k puts) e.1))))
 

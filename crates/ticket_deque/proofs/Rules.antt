@@ -13,6 +13,7 @@ use mathlib.Core.Option.{some, some-injective, some-ne-none}
 use lib.Seq.{take-append_seam, drop-append_seam}
 use lib.ListN.{get_elem?}
 use Rattle.crossbeam_deque.specs.Tasks.{Pushes, Takes, Finds, FindsFew, Admits}
+use Rattle.list_laws.proofs.Members.{all_at, at_front}
 use Rattle.ticket_deque.specs.Rule.{taken, all_taken, IsThief, IsInOrder}
 use Rattle.ticket_deque.specs.Steps.{after_put, after_take, IsPut, WasEmpty, WasFirst, TakesFirst}
 use Rattle.ticket_deque.specs.Steps as steps
@@ -69,11 +70,6 @@ module _ {T : Type 0} where
       (subst (All P) (take-append_seam (taken u) (all_taken us)) (All-take P (length (taken u)) _ all))
   mine P (u ∷ us) (suc port) v all at = mine P us port v (subst (All P) (drop-append_seam (taken u) (all_taken us)) (All-drop P (length (taken u)) _ all)) at
 
-  all_at : (P : View T → Type 0) (views : List (View T)) (port : ℕ) (v : View T) → All P views → get_elem? views port ≡ some v → P v
-  all_at P [] port v all at = absurd (some-ne-none v (sym at))
-  all_at P (u ∷ us) zero v all at = subst P (some-injective u v at) (All-head P u us all)
-  all_at P (u ∷ us) (suc port) v all at = all_at P us port v (All-tail P u us all) at
-
   -- the first of what is left is the put of its place
   first_of : (puts : List T) (k : ℕ) (x : T) (items : List T) → x ∷ items ≡ drop k puts
       → (k < length puts) × (items ≡ drop (suc k) puts) × (slice_get puts k ≡ Some x)
@@ -81,11 +77,6 @@ module _ {T : Type 0} where
   first_of [] (suc k) x items e = cc
   first_of (y ∷ ys) zero x items e = (omega arith, cc, cc)
   first_of (y ∷ ys) (suc k) x items e = let r = first_of ys k x items e in (omega arith, r.1, r.2)
-
-  get_longer : (xs ys : List T) (k : ℕ) (x : T) → slice_get xs k ≡ Some x → slice_get (xs ++ ys) k ≡ Some x
-  get_longer [] ys k x e = cc
-  get_longer (y ∷ xs) ys zero x e = e
-  get_longer (y ∷ xs) ys (suc k) x e = get_longer xs ys k x e
 
   taken-after_take : (v : View T) (place : ℕ) (x : T) → taken (after_take v place x) ≡ taken v ++ (place, x) ∷ []
   taken-after_take (Owner puts got) place x = refl
@@ -202,7 +193,7 @@ module _ {T : Type 0} where
         matching =
             subst (All (λ (e : ℕ × T). slice_get (h.puts ++ xs) e.0 ≡ Some e.1)) (sym same)
             (All-weaker (λ (e : ℕ × T). slice_get h.puts e.0 ≡ Some e.1) (λ (e : ℕ × T). slice_get (h.puts ++ xs) e.0 ≡ Some e.1)
-            (λ e is. get_longer h.puts xs e.0 e.1 is) _ h.matching);
+            (λ e is. at_front h.puts xs e.0 e.1 is) _ h.matching);
       }
 
   pub puts : (port : ℕ) (v : View T) (xs : List T) → port ≡ 0 → Pushes IsInOrder port v xs (λ w. w ≡ after_put v xs)

@@ -19,6 +19,7 @@ use Rattle.unit_tree.specs.Given.{given_by, IsInputWord}
 use Rattle.unit_tree.specs.declared.unit.Input.{Input}
 use Rattle.unit_tree.specs.declared.unit.Output.{Output}
 use Rattle.list_laws.proofs.Pairs.{zip_set}
+use Rattle.list_laws.proofs.Members.{set_same}
 
 abbrev pub RunsMember : Member → Running → Type 0
 RunsMember member unit = IsRunOf member.component unit
@@ -116,11 +117,6 @@ states_with units instance new = map-set (λ (u : Running). u.state) units insta
 
 pub inputs_with : (units : List Running) (instance : ℕ) (new : Running) → inputs_held (set units instance new) ≡ set (inputs_held units) instance new.inputs
 inputs_with units instance new = map-set (λ (u : Running). u.inputs) units instance new
-
-set_same : {A : Type 0} (xs : List A) (k : ℕ) (x : A) → slice_get xs k ≡ Some x → set xs k x ≡ xs
-set_same [] k x is = refl
-set_same (first ∷ xs) zero x is = ap (λ y. y ∷ xs) (sym (same_Some first x is))
-set_same (first ∷ xs) (suc k) x is = ap (λ ys. first ∷ ys) (set_same xs k x is)
 
 pub inputs_stay : (members : List Member) (units : List Running) (instance : ℕ) (old new : Running) → IsAt members units instance old
     → new.inputs ≡ old.inputs → inputs_held (set units instance new) ≡ inputs_held units

@@ -1,5 +1,5 @@
 -- What the lines of a block tell: the names that they declare, the ports that they connect and sample.
-use Rattle.std.proofs.Common.{◌≡◌, List, [], ◌∷◌, ◌++◌, map, Option, Some, None, append_assoc, refl, ap, ◌∙◌}
+use Rattle.std.proofs.Common.{◌≡◌, List, [], ◌∷◌, ◌++◌, map, Option, Some, None, append_assoc, refl, ap, ◌∙◌, map-id}
 use Rattle.std.specs.List.{filter_map, cons_option}
 use Rattle.std.proofs.lemmas.List.{append-nil, map-append}
 use Rattle.std.proofs.lemmas.List.Elements.{filter_map-append}
@@ -156,14 +156,10 @@ module _ (system : System) where
       let s = none_alone input_connected form.Sample (λ x. refl) system.samples in
       whole_tells input_connected refl (λ x. refl) (λ x. refl) (λ x. refl) (λ x. refl) ∙ rw (u, i, w, s) (simp append-nil)
 
-  same : {A : Type 0} (xs : List A) → map (λ x. x) xs ≡ xs
-  same [] = refl
-  same (x ∷ xs) = ap (λ rest. x ∷ rest) (same xs)
-
   pub samples_tell : told port_sampled (whole system) ≡ system.samples
   samples_tell =
       let u = none_tell port_sampled unit_head (λ x. refl) system.units in
       let i = none_tell port_sampled instance_head (λ x. refl) system.instances in
       let w = none_alone port_sampled form.Connect (λ x. refl) system.wires in
       let s = alone_tell port_sampled form.Sample (λ x. x) (λ x. refl) system.samples in
-      whole_tells port_sampled refl (λ x. refl) (λ x. refl) (λ x. refl) (λ x. refl) ∙ rw (u, i, w, s) (same system.samples)
+      whole_tells port_sampled refl (λ x. refl) (λ x. refl) (λ x. refl) (λ x. refl) ∙ rw (u, i, w, s) (map-id system.samples)

@@ -1,6 +1,6 @@
 -- Rule 16 by the place of a line.
 use Rattle.std.proofs.Common.{◌≡◌, ℕ, suc, ◌+◌, ◌-◌, ◌*◌, nat_lt, Bool, true, false, ◌||◌, ◌&&◌, List, [], ◌∷◌, ◌++◌, map, length, take, Option, Some, None}
-use Rattle.std.proofs.Common.{append_assoc, refl, ap, sym, subst, ◌∙◌, arith}
+use Rattle.std.proofs.Common.{append_assoc, refl, ap, sym, subst, ◌∙◌, arith, map-id}
 use Rattle.std.specs.Prelude.{if◌then◌else◌, ⊤}
 use Rattle.std.specs.List.{AllByRecursion, count_by, flat_map, filter_map, list_all, list_any}
 use Rattle.std.proofs.lemmas.Grind.{flat_map-append}
@@ -411,10 +411,6 @@ module _ (system : System) where
       step (form.Connect wire) rest = ap suc rest
       step _ rest = rest
 
-  same : {A : Type 0} (xs : List A) → map (λ x. x) xs ≡ xs
-  same [] = refl
-  same (x ∷ xs) = ap (λ rest. x ∷ rest) (same xs)
-
   wires_are : filter_map wire_on (heads (whole system)) ≡ system.wires
   wires_are =
       let u = none_tell wire_on unit_head (λ x. refl) system.units in
@@ -422,7 +418,7 @@ module _ (system : System) where
       let w = alone_tell wire_on form.Connect (λ x. x) (λ x. refl) system.wires in
       let s = none_alone wire_on form.Sample (λ x. refl) system.samples in
       whole_tells system wire_on refl (λ x. refl) (λ x. refl) (λ x. refl) (λ x. refl)
-      ∙ rw (u, i, w, s) (append-nil (map (λ x. x) system.wires) ∙ same system.wires)
+      ∙ rw (u, i, w, s) (append-nil (map (λ x. x) system.wires) ∙ map-id system.wires)
 
   -- The connections up to one of them.
   taken : (earlier rest : List LineForm) (wire : Wire) → lines_of system TopScope ≡ earlier ++ (form.Connect wire ∷ rest)

@@ -1,5 +1,5 @@
 -- What a table of ports finds after a port was noted.
-use Rattle.std.proofs.Common.{◌≡◌, ℕ, Bool, true, false, ◌&&◌, List, Option, Some, None, bytes_eq, refl, ap, sym, subst, ◌∙◌}
+use Rattle.std.proofs.Common.{◌≡◌, ℕ, Bool, true, false, ◌&&◌, List, Some, None, bytes_eq, refl, ap, sym, subst, ◌∙◌}
 use mathlib.Core.Bool.{cond}
 use Rattle.std.specs.Borrow.{Bor}
 use Rattle.std.specs.Map.{lookup, KeepsOthers}
@@ -7,8 +7,6 @@ use Rattle.std.specs.Cmp.Lexicographic.{bytes_decides}
 use Rattle.unit_tree.specs.Names.{same_port}
 use Rattle.unit_tree.specs.declared.system.PortName.{PortName}
 use Rattle.std.proofs.lemmas.Bool.{and_parts}
-use Rattle.std.specs.Option.{option_or}
-use Rattle.list_laws.proofs.Options.{or_none}
 use Rattle.language_laws.proofs.NameLaws.{same_port_symm}
 
 abbrev pub Key : Type 0
@@ -59,13 +57,6 @@ put port other value old new here keeps = step (same_port port other) refl
     step : (same : Bool) → same_port port other ≡ same → lookup (names_port other) new ≡ cond same (Some value) (lookup (names_port other) old)
     step true is = ap (λ test. lookup test new) (sym (same_test port other is)) ∙ here
     step false is = others_stay port other old new keeps is
-
-pub newly : (asked stored : Bool) (old new : Option ℕ) (value : ℕ) → asked ≡ stored → (asked ≡ true → old ≡ None) → new ≡ cond stored (Some value) old
-    → new ≡ option_or old (cond asked (Some value) None)
-newly true true old new value same none put = rw (none refl) put
-newly false false old new value same none put = put ∙ sym (or_none old)
-newly true false old new value same none put = absurd (cc)
-newly false true old new value same none put = absurd (cc)
 
 pub same_found : (port other : PortName) (old : List (Key × ℕ)) → same_port other port ≡ true → lookup (names_port port) old ≡ None
     → lookup (names_port other) old ≡ None

@@ -13,15 +13,11 @@ use Rattle.unit_tree.specs.declared.line_form.LineForm.TheVariants as form
 use Rattle.unit_tree.specs.declared.system.Instance.{Instance}
 use Rattle.unit_tree.specs.declared.system.System.{System}
 use Rattle.unit_tree.specs.declared.unit.Unit.{Unit}
-use Rattle.list_laws.proofs.Lists.{each_so, each_append}
+use Rattle.list_laws.proofs.Lists.{each_so, each_append, each_map}
 
 pub all_each : {A : Type 0} (P : A → Type 0) → ((x : A) → P x) → (xs : List A) → AllByRecursion P xs
 all_each P holds [] = _
 all_each P holds (x ∷ xs) = (holds x, all_each P holds xs)
-
-pub all_map : {A B : Type 0} (P : B → Type 0) (f : A → B) → ((x : A) → P (f x)) → (xs : List A) → AllByRecursion P (map f xs)
-all_map P f holds [] = _
-all_map P f holds (x ∷ xs) = (holds x, all_map P f holds xs)
 
 pub all_two : {A : Type 0} (P Q R : A → Type 0) → ((x : A) → P x → Q x → R x) → (xs : List A) → AllByRecursion P xs → AllByRecursion Q xs → AllByRecursion R xs
 all_two P Q R leads [] one other = _
@@ -69,8 +65,8 @@ module _ (P : Site → Type 0) where
       (each_append Block (header system ++ ((units system ++ instances system) ++ wires system)) (limits system)
       (each_append Block (header system) ((units system ++ instances system) ++ wires system) (inside_alone (form.Header system.version ∷ []))
       (each_append Block (units system ++ instances system) (wires system)
-      (each_append Block (units system) (instances system) (all_map Block unit_head in_unit system.units)
-      (all_map Block instance_head in_instance system.instances))
+      (each_append Block (units system) (instances system) (each_map Block unit_head system.units in_unit)
+      (each_map Block instance_head system.instances in_instance))
       (inside_alone (map form.Connect system.wires))))
       in_limits)
       (inside_alone (map form.Sample system.samples))

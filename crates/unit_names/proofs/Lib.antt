@@ -1,7 +1,6 @@
 pub mod Costs
 pub mod EventOutputs
 pub mod FirstPlaces
-pub mod FoundEntries
 pub mod NodesByNames
 pub mod SamePorts
 pub mod UnitTables

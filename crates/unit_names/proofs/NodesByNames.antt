@@ -2,6 +2,7 @@
 use Rattle.std.proofs.Common.{◌≡◌, Bool, true, false, ◌&&◌, ◌||◌, not, ℕ, List, ◌++◌, append_assoc, refl, ap, sym, ◌∙◌, subst}
 use Rattle.std.specs.List.{list_any}
 use Rattle.std.proofs.lemmas.List.Folds.{list_all-append, list_any-append}
+use Rattle.std.proofs.lemmas.Bool.{or_right}
 use Rattle.unit_tree.specs.Names.{Uses, Clocks, node_names, names_in, node_events, events_asked_in, node_clocks, clocks_in, either, are_allowed, is_among}
 use Rattle.unit_tree.specs.Names.{are_among, keeps_to}
 use Rattle.unit_tree.specs.WellFormed.{uses_other_input}
@@ -116,23 +117,16 @@ module _ (uses : Uses) where
       ∙ ap (λ all. kept all (events ++ (others ++ last)) (either clocks (either used ticking))) (sym (append_assoc names more rest))
       ∙ ap (λ all. kept (names ++ more ++ rest) all (either clocks (either used ticking))) (sym (append_assoc events others last))
 
-  or_off : (b : Bool) → (b || true) ≡ true
-  or_off true = refl
-  or_off false = refl
-
   no_clock_kept : are_allowed uses.clocks (record { time = false; step = false }) ≡ true
-  no_clock_kept = ap (λ b. b && (uses.clocks.step || true)) (or_off uses.clocks.time) ∙ or_off uses.clocks.step
-
-  or_on : (b : Bool) → (b || false) ≡ b
-  or_on true = refl
-  or_on false = refl
+  no_clock_kept = ap (λ b. b && (uses.clocks.step || true)) (or_right uses.clocks.time true refl) ∙ or_right uses.clocks.step true refl
 
   time_kept : are_allowed uses.clocks (record { time = true; step = false }) ≡ uses.clocks.time
-  time_kept = ap (λ b. b && (uses.clocks.step || true)) (or_on uses.clocks.time) ∙ ap (λ b. uses.clocks.time && b) (or_off uses.clocks.step)
+  time_kept = ap (λ b. b && (uses.clocks.step || true)) (sym (or_nothing uses.clocks.time))
+      ∙ ap (λ b. uses.clocks.time && b) (or_right uses.clocks.step true refl)
       ∙ and_true uses.clocks.time
 
   step_kept : are_allowed uses.clocks (record { time = false; step = true }) ≡ uses.clocks.step
-  step_kept = ap (λ b. b && (uses.clocks.step || false)) (or_off uses.clocks.time) ∙ or_on uses.clocks.step
+  step_kept = ap (λ b. b && (uses.clocks.step || false)) (or_right uses.clocks.time true refl) ∙ sym (or_nothing uses.clocks.step)
 
   name_kept : (b : Bool) → b ≡ ((b && true) && are_allowed uses.clocks (record { time = false; step = false }))
   name_kept b = sym (ap (λ c. (b && true) && c) no_clock_kept ∙ and_true (b && true) ∙ and_true b)

@@ -29,6 +29,7 @@ use Rattle.text_laws.proofs.SpelledBytes.{none_forbidden}
 use Rattle.unit_tree.specs.Texts.{BeginsVersion2}
 use Rattle.text_laws.proofs.ReadIsPrintable.{none_written}
 use Rattle.language_laws.proofs.SourceLaws.{version_is}
+use Rattle.list_laws.proofs.Lists.{none_cut}
 
 -- ---- A line, whatever it is
 
@@ -197,14 +198,10 @@ pub blank_is_refused : (text : List (List ℕ)) → list_all is_blank_line text 
 blank_is_refused [] blank = record {
   breaks = inr (refl, refl, refl);
   first = λ other by found. elim found [
-    | inl at ↦ absurd (none at.before at.line at.later at.cut)
+    | inl at ↦ absurd (none_cut at.before at.line at.later at.cut)
     | inr told ↦ inr (sym told.1, omega (arith, told.2))
   ];
 }
-  where
-    none : (before : List (List ℕ)) (line : List ℕ) (later : List (List ℕ)) → [] ≡ before ++ (line ∷ later) → ⊥
-    none [] line later is = cc
-    none (first ∷ before) line later is = cc
 blank_is_refused (line ∷ lines) blank = by_length (nat_lt line_limit (length line)) refl
   where
     text : List (List ℕ)

@@ -22,7 +22,7 @@ use Rattle.unit_tree.specs.declared.line_form.LineForm.TheVariants as form
 use Rattle.unit_tree.specs.declared.system.Instance.{Instance}
 use Rattle.unit_tree.specs.declared.system.Setting.{Setting}
 use Rattle.unit_tree.proofs.FoldLemmas.{fold-Assign, fold-If, fold-Repeat, fold-Accept}
-use Rattle.language_laws.proofs.OpenBlocks.{blocks_behind, lines_leave, unit_parts_leave, settings_leave, parts_leave}
+use Rattle.language_laws.proofs.OpenBlocks.{blocks_behind, lines_leave, unit_parts_leave, settings_leave, parts_leave, all_in_text}
 use Rattle.unit_text.specs.Laws.{NestingIsByParts}
 use Rattle.unit_text.specs.Drafts.{headed}
 use Rattle.unit_text.specs.Nesting as nesting
@@ -31,7 +31,6 @@ use Rattle.unit_text.specs.declared.draft.Head.{Head}
 use Rattle.unit_text.specs.declared.draft.Head.TheVariants.{Then, Else, Times}
 use Rattle.unit_text.specs.Nesting.{Inner, Open, AtTop, InUnit, InStep, InInstance, Nested, and_part, opened, block_in, headed_by, nested_by, and_form}
 use Rattle.unit_text.specs.Nesting.{head_forms, around_forms, open_forms, nested_forms, block_of, blocks_of}
-use Rattle.text_laws.proofs.CanonicalPlaces.{all_in_text}
 
 -- ---- Lines of a step
 
@@ -554,14 +553,15 @@ placed_add (some ∷ forms) nested placed =
     ∙ ap (λ lines. lines ++ forms) (adds nested some held)
     ∙ append_assoc (nested_forms nested) (some ∷ []) forms
 
+-- a step has a block around its lines
+pub around_is_some : (around : List Around) → blocks_around around ≡ [] → ⊥
+around_is_some [] is = cc
+around_is_some (block ∷ others) is = cc
+
 no_block : (block : Open) → blocks_of block ≡ [] → open_forms block ≡ []
 no_block AtTop is = refl
 no_block (InUnit unit inside) is = absurd (cc)
-no_block (InStep unit inside inner) is = absurd (none inner.around is)
-  where
-    none : (around : List Around) → blocks_around around ≡ [] → ⊥
-    none [] is = cc
-    none (block ∷ others) is = cc
+no_block (InStep unit inside inner) is = absurd (around_is_some inner.around is)
 no_block (InInstance instance) is = absurd (cc)
 
 -- the lines behind a header are what they nest to

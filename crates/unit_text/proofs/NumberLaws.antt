@@ -5,7 +5,7 @@ use Rattle.std.proofs.Common.{ap, sym, ◌∙◌, arith}
 use Rattle.std.specs.Prelude.{if◌then◌else◌}
 use Rattle.std.specs.List.{fold, flat_map}
 use Rattle.std.proofs.lemmas.Grind.{fold-append, flat_map-append}
-use Rattle.std.proofs.lemmas.List.{append-nil, length-append, length-drop, drop-drop, take_all, take-append-le, drop-append-le}
+use Rattle.std.proofs.lemmas.List.{append-nil, length-append, length-drop, drop-drop, take_all, take-append-le, drop-append-le, nil_from_length}
 use Rattle.unit_tree.specs.Parts as parts
 use Rattle.unit_tree.specs.Parts.{Part, UnitPart, joined, line_forms, unit_part_forms, part_forms, text_forms}
 use Rattle.unit_tree.specs.SourceLines.{unit_part_rank, part_rank, of_rank, by_rank, each_ranked, unit_lines_in_order, part_lines_in_order, in_canonical_order}
@@ -308,11 +308,6 @@ part_more version all part header number rest enough same =
 no_unit : (header : ℕ) (all : List Part) (rest : List ℕ) → (whole_numbers header all rest).unit ≡ no_unit_numbers
 no_unit header all rest = stays with_piece (λ numbers. numbers.unit) (λ numbers piece. refl) (text_pieces all rest) (header_numbers (header ∷ []))
 
--- A list of no length is empty.
-none_behind : (lines : List ℕ) → length lines ≡ 0 → lines ≡ []
-none_behind [] none = refl
-none_behind (line ∷ lines) none = absurd (omega arith)
-
 -- ---- One line more: outside blocks
 
 -- Where the line is collected, by what the numbers of the others are.
@@ -327,7 +322,7 @@ one_line : (version : ℕ) (all : List Part) (part : Part) (header number : ℕ)
     → numbers_of (holding version (all ++ (part ∷ [])) AtTop) (header ∷ rest ++ (number ∷ []))
     ≡ with_piece (whole_numbers header all rest) (part_rank part, part_lines_in_order part (number ∷ []))
 one_line version all part header number rest along one =
-    let none = none_behind (drop (text_size all) rest) along.behind in
+    let none = nil_from_length (drop (text_size all) rest) along.behind in
     part_more version all part header number rest along.enough (ap (λ behind. length (behind ++ (number ∷ []))) none ∙ sym one)
     ∙ ap (λ behind. with_piece (whole_numbers header all rest) (part_rank part, part_lines_in_order part (behind ++ (number ∷ [])))) none
 
@@ -336,7 +331,7 @@ block_begins : (version : ℕ) (all : List Part) (block : Open) (header number :
     → numbers_of (holding version all block) (header ∷ rest ++ (number ∷ [])) ≡ with_open (whole_numbers header all rest) block (number ∷ [])
 block_begins version all block header number rest along =
     block_more version all block header number rest along.enough
-    ∙ ap (λ behind. with_open (whole_numbers header all rest) block (behind ++ (number ∷ []))) (none_behind (drop (text_size all) rest) along.behind)
+    ∙ ap (λ behind. with_open (whole_numbers header all rest) block (behind ++ (number ∷ []))) (nil_from_length (drop (text_size all) rest) along.behind)
 
 -- A line outside blocks is collected.
 top_more : (version : ℕ) (all : List Part) (some : LineForm) → IsHeld (holding version all AtTop) some → IsCollected (holding version all AtTop) some
@@ -438,7 +433,7 @@ nothing_behind : (version : ℕ) (all : List Part) (name : List ℕ) (inside : L
 nothing_behind version all name inside rest along =
     let behind = drop (text_size all) rest in
     let same = along.behind in
-    none_behind (behind_parts inside behind) (omega (arith, same, length-drop 1 behind, length-drop (unit_size inside) (drop 1 behind)))
+    nil_from_length (behind_parts inside behind) (omega (arith, same, length-drop 1 behind, length-drop (unit_size inside) (drop 1 behind)))
 
 -- A declaration.
 one_in_unit : (version : ℕ) (all : List Part) (name : List ℕ) (inside : List UnitPart) (part : UnitPart) (header number : ℕ) (rest : List ℕ)

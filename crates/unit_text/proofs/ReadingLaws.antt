@@ -1,12 +1,11 @@
 -- Reading goes along the lines as the definitions of texts have it.
-use Rattle.std.proofs.Common.{◌≡◌, cond, ℕ, suc, ◌+◌, ◌<◌, ◌≤◌, ◌==◌, Bool, true, false, List, [], ◌∷◌, ◌++◌, append_assoc, map, length, Option, Some, None}
+use Rattle.std.proofs.Common.{◌≡◌, cond, ℕ, suc, ◌+◌, ◌<◌, ◌≤◌, Bool, true, false, List, [], ◌∷◌, ◌++◌, append_assoc, map, length, Option, Some, None}
 use Rattle.std.proofs.Common.{Result, Ok, Err, ◌⊎◌, inl, inr, refl, ap, sym, subst, ◌∙◌, arith}
 use Rattle.std.specs.Prelude.{◌&&◌, not, IsTrue}
 use Rattle.std.specs.Result.{IsErrAnd}
 use Rattle.std.specs.List.{AllByRecursion, enumerate_from, filter, list_all}
 use Rattle.std.specs.Option.{option_map}
-use Rattle.std.proofs.lemmas.Bool.{and_parts, true≢false}
-use Rattle.std.proofs.lemmas.Bool.Decides.{nat_tests}
+use Rattle.std.proofs.lemmas.Bool.{and_parts, true≢false, eqb-true}
 use Rattle.std.proofs.lemmas.List.{append-nil, map-append}
 use Rattle.std.proofs.lemmas.List.Elements.{filter-append}
 use Rattle.std.proofs.lemmas.Option.{same_Some}
@@ -27,7 +26,6 @@ use Rattle.unit_text.specs.Numbering.{place_in, place_of, group_of, bare_numbers
 use Rattle.unit_text.specs.Reading.{IsWritten, IsHeadless, FirstGives, FormIn, LineGives, WholeGives, blank_rule, FirstAt, HeadsText, HeadBreaks, HeaderGives}
 use Rattle.unit_text.specs.Reading.{AnswersAt, AnswersText}
 use Rattle.text_lines.specs.Seen.{IsClean, TellsOf}
-use Rattle.unit_text.specs.declared.draft.Around.{Around}
 use Rattle.unit_text.specs.declared.draft.Draft.{Draft}
 use Rattle.unit_text.specs.declared.fault.TextFault.{TextFault}
 use Rattle.unit_text.specs.declared.fault.TextFault.TheVariants as fault
@@ -39,11 +37,13 @@ use Rattle.unit_text.specs.declared.reading.ReadText.{ReadText}
 use Rattle.unit_text.proofs.AnswerLaws.{broken_at, ends_whole, ends_open, blank_is_refused}
 use Rattle.unit_text.proofs.DraftLaws.{draft_of, open_of, draft_goes}
 use Rattle.unit_text.proofs.NumberLaws.{numbers_of, numbers_begin, numbers_more, lengths_more, numbers_end, marks_more}
-use Rattle.unit_text.proofs.NestingLaws.{is_held, before_next, blocks_are, blocks_around, whole_forms}
+use Rattle.unit_text.proofs.NestingLaws.{is_held, before_next, blocks_are, whole_forms, around_is_some}
 use Rattle.text_laws.proofs.RefusalSteps.{AreUnbroken}
 use Rattle.unit_text.proofs.TextWalks.{FormsAreKnown, FirstLine, first_is, begins_so, AreBlank, NestTo, BreaksLeast, blank_more, nest_blank, header_begins}
 use Rattle.unit_text.proofs.TextWalks.{line_nests, bytes_break, length_breaks, formless_breaks, place_breaks, first_place_breaks, headless_breaks}
 use Rattle.language_laws.proofs.SourceLaws.{version_is}
+use Rattle.language_laws.proofs.FirstVersion.{old_form}
+use Rattle.list_laws.proofs.Lists.{each_more}
 
 -- ---- Cutting lines
 
@@ -71,10 +71,6 @@ pub record BlankSoFar (text rest : List ℕ) (number : ℕ) : Type 0 where
 
 pub blank_none : (text : List ℕ) → BlankSoFar text text 0
 blank_none text = record { before = []; cut = refl; blank = tt; number_is = refl; within = omega arith }
-
-each_more : (P : List ℕ → Type 0) (before : List (List ℕ)) (line : List ℕ) → AllByRecursion P before → P line → AllByRecursion P (before ++ (line ∷ []))
-each_more P [] line all is = (is, tt)
-each_more P (one ∷ before) line all is = (all.0, each_more P before line all.1 is)
 
 length_more : (before : List (List ℕ)) (line : List ℕ) → length (before ++ (line ∷ [])) ≡ suc (length before)
 length_more [] line = refl
@@ -156,9 +152,6 @@ refused_at text before line later number rule fits some_written cut number_is ke
           (broken_at (source_lines text) before line later rule (sym cut) some_written kept broken)),
     )
 
-plain_form_in : (text : List (List ℕ)) (line : List ℕ) (some : LineForm) → HasForm some line → is_of_version_2 some ≡ false → HasFormIn text some line
-plain_form_in text line some has plain = record { has_form = has; of_version = λ told. absurd (true≢false (sym told ∙ plain)) }
-
 headless_least : FormsAreKnown → (text before : List (List ℕ)) (line : List ℕ) (rule : ℕ) (first : FirstLine text) → first.line ≡ line → AreBlank text before
     → IsWritten line → IsHeadless line rule → BreaksLeast text before line rule
 headless_least known text before line rule first same blank is head =
@@ -172,8 +165,8 @@ headless_least known text before line rule first same blank is head =
 
     by_place : is_of_version_2 head.some ≡ false → (may : Bool) → may_stand no_lines head.some ≡ may → BreaksLeast text before line (cond may 7 5)
     by_place plain true may =
-        headless_breaks known text before line head.some blank is.clean (plain_form_in text line head.some head.has_form plain) may head.no_header
-    by_place plain false may = first_place_breaks text before line head.some blank is.clean (plain_form_in text line head.some head.has_form plain) may
+        headless_breaks known text before line head.some blank is.clean (old_form text line head.some head.has_form plain) may head.no_header
+    by_place plain false may = first_place_breaks text before line head.some blank is.clean (old_form text line head.some head.has_form plain) may
 
     by_version : (told : Bool) → is_of_version_2 head.some ≡ told → BreaksLeast text before line (cond told 4 (cond (may_stand no_lines head.some) 7 5))
     by_version true told = formless_breaks text before line is.clean is.written (none_in told)
@@ -275,7 +268,7 @@ reached_first known text version header rest head = record {
   within = head.first.within;
   nests = header_begins known (source_lines text) head.first.before head.line version
       (blank_before (source_lines text) head.first.before head.first.blank) head.is_written.clean
-      (record { has_form = head.is_header; of_version = λ told. begins_by (is_two version told) });
+      (record { has_form = head.is_header; of_version = λ told. begins_by (eqb-true version 2 told) });
   draft_is = refl;
   numbers_are = sym (ap (numbers_of (headed_by version)) numbered ∙ numbers_begin version header);
   one_each = ap length numbered;
@@ -293,9 +286,6 @@ reached_first known text version header rest head = record {
 
     first : FirstLine (source_lines text)
     first = first_of text head.line rest header head.first head.is_written
-
-    is_two : (version : ℕ) → (version == 2) ≡ true → version ≡ 2
-    is_two version told = grind (arith, nat_tests, told)
 
     begins_by : version ≡ 2 → BeginsVersion2 (source_lines text)
     begins_by is = begins_so (source_lines text) first (subst (λ number. HasForm (form.Header number) head.line) is head.is_header)
@@ -494,10 +484,6 @@ open_parts nested is none = by_block nested.block is none
     by_block AtTop is none = cc
     by_block (InUnit name inside) is none = cc
     by_block (InStep name inside inner) is none = around_is_some inner.around none
-      where
-        around_is_some : (around : List Around) → blocks_around around ≡ [] → ⊥
-        around_is_some [] is = cc
-        around_is_some (block ∷ others) is = cc
     by_block (InInstance instance) is none = cc
 
 -- The system of a text whose lines nest to whole parts, and where its canonical lines came from.
@@ -513,10 +499,6 @@ reads_from text nested numbers fits nests closed is =
     top_is AtTop none = refl
     top_is (InUnit name inside) none = absurd (cc)
     top_is (InStep name inside inner) none = absurd (around_is_some inner.around none)
-      where
-        around_is_some : (around : List Around) → blocks_around around ≡ [] → ⊥
-        around_is_some [] is = cc
-        around_is_some (block ∷ others) is = cc
     top_is (InInstance instance) none = absurd (cc)
 
 end_refused : (text rest : List ℕ) (header number : ℕ) (draft : Draft) (marks : List Mark) → size_of text ≤ text_limit

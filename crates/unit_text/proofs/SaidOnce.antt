@@ -21,7 +21,8 @@ use Rattle.unit_tree.specs.declared.line_form.LineForm.TheVariants as form
 use Rattle.unit_tree.specs.declared.system.Instance.{Instance}
 use Rattle.unit_tree.specs.declared.system.Setting.{Setting}
 use Rattle.unit_tree.proofs.FoldLemmas.{fold-Assign, fold-If, fold-Repeat, fold-Accept}
-use Rattle.text_laws.proofs.CanonicalPlaces.{all_in_text, all_in_unit}
+use Rattle.text_laws.proofs.CanonicalPlaces.{all_in_unit}
+use Rattle.language_laws.proofs.OpenBlocks.{all_in_text}
 
 -- ---- Tests that no step line passes
 

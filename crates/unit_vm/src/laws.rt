@@ -1,4 +1,4 @@
-ghost use Rattle.unit_vm.specs.Laws.{ValidRunsEnd, CodeIsOne};
+ghost use Rattle.unit_vm.specs.Laws.{ValidRunsEnd, CodeIsOne, ValidProgramsAreReadBack};
 ghost use Rattle.unit_vm.specs.Worked.{MachineIsWorked};
 
 /// A law: a run of valid code is over after as many instructions as its part costs at most, without a
@@ -10,6 +10,11 @@ pub fn valid_runs_end()
 /// A law: words are valid code of one program at most, with one list of facts.
 pub fn code_is_one()
     ensures { CodeIsOne }
+{}
+
+/// A law: the words of a valid program are read as this program.
+pub fn valid_programs_are_read_back()
+    ensures { ValidProgramsAreReadBack }
 {}
 
 /// A law: small runs, costs and words are on the definitions those that were worked out by hand.

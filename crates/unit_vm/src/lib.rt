@@ -36,6 +36,6 @@ mod writing;
 pub use code::{Code, check_code};
 pub use frame::Frame;
 pub use instruction::{Flow, Instruction};
-pub use laws::{code_is_one, machine_is_worked, valid_runs_end};
+pub use laws::{code_is_one, machine_is_worked, valid_programs_are_read_back, valid_runs_end};
 pub use program::{CodeFacts, Entry, Program, Role, Sizes};
 pub use running::run;

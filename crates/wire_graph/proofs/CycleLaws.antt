@@ -14,7 +14,7 @@ use Rattle.language_laws.proofs.OrderLaws.{each_in, in_front}
 use Rattle.run_laws.proofs.PlaceOrders.{has_in, same_port_is}
 use Rattle.list_laws.proofs.Members.{has_behind}
 use Rattle.list_laws.proofs.Truths.{true_is_false}
-use Rattle.list_laws.proofs.Lists.{each_so}
+use Rattle.list_laws.proofs.Lists.{each_so, same_rest}
 
 -- ---- Whether a port is among some
 
@@ -244,10 +244,7 @@ module _ (system : System) where
       let same : other ≡ first = cc in absurd (one_first.0 (subst (HasNoOrder system) same other_none))
   one_cut (first ∷ one_before) (second ∷ other_before) one_later other_later one other is one_none other_none one_first other_first =
       one_cut one_before other_before one_later other_later one other
-      (tails first second (one_before ++ (one ∷ one_later)) (other_before ++ (other ∷ other_later)) is) one_none other_none one_first.1 other_first.1
-    where
-      tails : (a b : PortName) (xs ys : List PortName) → a ∷ xs ≡ b ∷ ys → xs ≡ ys
-      tails a b xs ys same = cc
+      (same_rest first second (one_before ++ (one ∷ one_later)) (other_before ++ (other ∷ other_later)) is) one_none other_none one_first.1 other_first.1
 
   one_port : (one other : PortName) → IsFirstWithoutOrder system one → IsFirstWithoutOrder system other → one ≡ other
   one_port one other first second =

@@ -1,5 +1,6 @@
 -- The place that is left names the first output without an order.
 use Rattle.std.proofs.Common.{◌≡◌, ℕ, zero, suc, ◌+◌, List, [], ◌∷◌, ◌++◌, map, length, Some, refl, ap, sym, ◌∙◌, arith, append_assoc, length-append}
+use Rattle.std.proofs.lemmas.Option.{same_Some}
 use Rattle.std.specs.Prelude.{slice_get}
 use Rattle.std.specs.List.{AllZip, enumerate_from, flat_map}
 use Rattle.unit_tree.specs.Compositions.{Composition, HasNoEvents, composition_of}
@@ -16,6 +17,7 @@ use Rattle.wire_graph.specs.Wiring.{Named, components_in, port_named, output_por
 use Rattle.wire_graph.proofs.ComponentLaws.{outputs_are, wired_members}
 use Rattle.wire_graph.proofs.RoutingLaws.{numbered_same}
 use Rattle.list_laws.proofs.Pairs.{zip_append, zip_at}
+use Rattle.list_laws.proofs.Members.{at_seam}
 
 -- An output by its numbers, and its port.
 record Names (components : List Named) (numbered : Numbered) (port : PortName) : Type 0 where
@@ -27,10 +29,7 @@ record Names (components : List Named) (numbered : Numbered) (port : PortName) :
 
 -- What stands behind others.
 get_behind : {A : Type 0} (front : List A) (x : A) (behind : List A) (k : ℕ) → k ≡ length front → slice_get (front ++ (x ∷ behind)) k ≡ Some x
-get_behind [] x behind zero is = refl
-get_behind [] x behind (suc k) is = absurd (omega (arith, is))
-get_behind (first ∷ front) x behind zero is = absurd (omega (arith, is))
-get_behind (first ∷ front) x behind (suc k) is = get_behind front x behind k (omega (arith, is))
+get_behind front x behind k is = ap (slice_get (front ++ (x ∷ behind))) is ∙ at_seam front x behind
 
 module _ (system : System) (all : List Named) where
   outputs_named_by : (instance : ℕ) (component : Named) (front outputs : List Output) (from : ℕ) → slice_get all instance ≡ Some component
@@ -90,7 +89,7 @@ port_numbered system plain k route port route_is port_is =
     let at : slice_get (flat_map numbered_in (enumerate_from 0 (map (member_of system) (components_in system)))) k ≡ Some one.one =
     ap (λ numbered. slice_get numbered k) (numbered_same 0 run.members (map (member_of system) (components_in system)) (wired_members system)) ∙ one.at in
     let beside = zip_at (Names (components_in system)) _ (outputs_named (components_in system)) k one.one named at in
-    let same : beside.other ≡ port = some_same beside.other port (sym beside.is ∙ ap (λ ports. slice_get ports k) (outputs_are system plain) ∙ port_is) in
+    let same : beside.other ≡ port = same_Some beside.other port (sym beside.is ∙ ap (λ ports. slice_get ports k) (outputs_are system plain) ∙ port_is) in
     record {
       component = beside.related.component;
       declared = beside.related.declared;
@@ -98,6 +97,3 @@ port_numbered system plain k route port route_is port_is =
       is_output = ap (slice_get beside.related.component.1.outputs) (sym one.output) ∙ beside.related.is_output;
       is = beside.related.is ∙ same;
     }
-  where
-    some_same : (a b : PortName) → Some a ≡ Some b → a ≡ b
-    some_same a b is = cc

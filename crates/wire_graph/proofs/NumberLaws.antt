@@ -7,7 +7,7 @@ use Rattle.std.specs.List.{position_from}
 use Rattle.std.specs.Map.{lookup}
 use Rattle.std.specs.Option.{option_copied, option_or}
 use Rattle.std.proofs.lemmas.List.{take_all}
-use Rattle.list_laws.proofs.Options.{or_none}
+use Rattle.list_laws.proofs.Options.{put_behind}
 
 module _ {K : Type 0} (eq : K → K → Bool) (laws : IsEquivalence eq) where
   lookup_alike : (one other : K) (entries : List (K × ℕ)) → eq one other ≡ true → lookup (eq one) entries ≡ lookup (eq other) entries
@@ -16,17 +16,11 @@ module _ {K : Type 0} (eq : K → K → Bool) (laws : IsEquivalence eq) where
       ap (λ told. cond told (Some entry.1) (lookup (eq one) entries)) (laws.congr one other entry.0 same)
       ∙ ap (cond (eq other entry.0) (Some entry.1)) (lookup_alike one other entries same)
 
-  new_by : (told : Bool) (place : ℕ) (old new : Option ℕ) → new ≡ cond told (Some place) old → (told ≡ true → old ≡ None)
-      → new ≡ option_or old (cond told (Some place) None)
-  new_by true place old new put none = rw (none refl) put
-  new_by false place old new put none = put ∙ sym (or_none old)
-
   pub noted_new : (key asked : K) (place : ℕ) (entries : List (K × ℕ)) (new : Option ℕ) → new ≡ cond (eq key asked) (Some place) (lookup (eq asked) entries)
       → lookup (eq key) entries ≡ None → new ≡ option_or (lookup (eq asked) entries) (cond (eq asked key) (Some place) None)
   noted_new key asked place entries new put none =
-      new_by (eq asked key) place (lookup (eq asked) entries) new
-      (put ∙ ap (λ told. cond told (Some place) (lookup (eq asked) entries)) (laws.symm key asked))
-      (λ same. lookup_alike asked key entries same ∙ none)
+      put_behind (eq asked key) (eq key asked) (lookup (eq asked) entries) new place (laws.symm asked key)
+      (λ same. lookup_alike asked key entries same ∙ none) put
 
   old_by : (told : Bool) (place : ℕ) (found : Option ℕ) → (told ≡ true → is_some found ≡ true) → found ≡ option_or found (cond told (Some place) None)
   old_by told place (Some value) some = refl
@@ -41,10 +35,6 @@ module _ {K : Type 0} (eq : K → K → Bool) (laws : IsEquivalence eq) where
 pub copied_some : (found : Option (Bor ℕ)) (value : Option ℕ) (told : Bool) → option_copied found ≡ value → told ≡ is_some found → is_some value ≡ told
 copied_some None value told is told_is = ap is_some (sym is) ∙ sym told_is
 copied_some (Some x) value told is told_is = ap is_some (sym is) ∙ sym told_is
-
-pub none_of : (value : Option ℕ) → is_some value ≡ false → value ≡ None
-none_of None told = refl
-none_of (Some x) told = absurd (cc)
 
 -- One key more.
 places_by : (told : Bool) (from k : ℕ) (rest before : Option ℕ) (last : Bool) → rest ≡ option_or before (cond last (Some (suc from + k)) None)

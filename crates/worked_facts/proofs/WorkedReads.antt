@@ -1,9 +1,9 @@
 -- Worked texts say their systems.
 use Rattle.std.proofs.Common.{◌≡◌, ◌≤◌, ℕ, List, [], ◌∷◌, map, length, refl, sym, subst, Bool, false, true, arith, None}
-use Rattle.std.specs.Prelude.{codes, pos, neg_ℤ, IsTrue, nat_le, not, ◌||◌}
+use Rattle.std.specs.Prelude.{codes, pos, neg_ℤ, IsTrue, nat_le, not}
 use Rattle.std.specs.Fmt.{digits}
 use Rattle.std.specs.List.{AllByRecursion, AllZip, list_all, list_any, filter}
-use Rattle.std.proofs.lemmas.Bool.{leb-true}
+use Rattle.std.proofs.lemmas.Bool.{leb-true, or_parts}
 use Rattle.fixed_words.specs.declared.types.Literal.TheVariants as literal
 use Rattle.fixed_words.specs.declared.types.Ty.TheVariants as types
 use Rattle.unit_tree.specs.Blocks.{no_lines, are_placed}
@@ -34,6 +34,7 @@ use Rattle.worked_facts.proofs.WorkedForms.{state_m, state_p, state_q, state_r, 
 use Rattle.worked_facts.proofs.WorkedForms.{accept_line, greatest_longest, long_header, counter_unit_line, counter_state, counter_output, counter_sum}
 use Rattle.worked_facts.proofs.WorkedForms.{counter_instance, header_2, unit_relay, event_input, event_output}
 use Rattle.list_laws.proofs.Lists.{of_mapped}
+use Rattle.language_laws.proofs.FirstVersion.{old_form}
 
 -- The lines of a text that are not blank.
 abbrev filled : List ℕ → List (List ℕ)
@@ -47,12 +48,8 @@ in_any_text text [] (line ∷ lines) old have = absurd have
 in_any_text text (some ∷ forms) [] old have = absurd have
 in_any_text text (some ∷ forms) (line ∷ lines) old have =
     let both : (is_of_version_2 some ≡ false) × (list_any is_of_version_2 forms ≡ false) =
-    or_false (is_of_version_2 some) (list_any is_of_version_2 forms) old in
-    (record { has_form = have.0; of_version = λ told. absurd (cc (told, both.0)) }, in_any_text text forms lines both.1 have.1)
-  where
-    or_false : (one other : Bool) → (one || other) ≡ false → (one ≡ false) × (other ≡ false)
-    or_false true other told = absurd (cc told)
-    or_false false other told = (refl, told)
+    or_parts (is_of_version_2 some) (list_any is_of_version_2 forms) old in
+    (old_form text line some have.0 both.0, in_any_text text forms lines both.1 have.1)
 
 abbrev counter_parts : List Part
 counter_parts =

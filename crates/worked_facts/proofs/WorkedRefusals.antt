@@ -15,6 +15,7 @@ use Rattle.unit_tree.specs.declared.token.Symbol.TheVariants as sign
 use Rattle.unit_tree.specs.declared.token.Token.{Token}
 use Rattle.unit_tree.specs.declared.token.Token.TheVariants as token
 use Rattle.text_tokens.specs.Scanning.{keyword_of, symbol_of, word_at, number_at, symbol_at, number_token, bounded_number, token_at}
+use Rattle.language_laws.proofs.FirstVersion.{old_form}
 use Rattle.worked_facts.specs.WorkedTexts.{text_of, returned, letters}
 use Rattle.text_laws.proofs.FirstTokens.{no_tokens, name_alone, number_first, after_cosim, after_end, after_unit, after_event}
 use Rattle.text_laws.proofs.RefusalSteps.{IsUnbroken, unbroken, least, first_broken, no_break, all_blank}
@@ -78,10 +79,6 @@ word_has_none some has = tokens_none (codes "1a") (omega arith) refl has.tokens 
 
 -- ---- Lines that keep the rules
 
--- A form that both versions have is one of any text.
-old : (text : List (List ℕ)) (some : LineForm) (line : List ℕ) → HasForm some line → is_of_version_2 some ≡ false → HasFormIn text some line
-old text some line has is = record { has_form = has; of_version = λ told. absurd (cc (told, is)) }
-
 -- Lines of which none is left have no forms.
 no_forms : (text : List (List ℕ)) (forms : List LineForm) → HaveForms text forms [] → forms ≡ []
 no_forms text [] have = refl
@@ -110,14 +107,14 @@ blank_kept text before line blank spelled allowed short =
 
 header_kept : (text : List (List ℕ)) → IsUnbroken text [] (codes "cosim 1")
 header_kept text =
-    unbroken text [] (codes "cosim 1") refl (omega arith) (λ none. none.1 (form.Header 1) (old text (form.Header 1) (codes "cosim 1") plain_header refl))
+    unbroken text [] (codes "cosim 1") refl (omega arith) (λ none. none.1 (form.Header 1) (old_form text (codes "cosim 1") (form.Header 1) plain_header refl))
     (placed text [] (codes "cosim 1") [] (form.Header 1) (no_forms text) header_only refl)
     (λ lacks. lacks.is_other 1 plain_header)
 
 unit_kept : (text : List (List ℕ)) → IsUnbroken text (codes "cosim 1" ∷ []) (codes "unit A")
 unit_kept text =
     unbroken text (codes "cosim 1" ∷ []) (codes "unit A") refl (omega arith)
-    (λ none. none.1 (form.Unit (codes "A")) (old text (form.Unit (codes "A")) (codes "unit A") unit_a refl))
+    (λ none. none.1 (form.Unit (codes "A")) (old_form text (codes "unit A") (form.Unit (codes "A")) unit_a refl))
     (placed text (codes "cosim 1" ∷ []) (codes "unit A") (form.Header 1 ∷ []) (form.Unit (codes "A"))
     (one_form text (codes "cosim 1") (form.Header 1) header_only) unit_only refl)
     (λ lacks. absurd (cc (lacks.before_is_blank)))
@@ -201,12 +198,12 @@ stray_end_is =
               forms = [];
               some = form.End;
               lines = _;
-              has_form = old (codes "end" ∷ []) form.End (codes "end") end_line refl;
+              has_form = old_form (codes "end" ∷ []) (codes "end") form.End end_line refl;
               misplaced =
                   refl;
             },
           )))))
-          (λ less. refl) (λ less. omega arith) (λ less none. none.1 form.End (old (codes "end" ∷ []) form.End (codes "end") end_line refl))
+          (λ less. refl) (λ less. omega arith) (λ less none. none.1 form.End (old_form (codes "end" ∷ []) (codes "end") form.End end_line refl))
           (omega arith) refl),
     )
 
@@ -214,7 +211,7 @@ abbrev two_headers : List (List ℕ)
 two_headers = codes "cosim 1" ∷ codes "cosim 1" ∷ []
 
 headed : HasFormIn two_headers (form.Header 1) (codes "cosim 1")
-headed = old two_headers (form.Header 1) (codes "cosim 1") plain_header refl
+headed = old_form two_headers (codes "cosim 1") (form.Header 1) plain_header refl
 
 pub second_header_is : IsRefused (text_of two_headers) 2 5
 second_header_is =
@@ -239,7 +236,7 @@ no_header_is =
       inl (first_broken ([] ∷ []) (codes "unit A") [] 7 (blank_kept headless [] [] refl refl refl (omega arith), _)
           (inr (inr (inr (inr (refl, record { before_is_blank = refl; is_first = refl; is_other = not_header })))))
           (least headless 7 ([] ∷ []) (codes "unit A") (omega arith) (λ less. refl) (λ less. omega arith)
-          (λ less none. none.1 (form.Unit (codes "A")) (old headless (form.Unit (codes "A")) (codes "unit A") unit_a refl))
+          (λ less none. none.1 (form.Unit (codes "A")) (old_form headless (codes "unit A") (form.Unit (codes "A")) unit_a refl))
           (λ less. placed headless ([] ∷ []) (codes "unit A") [] (form.Unit (codes "A")) (no_forms headless) unit_only refl)) refl),
     )
 
@@ -252,8 +249,10 @@ unended_is =
       leb-true (size_of (text_of open_lines)) text_limit refl,
       inr (record {
         forms = form.Header 1 ∷ form.Unit (codes "A") ∷ [];
-        have_forms =
-            (old open_lines (form.Header 1) (codes "cosim 1") plain_header refl, (old open_lines (form.Unit (codes "A")) (codes "unit A") unit_a refl, _));
+        have_forms = (
+          old_form open_lines (codes "cosim 1") (form.Header 1) plain_header refl,
+          (old_form open_lines (codes "unit A") (form.Unit (codes "A")) unit_a refl, _),
+        );
         is_open = λ none. absurd (cc none);
         unbroken =
             no_break open_lines (
@@ -381,12 +380,12 @@ earlier_version_is =
               some = form.Header 1;
               lines = (headed_2, _);
               has_form =
-                  old two_then_one (form.Header 1) (codes "cosim 1") plain_header refl;
+                  old_form two_then_one (codes "cosim 1") (form.Header 1) plain_header refl;
               misplaced = refl;
             },
           )))))
           (least two_then_one 5 (codes "cosim 2" ∷ []) (codes "cosim 1") (omega arith) (λ less. refl) (λ less. omega arith)
-          (λ less none. none.1 (form.Header 1) (old two_then_one (form.Header 1) (codes "cosim 1") plain_header refl))
+          (λ less none. none.1 (form.Header 1) (old_form two_then_one (codes "cosim 1") (form.Header 1) plain_header refl))
           (λ less. absurd (omega arith))) refl),
     )
 

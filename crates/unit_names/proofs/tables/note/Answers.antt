@@ -2,7 +2,7 @@ use Rattle.std.proofs.Common.{rules, ◌≡◌, None, bytes_eq}
 use Rattle.indexmap.specs.IndexMap.{get_by}
 use Rattle.std.specs.Cmp.Lexicographic.{bytes_decides, nat_list_eq_equiv}
 use Rattle.std.proofs.lemmas.Map.Text.{hash_map_updates_str}
-use Rattle.unit_names.proofs.FoundEntries.{newly}
+use Rattle.list_laws.proofs.Options.{put_behind}
 use Rattle.unit_names.proofs.tables.note.Goals as goal
 
 pub returns-in_ok-insert : goal.returns-in_ok-insert
@@ -10,4 +10,4 @@ returns-in_ok-insert g c = λ q.
     let w = c.args.name in
     let put = hash_map_updates_str w.now c.args.table.now c.insert.new.self _ c.in_ok-insert.ensures.updates q in
     let none : get_by (λ k. bytes_eq w.now k.now) c.args.table.now ≡ None = search rules in
-    newly (bytes_eq q w.now) (bytes_eq w.now q) _ _ _ (nat_list_eq_equiv.symm q w.now) (λ same. rw ((bytes_decides q w.now).0 same) none) put
+    put_behind (bytes_eq q w.now) (bytes_eq w.now q) _ _ _ (nat_list_eq_equiv.symm q w.now) (λ same. rw ((bytes_decides q w.now).0 same) none) put
