@@ -1,5 +1,5 @@
 pub mod FaultLemmas
 pub mod PieceLemmas
+pub mod WriteLemmas
 mod MemoryLemmas
 mod ReadLemmas
-mod WriteLemmas

@@ -3,7 +3,8 @@
 //!
 //! A crate above is generic over `S: Source` and `O: Sink`. It may use the two traits, [`read_all`] with its
 //! [`ReadEnd`], and their clauses. A program hands in [`StdSource`] and [`StdSink`] over the standard streams, a test
-//! [`MemSource`] and [`MemSink`], whose failing calls it lists.
+//! [`MemSource`] and [`MemSink`], whose failing calls it lists. [`NullSink`] keeps nothing: for whoever wants what a run
+//! reports, and not what it puts.
 //!
 //! The definitions stand in `specs/`: `Faults` says when a count rose and what a call leaves of it, `Pieces` what is
 //! taken and appended, `Scripted` what the source and the sink over memory are. The laws that a caller of several reads
@@ -13,12 +14,14 @@
 
 mod edge;
 mod memory;
+mod null;
 mod sink;
 mod source;
 mod whole;
 
 pub use edge::{StdSink, StdSource};
 pub use memory::{MemSink, MemSource};
+pub use null::NullSink;
 pub use sink::Sink;
 pub use source::{Failed, Source};
 pub use whole::{ReadEnd, read_all};
