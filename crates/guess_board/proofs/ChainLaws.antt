@@ -1,7 +1,7 @@
 -- Laws of chains: they go on where their beginning stops, what is matched in sequence begins them, and so does what posts append.
-use Rattle.std.proofs.Common.{◌≡◌, ℕ, suc, ◌≤◌, ◌==◌, ℤ, Bool, true, false, ◌&&◌, if◌then◌else◌, List, [], ◌∷◌, ◌++◌, length, take, drop}
+use Rattle.std.proofs.Common.{◌≡◌, ℕ, suc, ◌≤◌, ◌==◌, ℤ, Bool, true, false, if◌then◌else◌, List, [], ◌∷◌, ◌++◌, length, take, drop}
 use Rattle.std.proofs.Common.{Option, Some, None, Result, slice_get, refl, sym, ap, subst, ◌∙◌, append_assoc, arith, Decides}
-use Rattle.std.proofs.lemmas.Bool.{and_parts, eqb-true, eq-eqb}
+use Rattle.std.proofs.lemmas.Bool.{and_parts, eqb-true, eq-eqb, and_from}
 use Rattle.std.proofs.lemmas.Bool.Decides.{Decides-int_eq}
 use Rattle.std.proofs.lemmas.List.{take-append-drop, take_at}
 use Rattle.std.proofs.lemmas.Slice.Eq.{slice_eq-Decides}
@@ -28,9 +28,6 @@ words_decide xs ys = slice_eq-Decides Decides-int_eq xs ys (same_words xs ys) re
 pub words_itself : (words : List ℤ) → same_words words words ≡ true
 words_itself words = (words_decide words words).1 refl
 
-pub both : (a b : Bool) → a ≡ true → b ≡ true → (a && b) ≡ true
-both a b one other = cc
-
 pub keys_same : (a b : StepKey) → is_same_key a b ≡ true → a ≡ b
 keys_same a b is =
     let one = and_parts (a.time == b.time) _ is in
@@ -46,8 +43,8 @@ keys_same a b is =
 
 key_itself : (a : StepKey) → is_same_key a a ≡ true
 key_itself a =
-    both _ _ (eq-eqb a.time a.time refl) (both _ _ (eq-eqb a.step a.step refl)
-    (both _ _ ((words_decide a.state a.state).1 refl) (both _ _ ((words_decide a.inputs a.inputs).1 refl) ((words_decide a.code a.code).1 refl))))
+    and_from _ _ (eq-eqb a.time a.time refl) (and_from _ _ (eq-eqb a.step a.step refl)
+    (and_from _ _ ((words_decide a.state a.state).1 refl) (and_from _ _ ((words_decide a.inputs a.inputs).1 refl) ((words_decide a.code a.code).1 refl))))
 
 pub same_keys : (a b : StepKey) → a ≡ b → is_same_key a b ≡ true
 same_keys a b is = subst (λ k. is_same_key a k ≡ true) is (key_itself a)
@@ -127,7 +124,7 @@ module _ (meaning : StepKey → Option (Result Moved Fault)) where
   -- ---- What is matched in sequence
 
   next_itself : (one : Answered) → is_next one.row one.key one ≡ true
-  next_itself one = both (one.row == one.row) (is_same_key one.key one.key) (eq-eqb one.row one.row refl) (key_itself one.key)
+  next_itself one = and_from (one.row == one.row) (is_same_key one.key one.key) (eq-eqb one.row one.row refl) (key_itself one.key)
 
   -- What does not come next is not matched.
   unmatched : (row : ℕ) (key : StepKey) (one : Answered) (ones : List Answered) (told : Option (Result Moved Fault))

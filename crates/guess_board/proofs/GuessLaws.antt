@@ -1,7 +1,6 @@
 -- Laws of guessed lines: they end where no row is planned, and fit what lanes take.
 use Rattle.std.proofs.Common.{◌≡◌, ℕ, zero, suc, ◌+◌, ◌^◌, ◌<◌, ◌≤◌, ◌==◌, nat_lt, Bool, true, false, ◌||◌, if◌then◌else◌, ℤ}
 use Rattle.std.proofs.Common.{List, [], ◌∷◌, ◌++◌, length, refl, sym, ap, subst, ◌∙◌, append-nil, arith, mul-le-mul_right}
-use Rattle.std.proofs.Math.Nat.{div-le_self}
 use Rattle.std.proofs.lemmas.Bool.Decides.{nat_tests}
 use Rattle.std.proofs.lemmas.List.{length_push}
 use Rattle.std.specs.List.{AllByRecursion}
@@ -12,6 +11,7 @@ use Rattle.guess_board.specs.declared.guesses.Policy.{Policy}
 use Rattle.guess_board.specs.declared.guesses.Policy.TheVariants.{Hold, Linear}
 use Rattle.list_laws.proofs.Lists.{each_append}
 use Rattle.super_time.specs.LocalTime.{local_time, local_step}
+use Rattle.super_time.proofs.LimitLaws.{local_end}
 use Rattle.word_lanes.specs.Guess.{guesses}
 
 -- ---- Where no row is planned
@@ -121,9 +121,6 @@ reaches_more row n count line false moves cell is fits so_far = subst (Reaches r
 })
 
 -- A step that is planned ends in time.
-in_time : (factor t h : ℕ) → local_time factor t + local_step factor t h ≤ t + h
-in_time factor t h = omega (arith, div-le_self t factor, div-le_self (t + h) factor)
-
 planned_end : (seen : Seen) (j : ℕ) → is_planned (planned_time seen j) seen.step seen.stop j ≡ true → planned_time seen j + planned_step seen j ≤ seen.stop
 planned_end seen j is = let before : planned_time seen j < seen.stop = grind (arith, nat_tests) in omega arith
 
@@ -141,7 +138,7 @@ reaches policy seen n (suc j) last before low high stop =
       inputs = (guessed_inputs policy seen j).words;
     }) refl (λ is. record {
       each_input = (inputs_long policy seen n j last before low high).words;
-      in_time = let ends = planned_end seen j is in let fits = in_time seen.factor (planned_time seen j) (planned_step seen j) in omega arith;
+      in_time = let ends = planned_end seen j is in let fits = local_end seen.factor (planned_time seen j) (planned_step seen j) in omega arith;
     }) (reaches policy seen n j last before low high stop)
 
 pub reached : (policy : Policy) (seen : Seen) (n j : ℕ) (line : List Cell) → line ≡ guessed_line policy seen j → length seen.last ≡ n

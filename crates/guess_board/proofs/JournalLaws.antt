@@ -204,13 +204,6 @@ next_small journal b = let most = count_records journal.records in let size = b.
 
 -- ---- A search for a number
 
-pub eqb_apart : (m n : ℕ) → ¬ (m ≡ n) → (m == n) ≡ false
-eqb_apart m n apart = by (m == n) refl
-  where
-    by : (b : Bool) → (m == n) ≡ b → (m == n) ≡ false
-    by true is = absurd (apart (eqb-true m n is))
-    by false is = is
-
 pub passed_by : (n : ℕ) (ns : List ℕ) (k m : ℕ) → k < length ns → m ≡ get_or ns k m → (m == n) ≡ false
     → without n ns ≡ take k ns ++ without n (drop k ns) → without n ns ≡ take (k + 1) ns ++ without n (drop (k + 1) ns)
 passed_by n ns k m within is apart so_far =

@@ -6,3 +6,4 @@ pub mod NeedLaws
 pub mod RunLaws
 pub mod SlotLaws
 pub mod TicketLaws
+pub mod WorkLaws

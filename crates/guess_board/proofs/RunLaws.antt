@@ -1,9 +1,9 @@
 -- What is kept for a chain is the longest run that begins it.
 use Rattle.std.proofs.Common.{◌≡◌, ℕ, zero, suc, ◌≤◌, ◌==◌, Bool, true, false, List, [], ◌∷◌, length, map, take, refl, sym, ap, subst, ◌∙◌, arith}
-use Rattle.std.proofs.lemmas.Bool.{and_parts, eqb-true, eq-eqb}
+use Rattle.std.proofs.lemmas.Bool.{and_parts, eqb-true, eq-eqb, and_from}
 use Rattle.guess_board.specs.Chains.{common, is_next, is_same_key}
 use Rattle.guess_board.specs.Laws.{IsLongestRun, asked}
-use Rattle.guess_board.proofs.ChainLaws.{both, chosen, keys_same, same_keys}
+use Rattle.guess_board.proofs.ChainLaws.{chosen, keys_same, same_keys}
 use Rattle.unit_answers.specs.Answers.{Answered}
 
 next_asked : (one other : Answered) → is_next other.row other.key one ≡ true → asked one ≡ asked other
@@ -15,7 +15,7 @@ next_asked one other is =
 
 asked_next : (one other : Answered) → asked one ≡ asked other → is_next other.row other.key one ≡ true
 asked_next one other is =
-    both (other.row == one.row) (is_same_key other.key one.key) (eq-eqb other.row one.row (sym (ap (λ n. n.row) is)))
+    and_from (other.row == one.row) (is_same_key other.key one.key) (eq-eqb other.row one.row (sym (ap (λ n. n.row) is)))
     (same_keys other.key one.key (sym (ap (λ n. n.key) is)))
 
 none_kept : (ones others : List Answered) → ((n : ℕ) → suc n ≤ length ones → suc n ≤ length others

@@ -21,7 +21,7 @@ use Rattle.unit_tree.specs.Components.{Moved}
 abbrev pub IsLong : ℕ → Option (List ℤ) → Type 0
 IsLong n state = IfSome state (λ words. length words ≡ n)
 
-whole_long : (n m step : ℕ) (answer : Result Moved Fault) → IfOk answer (λ moved. length moved.state ≡ m) → m ≡ n
+pub whole_long : (n m step : ℕ) (answer : Result Moved Fault) → IfOk answer (λ moved. length moved.state ≡ m) → m ≡ n
     → IsLong n (state_of_whole step answer)
 whole_long n m step (Err fault) long is = tt
 whole_long n m step (Ok moved) long is = by (moved.accepted == step)

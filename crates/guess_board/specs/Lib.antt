@@ -9,3 +9,4 @@ pub mod Lanes
 pub mod Laws
 pub mod Matching
 pub mod Slots
+pub mod Working

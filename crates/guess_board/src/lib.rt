@@ -22,6 +22,7 @@ mod laws;
 mod needs;
 mod slots;
 mod ticket;
+mod working;
 
 pub use cell::Cell;
 pub use counts::LaneCounts;
@@ -33,3 +34,4 @@ pub use laws::{
     chains_are_short, chains_go_on, kept_runs_are_longest, needs_are_answered_next, tickets_fit,
 };
 pub use ticket::Ticket;
+pub use working::work_off;

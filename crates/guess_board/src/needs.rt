@@ -19,7 +19,7 @@ pub(crate) struct Needed<'a> {
 }
 
 /// The state after an answer that accepted its whole step.
-fn whole_state(one: &Proven) -> Option<&[i64]>
+pub(crate) fn whole_state(one: &Proven) -> Option<&[i64]>
     ensures { option_copied result ≡ whole_state one.now }
 {
     match one.answer() {

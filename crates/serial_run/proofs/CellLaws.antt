@@ -1,24 +1,23 @@
--- All steps of a phase, and the cells of a stand.
+-- All steps of a phase, made by the run itself.
 use Rattle.std.proofs.Common.{◌≡◌, ℕ, suc, ◌+◌, ◌<◌, ◌≤◌, cond, Bool, true, false, List, [], ◌∷◌, ◌++◌, ℤ, length, length-append, map, Option, Some, None}
-use Rattle.std.proofs.Common.{Result, refl, sym, ap, subst, ◌∙◌, arith, append-nil, append_assoc}
-use Rattle.std.specs.Prelude.{◌&&◌, is_some, is_none, zip, slice_get, slice_set}
+use Rattle.std.proofs.Common.{Result, inl, inr, refl, sym, ap, subst, ◌∙◌, arith, append-nil, append_assoc}
+use Rattle.std.specs.Prelude.{slice_get, slice_set}
 use Rattle.std.specs.List.{AllZip, count_by}
 use Rattle.std.proofs.Math.Seq.{set-append_seam}
-use Rattle.std.proofs.lemmas.List.Sums.{sum_by-cons, sum_by_push}
+use Rattle.std.proofs.lemmas.List.Sums.{sum_by_push}
 use Rattle.std.proofs.lemmas.Slice.Zip.{AllZip-long}
+use Rattle.std.proofs.lemmas.Option.{same_Some}
 use Rattle.fixed_words.specs.declared.types.Fault.{Fault}
-use Rattle.trace_core.specs.Runs.{Cell, Held, Empty, Filled, RunState, AreCellsFull, IsWanted, IsComputed, with_own, cell_of, first_end, is_empty_cell}
+use Rattle.trace_core.specs.Runs.{Cell, Held, Empty, Filled, RunState, AreCellsFull, IsWanted, IsComputed, with_own, is_empty_cell}
 use Rattle.trace_core.specs.Runs.{is_filled}
-use Rattle.unit_tree.specs.Compositions.{Composition, Member}
-use Rattle.super_time.specs.LocalTime.{local_time, local_step}
-use Rattle.unit_tree.specs.Components.{Moved, step_of}
-use Rattle.unit_tree.specs.Negotiation.{inputs_at, is_held, step_at}
-use Rattle.unit_tree.specs.Ports.{Ports}
-use Rattle.unit_tree.specs.Successor.{steps_by, trial_end, is_redone}
-use Rattle.unit_tree.specs.Trace.{Stand, steps_there, cells_of_trial, cells_of_redo, cells_at}
-use Rattle.unit_tree.specs.declared.ending.Ending.{Ending}
+use Rattle.trace_core.specs.Settling.{Settled}
+use Rattle.trace_core.specs.declared.phase.Settle.{Settle}
+use Rattle.trace_core.specs.declared.phase.Settle.TheVariants as settle
+use Rattle.trace_rows.specs.Passing.{AreStepsThere}
+use Rattle.unit_tree.specs.Components.{Moved}
 use Rattle.serial_run.specs.Advances.{IsAfter, StepsAreMade}
 use Rattle.list_laws.proofs.Pairs.{zip_append}
+use Rattle.list_laws.proofs.Members.{at_seam}
 
 -- ---- Cells in turn
 
@@ -39,10 +38,6 @@ pub filling_none : (r : RunState) → Filling r r 0
 filling_none r =
     record { done = []; made = []; others = r.cells; split = refl; counted = refl; each = tt; is = ap (λ own. record r { own = own }) (omega arith) }
 
-at_seam : (made : List Cell) (cell : Cell) (others : List Cell) → slice_get (made ++ (cell ∷ others)) (length made) ≡ Some cell
-at_seam [] cell others = refl
-at_seam (first ∷ made) cell others = at_seam made cell others
-
 -- the next cell joins those that are there
 next_filling : (r next : RunState) (count : ℕ) (done made : List Cell) (cell new : Cell) (others : List Cell) (own : ℕ) → r.cells ≡ done ++ (cell ∷ others)
     → length made ≡ count → AllZip IsAfter done made
@@ -61,9 +56,6 @@ next_filling r next count done made cell new others own split counted each after
       ∙ ap (λ count. record r { cells = (made ++ (new ∷ [])) ++ others; own = count }) own_is;
 }
 
-wanted_is_empty : (cell : Cell) → Some cell ≡ Some Empty → cell ≡ Empty
-wanted_is_empty cell is = cc
-
 module _ (r now : RunState) (count : ℕ) (within : count < length r.cells) where
   none_left : (done made : List Cell) → r.cells ≡ done ++ [] → length made ≡ count → AllZip IsAfter done made → ⊥
   none_left done made split counted each =
@@ -81,7 +73,7 @@ module _ (r now : RunState) (count : ℕ) (within : count < length r.cells) wher
       → IsWanted now count → next ≡ with_own now count step → Filling r next (count + 1)
   filling_wanted next step done made [] split counted each is wanted took = absurd (none_left done made split counted each)
   filling_wanted next step done made (cell ∷ others) split counted each is wanted took =
-      let empty : cell ≡ Empty = wanted_is_empty cell (sym (seen_next done made cell others counted is) ∙ wanted) in
+      let empty : cell ≡ Empty = same_Some cell Empty (sym (seen_next done made cell others counted is) ∙ wanted) in
       let cells : slice_set (made ++ (cell ∷ others)) count (Filled step) ≡ made ++ (Filled step ∷ others) =
       ap (λ n. slice_set (made ++ (cell ∷ others)) n (Filled step)) (sym counted) ∙ set-append_seam made cell others (Filled step) in
       let one_more : suc (r.own + count_by is_empty_cell done) ≡ r.own + count_by is_empty_cell (done ++ (Empty ∷ [])) =
@@ -155,61 +147,24 @@ all_after_full (was ∷ old) (cell ∷ new) each = (after_full was cell each.0, 
 pub cells_full : (r now : RunState) → StepsAreMade r now → AreCellsFull now.cells
 cells_full r now made = all_after_full r.cells now.cells made.each
 
-pub true_or_false : true ≡ false → ⊥
-true_or_false is = cc
+-- ---- All steps are there
 
--- ---- How many there are
+pub steps_there : (r now : RunState) → StepsAreMade r now → AreStepsThere r now
+steps_there r now made = record {
+  full = cells_full r now made;
+  is =
+      made.is
+      ∙ ap (λ count. record r { cells = now.cells; own = count }) (sym (ap (λ (s : RunState). s.own) made.is))
+      ∙ ap (λ count. record r { cells = now.cells; found = count; own = now.own }) (sym (ap (λ (s : RunState). s.found) made.is));
+  counted = ap (λ (s : RunState). s.found + s.own) made.is ∙ omega arith;
+}
 
--- a cell is wanted exactly where the member makes a step
-abbrev one : Bool → ℕ
-one counts = cond counts 1 0
+-- Settling counts nothing.
+pub settled_found : (now next : RunState) (told : Settle) → Settled now next told → next.found ≡ now.found
+settled_found now next settle.Redo (due, is) = ap (λ (s : RunState). s.found) is
+settled_found now next settle.Row (moves, known) = ap (λ (s : RunState). s.found) moves.is
+settled_found now next settle.Ended (inl (moves, unknown)) = ap (λ (s : RunState). s.found) moves.is
+settled_found now next settle.Ended (inr end) = ap (λ (s : RunState). s.found) end.is
 
-one_wanted : (held : Bool) {A : Type 0} (step : A) → one (is_empty_cell (cond held Held Empty)) ≡ one (is_some (cond held None (Some step)))
-one_wanted true step = refl
-one_wanted false step = refl
-
-wanted_along : (t h : ℕ) (ports : Ports) (members : List Member) (states : List (List ℤ)) → length states ≡ length members
-    → count_by is_empty_cell (map (cell_of t h) members) ≡ steps_there (map (step_at t h ports) (zip members states))
-wanted_along t h ports [] [] as_many = refl
-wanted_along t h ports [] (state ∷ states) as_many = absurd (omega arith)
-wanted_along t h ports (member ∷ members) [] as_many = absurd (omega arith)
-wanted_along t h ports (member ∷ members) (state ∷ states) as_many =
-    sum_by-cons (λ cell. cond (is_empty_cell cell) 1 0) (cell_of t h member) (map (cell_of t h) members)
-    ∙ ap (λ n. n + count_by is_empty_cell (map (cell_of t h) members))
-    (one_wanted (is_held member.factor t h)
-    (step_of member.component state (inputs_at ports member) (local_time member.factor t) (local_step member.factor t h)))
-    ∙ ap (λ n. cond (is_some (step_at t h ports (member, state))) 1 0 + n) (wanted_along t h ports members states (omega arith))
-    ∙ sym (sum_by-cons (λ step. cond (is_some step) 1 0) (step_at t h ports (member, state)) (map (step_at t h ports) (zip members states)))
-
-pub wanted_are_steps : (run : Composition) (stand : Stand) (h : ℕ) → length stand.at.states ≡ length run.members
-    → count_by is_empty_cell (map (cell_of stand.at.point.t h) run.members) ≡ steps_there (steps_by run stand.at stand.ports h)
-wanted_are_steps run stand h as_many = wanted_along stand.at.point.t h stand.ports run.members stand.at.states as_many
-
--- ---- The cells of a stand
-
--- where it goes on, those of the trial
-cells_of_both : (run : Composition) (stand : Stand) → first_end run stand ≡ None
-    → cells_at run stand
-    ≡ cells_of_trial run stand + cond (is_none (trial_end run stand.at stand.ports) && is_redone run stand.at stand.ports) (cells_of_redo run stand) 0
-cells_of_both run stand none =
-    ap (λ (end : Option Ending). cond (is_some end) 0
-    (cells_of_trial run stand + cond (is_none (trial_end run stand.at stand.ports) && is_redone run stand.at stand.ports) (cells_of_redo run stand) 0)) none
-
--- with those of the step that is made anew
-pub cells_redone : (run : Composition) (stand : Stand) → first_end run stand ≡ None → trial_end run stand.at stand.ports ≡ None
-    → is_redone run stand.at stand.ports ≡ true → cells_at run stand ≡ cells_of_trial run stand + cells_of_redo run stand
-cells_redone run stand none no_fault shorter =
-    cells_of_both run stand none
-    ∙ ap (λ (end : Option Ending). cells_of_trial run stand + cond (is_none end && is_redone run stand.at stand.ports) (cells_of_redo run stand) 0) no_fault
-    ∙ ap (λ redone. cells_of_trial run stand + cond redone (cells_of_redo run stand) 0) shorter
-
-tried_by : (end : Option Ending) (redone : Bool) (tried anew : ℕ) → (end ≡ None → redone ≡ true → ⊥) → tried + cond (is_none end && redone) anew 0 ≡ tried
-tried_by (Some ending) redone tried anew not = omega arith
-tried_by None true tried anew not = absurd (not refl refl)
-tried_by None false tried anew not = omega arith
-
-pub cells_tried : (run : Composition) (stand : Stand) → first_end run stand ≡ None
-    → (trial_end run stand.at stand.ports ≡ None → is_redone run stand.at stand.ports ≡ true → ⊥) → cells_at run stand ≡ cells_of_trial run stand
-cells_tried run stand none not =
-    cells_of_both run stand none
-    ∙ tried_by (trial_end run stand.at stand.ports) (is_redone run stand.at stand.ports) (cells_of_trial run stand) (cells_of_redo run stand) not
+pub made_found : (r now : RunState) → StepsAreMade r now → now.found ≡ r.found
+made_found r now made = ap (λ (s : RunState). s.found) made.is

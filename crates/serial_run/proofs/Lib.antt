@@ -1,3 +1,2 @@
-pub mod AdvanceLaws
 pub mod CellLaws
 pub mod RunLaws

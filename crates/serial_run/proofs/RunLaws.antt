@@ -1,4 +1,4 @@
--- A run along its own steps, as one whose cells are filled by whomever.
+-- A run along its own steps, from row to row.
 use Rattle.std.proofs.Common.{◌≡◌, ℕ, ◌+◌, ◌*◌, ◌≤◌, true, false, Bool, length, Option, List, Result, Ok, Err, inl, inr, refl, sym, ap, subst, ◌∙◌, arith}
 use Rattle.std.specs.Prelude.{IfOk, OnErr}
 use Rattle.std.specs.Io.KnownBytes.{Appends}
@@ -10,63 +10,29 @@ use Rattle.unit_tree.specs.Trace.{HasCells, cells_at}
 use Rattle.unit_tree.specs.declared.ending.Ending.{Ending}
 use Rattle.unit_tree.specs.declared.system.System.{System}
 use Rattle.trace_rows.specs.Lines.{header_of}
-use Rattle.trace_rows.specs.Passing.{IsFresh, Passes, Stops}
+use Rattle.trace_rows.specs.Passing.{Passes, WentOn}
 use Rattle.trace_rows.specs.Reports.{report_of, ReportsRest, PutsRestFront, ReportsTrace, PutsFront}
 use Rattle.trace_rows.specs.declared.fault.CrewFault.{CrewFault}
 use Rattle.trace_rows.specs.declared.report.Report.{Report}
 use Rattle.trace_rows.specs.declared.tally.Tally.{Tally}
 use Rattle.trace_rows.proofs.RunEnds.{IsDone, done_next, done_there, rest_bounded, traced_err, traced_ok}
 use Rattle.trace_rows.proofs.RunKept.{Given, Kept}
-use Rattle.serial_run.specs.Advances.{CameToNext, EndsThere, Advanced}
 use Rattle.serial_run.specs.Alone.{IsAlone}
 
 -- ---- From row to row
 
--- where it took nothing from others, all cells are filled by its own steps
-filled_own : (found found' own own' here : ℕ) → found' ≡ found → own' ≡ own + here → found' + own' ≡ found + own + here
-filled_own found found' own own' here same more = omega (arith, same, more)
+pub going_on : (old new : RunState) (came : Bool) → came ≡ true → WentOn old new came → Passes old new
+going_on old new came is went = (subst (WentOn old new) is went).0
 
-fresh_next : (old new : RunState) → CameToNext old new → IsFresh new
-fresh_next old new moved =
-    let own = old.own + cells_at old.plan.run old.stand in
-    moved.is
-    ∙ ap (λ plan. arrived plan old.opened new.stand new.before old.found own) (sym (ap (λ (s : RunState). s.plan) moved.is))
-    ∙ ap (λ opened. arrived new.plan opened new.stand new.before old.found own) (sym (ap (λ (s : RunState). s.opened) moved.is))
-    ∙ ap (λ found. arrived new.plan new.opened new.stand new.before found own) (sym (ap (λ (s : RunState). s.found) moved.is))
-    ∙ ap (λ own. arrived new.plan new.opened new.stand new.before new.found own) (sym (ap (λ (s : RunState). s.own) moved.is))
-
-pub passes : (old new : RunState) → CameToNext old new → Passes old new
-passes old new moved = record {
-  planned = ap (λ (s : RunState). s.plan) moved.is;
-  goes = moved.goes;
-  fresh = fresh_next old new moved;
-  filled = filled_own old.found new.found old.own new.own (cells_at old.plan.run old.stand) (ap (λ (s : RunState). s.found) moved.is)
-      (ap (λ (s : RunState). s.own) moved.is);
-}
-
-stops : (old new : RunState) → EndsThere old new → Stops old new
-stops old new there = record {
-  ending = there.ending;
-  ended = there.ended;
-  planned = ap (λ (s : RunState). s.plan) there.is;
-  stand = ap (λ (s : RunState). s.stand) there.is;
-  phase = ap (λ (s : RunState). s.phase) there.is;
-  filled = filled_own old.found new.found old.own new.own (cells_at old.plan.run old.stand) (ap (λ (s : RunState). s.found) there.is)
-      (ap (λ (s : RunState). s.own) there.is);
-}
-
-pub going_on : (old new : RunState) (came : Bool) → came ≡ true → Advanced old new came → CameToNext old new
-going_on old new came is advanced = (subst (Advanced old new) is advanced).0
-
-pub ended_by : (old new : RunState) (came : Bool) → came ≡ false → Advanced old new came → Advanced old new false
-ended_by old new came is advanced = subst (Advanced old new) is advanced
+pub ended_by : (old new : RunState) (came : Bool) → came ≡ false → WentOn old new came → WentOn old new false
+ended_by old new came is went = subst (WentOn old new) is went
 
 pub done_by : (plan : Planned) (from : Position) (old new : RunState) (held0 held : Option (List ℕ)) (faults0 faults : ℕ) (tally : Tally) → Given plan from
-    → Kept plan from old held0 held faults0 faults tally → Advanced old new false → Stands new → IsDone plan from new held0 held tally
+    → Kept plan from old held0 held faults0 faults tally → WentOn old new false → Stands new → IsDone plan from new held0 held tally
 done_by plan from old new held0 held faults0 faults tally given kept (inl (moved, unknown)) stands =
-    done_next plan from old new held0 held faults0 faults tally given kept (passes old new moved) stands unknown
+    done_next plan from old new held0 held faults0 faults tally given kept moved stands unknown
 done_by plan from old new held0 held faults0 faults tally given kept (inr there) stands =
-    done_there plan from old new held0 held faults0 faults tally kept (stops old new there)
+    done_there plan from old new held0 held faults0 faults tally kept there
 
 -- ---- Nothing came from others
 
@@ -74,13 +40,6 @@ done_by plan from old new held0 held faults0 faults tally given kept (inr there)
 pub record KeptAlone (plan : Planned) (from : Position) (r : RunState) (held0 held : Option (List ℕ)) (faults0 faults : ℕ) (tally : Tally) : Type 0 where
   pub kept : Kept plan from r held0 held faults0 faults tally
   pub alone : r.found ≡ 0
-
-pub found_next : (old new : RunState) → CameToNext old new → old.found ≡ 0 → new.found ≡ 0
-found_next old new moved alone = ap (λ (s : RunState). s.found) moved.is ∙ alone
-
-pub found_last : (old new : RunState) → Advanced old new false → old.found ≡ 0 → new.found ≡ 0
-found_last old new (inl (moved, unknown)) alone = found_next old new moved alone
-found_last old new (inr there) alone = ap (λ (s : RunState). s.found) there.is ∙ alone
 
 pub alone_by : (r : RunState) (ending : Ending) (tally : Tally) (report : Report) → report ≡ report_of r ending tally → r.found ≡ 0 → IsAlone report
 alone_by r ending tally report is none =

@@ -1,12 +1,7 @@
--- How a run gets from one row to the next.
-use Rattle.std.specs.Prelude.{◌≡◌, ◌+◌, Bool, true, false, List, [], ◌⊎◌}
+-- How a run makes all steps of a phase itself.
+use Rattle.std.specs.Prelude.{◌≡◌, ◌+◌, true, List}
 use Rattle.std.specs.List.{AllZip, count_by}
-use Rattle.trace_core.specs.Runs.{Cell, Empty, RunState, arrived, ArePortsKnown, is_empty_cell, is_filled}
-use Rattle.trace_core.specs.declared.phase.Phase.TheVariants.{Ended}
-use Rattle.unit_tree.specs.Negotiation.{all_inputs}
-use Rattle.unit_tree.specs.Successor.{ends, successor}
-use Rattle.unit_tree.specs.Trace.{Goes, cells_at}
-use Rattle.unit_tree.specs.declared.ending.Ending.{Ending}
+use Rattle.trace_core.specs.Runs.{Cell, Empty, RunState, is_empty_cell, is_filled}
 
 -- ---- All steps of a phase
 
@@ -23,23 +18,3 @@ with_cells r cells = record r { cells = cells; own = r.own + count_by is_empty_c
 pub record StepsAreMade (old new : RunState) : Type 0 where
   pub each : AllZip IsAfter old.cells new.cells
   pub is : new ≡ with_cells old new.cells
-
--- ---- From row to row
-
--- It came to the next stand, and made all cells of the one before by its own steps. The inputs of the row before are those that it
--- had there.
-pub record CameToNext (old new : RunState) : Type 0 where
-  pub goes : Goes old.plan.run old.stand new.stand
-  pub before : new.before ≡ all_inputs old.plan.run old.stand.ports
-  pub is : new ≡ arrived old.plan old.opened new.stand new.before old.found (old.own + cells_at old.plan.run old.stand)
-
--- It ends where it stands, and made all cells there by its own steps.
-pub record EndsThere (old new : RunState) : Type 0 where
-  pub ending : Ending
-  pub ended : successor old.plan.run old.stand.at old.stand.ports ≡ ends ending
-  pub is : new ≡ record old { phase = Ended ending; cells = []; own = old.own + cells_at old.plan.run old.stand }
-
--- There is a next row where the run came to a stand at which all ports have words.
-abbrev pub Advanced : RunState → RunState → Bool → Type 0
-Advanced old new true = CameToNext old new × ArePortsKnown new.plan.run new.stand
-Advanced old new false = (CameToNext old new × (ArePortsKnown new.plan.run new.stand → ⊥)) ⊎ EndsThere old new

@@ -1,8 +1,8 @@
 //! From one row to the next.
 ghost use Rattle.std.specs.Prelude.{◌≡◌, length};
-ghost use Rattle.serial_run.specs.Advances.{Advanced, StepsAreMade};
+ghost use Rattle.serial_run.specs.Advances.{StepsAreMade};
 ghost use Rattle.trace_core.specs.Runs.{Stands};
-ghost use Rattle.trace_rows.specs.Passing.{IsFresh};
+ghost use Rattle.trace_rows.specs.Passing.{IsFresh, WentOn};
 
 use trace_core::{Phase, Run, Settle};
 
@@ -23,7 +23,8 @@ pub(crate) fn advance(run: &mut Run, instances: u32) -> bool
     requires instances { instances ≡ length run.old.plan.run.members }
     requires fresh { IsFresh run.old }
     requires stands { Stands run.old }
-    ensures advanced { Advanced run.old run.new result }
+    ensures went { WentOn run.old run.new result }
+    ensures alone { run.new.found ≡ run.old.found }
     ensures stands { Stands run.new }
 {
     if let Phase::Ended(_) = run.phase() {

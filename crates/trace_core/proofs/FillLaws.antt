@@ -1,8 +1,7 @@
 -- The seat of one instance: what is wanted of it, and what a run is where its step was made.
-use Rattle.std.proofs.Common.{◌≡◌, ◌∙◌, ℕ, zero, suc, ◌+◌, ◌<◌, ◌≤◌, Bool, true, false, cond, ℤ, List, [], ◌∷◌, map, zip, length, get_or, set, Some, None}
+use Rattle.std.proofs.Common.{◌≡◌, ◌∙◌, ℕ, zero, suc, ◌+◌, ◌<◌, Bool, true, false, cond, ℤ, List, [], ◌∷◌, map, zip, length, get_or, set, Some, None}
 use Rattle.std.proofs.Common.{Result, Ok, Err, Vec, Global, refl, sym, ap, subst, arith, length-set}
-use Rattle.std.proofs.lemmas.Option.{slice_get_within, get_or_from_slice_get, slice_get-map, same_Some}
-use Rattle.std.proofs.Math.Nat.{div-le_self}
+use Rattle.std.proofs.lemmas.Option.{slice_get_within, get_or_from_slice_get, slice_get-map, same_Some, none-some}
 use Rattle.std.proofs.Math.Seq.{map-set_same}
 use Rattle.std.specs.Prelude.{is_none, slice_get, slice_set, slice_index_or}
 use Rattle.std.specs.Option.{option_map, option_and_then}
@@ -31,7 +30,7 @@ use Rattle.unit_tree.specs.Ports.{Ports, port_fault}
 use Rattle.unit_tree.specs.Successor.{standings}
 use Rattle.unit_tree.specs.Trace.{Stand}
 use Rattle.unit_tree.specs.declared.ending.Ending.{Ending}
-use Rattle.list_laws.proofs.Members.{at_place}
+use Rattle.list_laws.proofs.Members.{at_place, set_same}
 use Rattle.list_laws.proofs.Pairs.{zip_there}
 
 -- ---- One seat among those of a phase
@@ -97,11 +96,6 @@ seats_set t h ports (member ∷ members) (state ∷ states) [] (first ∷ seats)
 seats_set t h ports (member ∷ members) (state ∷ states) (held ∷ units) (first ∷ seats) unit new zero long are fits = (fits member state refl refl, are.1)
 seats_set t h ports (member ∷ members) (state ∷ states) (held ∷ units) (first ∷ seats) unit new (suc instance) long are fits =
     (are.0, seats_set t h ports members states units seats unit new instance (later members states units seats member state held first long) are.1 fits)
-
-unit_kept : (units : List (List ℤ)) (instance : ℕ) (unit : List ℤ) → slice_get units instance ≡ Some unit → set units instance unit ≡ units
-unit_kept [] instance unit is = absurd (cc)
-unit_kept (held ∷ units) zero unit is = ap (λ one. one ∷ units) (sym (same_Some held unit is))
-unit_kept (held ∷ units) (suc instance) unit is = ap (λ rest. held ∷ rest) (unit_kept units instance unit is)
 
 -- ---- A step that was made
 
@@ -207,7 +201,7 @@ module _ (t h : ℕ) (run : Composition) (ports : Ports) (states : List (List �
       let gave = of_member (Err fault) steps.0 in
       subst (λ (one : Fleet). AreSeats t h ports (zip run.members states) one.states (set seats instance (made_seat (Err fault)))) (sym steps.1)
       (subst (λ units. AreSeats t h ports (zip run.members states) units (set seats instance (made_seat (Err fault))))
-      (unit_kept fleet.states instance here.unit here.unit_is)
+      (set_same fleet.states instance here.unit here.unit_is)
       (seats_set t h ports run.members states fleet.states seats here.unit (made_seat (Err fault)) instance long are (λ member state member_is state_is.
       let same = same_here member state member_is state_is in
       subst (λ one. IsSeat t h ports one (here.unit, made_seat (Err fault))) (ap (λ m. (m, here.state)) same.0 ∙ ap (λ s. (member, s)) same.1)
@@ -297,11 +291,8 @@ none_wanted r seen instance seen_is none = (
   λ yes. absurd (cc),
   λ wanted.
       let there = at_place r.seats.items instance (wanted_seat r instance (subst (λ (s : RunState). IsWanted s instance) (sym seen_is) wanted)) in
-      absurd (differ there.0 (sym none ∙ there.1)),
+      absurd (none-some there.0 (sym none ∙ there.1)),
 )
-  where
-    differ : (seat : Seat) → None ≡ Some seat → ⊥
-    differ seat same = cc
 
 -- The cell of a step that was made.
 cells_made : (old new : Fleet) (seats : List Seat) (seat : Seat) (instance : ℕ) (made : Result ℕ Fault) (unit : List ℤ) → length old.states ≡ length seats
@@ -316,12 +307,8 @@ cells_made old new seats seat instance (Ok accepted) unit long unit_is steps =
 cells_made old new seats seat instance (Err fault) unit long unit_is steps =
     let after : Seat = record seat { slot = slot.Failed fault } in
     ap (λ (f : Fleet). cells_in (set seats instance after) f.states) steps.1
-    ∙ ap (cells_in (set seats instance after)) (sym (unit_kept old.states instance unit unit_is))
+    ∙ ap (cells_in (set seats instance after)) (sym (set_same old.states instance unit unit_is))
     ∙ cells_set seats old.states instance after unit long
-
--- A local step ends where its step does, or before.
-pub local_end : (factor t h : ℕ) → local_time factor t + local_step factor t h ≤ t + h
-local_end factor t h = omega (arith, div-le_self t factor, div-le_self (t + h) factor)
 
 module _ (r : Inside) (is : IsRun r) (seat : Seat) (instance : ℕ)
     (long : AreOfOneLength r.plan.value.run.members (stand_of r).at.states r.units.states r.seats.items)

@@ -7,6 +7,7 @@ pub mod FitLaws
 pub mod KeepLaws
 pub mod LengthLaws
 pub mod LoopLaws
+pub mod MeaningLaws
 pub mod MoveLaws
 pub mod OpeningLaws
 pub mod RestoredWords

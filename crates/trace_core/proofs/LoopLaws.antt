@@ -7,7 +7,7 @@ use Rattle.std.proofs.lemmas.List.{at_drop_more, drop_more, drop_all, take_all, 
 use Rattle.std.proofs.lemmas.List.{get_or-map}
 use Rattle.std.proofs.lemmas.Bool.Decides.{nat_tests}
 use Rattle.std.proofs.lemmas.Option.{same_Some, get_or_from_slice_get, slice_get_within}
-use Rattle.std.specs.Prelude.{zip, slice_get, is_some, IsSome, if◌then◌else◌}
+use Rattle.std.specs.Prelude.{zip, slice_get, IsSome, if◌then◌else◌}
 use Rattle.std.specs.List.{AllByRecursion, AllZip, enumerate_from, cons_option}
 use Rattle.fixed_words.specs.declared.types.Fault.{Fault}
 use Rattle.snap_store.specs.Store.{Store, words_of, IsLive, HasLength, KeepsOthers}
@@ -30,6 +30,7 @@ use Rattle.unit_tree.specs.declared.ending.Ending.TheVariants.{UnitFault}
 use Rattle.unit_tree.specs.declared.ending.Place.TheVariants as call
 use Rattle.list_laws.proofs.Members.{at_place}
 use Rattle.list_laws.proofs.Pairs.{zip_at}
+use Rattle.list_laws.proofs.Options.{none_told}
 
 -- ---- An end that is told of one item after the other
 
@@ -268,10 +269,6 @@ told_many t (member ∷ members) (state ∷ states) [] = omega arith
 told_many t (member ∷ members) (state ∷ states) (words ∷ inputs) = let fewer = told_many t members states inputs in omega arith
 
 -- ---- Those that set no limit
-
-none_told : {A : Type 0} (found : Option A) → is_some found ≡ false → found ≡ None
-none_told None is = refl
-none_told (Some one) is = absurd (cc)
 
 -- All before a place were asked, or set no limit. Those that wait are those from there on that set one.
 pub record Asking (t : ℕ) (members : List Member) (told : List (Result (Option ℕ) Fault)) (waiting : List ℕ) (count : ℕ) (limits : List ℕ) : Type 0 where

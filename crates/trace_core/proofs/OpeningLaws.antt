@@ -3,8 +3,7 @@ use Rattle.std.proofs.Common.{◌≡◌, ◌≢◌, ◌∙◌, ℕ, ◌+◌, ◌
 use Rattle.std.proofs.Common.{subst, arith, length-append}
 use Rattle.std.proofs.Math.ListN.{get_or-append}
 use Rattle.std.proofs.Math.Seq.{get_or-append_seam}
-use Rattle.std.proofs.lemmas.List.{take_more, take_all, map-append}
-use Rattle.std.proofs.lemmas.Option.{slice_get_within, get_or_from_slice_get}
+use Rattle.std.proofs.lemmas.List.{take_all, map-append}
 use Rattle.std.proofs.lemmas.Slice.Zip.{AllZip-long}
 use Rattle.std.proofs.lemmas.Bool.Decides.{nat_tests}
 use Rattle.std.specs.Prelude.{slice_get, nat_lt}
@@ -16,10 +15,7 @@ use Rattle.trace_core.specs.Seats.{AreSaved, AreAsLong, HaveOwnIds}
 use Rattle.trace_core.specs.declared.seat.Seat.{Seat}
 use Rattle.trace_units.specs.Fleets.{Fleet}
 use Rattle.unit_tree.specs.Compositions.{Composition}
-
-pub take_next : {A : Type 0} (xs : List A) (k : ℕ) (x : A) → slice_get xs k ≡ Some x → take (k + 1) xs ≡ take k xs ++ x ∷ []
-take_next xs k x is =
-    take_more xs k x (slice_get_within xs k x is) ∙ ap (λ one. take k xs ++ one ∷ []) (get_or_from_slice_get xs k x x is)
+use Rattle.list_laws.proofs.Members.{take_next}
 
 pub states_long : (run : Composition) (states : List (List ℤ)) → HaveStates run states → length states ≡ length run.members
 states_long run states have = AllZip-long (λ member state. length state ≡ length member.component.unit.states) run.members states have

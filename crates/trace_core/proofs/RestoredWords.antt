@@ -10,6 +10,7 @@ use Rattle.trace_core.specs.StateWords.{parted, states_in, with_words}
 use Rattle.trace_core.proofs.StateWordLaws.{length_parted, others_long}
 use Rattle.trace_units.specs.Fleets.{Fleet, with_state}
 use Rattle.unit_tree.specs.Compositions.{Member}
+use Rattle.list_laws.proofs.Members.{at_seam}
 
 abbrev IsAsLong : Member → List ℤ → Type 0
 IsAsLong member state = length state ≡ length member.component.unit.states
@@ -44,10 +45,6 @@ pub record Takes (old : Fleet) (words : List ℤ) (now : Fleet) (place : ℕ) (r
   pub same : length (slice_index_or now.states place []) ≡ length state
   pub next : (front behind : List ℤ) (new : Fleet) → front ≡ take (length state) rest → behind ≡ drop (length state) rest → new ≡ with_state now place front
       → Giving old words new (place + 1) behind
-
-at_seam : (given : List (List ℤ)) (state : List ℤ) (left : List (List ℤ)) → slice_get (given ++ state ∷ left) (length given) ≡ Some state
-at_seam [] state left = refl
-at_seam (first ∷ given) state left = at_seam given state left
 
 module _ (old : Fleet) (words : List ℤ) (now : Fleet) (place : ℕ) (rest state : List ℤ) (seen : slice_get now.states place ≡ Some state)
     (within : place < length old.plan.run.members) where

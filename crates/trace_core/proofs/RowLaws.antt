@@ -1,6 +1,6 @@
 -- Rows and states as they are lent.
-use Rattle.std.proofs.Common.{◌≡◌, ◌∙◌, ℕ, ◌<◌, Bool, true, false, ℤ, List, [], ◌∷◌, length, get_or, Option, Some, refl, sym, ap, subst, arith}
-use Rattle.std.proofs.lemmas.Option.{slice_get-map, slice_get_read}
+use Rattle.std.proofs.Common.{◌≡◌, ◌∙◌, ℕ, Bool, true, false, ℤ, List, [], ◌∷◌, length, Option, Some, refl, sym, ap, subst, arith}
+use Rattle.std.proofs.lemmas.Option.{slice_get-map}
 use Rattle.std.specs.Prelude.{slice_get, unwrap_or, IsSome}
 use Rattle.std.specs.List.{list_all, filter_map}
 use Rattle.std.specs.Option.{option_map}
@@ -35,10 +35,6 @@ abbrev pub as_row : Point → List ℤ → Option Row
 as_row point words = Some (record { point = point; words = words })
 
 -- ---- Committed states
-
-pub seat_there : (seats : List Seat) (instance : ℕ) (seat : Seat) → instance < length seats → seat ≡ get_or seats instance seat
-    → slice_get seats instance ≡ Some seat
-seat_there seats instance seat within is = slice_get_read seats (length seats) instance seat refl within is
 
 pub live_seat : (store : Store) (seats : List Seat) (states : List (List ℤ)) (instance : ℕ) (seat : Seat) → AreSaved store seats states
     → slice_get seats instance ≡ Some seat → IsLive store seat.id

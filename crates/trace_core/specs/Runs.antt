@@ -1,6 +1,6 @@
 -- Runs: what contracts see of one, and what all of them keep.
-use Rattle.std.specs.Prelude.{◌≡◌, ◌≤◌, ℕ, suc, ◌+◌, ◌*◌, ◌^◌, Bool, true, false, ℤ, List, [], ◌∷◌, map, length, slice_get, slice_set, if◌then◌else◌, Option, Some}
-use Rattle.std.specs.Prelude.{None, Result}
+use Rattle.std.specs.Prelude.{◌≡◌, ◌≤◌, ℕ, suc, ◌+◌, ◌*◌, ◌^◌, Bool, true, false, ℤ, List, [], ◌∷◌, map, length, slice_get, slice_set, if◌then◌else◌, Option}
+use Rattle.std.specs.Prelude.{Some, None, Result}
 use Rattle.std.specs.List.{AllByRecursion, count_by}
 use Rattle.std.specs.Option.{option_and_then}
 use Rattle.code_units.specs.Calls.{HasWordsFor}
@@ -11,7 +11,7 @@ use Rattle.trace_core.specs.declared.phase.Phase.{Phase}
 use Rattle.trace_core.specs.declared.phase.Phase.TheVariants.{Trial, Redo, Ended}
 use Rattle.trace_core.specs.declared.phase.Row as lent
 use Rattle.trace_plan.specs.Plans.{IsBounded, Planned}
-use Rattle.unit_answers.specs.Keys.{StepKey, key_of}
+use Rattle.unit_answers.specs.Keys.{StepKey, key_of, meaning}
 use Rattle.unit_exec.specs.Images.{IsImageOf}
 use Rattle.unit_exec.specs.declared.want.Want.{Want}
 use Rattle.unit_tree.specs.Components.{Moved}
@@ -220,6 +220,11 @@ pub record IsWantOf (r : RunState) (instance : ℕ) (want : Want) : Type 0 where
   pub image : IsImageOf key.member.component want.image.now.value
   pub words : HasWordsFor want.image.now.value.program want.state.now want.inputs.now
   pub in_time : want.time + want.step ≤ 10 ^ 15
+
+-- Each cell that is filled holds what the key of its step means, from wherever it was filled.
+abbrev pub HoldMeanings : RunState → Type 0
+HoldMeanings r = (instance : ℕ) (step : Result Moved Fault) (key : StepKey)
+    → slice_get r.cells instance ≡ Some (Filled step) → IsKeyAt r instance key → meaning key ≡ Some step
 
 -- The step of a key is wanted of an instance.
 abbrev pub IsKeyWanted : RunState → ℕ → StepKey → Type 0

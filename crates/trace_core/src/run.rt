@@ -2,7 +2,7 @@
 ghost use Rattle.std.specs.Prelude.{◌≡◌, ◌<◌, ◌↔◌, length, slice_get, false, true, IsTrue, IsSome, Some, IfOk, IfSome, if◌then◌else◌};
 ghost use Rattle.std.specs.Option.{option_map};
 ghost use Rattle.trace_core.specs.Accepting.{IsAnswerTo};
-ghost use Rattle.trace_core.specs.Runs.{Stands, IsOpened, IsWanted, IsWantOf, IsKeyWanted, is_ended, IsComputed, with_found, row_told, AreCellsFull};
+ghost use Rattle.trace_core.specs.Runs.{Stands, HoldMeanings, IsOpened, IsWanted, IsWantOf, IsKeyWanted, is_ended, IsComputed, with_found, row_told, AreCellsFull};
 ghost use Rattle.trace_core.specs.Arriving.{position_with};
 ghost use Rattle.trace_core.specs.Settling.{Settled};
 ghost use Rattle.trace_core.specs.declared.phase.Settle.TheVariants as settled;
@@ -183,7 +183,10 @@ impl Run {
     pub fn phase(&self) -> Phase
         ensures phase { result ≡ self.now.phase }
         ensures stands { Stands self.now }
+        ensures meanings { HoldMeanings self.now }
     {
+        // That each instance has an image is known by the clauses of this call alone.
+        let _ = self.plan.instances();
         self.phase
     }
 

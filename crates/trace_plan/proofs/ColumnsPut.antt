@@ -1,7 +1,7 @@
 -- Columns that are put one after the other, and the numbers of one.
 use Rattle.std.proofs.Common.{◌≡◌, ◌<◌, ◌^◌, ℕ, ◌+◌, Bool, List, [], ◌∷◌, ◌++◌, map, drop, get_or, length, Option, Some, None, refl, ap, sym, subst, ◌∙◌}
 use Rattle.std.proofs.Common.{append_assoc, append-nil}
-use Rattle.std.proofs.lemmas.Option.{get_or_from_slice_get, slice_get_within}
+use Rattle.std.proofs.lemmas.Option.{get_or_from_slice_get, slice_get_within, same_Some}
 use Rattle.std.specs.Prelude.{slice_get, slice_index_or, IsSome}
 use Rattle.std.specs.List.{filter_map, cons_option, position_or_len}
 use Rattle.std.specs.Option.{option_map}
@@ -45,10 +45,7 @@ module _ (system : System) (starts : List ℕ) (port : PortName) (placed : IsPla
     module _ (unit : Unit) (named : Some unit ≡ unit_of_instance system one) (output : ℕ) (outputs : List Output) (outputs_are : outputs ≡ unit.outputs)
         (output_is : output ≡ position_or_len (λ (o : Output). bytes_eq o.name port.port) outputs) where
       same_unit : unit ≡ placed.unit
-      same_unit = some_same (named ∙ unit_is)
-        where
-          some_same : Some unit ≡ Some placed.unit → unit ≡ placed.unit
-          some_same same = cc
+      same_unit = same_Some unit placed.unit (named ∙ unit_is)
 
       pub output_number_is : output ≡ output_number system port
       output_number_is =

@@ -21,14 +21,9 @@ use Rattle.unit_tree.specs.declared.unit.Output.{Output}
 use Rattle.unit_tree.specs.declared.unit.Unit.{Unit}
 use Rattle.language_laws.proofs.NameLaws.{NamesDiffer, found}
 use Rattle.run_laws.proofs.PlaceOrders.{Known, all_known, named_holds, plain_port, ports_plain, outputs_apart, place_is}
-use Rattle.list_laws.proofs.Members.{Has}
+use Rattle.list_laws.proofs.Members.{Has, at_front}
 
 -- ---- Lists
-
-at_front : {A : Type 0} (xs ys : List A) (k : ℕ) (y : A) → slice_get xs k ≡ Some y → slice_get (xs ++ ys) k ≡ Some y
-at_front [] ys k y is = absurd (cc)
-at_front (x ∷ xs) ys zero y is = is
-at_front (x ∷ xs) ys (suc k) y is = at_front xs ys k y is
 
 at_behind : {A : Type 0} (xs ys : List A) (k n : ℕ) → n ≡ length xs + k → slice_get (xs ++ ys) n ≡ slice_get ys k
 at_behind [] ys k n is = ap (slice_get ys) (omega (arith, is))

@@ -8,7 +8,7 @@ use Rattle.std.specs.Prelude.{slice_get}
 use Rattle.std.specs.List.{AllZip}
 use Rattle.std.specs.Vec.{vec_len}
 use Rattle.trace_plan.specs.Keeps.{planned, IsFitted, IsPlan}
-use Rattle.trace_plan.specs.Plans.{Planned}
+use Rattle.trace_plan.specs.Plans.{HaveImages, Planned}
 use Rattle.trace_plan.specs.declared.fitting.Fitted.{Fitted}
 use Rattle.trace_plan.specs.declared.plan.Plan.TheInside.{Inside}
 use Rattle.unit_tree.specs.Compositions.{Member}
@@ -24,6 +24,11 @@ module _ (plan : Inside) (keeps : IsPlan plan) (seen : Planned) (is : planned pl
 
   pub fitted_within : (instance : ℕ) → instance < length seen.run.members → instance < vec_len plan.fitted
   fitted_within instance within = omega (arith, within, fitted_count)
+
+  pub images_there : HaveImages seen.run
+  images_there instance member member_is =
+      let beside = zip_at IsFitted seen.run.members plan.fitted.items instance member each member_is in
+      record { image = beside.other.image.value; is_image = beside.related.image }
 
   pub few : length seen.run.members ≤ 64
   few = subst (λ (p : Planned). length p.run.members ≤ 64) is keeps.bounded.members

@@ -33,7 +33,7 @@ use Rattle.run_laws.proofs.PortLaws.{output_has}
 use Rattle.trace_plan.proofs.PlacedOutputs.{Placed, placed}
 use Rattle.run_laws.proofs.PlainKept.{alike}
 use Rattle.trace_plan.proofs.SystemLines.{few_instances}
-use Rattle.list_laws.proofs.Members.{Has, Distinct, has_front, has_map, each_has}
+use Rattle.list_laws.proofs.Members.{Has, Distinct, has_front, has_map, each_has, has_place}
 use Rattle.list_laws.proofs.Truths.{one_or_two}
 
 -- ---- What an output is in what is run
@@ -186,11 +186,6 @@ module _ (system : System) (ranged : IsRanged system) (kept : IsWellFormed syste
 
   -- ---- How many there are
 
-  limits_at : (units : List Unit) (number : ℕ) (unit : Unit) → Has units unit → (k : ℕ) × (slice_get units k ≡ Some unit)
-  limits_at [] number unit has = absurd has
-  limits_at (first ∷ units) number unit (inl is) = (0, ap Some is)
-  limits_at (first ∷ units) number unit (inr has) = let later = limits_at units number unit has in (suc later.0, later.1)
-
   -- What is compiled of a unit of the run.
   pub record Limited (unit : Unit) : Type 0 where
     pub outputs : length unit.outputs ≤ 32
@@ -198,7 +193,7 @@ module _ (system : System) (ranged : IsRanged system) (kept : IsWellFormed syste
 
   pub unit_limited : (unit : Unit) → Has run.units unit → Limited unit
   unit_limited unit has =
-      let at = limits_at run.units 0 unit has in
+      let at = has_place run.units unit has in
       let some_words : List ℤ = map (λ (param : Param). pos 0) unit.params in
       let fits = checked_units system ranged kept at.0 unit at.1 some_words (length-map unit.params (λ (param : Param). pos 0)) in
       record { outputs = fits.outputs; decimals = fits.output_types }

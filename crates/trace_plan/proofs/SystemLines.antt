@@ -24,7 +24,7 @@ use Rattle.unit_tree.specs.declared.system.Instance.{Instance}
 use Rattle.unit_tree.specs.declared.system.System.{System}
 use Rattle.unit_tree.specs.declared.unit.Unit.{Unit}
 use Rattle.language_laws.proofs.NameLaws.{all_keep, Hold, instance_head, kept_parts}
-use Rattle.language_laws.proofs.PlainNames.{has_flat, unit_line}
+use Rattle.language_laws.proofs.PlainNames.{has_flat, unit_line, in_range}
 use Rattle.language_laws.proofs.SiteLaws.{line_at, sites_are}
 use Rattle.list_laws.proofs.Members.{Has, has_front, has_behind, each_has}
 use Rattle.list_laws.proofs.Truths.{not_false, lt_not_told}
@@ -102,9 +102,6 @@ module _ (system : System) where
       top_line part (form.Rows count) (has_front ((((parts_to_wires ++ stop) ++ longest) ++ zero_steps) ++ rows) samples part d) (inl refl)
 
   module _ (ranged : IsRanged system) where
-    in_range : (line : LineForm) → Has (canonical_forms system) line → IsInRange line
-    in_range line has = each_has IsInRange (canonical_forms system) line ranged.numbers has
-
     resolution_line : (unit : Unit) → Has system.units unit → (decimals : ℕ) → unit.resolution ≡ Some decimals
         → Has (canonical_forms system) (form.Resolution decimals)
     resolution_line unit declared decimals is =
@@ -132,19 +129,19 @@ module _ (system : System) where
         resolution_has (Some other) some = let same : other ≡ decimals = cc in inl (ap parts.Resolution same)
 
     pub unit_decimals : (unit : Unit) → Has system.units unit → (decimals : ℕ) → unit.resolution ≡ Some decimals → decimals ≤ 9
-    unit_decimals unit declared decimals is = (in_range (form.Resolution decimals) (resolution_line unit declared decimals is)).0
+    unit_decimals unit declared decimals is = (in_range system ranged (form.Resolution decimals) (resolution_line unit declared decimals is)).0
 
     pub zero_count : (count : ℕ) → system.zero ≡ Some count → count ≤ 10000
-    zero_count count is = (in_range (form.Zero count) (zero_line count is)).0
+    zero_count count is = (in_range system ranged (form.Zero count) (zero_line count is)).0
 
     pub row_count : (count : ℕ) → system.rows ≡ Some count → (1 ≤ count) × (count ≤ 100000)
-    row_count count is = (in_range (form.Rows count) (rows_line count is)).0
+    row_count count is = (in_range system ranged (form.Rows count) (rows_line count is)).0
 
     pub stop_in_range : (seconds : Literal) → system.stop ≡ Some seconds → IsInRange (form.Stop seconds)
-    stop_in_range seconds is = in_range (form.Stop seconds) (stop_line seconds is)
+    stop_in_range seconds is = in_range system ranged (form.Stop seconds) (stop_line seconds is)
 
     pub longest_in_range : (seconds : Literal) → system.longest ≡ Some seconds → IsInRange (form.Longest seconds)
-    longest_in_range seconds is = in_range (form.Longest seconds) (longest_line seconds is)
+    longest_in_range seconds is = in_range system ranged (form.Longest seconds) (longest_line seconds is)
 
   module _ (kept : IsWellFormed system) where
     timed : (line : LineForm) → Has (canonical_forms system) line → mistimes system line ≡ false

@@ -1,6 +1,7 @@
 -- Plans: what contracts see of one.
 use Rattle.std.specs.Prelude.{◌≡◌, ◌≤◌, ◌^◌, ℕ, suc, Bool, ℤ, List, [], ◌∷◌, length, map, if◌then◌else◌, is_some, Some, slice_get}
 use Rattle.fixed_words.specs.Types.{lowest, highest}
+use Rattle.unit_exec.specs.Images.{Compiled, IsImageOf}
 use Rattle.unit_tree.specs.Compositions.{Member, Composition}
 use Rattle.unit_tree.specs.declared.system.System.{System}
 
@@ -22,6 +23,14 @@ pub record IsBounded (run : Composition) : Type 0 where
 -- The fact holds of the member that an instance's number tells.
 abbrev pub ForMember : Composition → ℕ → (Member → Type 0) → Type 0
 ForMember run instance Holds = (member : Member) → slice_get run.members instance ≡ Some member → Holds member
+
+-- A member has an image: there is code that computes its component.
+pub record HasImage (member : Member) : Type 0 where
+  pub image : Compiled
+  pub is_image : IsImageOf member.component image
+
+abbrev pub HaveImages : Composition → Type 0
+HaveImages run = (instance : ℕ) → ForMember run instance HasImage
 
 -- The lowest and the highest words that a member's inputs may have, in their order.
 abbrev pub lowest_words : Member → List ℤ

@@ -2,7 +2,7 @@ ghost use Rattle.std.specs.Prelude.{◌≡◌, ◌<◌, ◌≤◌, ◌^◌, leng
 ghost use Rattle.trace_csv.specs.Columns.{columns_of};
 ghost use Rattle.trace_plan.specs.Faults.{IsRightPlanFault};
 ghost use Rattle.trace_plan.specs.Laws.{HasTitles, HasRows};
-ghost use Rattle.trace_plan.specs.Plans.{IsBounded, ForMember, lowest_words, highest_words, limited_in};
+ghost use Rattle.trace_plan.specs.Plans.{IsBounded, ForMember, HaveImages, lowest_words, highest_words, limited_in};
 ghost use Rattle.unit_exec.specs.Images.{IsImageOf};
 ghost use Rattle.unit_tree.specs.Compositions.{run_of};
 ghost use Rattle.unit_tree.specs.Routes.{IsOrderOf};
@@ -102,10 +102,11 @@ impl Plan {
         &self.order
     }
 
-    /// How many instances there are: from 1 to 64.
+    /// How many instances there are: from 1 to 64. Each has an image.
     pub fn instances(&self) -> u32
         ensures count { result ≡ length self.now.run.members }
         ensures bounded { IsBounded self.now.run }
+        ensures images { HaveImages self.now.run }
     {
         self.fitted.len() as u32
     }

@@ -55,7 +55,7 @@ fresh_tried r fresh not = tried_from r (first_end r.plan.run r.stand) (phase_by 
 pub trial_going : (r : RunState) → IsFresh r → ((ending : Ending) → r.phase ≡ Ended ending → ⊥) → is_ended r.phase ≡ false
 trial_going r fresh not = ap is_ended (fresh_tried r fresh not).phase
 
-same_end : {one other : Ending} → Ended one ≡ Ended other → one ≡ other
+pub same_end : {one other : Ending} → Ended one ≡ Ended other → one ≡ other
 same_end e = cc
 
 pub over_from : (r : RunState) (end : Option Ending) (ending : Ending) → By r end → r.phase ≡ Ended ending → IsOver r ending

@@ -2,7 +2,6 @@
 use Rattle.std.proofs.Common.{◌≡◌, ℕ, ◌+◌, ◌*◌, ◌<◌, ◌^◌, ℤ, pos, neg_ℤ, ◌+ℤ◌, ◌≤ℤ◌, List, [], ◌∷◌, ◌++◌, length, drop, get_or, Option, Some, None, Result, Ok}
 use Rattle.std.proofs.Common.{Err, refl, sym, ap, subst, ◌∙◌, append-nil, arith}
 use Rattle.std.specs.Io.KnownBytes.{Appends}
-use Rattle.std.specs.Prelude.{OnErr}
 use Rattle.std.specs.List.{AllByRecursion, cons_option, filter_map}
 use Rattle.std.specs.Option.{option_map}
 use Rattle.std.specs.Result.{IsErrAnd}
@@ -211,7 +210,3 @@ tells_none faults0 faults done same = record { later = omega arith; failed = λ 
 pub tells_after : {T : Type 0} (faults0 faults faults' : ℕ) (result : Result T CrewFault) → faults ≡ faults0 → TellsFault faults faults' result
     → TellsFault faults0 faults' result
 tells_after faults0 faults faults' result same tells = subst (λ f. TellsFault f faults' result) same tells
-
-pub on_err : {T : Type 0} {P : Type 0} (result : Result T CrewFault) → P → OnErr result P
-on_err (Ok done) holds = tt
-on_err (Err fault) holds = holds

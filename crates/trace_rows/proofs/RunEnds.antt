@@ -29,7 +29,7 @@ use Rattle.trace_rows.specs.declared.fault.CrewFault.{CrewFault}
 use Rattle.trace_rows.specs.declared.report.Report.{Report}
 use Rattle.trace_rows.specs.declared.tally.Tally.{Tally}
 use Rattle.trace_rows.proofs.BoundLaws.{cells_are_bounded}
-use Rattle.trace_rows.proofs.FreshRuns.{phase_by, ended_as, cells_ended}
+use Rattle.trace_rows.proofs.FreshRuns.{phase_by, ended_as, cells_ended, same_end}
 use Rattle.trace_rows.proofs.RowLaws.{text_is}
 use Rattle.trace_rows.proofs.RunKept.{Given, ArePut, IsAt, Come, Kept, passed_at, cells-push, filled_more}
 use Rattle.trace_rows.proofs.PassedStands.{Walked, walked_end, last_is, front_along}
@@ -128,9 +128,6 @@ report_by r ending tally report is =
     subst (IsReportOf r ending tally) (sym is)
     (record { outcome = refl; last = refl; rows = refl; sum = refl; found = refl; own = refl; tickets = refl })
 
-same_ending : (one other : Ending) → Ended one ≡ Ended other → one ≡ other
-same_ending one other is = cc
-
 pub reports_rest : (plan : Planned) (from : Position) (r : RunState) (held0 held : Option (List ℕ)) (tally : Tally) (ending : Ending) (report : Report)
     → Given plan from → IsDone plan from r held0 held tally → r.phase ≡ Ended ending → IsReportOf r ending tally report
     → ReportsRest plan from held0 held report
@@ -138,7 +135,7 @@ reports_rest plan from r held0 held tally ending report given done is told =
     let one = one_rest plan.run given.order given.members given.ordered from given.words given.in_bounds in
     let whole = walked_end plan.run from done.passed r.stand one.stands one.ending done.ending done.walked done.ended one.goes_on in
     let stands = done.passed ++ (r.stand ∷ []) in
-    let ends_so : one.ending ≡ report.outcome = whole.1 ∙ same_ending done.ending ending (sym done.phase ∙ is) ∙ sym told.outcome in
+    let ends_so : one.ending ≡ report.outcome = whole.1 ∙ same_end (sym done.phase ∙ is) ∙ sym told.outcome in
     record {
       stands = stands;
       goes_on = subst (λ stands. GoesOnFrom plan.run from stands report.outcome) whole.0 (subst (GoesOnFrom plan.run from one.stands) ends_so one.goes_on);

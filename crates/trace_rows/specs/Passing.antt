@@ -1,6 +1,7 @@
 -- How a run passes from stand to stand, whoever fills its cells.
-use Rattle.std.specs.Prelude.{◌≡◌, ◌+◌}
-use Rattle.trace_core.specs.Runs.{RunState, arrived}
+use Rattle.std.specs.Prelude.{◌≡◌, ◌+◌, Bool, true, false, ◌⊎◌}
+use Rattle.std.specs.List.{count_by}
+use Rattle.trace_core.specs.Runs.{AreCellsFull, ArePortsKnown, RunState, arrived, is_empty_cell}
 use Rattle.trace_core.specs.declared.phase.Phase.TheVariants.{Ended}
 use Rattle.unit_tree.specs.Successor.{ends, successor}
 use Rattle.unit_tree.specs.Trace.{Goes, cells_at}
@@ -29,3 +30,14 @@ pub record Stops (old new : RunState) : Type 0 where
   pub stand : new.stand ≡ old.stand
   pub phase : new.phase ≡ Ended ending
   pub filled : AreCellsFilled old new
+
+-- What became of a row: the run came to the next one, or it came to a stand without a row, or it ended where it stood.
+abbrev pub WentOn : RunState → RunState → Bool → Type 0
+WentOn old new true = Passes old new × ArePortsKnown new.plan.run new.stand
+WentOn old new false = (Passes old new × (ArePortsKnown new.plan.run new.stand → ⊥)) ⊎ Stops old new
+
+-- All steps of the phase are there, made by whomever: nothing changed but the cells, and as many were counted as were wanted.
+pub record AreStepsThere (old new : RunState) : Type 0 where
+  pub full : AreCellsFull new.cells
+  pub is : new ≡ record old { cells = new.cells; found = new.found; own = new.own }
+  pub counted : new.found + new.own ≡ old.found + old.own + count_by is_empty_cell old.cells

@@ -11,9 +11,8 @@ use Rattle.unit_tree.specs.declared.unit.Unit.{Unit}
 use Rattle.run_laws.proofs.EventLaws.{version_1_without_events, plain_form_1}
 use Rattle.unit_exec.specs.Laws.{CheckedUnitsAreCompilable}
 use Rattle.unit_exec.proofs.CompilableUnits.{compilable}
-use Rattle.language_laws.proofs.Declarations.{OfOutput, Declares, declares}
+use Rattle.language_laws.proofs.Declarations.{OfOutput, Declares, declares, declared_line, output_is_declared}
 use Rattle.language_laws.proofs.FirstVersion.{unit_stays}
-use Rattle.unit_exec.proofs.NamesOfUnits.{passes_at, output_has}
 use Rattle.language_laws.proofs.UnitSites.{Passes, unit_passes}
 use Rattle.list_laws.proofs.Truths.{one_or_two}
 
@@ -61,8 +60,7 @@ module _ (system : System) (ranged : IsRanged system) (well : IsWellFormed syste
       let same =
       unit_stays system first unit (declared number unit here) none.0 none.1
       (λ output has.
-      passes_at system unit (declared number unit here) params each (OfOutput output)
-      (output_has system unit (declared number unit here) params each output has)) in
+      declared_line (Passes system) unit (declared number unit here) (OfOutput output) (output_is_declared unit output has)) in
       subst (λ (u : Unit). IsCompilable u params) same (compiles number unit here params each)
   by_version (inr second) number unit is params each =
       let made = mapped_at plain_unit system.units number unit (ap (λ (units : List Unit). slice_get units number) (sym (plain_units system second)) ∙ is) in

@@ -36,25 +36,20 @@ use Rattle.unit_tree.specs.declared.unit.Output.{Output}
 use Rattle.unit_tree.specs.declared.unit.Unit.{Unit}
 use Rattle.language_laws.proofs.NameLaws.{Hold}
 use Rattle.language_laws.proofs.PlainNames.{map_has, flat_has}
-use Rattle.language_laws.proofs.Declarations.{Declared, OfParam, OfState, OfLocal, OfInput, OfEventIn, OfOutput, OfEventOut, line_of, variable_of, Declares, AtLine}
-use Rattle.language_laws.proofs.Declarations.{unit_limited}
+use Rattle.language_laws.proofs.Declarations.{Declared, OfParam, OfState, OfLocal, OfInput, OfEventIn, OfOutput, OfEventOut, line_of, variable_of, Declares}
+use Rattle.language_laws.proofs.Declarations.{AtLine, unit_limited, declared_line, output_is_declared, event_out_is_declared}
 use Rattle.unit_exec.proofs.EventChoices.{word_names, word_events, presence_names, presence_events, word_ranged, presence_ranged, plain_ranged, presence_kinded}
 use Rattle.unit_exec.proofs.KindsOfRuns.{kinded}
 use Rattle.unit_exec.proofs.KindsOfRuns as kind_laws
 use Rattle.unit_exec.proofs.LinesOfRuns.{FormRight, lines_right}
-use Rattle.unit_exec.proofs.NamesOfUnits.{passes_at, Comes, Tells, from_run, Usable, usable_shared, usable_step, name_kind, presence_kind, output_has}
-use Rattle.unit_exec.proofs.NamesOfUnits.{event_out_has}
+use Rattle.unit_exec.proofs.NamesOfUnits.{Comes, Tells, from_run, Usable, usable_shared, usable_step, name_kind, presence_kind}
 use Rattle.unit_exec.proofs.TargetsOfUnits.{target_right}
 use Rattle.language_laws.proofs.UnitSites.{Passes}
 use Rattle.list_laws.proofs.Members.{Has, has_either, all_has}
 use Rattle.list_laws.proofs.Truths.{lt_not_told, not_false, le_asked}
+use Rattle.run_laws.proofs.PortLaws.{each_among}
 
 -- ---- Tests
-
-each_among : (names used : List (List ℕ)) → are_among names used ≡ true → (name : List ℕ) → Has used name → is_among names name ≡ true
-each_among names [] all name has = absurd has
-each_among names (first ∷ used) all name (inl is) = ap (is_among names) (sym is) ∙ (and_parts (is_among names first) (are_among names used) all).0
-each_among names (first ∷ used) all name (inr has) = each_among names used (and_parts (is_among names first) (are_among names used) all).1 name has
 
 pub record HasSome {A : Type 0} (given : Option A) : Type 0 where
   pub one : A
@@ -88,8 +83,8 @@ module _ (system : System) (unit : Unit) (declared : Declares (Passes system) un
   keeps uses usable events value kept =
       let one = and_parts (are_among uses.names (names_in value)) _ kept in
       let other = and_parts (are_among uses.events (events_asked_in value)) _ one.1 in record {
-        names_used = λ name has. usable name (each_among uses.names (names_in value) one.0 name has);
-        events_asked = λ name has. ap (λ names. is_among names name) (sym events) ∙ each_among uses.events (events_asked_in value) other.0 name has;
+        names_used = λ name has. usable name (each_among uses.names (names_in value) name one.0 has);
+        events_asked = λ name has. ap (λ names. is_among names name) (sym events) ∙ each_among uses.events (events_asked_in value) name other.0 has;
       }
 
   -- ---- An expression's code is right
@@ -176,12 +171,11 @@ module _ (system : System) (unit : Unit) (declared : Declares (Passes system) un
         let from = map_has (plain_output unit) unit.outputs output here in
         subst Runs from.is
         (output_runs from.one
-        (passes_at system unit declared params each_word (OfOutput from.one) (output_has system unit declared params each_word from.one from.has)))
+        (declared_line (Passes system) unit declared (OfOutput from.one) (output_is_declared unit from.one from.has)))
     | inr here ↦
         let from = flat_has (plain_outputs unit) unit.events_out output here in
         event_runs from.one
-        (passes_at system unit declared params each_word (OfEventOut from.one)
-        (event_out_has system unit declared params each_word from.one from.has)) output from.inside
+        (declared_line (Passes system) unit declared (OfEventOut from.one) (event_out_is_declared unit from.one from.has)) output from.inside
   ]
 
   -- ---- Types
@@ -200,7 +194,7 @@ module _ (system : System) (unit : Unit) (declared : Declares (Passes system) un
     where
       by_source : Comes system unit declared params each_word w ⊎ Tells system unit declared params each_word w → AreDecimals w.ty
       by_source (inl comes) =
-          subst (λ (v : Variable). AreDecimals v.ty) comes.is (typed_one comes.one (passes_at system unit declared params each_word comes.one comes.has))
+          subst (λ (v : Variable). AreDecimals v.ty) comes.is (typed_one comes.one (declared_line (Passes system) unit declared comes.one comes.has))
       by_source (inr tells) = subst (λ (v : Variable). AreDecimals v.ty) tells.is tt
 
   -- ---- Step lines

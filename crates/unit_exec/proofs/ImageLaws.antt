@@ -27,6 +27,7 @@ use Rattle.unit_vm.specs.Checking.{IsValid, IsNoCode}
 use Rattle.unit_vm.specs.Programs.{program_words}
 use Rattle.unit_vm.specs.declared.program.Program.{Program}
 use Rattle.unit_vm.proofs.RunEndings.{code_is_one_lem}
+use Rattle.unit_vm.proofs.ValidCodeReadBack.{reads_back}
 
 pub found_there : (program : Program) (words : List ℤ) (found : Option Program) → IsValid program → words ≡ program_words program
     → IfNone found (IsNoCode words)
@@ -82,6 +83,10 @@ some_kept : {A B : Type 0} (f : A → B) (given : Option A) → is_some (option_
 some_kept f None = refl
 some_kept f (Some x) = refl
 
+pub programs_are_valid : (unit : Unit) (params : List ℤ) (program : Program) → IsCompilable unit params → program ≡ program_of unit params → IsValid program
+programs_are_valid unit params program fits is =
+    subst IsValid (sym is) (piece_programs_have_facts_lem (program_of unit params) (made_of_pieces unit params fits))
+
 pub image_is : (unit : Unit) (params : List ℤ) (fits : IsCompilable unit params) (program : Program) (start start_inputs : List ℤ)
     → program ≡ program_of unit params → start ≡ map (λ (state : State). start_word state.ty state.start) unit.states
     → start_inputs ≡ map (λ (input : Input). start_word input.ty input.start) unit.inputs
@@ -89,6 +94,7 @@ pub image_is : (unit : Unit) (params : List ℤ) (fits : IsCompilable unit param
 image_is unit params fits program start start_inputs is starts inputs_start = record {
   is_program = is;
   computes = subst (λ p. Computes p (record { unit = unit; params = params })) (sym is) (units_compute (record { unit = unit; params = params }) fits);
+  is_read = let valid = programs_are_valid unit params program fits is in reads_back program valid.0 valid.1;
   sizes = ap (λ (p : Program). p.sizes) is;
   outputs = ap (λ (p : Program). length p.outputs) is ∙ length-map unit.outputs (output_code (scope_of unit params));
   limit = ap (λ (p : Program). is_some p.limit) is ∙ some_kept (limit_code (scope_of unit params)) unit.max;
@@ -105,10 +111,6 @@ starts_are unit params program start start_inputs is starts inputs_start = recor
   each_input = ap length inputs_start ∙ length-map unit.inputs (λ (input : Input). start_word input.ty input.start)
       ∙ sym (ap (λ (p : Program). p.sizes.inputs) is);
 }
-
-pub programs_are_valid : (unit : Unit) (params : List ℤ) (program : Program) → IsCompilable unit params → program ≡ program_of unit params → IsValid program
-programs_are_valid unit params program fits is =
-    subst IsValid (sym is) (piece_programs_have_facts_lem (program_of unit params) (made_of_pieces unit params fits))
 
 -- ---- Checked systems
 

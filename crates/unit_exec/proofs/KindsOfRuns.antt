@@ -3,6 +3,7 @@ use Rattle.std.proofs.Common.{◌≡◌, ℕ, Bool, true, false, List, [], ◌++
 use Rattle.std.specs.Prelude.{◌&&◌}
 use Rattle.std.specs.Option.{option_and_then}
 use Rattle.std.proofs.lemmas.Bool.{and_parts, and_from}
+use Rattle.std.proofs.lemmas.Option.{same_Some, none-some}
 use Rattle.fixed_words.specs.declared.types.Kind.{Kind}
 use Rattle.fixed_words.specs.declared.types.Kind.TheVariants as kinds
 use Rattle.code_units.specs.Expressions.{Coded, Coding, name_code, unary_kind_of, binary_kind_of, unary_joined, binary_joined, clamp_joined, choice_joined}
@@ -236,20 +237,17 @@ module _ (scope : Scope) (names : KindsOfNames) (Usable Event : List ℕ → Typ
   abbrev bare : Proved → Expr
   bare p = p.0
 
-  some_is : (one other : Kind) → Some one ≡ Some other → one ≡ other
-  some_is one other is = cc
-
   node : (y : Expr-F Proved) → Kinded (roll-Expr (map-Expr Proved Expr bare y))
   node (Expr-F.Number number decimals) =
       subst Kinded (sym (rolls-Number number decimals))
       (λ kind is uses.
       by_code (expr.Number number decimals) _ _ kind (plain-Number number decimals) (fold-Number Coding node_code number decimals)
-      (record { agrees = refl; kind_is = some_is _ _ (sym (kind-Number number decimals names) ∙ is) }))
+      (record { agrees = refl; kind_is = same_Some _ _ (sym (kind-Number number decimals names) ∙ is) }))
   node (Expr-F.Truth told) =
       subst Kinded (sym (rolls-Truth told))
       (λ kind is uses.
       by_code (expr.Truth told) _ _ kind (plain-Truth told) (fold-Truth Coding node_code told)
-      (record { agrees = refl; kind_is = some_is _ _ (sym (kind-Truth told names) ∙ is) }))
+      (record { agrees = refl; kind_is = same_Some _ _ (sym (kind-Truth told names) ∙ is) }))
   node (Expr-F.Var name) =
       subst Kinded (sym (rolls-Var name))
       (λ kind is uses.
@@ -263,19 +261,16 @@ module _ (scope : Scope) (names : KindsOfNames) (Usable Event : List ℕ → Typ
   node Expr-F.Time =
       subst Kinded (sym rolls-Time)
       (λ kind is uses.
-      by_code expr.Time _ _ kind plain-Time (fold-Time Coding node_code) (record { agrees = refl; kind_is = some_is _ _ (sym (kind-Time names) ∙ is) }))
+      by_code expr.Time _ _ kind plain-Time (fold-Time Coding node_code) (record { agrees = refl; kind_is = same_Some _ _ (sym (kind-Time names) ∙ is) }))
   node Expr-F.Step =
       subst Kinded (sym rolls-Step)
       (λ kind is uses.
-      by_code expr.Step _ _ kind plain-Step (fold-Step Coding node_code) (record { agrees = refl; kind_is = some_is _ _ (sym (kind-Step names) ∙ is) }))
+      by_code expr.Step _ _ kind plain-Step (fold-Step Coding node_code) (record { agrees = refl; kind_is = same_Some _ _ (sym (kind-Step names) ∙ is) }))
   node (Expr-F.Unary op a) = subst Kinded (sym (rolls-Unary op (bare a))) (unary_kinded op (bare a) a.1)
   node (Expr-F.Binary op a b) = subst Kinded (sym (rolls-Binary op (bare a) (bare b))) (binary_kinded op (bare a) (bare b) a.1 b.1)
   node (Expr-F.Clamp a b c) = subst Kinded (sym (rolls-Clamp (bare a) (bare b) (bare c))) (clamp_kinded (bare a) (bare b) (bare c) a.1 b.1 c.1)
   node (Expr-F.Choose c a b) = subst Kinded (sym (rolls-Choose (bare c) (bare a) (bare b))) (choice_kinded (bare c) (bare a) (bare b) c.1 a.1 b.1)
-  node Expr-F.Absent = subst Kinded (sym rolls-Absent) (λ kind is uses. absurd (none_some kind (sym (kind-Absent names) ∙ is)))
-    where
-      none_some : (kind : Kind) → None ≡ Some kind → ⊥
-      none_some kind same = cc
+  node Expr-F.Absent = subst Kinded (sym rolls-Absent) (λ kind is uses. absurd (none-some kind (sym (kind-Absent names) ∙ is)))
   node (Expr-F.Present name) =
       subst Kinded (sym (rolls-Present name))
       (λ kind is uses.
@@ -283,7 +278,7 @@ module _ (scope : Scope) (names : KindsOfNames) (Usable Event : List ℕ → Typ
       (record {
         agrees = name_agrees (presence_name name);
         kind_is = presence_kind name (uses.events_asked name (subst (λ xs. Has xs name) (sym (fold-Present (List (List ℕ)) node_events name)) (inl refl)))
-            ∙ some_is _ _ (sym (kind-Present name names) ∙ is);
+            ∙ same_Some _ _ (sym (kind-Present name names) ∙ is);
       }))
 
   pub kinded : (value : Expr) → Kinded value

@@ -34,7 +34,8 @@ use Rattle.unit_tree.specs.declared.unit.Unit.{Unit}
 use Rattle.language_laws.proofs.NameLaws.{same_bytes, bytes_of, found}
 use Rattle.language_laws.proofs.PlainNames.{IsPlain, word_is_plain, map_has, flat_has, has_flat}
 use Rattle.language_laws.proofs.Declarations.{Declared, OfParam, OfState, OfLocal, OfInput, OfEventIn, OfOutput, OfEventOut, line_of, variable_of, name_of}
-use Rattle.language_laws.proofs.Declarations.{declarations, ports, front_lines, Declares, AtLine, each_line, names_apart}
+use Rattle.language_laws.proofs.Declarations.{declarations, Declares, names_apart, declared_line, param_is_declared, state_is_declared, local_is_declared}
+use Rattle.language_laws.proofs.Declarations.{input_is_declared, event_in_is_declared, output_is_declared, event_out_is_declared}
 use Rattle.language_laws.proofs.UnitSites.{Passes}
 use Rattle.list_laws.proofs.Members.{Has, Distinct, has_front, has_behind, has_either, has_map}
 use Rattle.list_laws.proofs.Truths.{true_is_false}
@@ -112,9 +113,6 @@ module _ (system : System) (unit : Unit) (declared : Declares (Passes system) un
   distinct : Distinct (map name_of (declarations unit))
   distinct = names_apart system unit declared
 
-  pub passes_at : (one : Declared) → Has (declarations unit) one → AtLine (Passes system) unit (line_of one)
-  passes_at one has = each_line (Passes system) unit (front_lines unit.resolution) (declarations unit) declared.declared one has
-
   word_of : (one : Declared) → AllByRecursion IsWord (names_on (line_of one)) → IsWord (name_of one)
   word_of (OfParam param) words = words.0
   word_of (OfState state) words = words.0
@@ -125,7 +123,7 @@ module _ (system : System) (unit : Unit) (declared : Declares (Passes system) un
   word_of (OfEventOut event) words = words.0
 
   pub plain_name : (one : Declared) → Has (declarations unit) one → IsPlain (name_of one)
-  plain_name one has = word_is_plain (name_of one) (word_of one (passes_at one has).1.words)
+  plain_name one has = word_is_plain (name_of one) (word_of one (declared_line (Passes system) unit declared one has).1.words)
 
   abbrev pub run : Unit
   run = plain_unit unit
@@ -144,63 +142,6 @@ module _ (system : System) (unit : Unit) (declared : Declares (Passes system) un
 
   abbrev pub input_variables : List Variable
   input_variables = map (λ (input : Input). variable input.name input.ty) run.inputs
-
-  -- What is declared stands among all that is.
-  abbrev P : List Declared
-  P = map OfParam unit.params
-
-  abbrev S : List Declared
-  S = map OfState unit.states
-
-  abbrev L : List Declared
-  L = map OfLocal unit.locals
-
-  abbrev I : List Declared
-  I = map OfInput unit.inputs
-
-  abbrev E : List Declared
-  E = map OfEventIn unit.events_in
-
-  abbrev O : List Declared
-  O = map OfOutput unit.outputs
-
-  abbrev F : List Declared
-  F = map OfEventOut unit.events_out
-
-  param_has : (param : Param) → Has unit.params param → Has (declarations unit) (OfParam param)
-  param_has param has = has_front P (S ++ (L ++ ports unit)) (OfParam param) (has_map OfParam unit.params param has)
-
-  state_has : (state : State) → Has unit.states state → Has (declarations unit) (OfState state)
-  state_has state has =
-      has_behind P (S ++ (L ++ ports unit)) (OfState state) (has_front S (L ++ ports unit) (OfState state) (has_map OfState unit.states state has))
-
-  local_has : (local : Local) → Has unit.locals local → Has (declarations unit) (OfLocal local)
-  local_has local has =
-      has_behind P (S ++ (L ++ ports unit)) (OfLocal local)
-      (has_behind S (L ++ ports unit) (OfLocal local) (has_front L (ports unit) (OfLocal local) (has_map OfLocal unit.locals local has)))
-
-  port_has : (one : Declared) → Has (ports unit) one → Has (declarations unit) one
-  port_has one has = has_behind P (S ++ (L ++ ports unit)) one (has_behind S (L ++ ports unit) one (has_behind L (ports unit) one has))
-
-  input_has : (input : Input) → Has unit.inputs input → Has (declarations unit) (OfInput input)
-  input_has input has = port_has (OfInput input) (has_front I (E ++ (O ++ F)) (OfInput input) (has_map OfInput unit.inputs input has))
-
-  event_has : (event : EventIn) → Has unit.events_in event → Has (declarations unit) (OfEventIn event)
-  event_has event has =
-      port_has (OfEventIn event)
-      (has_behind I (E ++ (O ++ F)) (OfEventIn event) (has_front E (O ++ F) (OfEventIn event) (has_map OfEventIn unit.events_in event has)))
-
-  pub output_has : (output : Output) → Has unit.outputs output → Has (declarations unit) (OfOutput output)
-  output_has output has =
-      port_has (OfOutput output)
-      (has_behind I (E ++ (O ++ F)) (OfOutput output)
-      (has_behind E (O ++ F) (OfOutput output) (has_front O F (OfOutput output) (has_map OfOutput unit.outputs output has))))
-
-  pub event_out_has : (event : EventOut) → Has unit.events_out event → Has (declarations unit) (OfEventOut event)
-  event_out_has event has =
-      port_has (OfEventOut event)
-      (has_behind I (E ++ (O ++ F)) (OfEventOut event)
-      (has_behind E (O ++ F) (OfEventOut event) (has_behind O F (OfEventOut event) (has_map OfEventOut unit.events_out event has))))
 
   -- A variable is one that is declared.
   pub record Comes (w : Variable) : Type 0 where
@@ -221,7 +162,7 @@ module _ (system : System) (unit : Unit) (declared : Declares (Passes system) un
   from_inputs w has =
       let input = map_has input_variable run.inputs w has in
       elim (has_either unit.inputs (flat_map plain_inputs unit.events_in) input.one input.has) [
-        | inl plain ↦ inl (record { one = OfInput input.one; has = input_has input.one plain; is = input.is })
+        | inl plain ↦ inl (record { one = OfInput input.one; has = input_is_declared unit input.one plain; is = input.is })
         | inr event ↦
             of_event input.one input.is (flat_has plain_inputs unit.events_in input.one event).one (flat_has plain_inputs unit.events_in input.one event).has
             (flat_has plain_inputs unit.events_in input.one event).inside
@@ -229,20 +170,21 @@ module _ (system : System) (unit : Unit) (declared : Declares (Passes system) un
     where
       of_event : (input : Input) → input_variable input ≡ w → (event : EventIn) → Has unit.events_in event → Has (plain_inputs event) input → Comes w ⊎ Tells w
       of_event input is event has (inl first) = inr (record { event = event; has = has; is = ap input_variable first ∙ is })
-      of_event input is event has (inr (inl second)) = inl (record { one = OfEventIn event; has = event_has event has; is = ap input_variable second ∙ is })
+      of_event input is event has (inr (inl second)) =
+          inl (record { one = OfEventIn event; has = event_in_is_declared unit event has; is = ap input_variable second ∙ is })
       of_event input is event has (inr (inr none)) = absurd none
 
   pub from_run : (w : Variable) → Has run_variables w → Comes w ⊎ Tells w
   from_run w has = elim (has_either (param_variables unit.params) (slot_variables run) w has) [
     | inl here ↦ let one = map_has (λ (param : Param). variable param.name param.ty) unit.params w here in
-        inl (record { one = OfParam one.one; has = param_has one.one one.has; is = one.is })
+        inl (record { one = OfParam one.one; has = param_is_declared unit one.one one.has; is = one.is })
     | inr behind ↦ elim (has_either state_variables (input_variables ++ local_variables) w behind) [
       | inl here ↦ let one = map_has (λ (state : State). variable state.name state.ty) unit.states w here in
-          inl (record { one = OfState one.one; has = state_has one.one one.has; is = one.is })
+          inl (record { one = OfState one.one; has = state_is_declared unit one.one one.has; is = one.is })
       | inr later ↦ elim (has_either input_variables local_variables w later) [
         | inl here ↦ from_inputs w here
         | inr here ↦ let one = map_has (λ (local : Local). variable local.name local.ty) unit.locals w here in
-            inl (record { one = OfLocal one.one; has = local_has one.one one.has; is = one.is })
+            inl (record { one = OfLocal one.one; has = local_is_declared unit one.one one.has; is = one.is })
       ]
     ]
   ]
@@ -261,9 +203,9 @@ module _ (system : System) (unit : Unit) (declared : Declares (Passes system) un
       let port = map_has port_variable (output_ports unit) w has in
       elim (has_either (map output_port unit.outputs) (map event_port unit.events_out) port.one port.has) [
         | inl here ↦ let one = map_has output_port unit.outputs port.one here in
-            record { one = OfOutput one.one; has = output_has one.one one.has; is = ap port_variable one.is ∙ port.is }
+            record { one = OfOutput one.one; has = output_is_declared unit one.one one.has; is = ap port_variable one.is ∙ port.is }
         | inr here ↦ let one = map_has event_port unit.events_out port.one here in
-            record { one = OfEventOut one.one; has = event_out_has one.one one.has; is = ap port_variable one.is ∙ port.is }
+            record { one = OfEventOut one.one; has = event_out_is_declared unit one.one one.has; is = ap port_variable one.is ∙ port.is }
       ]
 
   abbrev plain_input_variables : List Variable
@@ -277,18 +219,18 @@ module _ (system : System) (unit : Unit) (declared : Declares (Passes system) un
     | inr here ↦ from_ports w here
     | inl front ↦ elim (has_either (variables_of unit) events_of w front) [
       | inr here ↦ let one = map_has (λ (event : EventIn). variable event.name event.ty) unit.events_in w here in
-          record { one = OfEventIn one.one; has = event_has one.one one.has; is = one.is }
+          record { one = OfEventIn one.one; has = event_in_is_declared unit one.one one.has; is = one.is }
       | inl a ↦ elim (has_either ((param_variables unit.params ++ state_variables) ++ plain_input_variables) local_variables w a) [
         | inr here ↦ let one = map_has (λ (local : Local). variable local.name local.ty) unit.locals w here in
-            record { one = OfLocal one.one; has = local_has one.one one.has; is = one.is }
+            record { one = OfLocal one.one; has = local_is_declared unit one.one one.has; is = one.is }
         | inl b ↦ elim (has_either (param_variables unit.params ++ state_variables) plain_input_variables w b) [
           | inr here ↦ let one = map_has (λ (input : Input). variable input.name input.ty) unit.inputs w here in
-              record { one = OfInput one.one; has = input_has one.one one.has; is = one.is }
+              record { one = OfInput one.one; has = input_is_declared unit one.one one.has; is = one.is }
           | inl c ↦ elim (has_either (param_variables unit.params) state_variables w c) [
             | inl here ↦ let one = map_has (λ (param : Param). variable param.name param.ty) unit.params w here in
-                record { one = OfParam one.one; has = param_has one.one one.has; is = one.is }
+                record { one = OfParam one.one; has = param_is_declared unit one.one one.has; is = one.is }
             | inr here ↦ let one = map_has (λ (state : State). variable state.name state.ty) unit.states w here in
-                record { one = OfState one.one; has = state_has one.one one.has; is = one.is }
+                record { one = OfState one.one; has = state_is_declared unit one.one one.has; is = one.is }
           ]
         ]
       ]
@@ -319,7 +261,7 @@ module _ (system : System) (unit : Unit) (declared : Declares (Passes system) un
   use_param param has =
       let here = has_map (λ (p : Param). variable p.name p.ty) unit.params param has in record {
         one = OfParam param;
-        has = param_has param has;
+        has = param_is_declared unit param has;
         named_so = refl;
         among_declared = in_declared_a (variable param.name param.ty)
             (has_front (param_variables unit.params) state_variables (variable param.name param.ty) here);
@@ -331,7 +273,7 @@ module _ (system : System) (unit : Unit) (declared : Declares (Passes system) un
       let w = variable state.name state.ty in
       let here = has_map (λ (s : State). variable s.name s.ty) unit.states state has in record {
         one = OfState state;
-        has = state_has state has;
+        has = state_is_declared unit state has;
         named_so = refl;
         among_declared = in_declared_a w (has_behind (param_variables unit.params) state_variables w here);
         among_run = has_behind (param_variables unit.params) (slot_variables run) w (has_front state_variables (input_variables ++ local_variables) w here);
@@ -342,7 +284,7 @@ module _ (system : System) (unit : Unit) (declared : Declares (Passes system) un
       let w = variable local.name local.ty in
       let here = has_map (λ (s : Local). variable s.name s.ty) unit.locals local has in record {
         one = OfLocal local;
-        has = local_has local has;
+        has = local_is_declared unit local has;
         named_so = refl;
         among_declared =
             has_front (variables_of unit ++ events_of) (map port_variable (output_ports unit)) w
@@ -358,7 +300,7 @@ module _ (system : System) (unit : Unit) (declared : Declares (Passes system) un
       let w = variable input.name input.ty in
       let here = has_map (λ (s : Input). variable s.name s.ty) unit.inputs input has in record {
         one = OfInput input;
-        has = input_has input has;
+        has = input_is_declared unit input has;
         named_so = refl;
         among_declared =
             has_front (variables_of unit ++ events_of) (map port_variable (output_ports unit)) w
@@ -374,7 +316,7 @@ module _ (system : System) (unit : Unit) (declared : Declares (Passes system) un
       let here = has_map (λ (s : EventIn). variable s.name s.ty) unit.events_in event has in
       let inside = has_flat plain_inputs unit.events_in event _ has (inr (inl refl)) in record {
         one = OfEventIn event;
-        has = event_has event has;
+        has = event_in_is_declared unit event has;
         named_so = refl;
         among_declared = has_front (variables_of unit ++ events_of) (map port_variable (output_ports unit)) w (has_behind (variables_of unit) events_of w here);
         among_run = in_run_inputs w (has_map input_variable run.inputs _ (has_behind unit.inputs (flat_map plain_inputs unit.events_in) _ inside));

@@ -18,7 +18,7 @@ use Rattle.unit_vm.specs.Machine.{Work, State, Course, Ends, Faults, goes_on, lo
 use Rattle.unit_vm.specs.declared.instruction.Instruction.{Instruction}
 use Rattle.unit_vm.specs.declared.instruction.Instruction.TheVariants.{Load, Give}
 use Rattle.unit_vm.specs.declared.program.Sizes.{Sizes}
-use Rattle.list_laws.proofs.Members.{at_place}
+use Rattle.list_laws.proofs.Members.{at_place, at_front}
 
 tested : (fitting : Bool) (work : Work) (word : ℤ) (next : State → Course)
     → word_given (then_goes (if fitting then Ends work (Some word) else Faults fault.Range) next) ≡ Some (if fitting then Ok word else Err fault.Range)
@@ -26,11 +26,6 @@ tested true work word next = refl
 tested false work word next = refl
 
 -- A word in the front of a list.
-found_front : (xs ys : List ℤ) (place : ℕ) (word : ℤ) → slice_get xs place ≡ Some word → slice_get (xs ++ ys) place ≡ Some word
-found_front [] ys place word is = absurd (cc)
-found_front (x ∷ xs) ys zero word is = is
-found_front (x ∷ xs) ys (suc place) word is = found_front xs ys place word is
-
 found_taken : (xs : List ℤ) (count place : ℕ) (word : ℤ) → place < count → slice_get xs place ≡ Some word → slice_get (take count xs) place ≡ Some word
 found_taken [] count place word within is = absurd (cc)
 found_taken (x ∷ xs) zero place word within is = absurd (omega (arith, within))
@@ -42,7 +37,7 @@ pub shows : (sizes : Sizes) (slot : ℕ) (ty : Ty) (state rest : List ℤ) (word
 shows sizes slot ty state rest word each is =
     let within : slot < length state = slice_get_within state slot word is in
     let there : slice_get (with_locals_zero sizes (state ++ rest)) slot ≡ Some word =
-    found_front _ _ slot word (found_taken (state ++ rest) (sizes.states + sizes.inputs) slot word (omega arith) (found_front state rest slot word is)) in
+    at_front _ _ slot word (found_taken (state ++ rest) (sizes.states + sizes.inputs) slot word (omega arith) (at_front state rest slot word is)) in
     let at : State = opening sizes (state ++ rest) in
     let code : List Instruction = Load slot ∷ Give ty ∷ [] in
     ap (λ found. word_given (then_goes (goes_on at (loads at.work found)) (after code 1))) there

@@ -30,7 +30,8 @@ use Rattle.language_laws.proofs.NameLaws.{same_bytes, bytes_of}
 use Rattle.language_laws.proofs.PlainNames.{map_has, flat_has}
 use Rattle.unit_vm.specs.Instructions.{is_stored}
 use Rattle.unit_vm.specs.declared.program.Sizes.{Sizes}
-use Rattle.language_laws.proofs.Declarations.{Declared, OfParam, OfState, OfLocal, OfInput, OfEventIn, OfOutput, OfEventOut, name_of, declarations, ports, Declares}
+use Rattle.language_laws.proofs.Declarations.{Declared, OfParam, OfState, OfLocal, OfInput, OfEventIn, OfOutput, OfEventOut, name_of, declarations, ports}
+use Rattle.language_laws.proofs.Declarations.{Declares}
 use Rattle.unit_exec.proofs.NamesOfUnits.{plain_name, from_declared}
 use Rattle.language_laws.proofs.UnitSites.{Passes}
 use Rattle.list_laws.proofs.Members.{Has, has_front, has_behind, has_either, has_map}

@@ -8,6 +8,8 @@ use Rattle.unit_tree.specs.Components.{Component, initial, start_word}
 use Rattle.unit_tree.specs.Plain.{plain_form}
 use Rattle.unit_tree.specs.declared.system.System.{System}
 use Rattle.unit_tree.specs.declared.unit.Unit.{Unit}
+use Rattle.unit_vm.specs.Programs.{program_words}
+use Rattle.unit_vm.specs.Reading.{program_in}
 use Rattle.unit_vm.specs.declared.program.Program.{Program}
 
 pub record Compiled : Type 0 where
@@ -20,10 +22,11 @@ abbrev pub start_inputs_of : Unit → List ℤ
 start_inputs_of unit = map (λ input. start_word input.ty input.start) unit.inputs
 
 -- An image is that of a component: its program is the unit's, which computes the component's calls, for all words of states and
--- inputs, and has as many states, inputs and locals; the start words are the component's.
+-- inputs, has as many states, inputs and locals, and is read back from its words; the start words are the component's.
 pub record IsImageOf (component : Component) (image : Compiled) : Type 0 where
   pub is_program : image.program ≡ program_of component.unit component.params
   pub computes : Computes image.program component
+  pub is_read : program_in (program_words image.program) ≡ image.program
   pub sizes : image.program.sizes ≡ sizes_of component.unit
   pub outputs : length image.program.outputs ≡ length component.unit.outputs
   pub limit : is_some image.program.limit ≡ is_some component.unit.max

@@ -1,7 +1,7 @@
 use Rattle.std.proofs.Common.{◌≡◌, ◌<◌, ap, ◌∙◌, ◌==◌, arith, false, length, ◌≤◌}
-use Rattle.std.proofs.lemmas.Bool.{eq-eqb}
+use Rattle.std.proofs.lemmas.Bool.{eq-eqb, ne_eqb}
 use Rattle.guess_board.specs.Journals.{without}
-use Rattle.guess_board.proofs.JournalLaws.{eqb_apart, found_at, found_none, passed_by}
+use Rattle.guess_board.proofs.JournalLaws.{found_at, found_none, passed_by}
 use Rattle.guess_board.proofs.journal.remove.Goals as goal
 
 pub loop-place-preserved : goal.loop-place-preserved
@@ -9,7 +9,7 @@ loop-place-preserved c =
     let l = c.loop-place in
     let as_many = ap (λ v. length v.items) l.invariant.same in
     let within : l.place < length l.outstanding.items = omega (arith, l.outstanding.ok.0, c.args.outstanding.now.ok.0) in
-    let apart : (c.index.result.now == c.args.ticket) ≡ false = eqb_apart c.index.result.now c.args.ticket c.if-index-ticket.false in
+    let apart : (c.index.result.now == c.args.ticket) ≡ false = ne_eqb c.index.result.now c.args.ticket c.if-index-ticket.false in
     record {
       same = l.invariant.same;
       without_is = passed_by c.args.ticket l.outstanding.items l.place c.index.result.now within c.index.ensures apart l.invariant.without_is;

@@ -1,6 +1,7 @@
 use Rattle.std.proofs.Common.{◌+◌, ◌≤◌, arith, sym, ◌∙◌, subst}
+use Rattle.std.proofs.lemmas.Bool.{true≢false}
 use Rattle.trace_core.specs.Runs.{IsComputed}
-use Rattle.serial_run.proofs.CellLaws.{Filling, filling_none, fills, leaves, all_made, true_or_false}
+use Rattle.serial_run.proofs.CellLaws.{Filling, filling_none, fills, leaves, all_made}
 use Rattle.serial_run.proofs.advance.step_all.Goals as goal
 use Rattle.serial_run.proofs.advance.step_all.Goals.{then-is_wanted, else-is_wanted}
 
@@ -11,7 +12,7 @@ loop-instance-preserved c =
           (c.is_wanted.ensures.0 w.if-is_wanted.true) (subst (IsComputed c.loop-instance.run c.loop-instance.instance) (sym w.run-is) w.compute.ensures)
       | else-is_wanted w ↦ subst (λ now. Filling c.args.run.now now (c.loop-instance.instance + 1)) (sym w.run-is)
           (leaves c.args.run.now c.loop-instance.run c.loop-instance.instance c.loop-instance.invariant (omega arith)
-          (λ wanted. true_or_false (sym (c.is_wanted.ensures.1 wanted) ∙ w.if-is_wanted.false)))
+          (λ wanted. true≢false (sym (c.is_wanted.ensures.1 wanted) ∙ w.if-is_wanted.false)))
     ]
 
 pub loop-instance-init : goal.loop-instance-init

@@ -1,8 +1,9 @@
 use Rattle.std.proofs.Common.{refl, sym, ap, ◌∙◌, arith}
-use Rattle.trace_rows.proofs.RowLaws.{err_is, on_err, tells_given_up, tells_none}
+use Rattle.trace_rows.proofs.RowLaws.{err_is, tells_given_up, tells_none}
 use Rattle.trace_rows.proofs.RunEnds.{front_come, report_by, reports_rest}
 use Rattle.trace_rows.proofs.RunKept.{come_first, come_next, fewer_left, given_by, kept_by, number_within}
-use Rattle.serial_run.proofs.RunLaws.{alone_by, done_by, ended_by, found_last, found_next, going_on, passes}
+use Rattle.cosim_io.proofs.WriteLemmas.{OnErr-always}
+use Rattle.serial_run.proofs.RunLaws.{alone_by, done_by, ended_by, going_on}
 use Rattle.serial_run.proofs.run.put_rest.Goals as goal
 
 -- ---- The row at which the run was opened
@@ -12,7 +13,7 @@ returns-in_err-put_row-clause-front g c =
     let come =
     come_first c.args.plan.now c.args.run.now.opened c.args.run.now (g.O.Sink.held c.args.out.now) (g.O.Sink.faults c.args.out.now) c.new-tally.result
     c.requires.opened c.requires.stands c.new-tally.ensures.rows c.new-tally.ensures.sum in
-    on_err c.from_residual.result
+    OnErr-always c.from_residual.result
     (front_come c.args.plan.now c.args.run.now.opened c.args.run.now (g.O.Sink.held c.args.out.now) (g.O.Sink.held c.args.out.now)
     (g.O.Sink.held c.put_row.new.out) (g.O.Sink.faults c.args.out.now) (g.O.Sink.faults c.args.out.now) c.new-tally.result come
     c.in_err-put_row.ensures.front)
@@ -44,7 +45,7 @@ rows-init g c =
 pub put_row-requires-in-rows-clause-own : goal.put_row-requires-in-rows-clause-own
 put_row-requires-in-rows-clause-own g c =
     let given = given_by c.args.plan.now c.args.run.now.opened c.args.run.now c.requires.opened c.requires.stands in
-    let on = passes c.rows.run c.advance.new.run (going_on c.rows.run c.advance.new.run c.advance.result c.rows-test.true c.advance.ensures.advanced) in
+    let on = going_on c.rows.run c.advance.new.run c.advance.result c.rows-test.true c.advance.ensures.went in
     (come_next c.args.plan.now c.args.run.now.opened c.rows.run c.advance.new.run (g.O.Sink.held c.args.out.now) (g.O.Sink.held c.rows.out)
     (g.O.Sink.faults c.args.out.now)
     (g.O.Sink.faults c.rows.out) c.rows.tally given c.rows.invariant.kept on c.advance.ensures.stands).at.planned
@@ -52,7 +53,7 @@ put_row-requires-in-rows-clause-own g c =
 pub put_row-requires-in-rows-clause-rows : goal.put_row-requires-in-rows-clause-rows
 put_row-requires-in-rows-clause-rows g c =
     let given = given_by c.args.plan.now c.args.run.now.opened c.args.run.now c.requires.opened c.requires.stands in
-    let on = passes c.rows.run c.advance.new.run (going_on c.rows.run c.advance.new.run c.advance.result c.rows-test.true c.advance.ensures.advanced) in
+    let on = going_on c.rows.run c.advance.new.run c.advance.result c.rows-test.true c.advance.ensures.went in
     let come =
     come_next c.args.plan.now c.args.run.now.opened c.rows.run c.advance.new.run (g.O.Sink.held c.args.out.now) (g.O.Sink.held c.rows.out)
     (g.O.Sink.faults c.args.out.now)
@@ -64,7 +65,7 @@ put_row-requires-in-rows-clause-rows g c =
 pub rows-smaller : goal.rows-smaller
 rows-smaller g c =
     let given = given_by c.args.plan.now c.args.run.now.opened c.args.run.now c.requires.opened c.requires.stands in
-    let on = passes c.rows.run c.advance.new.run (going_on c.rows.run c.advance.new.run c.advance.result c.rows-test.true c.advance.ensures.advanced) in
+    let on = going_on c.rows.run c.advance.new.run c.advance.result c.rows-test.true c.advance.ensures.went in
     let within = number_within c.args.plan.now c.args.run.now.opened c.rows.run given c.rows.invariant.kept.at.planned c.rows.invariant.kept.at.stands in
     let next = fewer_left c.rows.run c.advance.new.run on in
     omega (arith, within, next)
@@ -72,28 +73,28 @@ rows-smaller g c =
 pub rows-preserved : goal.rows-preserved
 rows-preserved g c =
     let given = given_by c.args.plan.now c.args.run.now.opened c.args.run.now c.requires.opened c.requires.stands in
-    let moved = going_on c.rows.run c.advance.new.run c.advance.result c.rows-test.true c.advance.ensures.advanced in
+    let moved = going_on c.rows.run c.advance.new.run c.advance.result c.rows-test.true c.advance.ensures.went in
     let come =
     come_next c.args.plan.now c.args.run.now.opened c.rows.run c.advance.new.run (g.O.Sink.held c.args.out.now) (g.O.Sink.held c.rows.out)
     (g.O.Sink.faults c.args.out.now)
-    (g.O.Sink.faults c.rows.out) c.rows.tally given c.rows.invariant.kept (passes c.rows.run c.advance.new.run moved) c.advance.ensures.stands in
+    (g.O.Sink.faults c.rows.out) c.rows.tally given c.rows.invariant.kept moved c.advance.ensures.stands in
     record {
       kept =
           kept_by c.args.plan.now c.args.run.now.opened c.advance.new.run (g.O.Sink.held c.args.out.now) (g.O.Sink.held c.rows.out)
           (g.O.Sink.held c.put_row-in-rows.new.out) (g.O.Sink.faults c.args.out.now) (g.O.Sink.faults c.rows.out)
           (g.O.Sink.faults c.put_row-in-rows.new.out) c.rows.tally c.put_row-in-rows.new.tally come c.in_ok-put_row-2.ensures;
-      alone = found_next c.rows.run c.advance.new.run moved c.rows.invariant.alone;
+      alone = c.advance.ensures.alone ∙ c.rows.invariant.alone;
     }
 
 pub returns-in_err-put_row-2-clause-front : goal.returns-in_err-put_row-2-clause-front
 returns-in_err-put_row-2-clause-front g c =
     let given = given_by c.args.plan.now c.args.run.now.opened c.args.run.now c.requires.opened c.requires.stands in
-    let on = passes c.rows.run c.advance.new.run (going_on c.rows.run c.advance.new.run c.advance.result c.rows-test.true c.advance.ensures.advanced) in
+    let on = going_on c.rows.run c.advance.new.run c.advance.result c.rows-test.true c.advance.ensures.went in
     let come =
     come_next c.args.plan.now c.args.run.now.opened c.rows.run c.advance.new.run (g.O.Sink.held c.args.out.now) (g.O.Sink.held c.rows.out)
     (g.O.Sink.faults c.args.out.now)
     (g.O.Sink.faults c.rows.out) c.rows.tally given c.rows.invariant.kept on c.advance.ensures.stands in
-    on_err c.from_residual-in_err-put_row-2.result
+    OnErr-always c.from_residual-in_err-put_row-2.result
     (front_come c.args.plan.now c.args.run.now.opened c.advance.new.run (g.O.Sink.held c.args.out.now) (g.O.Sink.held c.rows.out)
     (g.O.Sink.held c.put_row-in-rows.new.out) (g.O.Sink.faults c.args.out.now) (g.O.Sink.faults c.rows.out) c.rows.tally come
     c.in_err-put_row-2.ensures.front)
@@ -113,7 +114,7 @@ unreachable-requires g c =
     done_by c.args.plan.now c.args.run.now.opened c.rows.run c.advance.new.run (g.O.Sink.held c.args.out.now) (g.O.Sink.held c.rows.out)
     (g.O.Sink.faults c.args.out.now)
     (g.O.Sink.faults c.rows.out) c.rows.tally given c.rows.invariant.kept
-    (ended_by c.rows.run c.advance.new.run c.advance.result c.rows-test.false c.advance.ensures.advanced) c.advance.ensures.stands in
+    (ended_by c.rows.run c.advance.new.run c.advance.result c.rows-test.false c.advance.ensures.went) c.advance.ensures.stands in
     c.in_default.not-Ended done.ending (c.phase.ensures.phase ∙ done.phase)
 
 pub returns-clause-whole : goal.returns-clause-whole
@@ -123,7 +124,7 @@ returns-clause-whole g c =
     done_by c.args.plan.now c.args.run.now.opened c.rows.run c.advance.new.run (g.O.Sink.held c.args.out.now) (g.O.Sink.held c.rows.out)
     (g.O.Sink.faults c.args.out.now)
     (g.O.Sink.faults c.rows.out) c.rows.tally given c.rows.invariant.kept
-    (ended_by c.rows.run c.advance.new.run c.advance.result c.rows-test.false c.advance.ensures.advanced) c.advance.ensures.stands in
+    (ended_by c.rows.run c.advance.new.run c.advance.result c.rows-test.false c.advance.ensures.went) c.advance.ensures.stands in
     reports_rest c.args.plan.now c.args.run.now.opened c.advance.new.run (g.O.Sink.held c.args.out.now) (g.O.Sink.held c.rows.out) c.rows.tally
     c.in-Ended.outcome c.of_run.result given done
     (sym c.phase.ensures.phase ∙ c.in-Ended.is)
@@ -132,8 +133,7 @@ returns-clause-whole g c =
 pub returns-clause-alone : goal.returns-clause-alone
 returns-clause-alone g c =
     alone_by c.advance.new.run c.in-Ended.outcome c.rows.tally c.of_run.result c.of_run.ensures
-    (found_last c.rows.run c.advance.new.run (ended_by c.rows.run c.advance.new.run c.advance.result c.rows-test.false c.advance.ensures.advanced)
-    c.rows.invariant.alone)
+    (c.advance.ensures.alone ∙ c.rows.invariant.alone)
 
 pub returns-clause-cause : goal.returns-clause-cause
 returns-clause-cause g c = tells_none (g.O.Sink.faults c.args.out.now) (g.O.Sink.faults c.rows.out) c.of_run.result c.rows.invariant.kept.same

@@ -1,10 +1,11 @@
 use Rattle.std.proofs.Common.{◌*◌, ◌≤◌, length, refl, sym, subst, ◌∙◌}
 use Rattle.std.specs.Prelude.{IfOk}
 use Rattle.cosim_io.specs.Pieces.{AppendsPrefix}
+use Rattle.cosim_io.proofs.WriteLemmas.{OnErr-always}
 use Rattle.trace_plan.specs.Plans.{Planned}
 use Rattle.trace_rows.specs.Lines.{header_of}
 use Rattle.trace_rows.specs.declared.report.Report.{Report}
-use Rattle.trace_rows.proofs.RowLaws.{err_is, on_err, tells_after, tells_given_up}
+use Rattle.trace_rows.proofs.RowLaws.{err_is, tells_after, tells_given_up}
 use Rattle.trace_rows.proofs.RunEnds.{front_header, front_none}
 use Rattle.serial_run.proofs.RunLaws.{opened_there, own_bounded, own_cells, puts_front, reports_whole}
 use Rattle.serial_run.proofs.run.run_alone.Goals as goal
@@ -12,16 +13,16 @@ use Rattle.serial_run.proofs.run.run_alone.Goals as goal
 -- ---- Nothing was put
 
 pub returns-in_err-clone-clause-front : goal.returns-in_err-clone-clause-front
-returns-in_err-clone-clause-front g c = on_err c.from_residual.result (front_none c.args.plan.value.system (g.O.Sink.held c.args.out.now))
+returns-in_err-clone-clause-front g c = OnErr-always c.from_residual.result (front_none c.args.plan.value.system (g.O.Sink.held c.args.out.now))
 
 pub returns-in_err-run-clause-front : goal.returns-in_err-run-clause-front
-returns-in_err-run-clause-front g c = on_err c.from_residual-in_err-run.result (front_none c.args.plan.value.system (g.O.Sink.held c.args.out.now))
+returns-in_err-run-clause-front g c = OnErr-always c.from_residual-in_err-run.result (front_none c.args.plan.value.system (g.O.Sink.held c.args.out.now))
 
 -- ---- The header
 
 pub returns-in_err-put_header-clause-front : goal.returns-in_err-put_header-clause-front
 returns-in_err-put_header-clause-front g c =
-    on_err c.from_residual-in_err-put_header.result
+    OnErr-always c.from_residual-in_err-put_header.result
     (front_header c.args.plan.value.system (g.O.Sink.held c.args.out.now) (g.O.Sink.held c.put_header.new.out)
     (subst (λ (p : Planned). AppendsPrefix (g.O.Sink.held c.args.out.now) (g.O.Sink.held c.put_header.new.out) (header_of p.system)) c.deref.ensures
     c.in_err-put_header.ensures.front))

@@ -1,6 +1,7 @@
 use Rattle.std.proofs.Common.{◌≤◌, ◌++◌, ◌∷◌, [], ◌∙◌, ℤ, Vec, Global, length, map, ap, sym, arith, take}
 use Rattle.std.proofs.lemmas.List.{take_all, map-append}
-use Rattle.trace_core.proofs.OpeningLaws.{take_next, states_long}
+use Rattle.list_laws.proofs.Members.{take_next}
+use Rattle.trace_core.proofs.OpeningLaws.{states_long}
 use Rattle.trace_core.proofs.opening.states_of.Goals as goal
 
 pub loop-instance-init : goal.loop-instance-init

@@ -1,10 +1,11 @@
 use Rattle.std.proofs.Common.{◌<◌, ◌+◌, length, set, refl, ap, sym, subst, arith}
 use Rattle.std.specs.Vec.{with_item}
 use Rattle.port_solve.specs.Solved.{HaveStates}
+use Rattle.list_laws.proofs.Members.{read_at}
+use Rattle.super_time.proofs.LimitLaws.{local_end}
 use Rattle.trace_core.specs.Runs.{RunState, IsWanted, step_length}
-use Rattle.trace_core.proofs.FillLaws.{wanted_seat, is_going, the_seat, local_end, is_computed, stepped_run}
+use Rattle.trace_core.proofs.FillLaws.{wanted_seat, is_going, the_seat, is_computed, stepped_run}
 use Rattle.trace_core.proofs.KeepLaws.{going_solved}
-use Rattle.trace_core.proofs.RowLaws.{seat_there}
 use Rattle.trace_core.proofs.SettleLaws.{long, step_in_time, counts_fit}
 use Rattle.trace_plan.specs.Plans.{Planned}
 use Rattle.trace_core.proofs.run.Run.compute.Goals as goal
@@ -28,7 +29,7 @@ do_step-requires-clause-end c =
     let is = c.self.invariant in
     let seat = c.index_mut-seat.result.now in
     let wanted = subst (λ (s : RunState). IsWanted s c.args.instance) (sym c.self.view_is) c.requires.wanted in
-    let there = seat_there r.seats.items c.args.instance seat (wanted_seat r c.args.instance wanted) c.index_mut-seat.ensures.value in
+    let there = read_at r.seats.items c.args.instance seat (wanted_seat r c.args.instance wanted) c.index_mut-seat.ensures.value in
     let have = subst (λ (plan : Planned). HaveStates plan.run r.units.states) is.tied c.count.ensures.states in
     let found = the_seat r is seat c.args.instance (long r is have) there wanted in
     let in_time = step_in_time r is have (is_going r is seat c.args.instance (long r is have) there wanted) in
@@ -41,7 +42,7 @@ overflow_add-self c =
     let is = c.self.invariant in
     let seat = c.index_mut-seat.result.now in
     let wanted = subst (λ (s : RunState). IsWanted s c.args.instance) (sym c.self.view_is) c.requires.wanted in
-    let there = seat_there r.seats.items c.args.instance seat (wanted_seat r c.args.instance wanted) c.index_mut-seat.ensures.value in
+    let there = read_at r.seats.items c.args.instance seat (wanted_seat r c.args.instance wanted) c.index_mut-seat.ensures.value in
     let have = subst (λ (plan : Planned). HaveStates plan.run r.units.states) is.tied c.count.ensures.states in
     let small = counts_fit r is have (is_going r is seat c.args.instance (long r is have) there wanted) in
     omega (arith, small)
@@ -52,7 +53,7 @@ invariant_of-self c =
     let is = c.self.invariant in
     let seat = c.index_mut-seat.result.now in
     let wanted = subst (λ (s : RunState). IsWanted s c.args.instance) (sym c.self.view_is) c.requires.wanted in
-    let there = seat_there r.seats.items c.args.instance seat (wanted_seat r c.args.instance wanted) c.index_mut-seat.ensures.value in
+    let there = read_at r.seats.items c.args.instance seat (wanted_seat r c.args.instance wanted) c.index_mut-seat.ensures.value in
     let have = subst (λ (plan : Planned). HaveStates plan.run r.units.states) is.tied c.count.ensures.states in
     let solved = going_solved r is (is_going r is seat c.args.instance (long r is have) there wanted) in
     stepped_run r is seat c.args.instance (long r is have) there wanted c.do_step.result c.do_step.new.self c.do_step.ensures solved
@@ -65,7 +66,7 @@ returns c =
     let is = c.self.invariant in
     let seat = c.index_mut-seat.result.now in
     let wanted = subst (λ (s : RunState). IsWanted s c.args.instance) (sym c.self.view_is) c.requires.wanted in
-    let there = seat_there r.seats.items c.args.instance seat (wanted_seat r c.args.instance wanted) c.index_mut-seat.ensures.value in
+    let there = read_at r.seats.items c.args.instance seat (wanted_seat r c.args.instance wanted) c.index_mut-seat.ensures.value in
     let have = subst (λ (plan : Planned). HaveStates plan.run r.units.states) is.tied c.count.ensures.states in
     let solved = going_solved r is (is_going r is seat c.args.instance (long r is have) there wanted) in
     is_computed r is seat c.args.instance (long r is have) there wanted c.do_step.result c.do_step.new.self c.do_step.ensures solved

@@ -3,12 +3,12 @@ use Rattle.std.specs.Prelude.{IfOk, slice_index_or, []}
 use Rattle.std.specs.Vec.{with_item}
 use Rattle.fixed_words.specs.declared.types.Fault.{Fault}
 use Rattle.port_solve.specs.Solved.{HaveStates}
+use Rattle.list_laws.proofs.Members.{read_at}
 use Rattle.trace_core.specs.Accepting.{accepted_of, IsAnswerTo}
 use Rattle.trace_core.specs.Runs.{RunState, IsWanted, with_found}
 use Rattle.trace_core.proofs.AcceptLaws.{as_long, answer_steps, answer_made}
 use Rattle.trace_core.proofs.FillLaws.{wanted_seat, is_going, is_found, stepped_run}
 use Rattle.trace_core.proofs.KeepLaws.{going_solved}
-use Rattle.trace_core.proofs.RowLaws.{seat_there}
 use Rattle.trace_core.proofs.SettleLaws.{long, counts_fit}
 use Rattle.trace_plan.specs.Plans.{Planned}
 use Rattle.unit_answers.specs.Answers.{step_told}
@@ -35,7 +35,7 @@ take_step-seat-requires-clause-as_long c =
     let seat = c.index_mut-seat.result.now in
     let wanted = subst (λ (s : RunState). IsWanted s c.args.instance) (sym c.self.view_is) c.requires.wanted in
     let to = subst (λ (s : RunState). IsAnswerTo s c.args.instance c.args.answer.now) (sym c.self.view_is) c.requires.answers in
-    let there = seat_there r.seats.items c.args.instance seat (wanted_seat r c.args.instance wanted) c.index_mut-seat.ensures.value in
+    let there = read_at r.seats.items c.args.instance seat (wanted_seat r c.args.instance wanted) c.index_mut-seat.ensures.value in
     let have = subst (λ (plan : Planned). HaveStates plan.run r.units.states) is.tied c.count.ensures.states in
     let solved = going_solved r is (is_going r is seat c.args.instance (long r is have) there wanted) in
     subst (λ told. IfOk told (λ moved. length moved.state ≡ length (slice_index_or r.units.states c.args.instance []))) (sym c.answer.ensures.value)
@@ -47,7 +47,7 @@ overflow_add-self c =
     let is = c.self.invariant in
     let seat = c.index_mut-seat.result.now in
     let wanted = subst (λ (s : RunState). IsWanted s c.args.instance) (sym c.self.view_is) c.requires.wanted in
-    let there = seat_there r.seats.items c.args.instance seat (wanted_seat r c.args.instance wanted) c.index_mut-seat.ensures.value in
+    let there = read_at r.seats.items c.args.instance seat (wanted_seat r c.args.instance wanted) c.index_mut-seat.ensures.value in
     let have = subst (λ (plan : Planned). HaveStates plan.run r.units.states) is.tied c.count.ensures.states in
     let small = counts_fit r is have (is_going r is seat c.args.instance (long r is have) there wanted) in
     omega (arith, small)
@@ -59,7 +59,7 @@ invariant_of-self c =
     let seat = c.index_mut-seat.result.now in
     let wanted = subst (λ (s : RunState). IsWanted s c.args.instance) (sym c.self.view_is) c.requires.wanted in
     let to = subst (λ (s : RunState). IsAnswerTo s c.args.instance c.args.answer.now) (sym c.self.view_is) c.requires.answers in
-    let there = seat_there r.seats.items c.args.instance seat (wanted_seat r c.args.instance wanted) c.index_mut-seat.ensures.value in
+    let there = read_at r.seats.items c.args.instance seat (wanted_seat r c.args.instance wanted) c.index_mut-seat.ensures.value in
     let have = subst (λ (plan : Planned). HaveStates plan.run r.units.states) is.tied c.count.ensures.states in
     let solved = going_solved r is (is_going r is seat c.args.instance (long r is have) there wanted) in
     let told : Result Moved Fault = step_told c.answer.result.now in
@@ -78,7 +78,7 @@ returns c =
     let seat = c.index_mut-seat.result.now in
     let wanted = subst (λ (s : RunState). IsWanted s c.args.instance) (sym c.self.view_is) c.requires.wanted in
     let to = subst (λ (s : RunState). IsAnswerTo s c.args.instance c.args.answer.now) (sym c.self.view_is) c.requires.answers in
-    let there = seat_there r.seats.items c.args.instance seat (wanted_seat r c.args.instance wanted) c.index_mut-seat.ensures.value in
+    let there = read_at r.seats.items c.args.instance seat (wanted_seat r c.args.instance wanted) c.index_mut-seat.ensures.value in
     let have = subst (λ (plan : Planned). HaveStates plan.run r.units.states) is.tied c.count.ensures.states in
     let solved = going_solved r is (is_going r is seat c.args.instance (long r is have) there wanted) in
     let told : Result Moved Fault = step_told c.answer.result.now in

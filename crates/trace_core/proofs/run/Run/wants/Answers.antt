@@ -2,11 +2,13 @@ use Rattle.std.proofs.Common.{◌≡◌, ◌∙◌, length, Some, refl, ap, sym,
 use Rattle.std.proofs.lemmas.Option.{same_Some}
 use Rattle.std.specs.Prelude.{slice_get}
 use Rattle.port_solve.specs.Solved.{HaveStates, HaveInputs}
+use Rattle.list_laws.proofs.Members.{read_at}
+use Rattle.super_time.proofs.LimitLaws.{local_end}
 use Rattle.trace_core.specs.Runs.{RunState, IsWanted, IsWantOf, step_length}
 use Rattle.trace_core.specs.Seats.{saved}
-use Rattle.trace_core.proofs.FillLaws.{wanted_seat, is_going, the_seat, holds_state, local_end}
+use Rattle.trace_core.proofs.FillLaws.{wanted_seat, is_going, the_seat, holds_state}
 use Rattle.trace_core.proofs.KeepLaws.{going_solved}
-use Rattle.trace_core.proofs.RowLaws.{seat_there, live_seat, saved_words}
+use Rattle.trace_core.proofs.RowLaws.{live_seat, saved_words}
 use Rattle.trace_core.proofs.SettleLaws.{long, step_in_time}
 use Rattle.trace_core.proofs.WantLaws.{long_at, words_fit}
 use Rattle.trace_plan.specs.Plans.{Planned}
@@ -21,7 +23,7 @@ words-requires c =
     let r = c.self.inside in
     let seat = c.index-seat.result.now in
     let wanted = subst (λ (s : RunState). IsWanted s c.args.instance) (sym c.self.view_is) (c.is_wanted.ensures.0 c.if-not-is_wanted.false) in
-    let there = seat_there r.seats.items c.args.instance seat (wanted_seat r c.args.instance wanted) c.index-seat.ensures in
+    let there = read_at r.seats.items c.args.instance seat (wanted_seat r c.args.instance wanted) c.index-seat.ensures in
     record { live = live_seat r.snaps r.seats.items (saved r.snaps r.seats.items) c.args.instance seat c.self.invariant.saved there }
 
 pub returns : goal.returns
@@ -31,7 +33,7 @@ returns c =
     let seat = c.index-seat.result.now in
     let seen = c.is_wanted.ensures.0 c.if-not-is_wanted.false in
     let wanted = subst (λ (s : RunState). IsWanted s c.args.instance) (sym c.self.view_is) seen in
-    let there = seat_there r.seats.items c.args.instance seat (wanted_seat r c.args.instance wanted) c.index-seat.ensures in
+    let there = read_at r.seats.items c.args.instance seat (wanted_seat r c.args.instance wanted) c.index-seat.ensures in
     let have = subst (λ (plan : Planned). HaveStates plan.run r.units.states) is.tied c.count.ensures.states in
     let going = is_going r is seat c.args.instance (long r is have) there wanted in
     let found = the_seat r is seat c.args.instance (long r is have) there wanted in
