@@ -1,0 +1,98 @@
+-- Events of a world: what each needs of what the world keeps.
+use Rattle.std.proofs.Common.{◌≡◌, ◌≢◌, ◌∙◌, ℕ, zero, suc, ◌+◌, ◌==◌, ◌<◌, ◌≤◌, Bool, true, false, List}
+use Rattle.std.proofs.Common.{[], ◌∷◌, length, Some, refl, sym, ap, subst, arith, inl, inr}
+use Rattle.std.proofs.lemmas.Bool.{eqb-true, eqb-false}
+use Rattle.std.proofs.lemmas.List.{length-map}
+use Rattle.std.proofs.lemmas.Option.{same_Some, slice_get_within}
+use Rattle.std.specs.Prelude.{slice_get}
+use Rattle.spec_core.specs.Events.{Happens, IsRefused}
+use Rattle.spec_core.specs.Worlds.{IsWorld, WorldState}
+use Rattle.spec_core.specs.declared.event.Event.{Event}
+use Rattle.spec_core.specs.declared.event.Reply.TheVariants as reply
+use Rattle.trace_core.specs.Runs.{AreCellsFull, Cell, Empty, Filled, FitCells, Held, IsPhase, IsWanted, RunState, Stands, is_empty_cell, is_held_cell}
+use Rattle.trace_core.specs.Settling.{Settled}
+use Rattle.trace_core.specs.declared.phase.Phase.{Phase}
+use Rattle.trace_core.specs.declared.phase.Settle.{Settle}
+use Rattle.trace_core.specs.declared.phase.Settle.TheVariants as settle
+use Rattle.trace_core.specs.declared.phase.Phase.TheVariants.{Trial, Redo, Ended}
+use Rattle.unit_tree.specs.Compositions.{Composition, Member}
+use Rattle.unit_tree.specs.Negotiation.{is_held}
+use Rattle.unit_tree.specs.Trace.{Stand}
+
+pub never : false ≡ true → ⊥
+never is = cc
+
+cells_fit_long : (run : Composition) (t h : ℕ) (cells : List Cell) → FitCells run t h cells → length cells ≤ length run.members
+cells_fit_long run t h cells fit =
+    let long : length cells ≡ length run.members =
+    sym (length-map cells is_held_cell) ∙ ap length fit ∙ length-map run.members (λ (member : Member). is_held member.factor t h) in
+    omega (arith, long)
+
+cells_long : (run : Composition) (stand : Stand) (phase : Phase) (cells : List Cell) → IsPhase run stand phase cells → length cells ≤ length run.members
+cells_long run stand (Trial h) cells is = cells_fit_long run stand.at.point.t h cells is.cells_fit
+cells_long run stand (Redo h) cells is = cells_fit_long run stand.at.point.t h cells is.cells_fit
+cells_long run stand (Ended ending) cells is = let none = ap length is.none in omega (arith, none)
+
+pub few_cells : (r : RunState) → Stands r → length r.cells ≤ length r.plan.run.members
+few_cells r stands = cells_long r.plan.run r.stand r.phase r.cells stands.phase_is
+
+-- An instance of which a step is wanted is there.
+pub wanted_within : (r : RunState) (instance : ℕ) → Stands r → IsWanted r instance → instance < length r.plan.run.members
+wanted_within r instance stands wanted =
+    let within = slice_get_within r.cells instance Empty wanted in
+    let few = few_cells r stands in
+    omega (arith, within, few)
+
+pub wanted_lane : (world : WorldState) (instance : ℕ) → IsWorld world → IsWanted world.run instance → instance < length world.lanes
+wanted_lane world instance is wanted =
+    let within = wanted_within world.run instance is.stands wanted in
+    let each = is.each_instance in
+    omega (arith, within, each)
+
+-- A refused event.
+pub refused_so : (world : WorldState) (one : Event) → IsRefused world one → Happens world one reply.Refused world
+refused_so world one is = inr (record { refused = is; is = refl; replied = refl })
+
+-- Settling keeps the plan.
+pub settled_plan : (old new : RunState) (to : Settle) → Settled old new to → new.plan ≡ old.plan
+settled_plan old new settle.Redo (due, is) = ap (λ (r : RunState). r.plan) is
+settled_plan old new settle.Row (moved, known) = ap (λ (r : RunState). r.plan) moved.is
+settled_plan old new settle.Ended (inl (moved, unknown)) = ap (λ (r : RunState). r.plan) moved.is
+settled_plan old new settle.Ended (inr ended) = ap (λ (r : RunState). r.plan) ended.is
+
+-- ---- Whether all cells are filled
+
+-- Nothing is wanted of the first instances.
+abbrev pub NoneWantedBelow : RunState → ℕ → Type 0
+NoneWantedBelow r count = (instance : ℕ) → instance < count → IsWanted r instance → ⊥
+
+pub none_below : (r : RunState) → NoneWantedBelow r 0
+none_below r instance within wanted = omega (arith, within)
+
+pub none_more : (r : RunState) (count : ℕ) → NoneWantedBelow r count → (IsWanted r count → ⊥) → NoneWantedBelow r (count + 1)
+none_more r count before here instance within wanted = by (instance == count) refl
+  where
+    by : (b : Bool) → (instance == count) ≡ b → ⊥
+    by true same = here (subst (IsWanted r) (eqb-true instance count same) wanted)
+    by false same = let differs : instance ≢ count = eqb-false instance count same in before instance (omega (arith, within, differs)) wanted
+
+empty_one : (cells : List Cell) (instance : ℕ) → slice_get cells instance ≡ Some Empty → AreCellsFull cells → ⊥
+empty_one [] instance at full = cc
+empty_one (cell ∷ cells) zero at full = never (sym full.0 ∙ ap is_empty_cell (same_Some cell Empty at))
+empty_one (cell ∷ cells) (suc instance) at full = empty_one cells instance at full.1
+
+pub not_full : (r : RunState) (instance : ℕ) → IsWanted r instance → AreCellsFull r.cells → ⊥
+not_full r instance wanted full = empty_one r.cells instance wanted full
+
+full_cell : (cell : Cell) → (Some cell ≡ Some Empty → ⊥) → is_empty_cell cell ≡ false
+full_cell Held not = refl
+full_cell Empty not = absurd (not refl)
+full_cell (Filled step) not = refl
+
+all_cells : (cells : List Cell) → ((instance : ℕ) → slice_get cells instance ≡ Some Empty → ⊥) → AreCellsFull cells
+all_cells [] none = tt
+all_cells (cell ∷ cells) none = (full_cell cell (none 0), all_cells cells (λ instance at. none (suc instance) at))
+
+pub all_full : (r : RunState) (count : ℕ) → NoneWantedBelow r count → length r.cells ≤ count → AreCellsFull r.cells
+all_full r count none most =
+    all_cells r.cells (λ instance at. none instance (let within = slice_get_within r.cells instance Empty at in omega (arith, within, most)) at)

@@ -1,0 +1,12 @@
+pub mod ActLaws
+pub mod AnswerLaws
+pub mod EndLaws
+pub mod HandLaws
+pub mod KnowLaws
+pub mod OpenedLaws
+pub mod OpeningLaws
+pub mod OutlookLaws
+pub mod PostLaws
+pub mod PublishLaws
+pub mod TakeLaws
+pub mod WorldLaws

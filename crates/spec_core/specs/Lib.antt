@@ -1,0 +1,4 @@
+pub mod Events
+pub mod Interleavings
+pub mod Keeping
+pub mod Worlds

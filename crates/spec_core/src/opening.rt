@@ -1,0 +1,61 @@
+//! What is made once for a world.
+ghost use Rattle.std.specs.Prelude.{◌≡◌, ◌≤◌, [], replicate, map, IfOk};
+ghost use Rattle.std.specs.List.{AllZip};
+ghost use Rattle.spec_core.specs.Keeping.{AreLanes, IsUnitOf};
+ghost use Rattle.spec_core.specs.Worlds.{AreLanesOpened, cut_window};
+
+use fixed_words::NoMemory;
+use guess_board::{Lane, Ticket};
+use std::alloc::Global;
+use std::sync::Arc;
+use trace_core::Plan;
+use unit_exec::Unit;
+
+/// How many cells the lines of a whole run may have together.
+const MOST_CELLS: u64 = 4_000_000;
+
+/// The window that a run uses of the one that is asked for.
+pub(crate) fn cut_window(plan: &Plan, window: u32) -> u32
+    ensures { result ≡ cut_window plan.now.run window }
+{
+    let cells = plan.row_limit() * u64::from(plan.instances());
+    u64::from(window).min(MOST_CELLS / cells) as u32
+}
+
+/// A lane for each instance.
+pub(crate) fn lanes_of(alloc: Global, plan: &Plan) -> Result<Vec<Lane>, NoMemory>
+    ensures opened { IfOk result (λ lanes. AreLanesOpened plan.now.run lanes.items) }
+    ensures kept { IfOk result (λ lanes. AreLanes lanes.items) }
+{
+    let mut lanes = Vec::new(alloc);
+    for instance in 0..plan.instances() {
+        let image = Arc::clone(plan.image(instance))?;
+        let lane = Lane::open(alloc, image, instance)?;
+        lane.facts();
+        lanes.push(lane)?;
+    }
+    Ok(lanes)
+}
+
+/// A unit for each lane, with its image.
+pub(crate) fn units_of(alloc: Global, lanes: &[Lane]) -> Result<Vec<Unit>, NoMemory>
+    ensures { IfOk result (λ units. AllZip IsUnitOf lanes.now units.items) }
+{
+    let mut units = Vec::new(alloc);
+    for lane in lanes {
+        let image = Arc::clone(lane.image())?;
+        units.push(Unit::new(alloc, image)?)?;
+    }
+    Ok(units)
+}
+
+/// An empty hand for each worker.
+pub(crate) fn hands_of(alloc: Global, workers: u32) -> Result<Vec<Vec<Ticket>>, NoMemory>
+    ensures { IfOk result (λ hands. map (λ hand. hand.items) hands.items ≡ replicate workers []) }
+{
+    let mut hands = Vec::new(alloc);
+    for _ in 0..workers {
+        hands.push(Vec::new(alloc))?;
+    }
+    Ok(hands)
+}
