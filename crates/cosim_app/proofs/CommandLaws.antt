@@ -1,67 +1,25 @@
 -- What each command's answers keep: there is one for each text, and there are no two.
 use Rattle.std.proofs.Common.{◌≡◌, ℕ, ◌<◌, ◌≤◌, ◌⊎◌, List, length, Option, Some, None, refl, sym, ap, subst, ◌∙◌, inl, inr, arith}
+use Rattle.std.proofs.lemmas.Option.{same_Some}
 use Rattle.text_accept.specs.Accepting.{IsAcceptedAs, IsRefusedAt}
 use Rattle.text_accept.proofs.Acceptance.{judged_once}
 use Rattle.text_tokens.proofs.LineLemmas.{length_le_size_of}
-use Rattle.event_runs.specs.EventRuns.{IsEventTraceOf}
 use Rattle.unit_text.proofs.ReadingLaws.{long_refused}
 use Rattle.unit_tree.specs.Lines.{size_of}
 use Rattle.unit_tree.specs.Texts.{text_limit}
 use Rattle.unit_tree.specs.declared.system.System.{System}
-use Rattle.cosim_call.specs.Answers.{Answer, IsEndOfWork, refused_answer, usage_answer}
+use Rattle.cosim_call.specs.Answers.{Answer, IsEndOfWork, piece_answer, refused_answer, usage_answer}
 use Rattle.cosim_call.proofs.ComingLaws.{IsAnswered}
 use Rattle.cosim_call.specs.declared.status.Status.{Status}
 use Rattle.cosim_call.specs.declared.status.Status.TheVariants as status
-use Rattle.cosim_app.specs.Answer.{Answers, AnswersOf, AnswersRefusal, AnswersRun, RefusedBy, ServedBy, accepted_answer, printed_answer, run_answer}
+use Rattle.cosim_app.specs.Answer.{Answers, AnswersOf, AnswersRefusal, OnAccepted, RefusedBy, ServedBy, TellsTrace, accepted_text, printed_text, run_answer}
 use Rattle.cosim_app.specs.Commands.{UsageClause, command_of, input_of}
 use Rattle.cosim_app.specs.Laws.{AnswersAgree, EndsAreServed, EveryCallIsAnswered, NoCallIsAnsweredTwice, RefusalsAreOfRules}
 use Rattle.cosim_app.specs.declared.command_words.Command.{Command}
 use Rattle.cosim_app.specs.declared.command_words.Command.TheVariants.{Run, Check, Print}
-use Rattle.cosim_app.proofs.TraceLaws.{is_end, one_outcome, whole_of}
+use Rattle.cosim_app.proofs.TraceLaws.{IsWhole, is_end, one_outcome, whole_of}
 
--- ---- Commands on texts that keep all rules
-
--- what is refused by the rules of the language is refused by the command, and what is accepted has an answer
-judged_answered : (command : Command) (text : List ℕ) → ((line rule : ℕ) → IsRefusedAt text line rule → RefusedBy command text line rule)
-    → ((system : System) (lines : List ℕ) → IsAcceptedAs text system lines → (answer : Answer) × ServedBy command text answer)
-    → (answer : Answer) × Answers command text answer
-judged_answered command text refuses serves = by (judged_once text).judged
-  where
-    by : ((system : System) × (lines : List ℕ) × IsAcceptedAs text system lines) ⊎ ((line : ℕ) × (rule : ℕ) × IsRefusedAt text line rule)
-        → (answer : Answer) × Answers command text answer
-    by (inl (system, lines, accepted)) = let served = serves system lines accepted in (served.0, inr served.1)
-    by (inr (line, rule, refused)) =
-        (refused_answer line rule, inl (record { line = line; rule = rule; refused = refuses line rule refused; is = refl }))
-
-run_answered : (text : List ℕ) (system : System) (lines : List ℕ) → IsAcceptedAs text system lines → (answer : Answer) × ServedBy Run text answer
-run_answered text system lines accepted =
-    let trace = one_outcome system (whole_of text system lines accepted) in (
-      run_answer system trace.rows trace.last trace.ending,
-      record {
-        system = system;
-        lines = lines;
-        accepted = accepted;
-        rows = trace.rows;
-        last = trace.last;
-        ending = trace.ending;
-        trace = trace.is_trace;
-        is = refl;
-      },
-    )
-
--- two runs of a text answer the same
-runs_same : (text : List ℕ) (one other : Answer) (a : AnswersRun text one) (b : AnswersRun text other) → one ≡ other
-runs_same text one other a b =
-    let same_system : a.system ≡ b.system = ((judged_once text).one_system a.system b.system a.lines b.lines a.accepted b.accepted).0 in
-    let trace : IsEventTraceOf b.system a.rows a.last a.ending = subst (λ (s : System). IsEventTraceOf s a.rows a.last a.ending) same_system a.trace in
-    let one = one_outcome b.system (whole_of text b.system b.lines b.accepted) in
-    let first = one.is_only a.rows a.last a.ending trace in
-    let second = one.is_only b.rows b.last b.ending b.trace in
-    a.is ∙ ap (λ s. run_answer s a.rows a.last a.ending) same_system ∙ ap (λ rows. run_answer b.system rows a.last a.ending) (first.0 ∙ sym second.0)
-    ∙ ap (λ last. run_answer b.system b.rows last a.ending) (first.1 ∙ sym second.1) ∙ ap (run_answer b.system b.rows b.last) (first.2 ∙ sym second.2)
-    ∙ sym b.is
-
--- ---- Each command
+-- ---- What a command supplies
 
 -- two answers put the same and have one status
 abbrev Agree : Answer → Answer → Type 0
@@ -70,72 +28,106 @@ Agree one other = (one.out ≡ other.out) × (one.status ≡ other.status)
 agree_as_same : (one other : Answer) → one ≡ other → Agree one other
 agree_as_same one other same = (ap (λ (x : Answer). x.out) same, ap (λ (x : Answer). x.status) same)
 
--- what a command supplies: an answer for each text, be it that the text is refused; one refusal at most; never both; answers for a
--- text that it serves put the same and have one status; and this is the status of an end
-record IsLawful (command : Command) : Type 0 where
-  some : (text : List ℕ) → (answer : Answer) × Answers command text answer
-  one_refusal : (text : List ℕ) (line by other rule : ℕ) → RefusedBy command text line by → RefusedBy command text other rule → (line ≡ other) × (by ≡ rule)
-  not_both : (text : List ℕ) (line rule : ℕ) (answer : Answer) → RefusedBy command text line rule → ServedBy command text answer → ⊥
-  agree : (text : List ℕ) (one other : Answer) → ServedBy command text one → ServedBy command text other → Agree one other
-  ends : (text : List ℕ) (answer : Answer) → ServedBy command text answer → IsEndOfWork answer.status
+-- by which a text is refused, and what serves it: each text is refused or served, and never both; it has one refusal at most;
+-- answers for a text that is served put the same and have one status; and this is the status of an end
+record IsLawful (Refuses : List ℕ → ℕ → ℕ → Type 0) (Serves : List ℕ → Answer → Type 0) : Type 0 where
+  judged : (text : List ℕ) → ((line : ℕ) × (rule : ℕ) × Refuses text line rule) ⊎ ((answer : Answer) × Serves text answer)
+  one_refusal : (text : List ℕ) (line by other rule : ℕ) → Refuses text line by → Refuses text other rule → (line ≡ other) × (by ≡ rule)
+  not_both : (text : List ℕ) (line rule : ℕ) (answer : Answer) → Refuses text line rule → Serves text answer → ⊥
+  agree : (text : List ℕ) (one other : Answer) → Serves text one → Serves text other → Agree one other
+  ends : (text : List ℕ) (answer : Answer) → Serves text answer → IsEndOfWork answer.status
 
 -- and a command whose answer is determined, notes and all: there are no two for a text that it serves
-abbrev IsDetermined : Command → Type 0
-IsDetermined command = (text : List ℕ) (one other : Answer) → ServedBy command text one → ServedBy command text other → one ≡ other
+abbrev IsDetermined : (List ℕ → Answer → Type 0) → Type 0
+IsDetermined Serves = (text : List ℕ) (one other : Answer) → Serves text one → Serves text other → one ≡ other
 
-run_is_lawful : IsLawful Run
-run_is_lawful = record {
-  some = λ text. judged_answered Run text (λ line rule refused. refused) (run_answered text);
+-- ---- Commands that answer a text that keeps all rules, and refuse any other by these
+
+-- of the answers for a system: there is one, any two put the same, and they have the status of an end
+record AnswersSystems (IsAnswer : System → Answer → Type 0) : Type 0 where
+  some : (system : System) → IsWhole system → (answer : Answer) × IsAnswer system answer
+  agree : (system : System) → IsWhole system → (one other : Answer) → IsAnswer system one → IsAnswer system other → Agree one other
+  ends : (system : System) (answer : Answer) → IsAnswer system answer → IsEndOfWork answer.status
+
+-- two answers for a text are answers for one system
+on_one_system : (IsAnswer : System → Answer → Type 0) (text : List ℕ) (one other : Answer) (a : OnAccepted IsAnswer text one)
+    (b : OnAccepted IsAnswer text other) → IsAnswer b.system one
+on_one_system IsAnswer text one other a b =
+    subst (λ (s : System). IsAnswer s one) ((judged_once text).one_system a.system b.system a.lines b.lines a.accepted b.accepted).0 a.is
+
+lawful_on_accepted : (IsAnswer : System → Answer → Type 0) → AnswersSystems IsAnswer → IsLawful IsRefusedAt (OnAccepted IsAnswer)
+lawful_on_accepted IsAnswer answers = record {
+  judged = λ text. by text (judged_once text).judged;
   one_refusal = λ text. (judged_once text).one_refusal;
   not_both = λ text line rule answer refused serves. (judged_once text).not_both serves.system serves.lines line rule serves.accepted refused;
-  agree = λ text one other a b. agree_as_same one other (runs_same text one other a b);
-  ends = λ text answer serves. is_end serves.ending answer.status (ap (λ (a : Answer). a.status) serves.is);
+  agree = λ text one other a b.
+      answers.agree b.system (whole_of text b.system b.lines b.accepted) one other (on_one_system IsAnswer text one other a b) b.is;
+  ends = λ text answer serves. answers.ends serves.system answer serves.is;
+}
+  where
+    by : (text : List ℕ) → ((system : System) × (lines : List ℕ) × IsAcceptedAs text system lines) ⊎ ((line : ℕ) × (rule : ℕ) × IsRefusedAt text line rule)
+        → ((line : ℕ) × (rule : ℕ) × IsRefusedAt text line rule) ⊎ ((answer : Answer) × OnAccepted IsAnswer text answer)
+    by text (inl (system, lines, accepted)) =
+        let answer = answers.some system (whole_of text system lines accepted) in
+        inr (answer.0, record { system = system; lines = lines; accepted = accepted; is = answer.1 })
+    by text (inr refused) = inl refused
+
+determined_on_accepted : (IsAnswer : System → Answer → Type 0)
+    → ((system : System) → IsWhole system → (one other : Answer) → IsAnswer system one → IsAnswer system other → one ≡ other)
+    → IsDetermined (OnAccepted IsAnswer)
+determined_on_accepted IsAnswer same text one other a b =
+    same b.system (whole_of text b.system b.lines b.accepted) one other (on_one_system IsAnswer text one other a b) b.is
+
+-- and those whose answer for a system is one piece
+lawful_piece : (piece : System → List ℕ) → IsLawful IsRefusedAt (OnAccepted (λ system answer. answer ≡ piece_answer (piece system)))
+lawful_piece piece = lawful_on_accepted (λ system answer. answer ≡ piece_answer (piece system)) (record {
+  some = λ system whole. (piece_answer (piece system), refl);
+  agree = λ system whole one other a b. agree_as_same one other (a ∙ sym b);
+  ends = λ system answer is. subst (λ (a : Answer). IsEndOfWork a.status) (sym is) tt;
+})
+
+determined_piece : (piece : System → List ℕ) → IsDetermined (OnAccepted (λ system answer. answer ≡ piece_answer (piece system)))
+determined_piece piece = determined_on_accepted (λ system answer. answer ≡ piece_answer (piece system)) (λ system whole one other a b. a ∙ sym b)
+
+-- ---- Each command
+
+-- two runs of a system answer the same
+traces_same : (system : System) → IsWhole system → (one other : Answer) → TellsTrace system one → TellsTrace system other → one ≡ other
+traces_same system whole one other a b =
+    let outcome = one_outcome system whole in
+    let first = outcome.is_only a.rows a.last a.ending a.trace in
+    let second = outcome.is_only b.rows b.last b.ending b.trace in
+    a.is
+    ∙ ap (λ rows. run_answer system rows a.last a.ending) (first.0 ∙ sym second.0)
+    ∙ ap (λ last. run_answer system b.rows last a.ending) (first.1 ∙ sym second.1)
+    ∙ ap (run_answer system b.rows b.last) (first.2 ∙ sym second.2)
+    ∙ sym b.is
+
+traces_answer : AnswersSystems TellsTrace
+traces_answer = record {
+  some = λ system whole.
+      let outcome = one_outcome system whole in (
+        run_answer system outcome.rows outcome.last outcome.ending,
+        record { rows = outcome.rows; last = outcome.last; ending = outcome.ending; trace = outcome.is_trace; is = refl },
+      );
+  agree = λ system whole one other a b. agree_as_same one other (traces_same system whole one other a b);
+  ends = λ system answer tells. is_end tells.ending answer.status (ap (λ (a : Answer). a.status) tells.is);
 }
 
-checks_same : IsDetermined Check
-checks_same text one other a b = a.is ∙ sym b.is
+lawful : (command : Command) → IsLawful (RefusedBy command) (ServedBy command)
+lawful Run = lawful_on_accepted TellsTrace traces_answer
+lawful Check = lawful_piece (λ system. accepted_text)
+lawful Print = lawful_piece printed_text
 
-check_is_lawful : IsLawful Check
-check_is_lawful = record {
-  some = λ text. judged_answered Check text (λ line rule refused. refused)
-      (λ system lines accepted. (accepted_answer, record { system = system; lines = lines; accepted = accepted; is = refl }));
-  one_refusal = λ text. (judged_once text).one_refusal;
-  not_both = λ text line rule answer refused serves. (judged_once text).not_both serves.system serves.lines line rule serves.accepted refused;
-  agree = λ text one other a b. agree_as_same one other (checks_same text one other a b);
-  ends = λ text answer serves. subst (λ (a : Answer). IsEndOfWork a.status) (sym serves.is) tt;
-}
-
-prints_same : IsDetermined Print
-prints_same text one other a b =
-    a.is ∙ ap printed_answer ((judged_once text).one_system a.system b.system a.lines b.lines a.accepted b.accepted).0 ∙ sym b.is
-
-print_is_lawful : IsLawful Print
-print_is_lawful = record {
-  some = λ text. judged_answered Print text (λ line rule refused. refused)
-      (λ system lines accepted. (printed_answer system, record { system = system; lines = lines; accepted = accepted; is = refl }));
-  one_refusal = λ text. (judged_once text).one_refusal;
-  not_both = λ text line rule answer refused serves. (judged_once text).not_both serves.system serves.lines line rule serves.accepted refused;
-  agree = λ text one other a b. agree_as_same one other (prints_same text one other a b);
-  ends = λ text answer serves. subst (λ (a : Answer). IsEndOfWork a.status) (sym serves.is) tt;
-}
-
-lawful : (command : Command) → IsLawful command
-lawful Run = run_is_lawful
-lawful Check = check_is_lawful
-lawful Print = print_is_lawful
-
-determined : (command : Command) → IsDetermined command
-determined Run = runs_same
-determined Check = checks_same
-determined Print = prints_same
+determined : (command : Command) → IsDetermined (ServedBy command)
+determined Run = determined_on_accepted TellsTrace traces_same
+determined Check = determined_piece (λ system. accepted_text)
+determined Print = determined_piece printed_text
 
 -- an input that is too long breaks the rule of its length
 too_long : (limit : ℕ) (text : List ℕ) → Some text_limit ≡ Some limit → limit < length text → IsRefusedAt text 1 2
-too_long limit text is long = inl (long_refused text (more (some_is text_limit limit is) (length_le_size_of text) long))
+too_long limit text is long = inl (long_refused text (more (same_Some text_limit limit is) (length_le_size_of text) long))
   where
-    some_is : (one other : ℕ) → Some one ≡ Some other → one ≡ other
-    some_is one other is = cc
-
     more : text_limit ≡ limit → length text ≤ size_of text → limit < length text → text_limit < size_of text
     more is size long = omega (arith, is, size, long)
 
@@ -153,9 +145,18 @@ free_by Print is one other answer answers = absurd (cc)
 
 -- ---- All commands
 
+-- a text that is refused is answered so, and what serves any other is its answer
+answered : (command : Command) (text : List ℕ) → (answer : Answer) × Answers command text answer
+answered command text = by ((lawful command).judged text)
+  where
+    by : ((line : ℕ) × (rule : ℕ) × RefusedBy command text line rule) ⊎ ((answer : Answer) × ServedBy command text answer)
+        → (answer : Answer) × Answers command text answer
+    by (inl (line, rule, refused)) = (refused_answer line rule, inl (record { line = line; rule = rule; refused = refused; is = refl }))
+    by (inr (answer, serves)) = (answer, inr serves)
+
 pub is_answered : (command : Command) → IsAnswered (input_of command) (Answers command)
 is_answered command = record {
-  some = (lawful command).some;
+  some = answered command;
   long = λ limit text is long. inl (record { line = 1; rule = 2; refused = long_by command limit text is long; is = refl });
   free = free_by command;
 }
@@ -178,7 +179,7 @@ answers_agree_by command text one other (inr a) (inl b) = absurd ((lawful comman
 answers_agree_by command text one other (inr a) (inr b) = (lawful command).agree text one other a b
 
 answered_by : (command : Option Command) (text : List ℕ) → (answer : Answer) × AnswersOf command text answer
-answered_by (Some command) text = (lawful command).some text
+answered_by (Some command) text = answered command text
 answered_by None text = (usage_answer, refl)
 
 pub every_call_is_answered : EveryCallIsAnswered

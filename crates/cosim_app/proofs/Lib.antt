@@ -3,6 +3,7 @@ pub mod MakingLaws
 pub mod NumberLaws
 pub mod OptionLaws
 pub mod OptionOrders
+pub mod OptionParts
 pub mod OutputNames
 pub mod RunLaws
 pub mod TraceLaws

@@ -3,16 +3,16 @@ use Rattle.std.proofs.Common.{◌≡◌, ℕ, ◌-◌, ◌≤◌, Bool, true, fa
 use Rattle.std.proofs.Common.{Option, Some, None, refl, sym, ap, ◌∙◌, arith}
 use Rattle.std.specs.Prelude.{codes, is_none, is_some, not, string_bytes, String}
 use Rattle.std.specs.Bool.{then_some}
-use Rattle.std.specs.List.{filter_map}
+use Rattle.std.specs.List.{filter, filter_map}
 use Rattle.std.specs.Option.{option_map}
 use Rattle.std.specs.Str.{bytes_eq}
 use Rattle.std.specs.declared.alloc.Global.{Global}
 use Rattle.std.proofs.lemmas.Bool.{cond-true, cond-false}
 use Rattle.std.proofs.lemmas.List.{take_all}
-use Rattle.std.proofs.lemmas.List.Elements.{filter_map-append}
+use Rattle.std.proofs.lemmas.List.Elements.{filter-append, filter_map-append}
 use Rattle.std.proofs.lemmas.Option.{same_Some}
-use Rattle.cosim_app.specs.Options.{◌>>=◌, GivesBehind, GivesWith, at_most_one, given_of, option_of, options_of}
-use Rattle.cosim_app.specs.Options.{guess_in, report_in, window_in, workers_in}
+use Rattle.cosim_app.specs.Options.{◌>>=◌, at_most_one, given_of, no_options, option_of, options_of, with_all, with_one}
+use Rattle.cosim_app.specs.Options.{guess_in, is_report, window_in, workers_in}
 use Rattle.cosim_app.specs.Words.{bytes_of}
 use Rattle.cosim_app.specs.declared.options.Given.{Given}
 use Rattle.cosim_app.specs.declared.options.Policy.{Policy}
@@ -49,6 +49,11 @@ ones_joined : {A : Type 0} (kind : CommandOption → Option A) (before more : Li
 ones_joined kind before more =
     ap at_most_one (filter_map-append kind before more) ∙ most_joined (filter_map kind before) (filter_map kind more)
 
+reports_joined : (before more : List CommandOption)
+    → at_most_one (filter is_report (before ++ more)) ≡ behind (at_most_one (filter is_report more)) (at_most_one (filter is_report before))
+reports_joined before more =
+    ap at_most_one (filter-append is_report before more) ∙ most_joined (filter is_report before) (filter is_report more)
+
 -- two of a kind are still two with those behind them
 behind_two : {A : Type 0} (more : Option (Option A)) → behind more None ≡ None
 behind_two None = refl
@@ -76,14 +81,14 @@ pub record Ones : Type 0 where
   pub workers : Option (Option ℕ)
   pub window : Option (Option ℕ)
   pub guess : Option (Option Policy)
-  pub report : Option (Option Bool)
+  pub report : Option (Option CommandOption)
 
 abbrev pub ones_of : List CommandOption → Ones
 ones_of options = record {
   workers = ones workers_in options;
   window = ones window_in options;
   guess = ones guess_in options;
-  report = ones report_in options;
+  report = at_most_one (filter is_report options);
 }
 
 -- and what they give
@@ -108,7 +113,7 @@ all_joined before more = λ i. record {
   workers = ones_joined workers_in before more i;
   window = ones_joined window_in before more i;
   guess = ones_joined guess_in before more i;
-  report = ones_joined report_in before more i;
+  report = reports_joined before more i;
 }
 
 some_given : (given : Given) {A : Type 0} → Some given ≡ None → A
@@ -122,7 +127,7 @@ none_after before more is =
     none_behind before.report more.report _ _ is (λ _ _ is. some_given _ is))))
 
 -- the ones that gave so much, with the one of `--report`, of which just this is kept that it is there
-abbrev known_ones : Given → Option Bool → Ones
+abbrev known_ones : Given → Option CommandOption → Ones
 known_ones given report = record {
   workers = Some given.workers;
   window = Some given.window;
@@ -130,7 +135,8 @@ known_ones given report = record {
   report = Some report;
 }
 
-known_by : (all : Ones) (given : Given) → each all ≡ Some given → (report : Option Bool) × (given.report ≡ is_some report) × (all ≡ known_ones given report)
+known_by : (all : Ones) (given : Given) → each all ≡ Some given
+    → (report : Option CommandOption) × (given.report ≡ is_some report) × (all ≡ known_ones given report)
 known_by all given is =
     let workers = taken all.workers _ given is in
     let window = taken all.window _ given workers.2 in
@@ -147,19 +153,13 @@ known_by all given is =
       },
     )
 
-abbrev pub with_one : Given → CommandOption → Option Given
-with_one given (Workers number) = then_some (is_none given.workers) (record given { workers = Some number })
-with_one given (Window number) = then_some (is_none given.window) (record given { window = Some number })
-with_one given (Guess policy) = then_some (is_none given.guess) (record given { guess = Some policy })
-with_one given Report = then_some (not given.report) (record given { report = true })
-
 -- the value of a kind that has none yet
 once : {A B : Type 0} (before : Option A) (value : A) (gives : Option A → B)
     → then_some (is_none before) (gives (Some value)) ≡ (behind (Some (Some value)) (Some before) >>= λ one. Some (gives one))
 once None value gives = refl
 once (Some one) value gives = refl
 
-one_more : (option : CommandOption) (given : Given) (report : Option Bool) → given.report ≡ is_some report
+one_more : (option : CommandOption) (given : Given) (report : Option CommandOption) → given.report ≡ is_some report
     → with_one given option ≡ each (all_behind (ones_of (option ∷ [])) (known_ones given report))
 one_more (Workers number) given report is =
     once given.workers number (λ one. record given { workers = one })
@@ -171,7 +171,7 @@ one_more (Guess policy) given report is =
     once given.guess policy (λ one. record given { guess = one })
     ∙ ap (λ r. behind (Some (Some policy)) (Some given.guess) >>= λ one. Some (record given { guess = one; report = r })) is
 one_more Report given None is = ap (λ r. then_some (not r) (record given { report = true })) is
-one_more Report given (Some report) is = ap (λ r. then_some (not r) (record given { report = true })) is
+one_more Report given (Some other) is = ap (λ r. then_some (not r) (record given { report = true })) is
 
 -- ---- What options give with others before them
 
@@ -183,70 +183,79 @@ stays_none : (before more : List CommandOption) → given_of before ≡ None →
 unfolding given_of
 stays_none before more is = given_joined before more ∙ none_after (ones_of before) (ones_of more) is
 
-pub gives_with : (given : Given) (option known : CommandOption) (result : Option Given) → option ≡ known → result ≡ with_one given known
-    → GivesWith given option result
+one_behind : (before : List CommandOption) (given : Given) (option : CommandOption) → given_of before ≡ Some given
+    → with_one given option ≡ given_of (before ++ option ∷ [])
 unfolding given_of
-gives_with given option known result is made before so =
-    let all = known_by (ones_of before) given so in
-    made
-    ∙ ap (with_one given) (sym is)
-    ∙ one_more option given all.0 all.1
+one_behind before given option is =
+    let all = known_by (ones_of before) given is in
+    one_more option given all.0 all.1
     ∙ ap (λ ones. each (all_behind (ones_of (option ∷ [])) ones)) (sym all.2)
     ∙ sym (given_joined before (option ∷ []))
 
--- ---- One behind the other
-
--- the first of those that were read stands behind the options before them
-moved : (before : List CommandOption) (first : CommandOption) (read : Option (List CommandOption))
-    → (read >>= λ more. given_of ((before ++ first ∷ []) ++ more)) ≡ (option_map (λ more. first ∷ more) read >>= λ more. given_of (before ++ more))
-moved before first None = refl
-moved before first (Some more) = ap given_of (append_assoc before (first ∷ []) more)
-
-pub goes_on : (given more : Given) (first : CommandOption) (read : Option (List CommandOption)) (result : Option Given) → GivesWith given first (Some more)
-    → GivesBehind more read result → GivesBehind given (option_map (λ more. first ∷ more) read) result
-goes_on given more first read result adds gives before is = gives (before ++ first ∷ []) (sym (adds before is)) ∙ moved before first read
-
-pub stops : (given : Given) (first : CommandOption) (read : Option (List CommandOption)) → GivesWith given first None
-    → GivesBehind given (option_map (λ more. first ∷ more) read) None
-stops given first read adds before is = by read ∙ moved before first read
+all_behind_given : (before more : List CommandOption) (given : Given) → given_of before ≡ Some given → with_all given more ≡ given_of (before ++ more)
+all_behind_given before [] given is = sym is ∙ ap given_of (sym (append-nil before))
+all_behind_given before (first ∷ rest) given is =
+    next (with_one given first) (one_behind before given first is) (λ more so. all_behind_given (before ++ first ∷ []) rest more so)
+    ∙ ap given_of (append_assoc before (first ∷ []) rest)
   where
-    by : (read : Option (List CommandOption)) → None ≡ (read >>= λ more. given_of ((before ++ first ∷ []) ++ more))
-    by None = refl
-    by (Some more) = sym (stays_none (before ++ first ∷ []) more (sym (adds before is)))
+    next : (found : Option Given) → found ≡ given_of (before ++ first ∷ [])
+        → ((more : Given) → given_of (before ++ first ∷ []) ≡ Some more → with_all more rest ≡ given_of ((before ++ first ∷ []) ++ rest))
+        → (found >>= λ more. with_all more rest) ≡ given_of ((before ++ first ∷ []) ++ rest)
+    next None is again = sym (stays_none (before ++ first ∷ []) rest (sym is))
+    next (Some more) is again = again more (sym is)
 
-pub none_left : (given : Given) → GivesBehind given (Some []) (Some given)
-none_left given before is = sym is ∙ ap given_of (sym (append-nil before))
+no_given : given_of [] ≡ Some no_options
+unfolding given_of
+no_given = refl
+
+-- all of those that were read, behind no other
+pub all_given : (read : Option (List CommandOption)) → (read >>= with_all no_options) ≡ (read >>= given_of)
+all_given None = refl
+all_given (Some options) = all_behind_given [] options no_options no_given
+
+-- the first of them, and then the others
+first_given : (given : Given) (first : CommandOption) (found : Option Given) (read : Option (List CommandOption)) → with_one given first ≡ found
+    → (found >>= λ more. read >>= with_all more) ≡ (option_map (λ rest. first ∷ rest) read >>= with_all given)
+first_given given first None None is = refl
+first_given given first (Some more) None is = refl
+first_given given first found (Some rest) is = ap (λ found. found >>= λ more. with_all more rest) (sym is)
 
 -- ---- Words
 
-abbrev is_report : String Global → Bool
-is_report flag = bytes_eq (string_bytes flag) (codes "--report")
+abbrev says_report : String Global → Bool
+says_report flag = bytes_eq (string_bytes flag) (codes "--report")
 
-report_read : (flag : List ℕ) (words : List (List ℕ)) → bytes_eq flag (codes "--report") ≡ true
+pub report_read : (flag : List ℕ) (words : List (List ℕ)) → bytes_eq flag (codes "--report") ≡ true
     → option_map (λ more. Report ∷ more) (options_of words) ≡ options_of (flag ∷ words)
 report_read flag [] test = sym (cond-true (bytes_eq flag (codes "--report")) _ _ test)
 report_read flag (word ∷ words) test = sym (cond-true (bytes_eq flag (codes "--report")) _ _ test)
 
--- the first words, as the code has them
-pub report_first : (words : List (String Global)) (flag : String Global) → 1 ≤ length words → flag ≡ get_or words 0 flag → is_report flag ≡ true
-    → option_map (λ more. Report ∷ more) (options_of (bytes_of (take (length words - 1) (drop 1 words)))) ≡ options_of (bytes_of words)
-report_first [] flag some is test = absurd (omega arith)
-report_first (one ∷ rest) flag some is test =
-    ap (λ (rest : List (String Global)). option_map (λ more. Report ∷ more) (options_of (bytes_of rest)))
-    (take_all (length (one ∷ rest) - 1) rest (omega arith))
-    ∙ report_read (string_bytes one) (bytes_of rest) (sym (ap is_report is) ∙ test)
+-- the words behind the first ones, as the code has them
+abbrev behind_words : ℕ → List (String Global) → List (List ℕ)
+behind_words count words = bytes_of (take (length words - count) (drop count words))
 
-pub option_first : (words : List (String Global)) (tested flag word : String Global) (read : Option CommandOption) → 2 ≤ length words
-    → tested ≡ get_or words 0 tested → flag ≡ get_or words 0 flag → word ≡ get_or words 1 word → is_report tested ≡ false
-    → option_of (string_bytes flag) (string_bytes word) ≡ read
-    → (read >>= λ first. option_map (λ more. first ∷ more) (options_of (bytes_of (take (length words - 2) (drop 2 words))))) ≡ options_of (bytes_of words)
-option_first [] tested flag word read some first is second test reads = absurd (omega arith)
-option_first (one ∷ []) tested flag word read some first is second test reads = absurd (omega arith)
-option_first (one ∷ two ∷ rest) tested flag word read some first is second test reads =
-    ap (λ (rest : List (String Global)). read >>= λ first. option_map (λ more. first ∷ more) (options_of (bytes_of rest)))
+pub report_first : (words : List (String Global)) (flag : String Global) (given : Given) (found : Option Given) → 1 ≤ length words
+    → flag ≡ get_or words 0 flag → says_report flag ≡ true → with_one given Report ≡ found
+    → (found >>= λ more. options_of (behind_words 1 words) >>= with_all more) ≡ (options_of (bytes_of words) >>= with_all given)
+report_first [] flag given found some is test adds = absurd (omega arith)
+report_first (one ∷ rest) flag given found some is test adds =
+    first_given given Report found (options_of (behind_words 1 (one ∷ rest))) adds
+    ∙ ap (λ (rest : List (String Global)). option_map (λ more. Report ∷ more) (options_of (bytes_of rest)) >>= with_all given)
+    (take_all (length (one ∷ rest) - 1) rest (omega arith))
+    ∙ ap (λ read. read >>= with_all given) (report_read (string_bytes one) (bytes_of rest) (sym (ap says_report is) ∙ test))
+
+pub option_first : (words : List (String Global)) (tested flag word : String Global) (first : CommandOption) (given : Given) (found : Option Given)
+    → 2 ≤ length words → tested ≡ get_or words 0 tested → flag ≡ get_or words 0 flag → word ≡ get_or words 1 word → says_report tested ≡ false
+    → option_of (string_bytes flag) (string_bytes word) ≡ Some first → with_one given first ≡ found
+    → (found >>= λ more. options_of (behind_words 2 words) >>= with_all more) ≡ (options_of (bytes_of words) >>= with_all given)
+option_first [] tested flag word first given found some tested_is is second test reads adds = absurd (omega arith)
+option_first (one ∷ []) tested flag word first given found some tested_is is second test reads adds = absurd (omega arith)
+option_first (one ∷ two ∷ rest) tested flag word first given found some tested_is is second test reads adds =
+    first_given given first found (options_of (behind_words 2 (one ∷ two ∷ rest))) adds
+    ∙ ap (λ (rest : List (String Global)). option_map (λ more. first ∷ more) (options_of (bytes_of rest)) >>= with_all given)
     (take_all (length (one ∷ two ∷ rest) - 2) rest (omega arith))
-    ∙ ap (λ read. read >>= λ first. option_map (λ more. first ∷ more) (options_of (bytes_of rest))) (sym reads ∙ read_is)
-    ∙ sym (cond-false (is_report one) _ _ (sym (ap is_report first) ∙ test))
+    ∙ ap (λ read. (read >>= λ first. option_map (λ more. first ∷ more) (options_of (bytes_of rest))) >>= with_all given) (sym reads ∙ read_is)
+    ∙ ap (λ read. read >>= with_all given) (sym (cond-false (says_report one) _ _ (sym (ap says_report tested_is) ∙ test)))
   where
     read_is : option_of (string_bytes flag) (string_bytes word) ≡ option_of (string_bytes one) (string_bytes two)
     read_is =

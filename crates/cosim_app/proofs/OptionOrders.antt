@@ -1,14 +1,16 @@
 -- Options in another order.
-use Rattle.std.proofs.Common.{◌≡◌, ℕ, ◌+◌, Bool, true, false, List, [], ◌∷◌, Option, Some, None, refl, sym, ap, ◌∙◌, zero-add, arith}
-use Rattle.std.specs.Prelude.{IsPermutation}
-use Rattle.std.specs.List.{cons_option, filter_map, sum_by}
+use Rattle.std.proofs.Common.{◌≡◌, ℕ, ◌+◌, List, [], ◌∷◌, map, Option, Some, None, refl, sym, ap, ◌∙◌, zero-add, arith}
+use Rattle.std.specs.Prelude.{⊤, IsPermutation}
+use Rattle.std.specs.List.{cons_option, filter, filter_map, sum_by}
+use Rattle.std.specs.Option.{option_map}
 use Rattle.std.proofs.lemmas.List.Sorted.{sum_by-IsPermutation}
 use Rattle.std.proofs.lemmas.List.Sums.{sum_by-cons}
 use Rattle.cosim_app.specs.Laws.{OptionsHaveNoOrder}
-use Rattle.cosim_app.specs.Options.{◌>>=◌, at_most_one, given_of, guess_in, report_in, window_in, workers_in}
+use Rattle.cosim_app.specs.Options.{◌>>=◌, at_most_one, given_of, guess_in, is_report, window_in, workers_in}
 use Rattle.cosim_app.specs.declared.options.Policy.{Policy}
 use Rattle.cosim_app.specs.declared.options.Policy.TheVariants.{Hold, Linear}
 use Rattle.cosim_app.specs.declared.options.CommandOption.{CommandOption}
+use Rattle.cosim_app.specs.declared.options.CommandOption.TheVariants.{Report}
 use Rattle.cosim_app.proofs.OptionLaws.{each, ones, ones_of}
 
 -- a number for a value, where there is one
@@ -59,23 +61,38 @@ same_policy Hold Linear is = absurd (omega (arith, is))
 same_policy Linear Hold is = absurd (omega (arith, is))
 same_policy Linear Linear is = refl
 
-truth_number : Bool → ℕ
-truth_number true = 1
-truth_number false = 0
+-- options of `--report` are all the same, so that only their number counts
+report_mark : CommandOption → Option ⊤
+report_mark Report = Some tt
+report_mark _ = None
 
-same_truth : (a b : Bool) → truth_number a ≡ truth_number b → a ≡ b
-unfolding truth_number
-same_truth true true is = refl
-same_truth true false is = absurd (omega (arith, is))
-same_truth false true is = absurd (omega (arith, is))
-same_truth false false is = refl
+reports_marked : (options : List CommandOption) → filter is_report options ≡ map (λ _. Report) (filter_map report_mark options)
+unfolding report_mark
+reports_marked [] = refl
+reports_marked (Report ∷ rest) = ap (λ more. Report ∷ more) (reports_marked rest)
+reports_marked (first ∷ rest) = reports_marked rest
+
+most_mapped : {A B : Type 0} (f : A → B) (xs : List A) → at_most_one (map f xs) ≡ option_map (option_map f) (at_most_one xs)
+most_mapped f [] = refl
+most_mapped f (x ∷ []) = refl
+most_mapped f (x ∷ y ∷ xs) = refl
+
+reports_same : (options other : List CommandOption) → IsPermutation options other
+    → at_most_one (filter is_report options) ≡ at_most_one (filter is_report other)
+reports_same options other moves =
+    marked options
+    ∙ ap (option_map (option_map (λ _. Report))) (ones_same (λ _. 0) (λ a b is. refl) report_mark options other moves)
+    ∙ sym (marked other)
+  where
+    marked : (options : List CommandOption) → at_most_one (filter is_report options) ≡ option_map (option_map (λ _. Report)) (ones report_mark options)
+    marked options = ap at_most_one (reports_marked options) ∙ most_mapped (λ _. Report) (filter_map report_mark options)
 
 all_same : (options other : List CommandOption) → IsPermutation options other → ones_of options ≡ ones_of other
 all_same options other moves = λ i. record {
   workers = ones_same (λ n. n) (λ a b is. is) workers_in options other moves i;
   window = ones_same (λ n. n) (λ a b is. is) window_in options other moves i;
   guess = ones_same policy_number same_policy guess_in options other moves i;
-  report = ones_same truth_number same_truth report_in options other moves i;
+  report = reports_same options other moves i;
 }
 
 given_same : (options other : List CommandOption) → IsPermutation options other → given_of options ≡ given_of other

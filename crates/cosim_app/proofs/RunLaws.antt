@@ -57,11 +57,13 @@ run_answers text system (lines, accepted) rows last ending trace =
       system = system;
       lines = lines;
       accepted = accepted;
-      rows = read_rows system rows;
-      last = last;
-      ending = read_end system ending;
-      trace = told system (whole_of text system lines accepted) rows last ending trace;
-      is = refl;
+      is = record {
+        rows = read_rows system rows;
+        last = last;
+        ending = read_end system ending;
+        trace = told system (whole_of text system lines accepted) rows last ending trace;
+        is = refl;
+      };
     })
 
 -- ---- What a run comes to

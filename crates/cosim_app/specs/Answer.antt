@@ -42,16 +42,23 @@ run_answer system rows last ending =
 
 -- ---- What each command answers
 
--- A text that keeps all rules is answered by the trace of its system.
-pub record AnswersRun (text : List ℕ) (answer : Answer) : Type 0 where
+-- A text that keeps all rules is answered by its system, as the command answers this.
+pub record OnAccepted (IsAnswer : System → Answer → Type 0) (text : List ℕ) (answer : Answer) : Type 0 where
   pub system : System
   pub lines : List ℕ
   pub accepted : IsAcceptedAs text system lines
+  pub is : IsAnswer system answer
+
+-- By the trace of the system.
+pub record TellsTrace (system : System) (answer : Answer) : Type 0 where
   pub rows : List EventRow
   pub last : Point
   pub ending : Ending
   pub trace : IsEventTraceOf system rows last ending
   pub is : answer ≡ run_answer system rows last ending
+
+abbrev pub AnswersRun : List ℕ → Answer → Type 0
+AnswersRun = OnAccepted TellsTrace
 
 abbrev pub accepted_text : List ℕ
 accepted_text = codes "accepted" ++ line_end
@@ -59,12 +66,9 @@ accepted_text = codes "accepted" ++ line_end
 abbrev pub accepted_answer : Answer
 accepted_answer = piece_answer accepted_text
 
--- A text that keeps all rules is told to be accepted.
-pub record AnswersCheck (text : List ℕ) (answer : Answer) : Type 0 where
-  pub system : System
-  pub lines : List ℕ
-  pub accepted : IsAcceptedAs text system lines
-  pub is : answer ≡ accepted_answer
+-- By telling that it is accepted.
+abbrev pub AnswersCheck : List ℕ → Answer → Type 0
+AnswersCheck = OnAccepted (λ system answer. answer ≡ accepted_answer)
 
 -- What is printed of a system: its canonical text.
 unfoldable pub printed_text : System → List ℕ
@@ -73,12 +77,9 @@ printed_text system = canonical_text system
 abbrev pub printed_answer : System → Answer
 printed_answer system = piece_answer (printed_text system)
 
--- A text that keeps all rules is answered by the canonical text of its system.
-pub record AnswersPrint (text : List ℕ) (answer : Answer) : Type 0 where
-  pub system : System
-  pub lines : List ℕ
-  pub accepted : IsAcceptedAs text system lines
-  pub is : answer ≡ printed_answer system
+-- By the canonical text of the system.
+abbrev pub AnswersPrint : List ℕ → Answer → Type 0
+AnswersPrint = OnAccepted (λ system answer. answer ≡ printed_answer system)
 
 -- The answer of a command for a text that it serves.
 abbrev pub ServedBy : Command → List ℕ → Answer → Type 0

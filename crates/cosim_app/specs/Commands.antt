@@ -9,8 +9,8 @@ use Rattle.cosim_app.specs.declared.command_words.Command.{Command}
 use Rattle.cosim_app.specs.declared.command_words.Command.TheVariants.{Run, Check, Print}
 use Rattle.cosim_app.specs.declared.options.Given.{Given}
 
--- A command that takes no options.
-abbrev pub without_options : Command → Given → Option Command
+-- A command where no option was given. Of one that takes some: where none is left of what was given without these.
+abbrev pub without_options : {A : Type 0} → A → Given → Option A
 without_options command given = if is_given_none given then Some command else None
 
 -- The command of a word with the options that were given: a row for each command, with the options that it takes.

@@ -3,7 +3,9 @@ pub mod Commands
 pub mod Laws
 pub mod Notes
 pub mod Options
+pub mod Ranges
 pub mod Serving
 pub mod SourcePlaces
 pub mod Words
+pub mod WorkedRows
 pub mod WorkedWords

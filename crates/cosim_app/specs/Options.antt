@@ -1,7 +1,8 @@
 -- The options of a command line: in any order, each at most once, its value in the next word.
-use Rattle.std.specs.Prelude.{◌≡◌, ℕ, Bool, true, false, ◌&&◌, not, nat_le, List, [], ◌∷◌, ◌++◌, length, codes, if◌then◌else◌}
+use Rattle.std.specs.Prelude.{ℕ, Bool, true, false, ◌&&◌, not, nat_le, List, [], ◌∷◌, length, codes, if◌then◌else◌}
 use Rattle.std.specs.Prelude.{Option, Some, None, is_none, is_some}
-use Rattle.std.specs.List.{filter_map, list_all}
+use Rattle.std.specs.Bool.{then_some}
+use Rattle.std.specs.List.{filter, filter_map, list_all}
 use Rattle.std.specs.Option.{option_and_then, option_map}
 use Rattle.std.specs.Str.{bytes_eq}
 use Rattle.fixed_words.specs.Digits.{is_digit, number_from}
@@ -63,9 +64,10 @@ abbrev pub guess_in : CommandOption → Option Policy
 guess_in (Guess policy) = Some policy
 guess_in _ = None
 
-abbrev pub report_in : CommandOption → Option Bool
-report_in Report = Some true
-report_in _ = None
+-- One that has no value is there or not.
+abbrev pub is_report : CommandOption → Bool
+is_report Report = true
+is_report _ = false
 
 -- The one of these, or that there is none. Where there are more, nothing.
 abbrev pub at_most_one : {A : Type 0} → List A → Option (Option A)
@@ -79,7 +81,7 @@ given_of options = do
   workers ← at_most_one (filter_map workers_in options)
   window ← at_most_one (filter_map window_in options)
   guess ← at_most_one (filter_map guess_in options)
-  report ← at_most_one (filter_map report_in options)
+  report ← at_most_one (filter is_report options)
   Some (record { workers = workers; window = window; guess = guess; report = is_some report })
 
 -- What words give; nothing, where they are no options, or two of them are of a kind.
@@ -92,11 +94,14 @@ given_by words = options_of words >>= given_of
 abbrev pub number_behind : ℕ → List ℕ → Option ℕ
 number_behind before word = if list_all is_digit word then Some (number_from before word) else None
 
--- What one option more gives, behind any that gave so much.
-abbrev pub GivesWith : Given → CommandOption → Option Given → Type 0
-GivesWith given option result = (before : List CommandOption) → given_of before ≡ Some given → result ≡ given_of (before ++ option ∷ [])
+-- What is given with one option more; nothing, where one of its kind was given before.
+abbrev pub with_one : Given → CommandOption → Option Given
+with_one given (Workers number) = then_some (is_none given.workers) (record given { workers = Some number })
+with_one given (Window number) = then_some (is_none given.window) (record given { window = Some number })
+with_one given (Guess policy) = then_some (is_none given.guess) (record given { guess = Some policy })
+with_one given Report = then_some (not given.report) (record given { report = true })
 
--- What options give, where they are some, behind any that gave so much.
-abbrev pub GivesBehind : Given → Option (List CommandOption) → Option Given → Type 0
-GivesBehind given options result =
-    (before : List CommandOption) → given_of before ≡ Some given → result ≡ (options >>= λ more. given_of (before ++ more))
+-- And with all of these, one after the other.
+abbrev pub with_all : Given → List CommandOption → Option Given
+with_all given [] = Some given
+with_all given (first ∷ rest) = with_one given first >>= λ more. with_all more rest

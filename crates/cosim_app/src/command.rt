@@ -18,11 +18,11 @@ use std::thread::Threads;
 #[tactic(auto, using(cosim_call::proofs::ComingLaws::serves_made))]
 fn serve<O: Sink>(
     alloc: Global,
-    command: Command,
+    command: &Command,
     text: &[u8],
     out: &mut O,
 ) -> Result<Served, Stopped>
-    ensures { Serves (Answers command text.now) (stream (O.held out.old) (O.faults out.old)) (stream (O.held out.new) (O.faults out.new)) result }
+    ensures { Serves (Answers command.now text.now) (stream (O.held out.old) (O.faults out.old)) (stream (O.held out.new) (O.faults out.new)) result }
 {
     match command {
         Command::Run => run::serve(alloc, text, out),
@@ -34,11 +34,11 @@ fn serve<O: Sink>(
 /// A command on what the source has left, as far as it asks for it.
 fn come<S: Source, O: Sink>(
     alloc: Global,
-    command: Command,
+    command: &Command,
     source: &mut S,
     out: &mut O,
 ) -> Result<Served, Stopped>
-    ensures { Comes (input_of command) (Answers command)
+    ensures { Comes (input_of command.now) (Answers command.now)
         (stream (S.left source.old) (S.faults source.old)) (stream (S.left source.new) (S.faults source.new))
         (stream (O.held out.old) (O.faults out.old)) (stream (O.held out.new) (O.faults out.new))
         result }
@@ -66,7 +66,7 @@ pub fn cosim_alone<S: Source, O: Sink, N: Sink>(
 {
     match command_of(words) {
         Some(command) => {
-            let came = come(alloc, command, source, out);
+            let came = come(alloc, &command, source, out);
             finish(alloc, notes, came)
         }
         None => tell(notes, b"cosim: usage\n", Status::Usage),

@@ -2,6 +2,7 @@
 ghost use Rattle.std.specs.Prelude.{◌≡◌};
 ghost use Rattle.cosim_app.specs.Commands.{command_of, command_with, input_of, without_options};
 ghost use Rattle.cosim_app.specs.Words.{bytes_of};
+ghost use Rattle.cosim_app.specs.WorkedRows.{MistakesAreWorked, RangesAreWorked, RowsAreWorked};
 ghost use Rattle.cosim_app.specs.WorkedWords.{CommandsAreWorked, NumbersAreWorked, OptionsAreWorked};
 
 use crate::options::{Given, given_by};
@@ -20,8 +21,8 @@ pub enum Command {
 
 impl Command {
     /// How many bytes it reads at most; none where it reads nothing.
-    pub(crate) fn input(self) -> Option<usize>
-        ensures { result ≡ input_of self }
+    pub(crate) fn input(&self) -> Option<usize>
+        ensures { result ≡ input_of self.now }
     {
         match self {
             Command::Run | Command::Check | Command::Print => Some(LONGEST_TEXT),
@@ -29,8 +30,9 @@ impl Command {
     }
 }
 
-/// A command that takes no options.
-fn without_options(command: Command, given: Given) -> Option<Command>
+/// A command where no option was given; none where one was. Of a command that takes some, `given` is what is left without these,
+/// so that its row names no other option.
+pub(crate) fn without_options<T: Copy>(command: T, given: Given) -> Option<T>
     ensures { result ≡ without_options command given }
 {
     if given.is_none() { Some(command) } else { None }
@@ -66,4 +68,12 @@ pub fn words_are_worked()
     ensures numbers { NumbersAreWorked }
     ensures options { OptionsAreWorked }
     ensures commands { CommandsAreWorked }
+{}
+
+/// A law: rows of a made-up table, which ask of options what a row may ask, take the words that were worked out by hand, and turn
+/// down each kind of mistake.
+pub fn rows_are_worked()
+    ensures ranges { RangesAreWorked }
+    ensures rows { RowsAreWorked }
+    ensures mistakes { MistakesAreWorked }
 {}

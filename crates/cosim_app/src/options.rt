@@ -1,7 +1,8 @@
 //! The options of a command line: in any order, each at most once, its value in the next word.
 ghost use Rattle.std.specs.Prelude.{◌≡◌, ◌<◌, ◌≤◌, ◌∷◌, [], length};
-ghost use Rattle.cosim_app.specs.Laws.{OptionsHaveNoOrder};
-ghost use Rattle.cosim_app.specs.Options.{GivesBehind, GivesWith, given_by, is_given_none, number_behind, number_of_word, policy_named, option_of, options_of};
+ghost use Rattle.std.specs.Option.{option_and_then};
+ghost use Rattle.cosim_app.specs.Laws.{OptionsHaveNoOrder, OtherWordsHaveNoForm, PartsHaveNoOrder};
+ghost use Rattle.cosim_app.specs.Options.{given_by, is_given_none, number_behind, number_of_word, policy_named, option_of, options_of, with_all, with_one};
 ghost use Rattle.cosim_app.specs.Words.{bytes_of};
 
 /// How the words are guessed that a component will be given.
@@ -37,7 +38,7 @@ pub struct Given {
 
 impl Given {
     /// No option.
-    const NONE: Given = Given {
+    pub(crate) const NONE: Given = Given {
         workers: None,
         window: None,
         guess: None,
@@ -53,7 +54,7 @@ impl Given {
 
     /// With one option more; none where one of its kind was given before.
     fn with(self, option: CommandOption) -> Option<Given>
-        ensures { GivesWith self option result }
+        ensures { result ≡ with_one self option }
     {
         match option {
             CommandOption::Workers(number) => self.workers.is_none().then_some(Given {
@@ -143,10 +144,10 @@ fn option_of(flag: &str, word: &str) -> Option<CommandOption>
     }
 }
 
-/// The same of words behind options that gave so much. Each turn adds an option, and each may be there once, so there are few
-/// turns.
+/// What words give behind options that gave so much; none where some word is of no option, or two options are of a kind. Each
+/// turn adds an option, and each may be there once, so there are few turns.
 fn given_behind(given: Given, words: &[String]) -> Option<Given>
-    ensures { GivesBehind given (options_of (bytes_of words.now)) result }
+    ensures { result ≡ option_and_then (with_all given) (options_of (bytes_of words.now)) }
 {
     match words {
         [] => Some(given),
@@ -167,7 +168,10 @@ pub(crate) fn given_by(words: &[String]) -> Option<Given>
     given_behind(Given::NONE, words)
 }
 
-/// A law: the order of options doesn't matter.
+/// A law: the order of options doesn't matter, be they told in the same words or in others. Words that are no options have no
+/// form in any order.
 pub fn options_have_no_order()
-    ensures { OptionsHaveNoOrder }
+    ensures parts { PartsHaveNoOrder }
+    ensures options { OptionsHaveNoOrder }
+    ensures others { OtherWordsHaveNoForm }
 {}

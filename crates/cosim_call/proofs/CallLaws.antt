@@ -258,16 +258,9 @@ facts_write_fault input IsAnswer source source' out out' taken front reads rose 
     other (inr (inr is)) = cc
 
 ends_own : (given : Status) → IsEndOfWork given → IsOwn given
-ends_own status.Done end = tt
-ends_own status.ZeroBudget end = tt
-ends_own status.RowBudget end = tt
-ends_own status.UnitFault end = tt
-ends_own status.StepRefused end = tt
 ends_own status.Usage end = absurd end
 ends_own status.Refused end = absurd end
-ends_own status.ReadFault end = absurd end
-ends_own status.WriteFault end = absurd end
-ends_own status.NoMemory end = absurd end
+ends_own given end = end
 
 ends_other : (given : Status) {A : Type 0} → IsEndOfWork given → (given ≡ status.Usage) ⊎ ((given ≡ status.Refused) ⊎ (given ≡ status.ReadFault)) → A
 ends_other given end (inl is) = absurd (subst IsEndOfWork is end)

@@ -1,5 +1,6 @@
 -- From what a command did with a whole text to what the call came to.
 use Rattle.std.proofs.Common.{◌≡◌, ℕ, ◌<◌, List, [], ◌∷◌, length, Option, Some, None, Result, Ok, Err, inl, inr, refl, sym, ap, subst}
+use Rattle.std.proofs.lemmas.Option.{same_Some}
 use Rattle.std.specs.Prelude.{IfSome, Vec}
 use Rattle.std.specs.declared.alloc.Global.{Global}
 use Rattle.std.specs.Io.KnownBytes.{Appends, IsAtEnd}
@@ -107,7 +108,7 @@ came_whole input IsAnswer source source' out out' text (Err stopped.ReadFault) l
 
 read_is : (input : Option ℕ) (source source' : Stream) (text : Vec ℕ Global) → ReadsInput input source source' (Ok text)
     → HasRead input source source' text.items
-read_is None source source' text reads = reads
+read_is None source source' text reads = reads.1
 read_is (Some limit) source source' text reads = reads
 
 -- A command that read its input, and did with the text what it owes.
@@ -138,14 +139,11 @@ comes_unread (Some limit) IsAnswer source source' out (stopped.Refused line rule
           gives = too_long limit IsAnswer out source.bytes lawful long;
           source_quiet = same;
           out_quiet = refl;
-          read = λ most is. inr (refl, subst (λ (m : ℕ). IfSome source.bytes (λ text. m < length text)) (some_is limit most is) long);
+          read = λ most is. inr (refl, subst (λ (m : ℕ). IfSome source.bytes (λ text. m < length text)) (same_Some limit most is) long);
         },
         refl,
       ));
 }
-  where
-    some_is : (one other : ℕ) → Some one ≡ Some other → one ≡ other
-    some_is one other is = cc
 comes_unread (Some limit) IsAnswer source source' out stopped.ReadFault lawful reads taken =
     record { taken = taken; to = (nothing_put (Some limit) IsAnswer source out out lawful refl, reads, refl) }
 comes_unread (Some limit) IsAnswer source source' out stopped.NoMemory lawful reads taken =

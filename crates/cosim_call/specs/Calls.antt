@@ -4,7 +4,7 @@ use Rattle.std.specs.Prelude.{◌≡◌, ℕ, ◌+◌, ◌<◌, List, length, Op
 use Rattle.std.specs.Io.KnownBytes.{Appends, IsAtEnd}
 use Rattle.cosim_io.specs.Faults.{Rose}
 use Rattle.cosim_io.specs.Pieces.{AppendsPrefix, ConsumesAtMost}
-use Rattle.cosim_call.specs.Answers.{Answer}
+use Rattle.cosim_call.specs.Answers.{Answer, IsEndOfWork}
 use Rattle.cosim_call.specs.Notes.{whole, read_fault_note, write_fault_note, no_memory_note}
 use Rattle.cosim_call.specs.declared.status.Status.{Status}
 use Rattle.cosim_call.specs.declared.status.Status.TheVariants as status
@@ -34,14 +34,9 @@ HasAnswer IsAnswer source IsSo = IfSome source.bytes (λ text. (answer : Answer)
 
 -- A status that an answer has, and not a fault of the call.
 abbrev pub IsOwn : Status → Type 0
-IsOwn status.Done = ⊤
 IsOwn status.Usage = ⊤
 IsOwn status.Refused = ⊤
-IsOwn status.ZeroBudget = ⊤
-IsOwn status.RowBudget = ⊤
-IsOwn status.UnitFault = ⊤
-IsOwn status.StepRefused = ⊤
-IsOwn _ = ⊥
+IsOwn given = IsEndOfWork given
 
 -- No stream failed.
 pub record IsQuiet (before now : Streams) : Type 0 where

@@ -55,9 +55,9 @@ PutsMade (Err why) out out' result = (result ≡ Err why) × (out' ≡ out)
 
 -- ---- On the source
 
--- The input was read as far as it is asked for.
+-- The input was read as far as it is asked for; of a command that reads nothing the text is empty.
 abbrev pub ReadsInput : Option ℕ → Stream → Stream → Result (Vec ℕ Global) Stopped → Type 0
-ReadsInput None source source' (Ok text) = source' ≡ source
+ReadsInput None source source' (Ok text) = (text.items ≡ []) × (source' ≡ source)
 ReadsInput None source source' (Err _) = ⊥
 ReadsInput (Some limit) source source' (Ok text) =
     IfSome source.bytes (λ left. text.items ≡ left) × IsAtEnd source'.bytes × (source'.faults ≡ source.faults)

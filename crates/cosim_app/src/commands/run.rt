@@ -5,6 +5,7 @@ ghost use Rattle.cosim_call.specs.Coming.{Serves};
 ghost use Rattle.cosim_app.specs.Answer.{Answers, status_of};
 ghost use Rattle.cosim_app.specs.Serving.{IsAccepted, IsUnaccepted, Runs, TellsEnding};
 ghost use Rattle.cosim_app.specs.declared.command_words.Command.TheVariants.{Run};
+ghost use Rattle.serial_run.specs.Alone.{IsAlone};
 
 use crate::commands::accept;
 use crate::note;
@@ -26,9 +27,10 @@ pub(crate) fn plan_of(alloc: Global, text: &[u8]) -> Result<Arc<Plan>, Stopped>
     Ok(Arc::new(alloc, plan)?)
 }
 
-/// Runs a plan in the calling thread.
+/// Runs a plan in the calling thread, so that all cells of its report are its own and there are no tickets.
 fn run_plan<O: Sink>(alloc: Global, plan: &Arc<Plan>, out: &mut O) -> Result<Report, Stopped>
-    ensures { Runs plan.now.value.system (stream (O.held out.old) (O.faults out.old)) (stream (O.held out.new) (O.faults out.new)) result }
+    ensures runs { Runs plan.now.value.system (stream (O.held out.old) (O.faults out.old)) (stream (O.held out.new) (O.faults out.new)) result }
+    ensures alone { IfOk result IsAlone }
 {
     match run_alone(alloc, Arc::clone(plan)?, out) {
         Ok(report) => Ok(report),

@@ -14,18 +14,19 @@ returns g c =
     let source' = stream (g.S.Source.left c.read_input.new.source) (g.S.Source.faults c.read_input.new.source) in
     let out = stream (g.O.Sink.held c.args.out.now) (g.O.Sink.faults c.args.out.now) in
     let out' = stream (g.O.Sink.held c.serve.new.out) (g.O.Sink.faults c.serve.new.out) in
-    comes_whole (input_of c.args.command) (Answers c.args.command) source source' out out' c.in_ok-text.text c.serve.result (is_answered c.args.command)
+    comes_whole (input_of c.args.command.now) (Answers c.args.command.now) source source' out out'
+    c.in_ok-text.text c.serve.result (is_answered c.args.command.now)
     (subst (λ (input : Option ℕ). ReadsInput input source source' (Ok c.in_ok-text.text)) c.input.ensures c.in_ok-text.ensures.reads)
     (subst (λ (input : Option ℕ). TakesAtMost input source source') c.input.ensures c.in_ok-text.ensures.taken)
-    (subst (λ (text : List ℕ). Serves (Answers c.args.command text) out out' c.serve.result) c.deref.ensures.value c.serve.ensures)
+    (subst (λ (text : List ℕ). Serves (Answers c.args.command.now text) out out' c.serve.result) c.deref.ensures.value c.serve.ensures)
 
 pub returns-in_err-text : goal.returns-in_err-text
 returns-in_err-text g c =
     let source = stream (g.S.Source.left c.args.source.now) (g.S.Source.faults c.args.source.now) in
     let source' = stream (g.S.Source.left c.read_input.new.source) (g.S.Source.faults c.read_input.new.source) in
     let out = stream (g.O.Sink.held c.args.out.now) (g.O.Sink.faults c.args.out.now) in
-    handed_on (Comes (input_of c.args.command) (Answers c.args.command) source source' out out) c.from_residual.result c.in_err-text.field-0.0
+    handed_on (Comes (input_of c.args.command.now) (Answers c.args.command.now) source source' out out) c.from_residual.result c.in_err-text.field-0.0
     c.from_residual.ensures.1
-    (comes_unread (input_of c.args.command) (Answers c.args.command) source source' out c.in_err-text.field-0.0 (is_answered c.args.command)
+    (comes_unread (input_of c.args.command.now) (Answers c.args.command.now) source source' out c.in_err-text.field-0.0 (is_answered c.args.command.now)
     (subst (λ (input : Option ℕ). ReadsInput input source source' (Err c.in_err-text.field-0.0)) c.input.ensures c.in_err-text.ensures.reads)
     (subst (λ (input : Option ℕ). TakesAtMost input source source') c.input.ensures c.in_err-text.ensures.taken))

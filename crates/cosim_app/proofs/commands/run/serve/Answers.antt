@@ -21,11 +21,11 @@ returns-in_err-report g c =
     let out' = stream (g.O.Sink.held c.run_plan.new.out) (g.O.Sink.faults c.run_plan.new.out) in
     handed_on (Serves (Answers Run c.args.text.now) out out') c.from_residual-in_err-report.result c.in_err-report.field-0.0
     c.from_residual-in_err-report.ensures.1
-    (run_given_up c.args.text.now c.in_ok-plan.plan.value.system c.in_ok-plan.ensures.planned out out' c.in_err-report.field-0.0 c.in_err-report.ensures)
+    (run_given_up c.args.text.now c.in_ok-plan.plan.value.system c.in_ok-plan.ensures.planned out out' c.in_err-report.field-0.0 c.in_err-report.ensures.runs)
 
 pub returns : goal.returns
 returns g c =
     run_told c.args.text.now c.in_ok-plan.plan.value.system c.in_ok-plan.ensures.planned
     (stream (g.O.Sink.held c.args.out.now) (g.O.Sink.faults c.args.out.now))
-    (stream (g.O.Sink.held c.run_plan.new.out) (g.O.Sink.faults c.run_plan.new.out)) c.in_ok-report.report c.reported.result c.in_ok-report.ensures
+    (stream (g.O.Sink.held c.run_plan.new.out) (g.O.Sink.faults c.run_plan.new.out)) c.in_ok-report.report c.reported.result c.in_ok-report.ensures.runs
     (subst (λ (p : Planned). TellsEnding p.system c.in_ok-report.report c.reported.result) c.deref.ensures c.reported.ensures)
