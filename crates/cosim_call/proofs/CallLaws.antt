@@ -128,13 +128,19 @@ promises_same input IsAnswer before now wanted text_of_note facts told same = re
   };
 }
 
+-- a fault of writing is none of these
+no_write_fault : (status.WriteFault ≡ status.Usage) ⊎ ((status.WriteFault ≡ status.Refused) ⊎ (status.WriteFault ≡ status.ReadFault)) → ⊥
+no_write_fault (inl is) = cc
+no_write_fault (inr (inl is)) = cc
+no_write_fault (inr (inr is)) = cc
+
 -- telling it failed
 promises_failed : (input : Option ℕ) (IsAnswer : List ℕ → Answer → Type 0) (before now : Streams) (wanted : Status) (text_of_note : List ℕ)
     → Facts input IsAnswer before.source now.source before.out now.out wanted text_of_note → AppendsPrefix before.notes.bytes now.notes.bytes text_of_note
     → Fails before.notes now.notes → Promises input IsAnswer before now status.WriteFault
 promises_failed input IsAnswer before now wanted text_of_note facts front rose = record {
   answer = λ quiet more. absurd (quiet.notes rose);
-  prefix = record { front = facts.front; nothing = λ is. absurd (other is) };
+  prefix = record { front = facts.front; nothing = λ is. absurd (no_write_fault is) };
   cause = record {
     own = λ own. absurd own;
     read_fault = λ is. absurd (cc);
@@ -152,11 +158,6 @@ promises_failed input IsAnswer before now wanted text_of_note facts front rose =
         (kind_of wanted);
   };
 }
-  where
-    other : (status.WriteFault ≡ status.Usage) ⊎ ((status.WriteFault ≡ status.Refused) ⊎ (status.WriteFault ≡ status.ReadFault)) → ⊥
-    other (inl is) = cc
-    other (inr (inl is)) = cc
-    other (inr (inr is)) = cc
 
 pub promises_told : (input : Option ℕ) (IsAnswer : List ℕ → Answer → Type 0) (before now : Streams) (wanted given : Status) (text_of_note : List ℕ)
     → Facts input IsAnswer before.source now.source before.out now.out wanted text_of_note → Tells text_of_note wanted before.notes now.notes given
@@ -240,7 +241,7 @@ pub facts_write_fault : (input : Option ℕ) (IsAnswer : List ℕ → Answer →
     → Facts input IsAnswer source source' out out' status.WriteFault write_fault_note
 facts_write_fault input IsAnswer source source' out out' taken front reads rose = record {
   front = front;
-  nothing = λ is. absurd (other is);
+  nothing = λ is. absurd (no_write_fault is);
   own = λ own. absurd own;
   fault = λ _ _. inr rose;
   read_fault = λ is. absurd (cc);
@@ -251,11 +252,6 @@ facts_write_fault input IsAnswer source source' out out' taken front reads rose 
   read = λ limit is own. absurd own;
   taken = taken;
 }
-  where
-    other : (status.WriteFault ≡ status.Usage) ⊎ ((status.WriteFault ≡ status.Refused) ⊎ (status.WriteFault ≡ status.ReadFault)) → ⊥
-    other (inl is) = cc
-    other (inr (inl is)) = cc
-    other (inr (inr is)) = cc
 
 ends_own : (given : Status) → IsEndOfWork given → IsOwn given
 ends_own status.Usage end = absurd end

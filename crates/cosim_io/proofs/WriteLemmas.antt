@@ -1,6 +1,5 @@
 -- How far a loop over `write` has come with its piece.
-use Rattle.std.proofs.Common.{◌≡◌, ℕ, ◌-◌, List, ◌++◌, length, take, drop, sym, ◌∙◌, ap, subst, arith, append_assoc, take-append-drop, length-drop, Result, Ok}
-use Rattle.std.proofs.Common.{Err, OnErr}
+use Rattle.std.proofs.Common.{◌≡◌, ℕ, ◌-◌, List, ◌++◌, length, take, drop, sym, ◌∙◌, ap, subst, arith, append_assoc, take-append-drop, length-drop}
 use Rattle.std.proofs.lemmas.List.{take_all}
 use Rattle.std.proofs.KnownBytes.{Appends-trans, Appends-kept}
 use Rattle.std.specs.Io.KnownBytes.{Appends, Keeps}
@@ -35,8 +34,3 @@ Written-kept a b c piece rest so_far kept =
 pub Written-front : (a b : Option (List ℕ)) (piece rest : List ℕ) → Written a b piece rest → AppendsPrefix a b piece
 Written-front a b piece rest so_far =
     subst (AppendsPrefix a b) so_far.parts (AppendsPrefix-longer a b so_far.done rest (AppendsPrefix-whole a b so_far.done so_far.appended))
-
--- what holds in any case holds at an error
-pub OnErr-always : {T E P : Type 0} (r : Result T E) → P → OnErr r P
-OnErr-always (Ok x) p = tt
-OnErr-always (Err e) p = p

@@ -1,5 +1,5 @@
 -- Fixed point as text: where the point stands among the digits.
-use Rattle.std.proofs.Common.{◌≡◌, ℕ, suc, ◌+◌, ◌-◌, ◌<◌, ◌≤◌, Result, Ok, Err, OnErr, List, [], ◌∷◌, ◌++◌, length, take, drop, replicate, refl, sym, ap, ◌∙◌}
+use Rattle.std.proofs.Common.{◌≡◌, ℕ, suc, ◌+◌, ◌-◌, ◌<◌, ◌≤◌, List, [], ◌∷◌, ◌++◌, length, take, drop, replicate, refl, sym, ap, ◌∙◌}
 use Rattle.std.proofs.Common.{arith}
 use Rattle.std.proofs.lemmas.List.{append_assoc, length-append, length-replicate, take_at, take-take, take-replicate}
 use Rattle.fixed_words.specs.Digits.{pointed}
@@ -32,10 +32,6 @@ front_stays old first one all is front =
     sym (take-take (length old) (length one) all longer)
     ∙ ap (take (length old)) (front ∙ is)
     ∙ take_at old first (length old) refl
-
-pub on_err : {T E : Type 0} (outcome : Result T E) (P : Type 0) → P → OnErr outcome P
-on_err (Ok value) P holds = tt
-on_err (Err fault) P holds = holds
 
 pub zeros_are : (count : ℕ) → count ≤ 9 → take {A = ℕ} count (48 ∷ 48 ∷ 48 ∷ 48 ∷ 48 ∷ 48 ∷ 48 ∷ 48 ∷ 48 ∷ []) ≡ replicate count 48
 zeros_are count few = let zero_digit : ℕ = 48 in take-replicate count 9 zero_digit few

@@ -107,10 +107,6 @@ step_chain image state inputs cells cell one some first fed proven row key =
     ap (chain_of (code_of image) state) (cells_are cells cell some first)
     ∙ first_answer (code_of image) state cell (take (length cells - 1) (drop 1 cells)) one proven row (key_there image state inputs cell one.key key fed)
 
-pub on_err : {T E P : Type 0} (r : Result T E) → P → OnErr r P
-on_err (Ok x) p = tt
-on_err (Err e) p = p
-
 -- What is appended behind the first answer is appended behind all.
 pub whole_on : {E : Type 0} (old now new rest all : List Answered) (one : Answered) (r : Result (Unit {0}) E) → now ≡ old ++ one ∷ [] → all ≡ one ∷ rest
     → OnOk r (new ≡ now ++ rest) → OnOk r (new ≡ old ++ all)

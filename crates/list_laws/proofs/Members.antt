@@ -1,5 +1,5 @@
 -- What a list has, and lists whose elements differ.
-use Rattle.std.proofs.Common.{◌≡◌, ℕ, zero, suc, ◌+◌, ◌<◌, ◌≤◌, Bool, true, false, List, [], ◌∷◌, ◌++◌, map, length, Option, Some, None, Result, Ok, Err, inl}
+use Rattle.std.proofs.Common.{◌≡◌, ℕ, zero, suc, ◌+◌, ◌<◌, Bool, true, false, List, [], ◌∷◌, ◌++◌, map, length, Option, Some, inl}
 use Rattle.std.proofs.Common.{inr, refl, ap, sym, subst, ◌∙◌, ◌⊎◌, arith, cond, find, get_or, set, take}
 use Rattle.std.specs.Prelude.{⊤, slice_get}
 use Rattle.std.specs.List.{All, AllByRecursion}
@@ -80,6 +80,27 @@ read_at xs k x within is = slice_get_read xs (length xs) k x refl within is
 
 pub take_next : {A : Type 0} (xs : List A) (k : ℕ) (x : A) → slice_get xs k ≡ Some x → take (k + 1) xs ≡ take k xs ++ (x ∷ [])
 take_next xs k x is = take_more xs k x (slice_get_within xs k x is) ∙ ap (λ y. take k xs ++ (y ∷ [])) (get_or_from_slice_get xs k x x is)
+
+-- what is set is there, and what stands elsewhere stays
+pub set_there : {A : Type 0} (xs : List A) (k : ℕ) (x : A) → k < length xs → slice_get (set xs k x) k ≡ Some x
+set_there [] k x within = absurd (omega (arith, within))
+set_there (y ∷ ys) zero x within = refl
+set_there (y ∷ ys) (suc k) x within = set_there ys k x (omega (arith, within))
+
+pub set_elsewhere : {A : Type 0} (xs : List A) (k j : ℕ) (x : A) → (j ≡ k → ⊥) → slice_get (set xs k x) j ≡ slice_get xs j
+set_elsewhere [] k j x differ = refl
+set_elsewhere (y ∷ ys) zero zero x differ = absurd (differ refl)
+set_elsewhere (y ∷ ys) zero (suc j) x differ = refl
+set_elsewhere (y ∷ ys) (suc k) zero x differ = refl
+set_elsewhere (y ∷ ys) (suc k) (suc j) x differ = set_elsewhere ys k j x (λ is. differ (ap suc is))
+
+-- what holds of each element by its place, and of one more behind them, holds of all
+pub at_push : {A : Type 0} (P : ℕ → A → Type 0) (xs : List A) (x : A) → ((k : ℕ) (y : A) → slice_get xs k ≡ Some y → P k y) → P (length xs) x
+    → (k : ℕ) (y : A) → slice_get (xs ++ (x ∷ [])) k ≡ Some y → P k y
+at_push P [] x each last zero y is = subst (P 0) (same_Some x y is) last
+at_push P [] x each last (suc k) y is = absurd (cc)
+at_push P (z ∷ zs) x each last zero y is = each zero y is
+at_push P (z ∷ zs) x each last (suc k) y is = at_push (λ j. P (suc j)) zs x (λ j. each (suc j)) last k y is
 
 -- what a place has already, put there, changes nothing
 pub set_same : {A : Type 0} (xs : List A) (k : ℕ) (x : A) → slice_get xs k ≡ Some x → set xs k x ≡ xs

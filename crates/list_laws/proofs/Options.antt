@@ -1,13 +1,18 @@
 -- What may be there, and results.
-use Rattle.std.proofs.Common.{◌≡◌, ℕ, zero, suc, ◌+◌, ◌<◌, ◌≤◌, Bool, true, false, List, [], ◌∷◌, ◌++◌, map, length, Option, Some, None, Result, Ok, Err, inl}
-use Rattle.std.proofs.Common.{inr, refl, ap, sym, subst, ◌∙◌, ◌⊎◌, arith}
-use Rattle.std.specs.Prelude.{⊤, OnOk, cond, is_some}
+use Rattle.std.proofs.Common.{◌≡◌, Bool, true, false, Option, Some, None, Result, Ok, Err}
+use Rattle.std.proofs.Common.{refl, sym, ◌∙◌}
+use Rattle.std.specs.Prelude.{OnOk, cond, is_some, OnErr}
 use Rattle.std.specs.Result.{result_and}
 use Rattle.std.specs.Option.{option_or}
 
 pub on_ok : {T E : Type 0} (result : Result T E) (P Q : Type 0) → (P → Q) → OnOk result P → OnOk result Q
 on_ok (Ok value) P Q from holds = from holds
 on_ok (Err fault) P Q from holds = tt
+
+-- what holds in any case holds at an error
+pub on_err : {T E P : Type 0} (result : Result T E) → P → OnErr result P
+on_err (Ok value) holds = tt
+on_err (Err fault) holds = holds
 
 pub or_none : {A : Type 0} (one : Option A) → option_or one None ≡ one
 or_none None = refl

@@ -36,7 +36,7 @@ use Rattle.run_laws.proofs.SeenLaws.{get_same, get_fits}
 use Rattle.port_solve.proofs.InputPlaces.{source_at, feed_is, has_feed}
 use Rattle.port_solve.proofs.SetWords.{word_after, shape_after}
 use Rattle.port_solve.proofs.OutputPlaces.{OutletAt, outlet_of, given_is, type_is}
-use Rattle.list_laws.proofs.Members.{Has, has_map, has_at, at_place, all_has, each_has}
+use Rattle.list_laws.proofs.Members.{Has, has_map, has_at, at_place, all_has, each_has, set_there, set_elsewhere}
 use Rattle.list_laws.proofs.Pairs.{Beside, zip_at}
 use Rattle.list_laws.proofs.Lists.{each_more}
 
@@ -185,18 +185,6 @@ suits_at types (i ∷ inputs) (s ∷ sources) zero input source all input_is sou
     let same_source : s ≡ source = cc in
     subst (λ x. Suits types (x, source)) same_input (subst (λ y. Suits types (i, y)) same_source all.0)
 suits_at types (i ∷ inputs) (s ∷ sources) (suc k) input source all input_is source_is = suits_at types inputs sources k input source all.1 input_is source_is
-
-get_same_place : {A : Type 0} (xs : List A) (k : ℕ) (y : A) → k < length xs → slice_get (set xs k y) k ≡ Some y
-get_same_place [] k y within = absurd (omega (arith, within))
-get_same_place (x ∷ xs) zero y within = refl
-get_same_place (x ∷ xs) (suc k) y within = get_same_place xs k y (omega (arith, within))
-
-pub get_other : {A : Type 0} (xs : List A) (k j : ℕ) (y : A) → (j ≡ k → ⊥) → slice_get (set xs k y) j ≡ slice_get xs j
-get_other [] k j y differ = refl
-get_other (x ∷ xs) zero zero y differ = absurd (differ refl)
-get_other (x ∷ xs) zero (suc j) y differ = refl
-get_other (x ∷ xs) (suc k) zero y differ = refl
-get_other (x ∷ xs) (suc k) (suc j) y differ = get_other xs k j y (λ is. differ (ap suc is))
 
 is_between_same : (ty other : Ty) (word : ℤ) → lowest ty ≡ lowest other → highest ty ≡ highest other → is_word_of ty word ≡ true → is_word_of other word ≡ true
 is_between_same ty other word low high is = sym (ap (λ l. is_between l (highest ty) word) low ∙ ap (λ h. is_between (lowest other) h word) high) ∙ is
@@ -407,14 +395,14 @@ module _ (run : Composition) (states : List (List ℤ)) (sound : IsSound run) (h
           → AllByRecursion (Agreed now right) some
       still_agree [] all not_there = tt
       still_agree (first ∷ some) all not_there = (
-        get_other (ports_told known words) place first (word_at right outlet) (λ is. not_there (inl is)) ∙ all.0,
+        set_elsewhere (ports_told known words) place first (word_at right outlet) (λ is. not_there (inl is)) ∙ all.0,
         still_agree some all.1 (λ there. not_there (inr there)),
       )
 
       all_agree : AllByRecursion (Agreed now right) (front ++ (place ∷ []))
       all_agree =
           each_more (Agreed now right) front place (still_agree front is_front.words apart)
-          (get_same_place (ports_told known words) place (word_at right outlet) within ∙ sym right_is)
+          (set_there (ports_told known words) place (word_at right outlet) within ∙ sym right_is)
 
       abbrev sets : Option ℤ → List StartWord
       sets word = set_from word route.feeds

@@ -16,11 +16,11 @@ use Rattle.unit_tree.specs.declared.order.InputAt.{InputAt}
 use Rattle.unit_tree.specs.declared.order.Route.{Route}
 use Rattle.unit_tree.specs.declared.order.StartWord.{StartWord}
 use Rattle.language_laws.proofs.PlainNames.{map_has}
-use Rattle.port_solve.proofs.Fronts.{Known, Agreed, IsFront, get_other, same_sources, feed_fits, one_state, asked_is}
+use Rattle.port_solve.proofs.Fronts.{Known, Agreed, IsFront, same_sources, feed_fits, one_state, asked_is}
 use Rattle.port_solve.proofs.InputPlaces.{source_at, source_is, has_source, feed_is, has_feed}
 use Rattle.port_solve.proofs.OutputPlaces.{outlet_of}
 use Rattle.port_solve.proofs.SetWords.{word_after}
-use Rattle.list_laws.proofs.Members.{Has, has_map, all_has, each_has}
+use Rattle.list_laws.proofs.Members.{Has, has_map, all_has, each_has, set_elsewhere}
 
 -- ---- An output that is asked
 
@@ -131,7 +131,7 @@ module _ (run : Composition) (sound : IsSound run) (place : ℕ) (word : ℤ) wh
             (set_there ports place word (λ w. word_in now at ≡ w) (fed at (is ∙ ap (λ p. Some (AtPlace p)) (sym same.1))))
         | inr differ ↦
             subst (λ found. IfSome (option_and_then (λ w. w) found) (λ w. word_in now at ≡ w))
-            (sym (get_other ports place other (Some word) (λ same. differ.1 (sym same))))
+            (sym (set_elsewhere ports place other (Some word) (λ same. differ.1 (sym same))))
             (kept_there (slice_get ports other) (λ w. word_in inputs at ≡ w) (λ w. word_in now at ≡ w)
             (λ w was. kept at (AtPlace other) w is (λ same. differ.1 (place_of same)) was)
             (has_word run ports inputs their shape at (AtPlace other) is))

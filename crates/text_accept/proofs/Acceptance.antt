@@ -1,11 +1,12 @@
 -- Each text is accepted as one system, or refused at one line by one rule.
-use Rattle.std.proofs.Common.{◌≡◌, ℕ, zero, suc, ◌+◌, ◌-◌, ◌<◌, ◌≤◌, ◌⊎◌, inl, inr, Bool, true, false, List, [], ◌∷◌, ◌++◌, length, Option, Some, None, refl}
+use Rattle.std.proofs.Common.{◌≡◌, ℕ, suc, ◌+◌, ◌-◌, ◌<◌, ◌≤◌, ◌⊎◌, inl, inr, Bool, true, false, List, [], ◌∷◌, length, Option, Some, None, refl}
 use Rattle.std.proofs.Common.{ap, sym, subst, ◌∙◌, arith}
-use Rattle.std.specs.Prelude.{slice_get, ⊤}
+use Rattle.std.specs.Prelude.{⊤}
 use Rattle.std.specs.List.{filter_map, find, enumerate_from}
 use Rattle.std.specs.Option.{option_map}
 use Rattle.std.proofs.lemmas.List.{length-map}
 use Rattle.std.proofs.lemmas.Option.{same_Some}
+use Rattle.list_laws.proofs.Members.{at_place}
 use Rattle.language_laws.specs.Language.{CyclesAreJudgedOnce}
 use Rattle.unit_tree.specs.Canonical.{canonical_forms}
 use Rattle.unit_tree.specs.Names.{unit_at}
@@ -47,11 +48,6 @@ one_source text one other ones others a b =
 
 -- ---- Each canonical line has its source
 
-get_within : (lines : List ℕ) (place : ℕ) → place < length lines → (line : ℕ) × (slice_get lines place ≡ Some line)
-get_within [] place within = absurd (omega (arith, within))
-get_within (line ∷ lines) zero within = (line, refl)
-get_within (line ∷ lines) (suc place) within = get_within lines place (omega (arith, within))
-
 -- there are as many lines that canonical lines came from as canonical lines
 pub sites_count : (system : System) → length (sites_of system) ≡ length (canonical_forms system)
 sites_count system = sym (length-map (sites_of system) (λ site. site.line)) ∙ ap length (sites_are system)
@@ -63,7 +59,7 @@ pub has_source : (text : List ℕ) (system : System) (lines : List ℕ) (item : 
     → (line : ℕ) × (source_line lines item ≡ Some line)
 has_source text system lines item from first last =
     let same = as_many text system lines from in
-    get_within lines (item - 1) (omega (arith, first, last, same))
+    at_place lines (item - 1) (omega (arith, first, last, same))
 
 -- A line that breaks a rule is one of the canonical lines.
 Within : ℕ → List Site → List ℕ → Type 0

@@ -19,7 +19,7 @@ use Rattle.unit_tree.specs.Given.{given_by, IsInputWord}
 use Rattle.unit_tree.specs.declared.unit.Input.{Input}
 use Rattle.unit_tree.specs.declared.unit.Output.{Output}
 use Rattle.list_laws.proofs.Pairs.{zip_set}
-use Rattle.list_laws.proofs.Members.{set_same}
+use Rattle.list_laws.proofs.Members.{at_place, set_same}
 
 abbrev pub RunsMember : Member → Running → Type 0
 RunsMember member unit = IsRunOf member.component unit
@@ -233,11 +233,6 @@ next_of : (members : List Member) (place : ℕ) (member : Member) → slice_get 
 next_of members place member is =
     drop_more members place member (slice_get_within members place member is)
     ∙ ap (λ one. one ∷ drop (place + 1) members) (index_or members place member member is)
-
-at_place : (members : List Member) (place : ℕ) → place < length members → (member : Member) × (slice_get members place ≡ Some member)
-at_place [] place within = absurd (omega (arith, within))
-at_place (member ∷ members) zero within = (member, refl)
-at_place (member ∷ members) (suc place) within = at_place members place (omega (arith, within))
 
 pub one_more : (members : List Member) (place : ℕ) (units : List Running) (image : Compiled) → place < length members
     → ((member : Member) → slice_get members place ≡ Some member → IsImageOf member.component image) → IsFront members place units

@@ -7,7 +7,6 @@ use Rattle.std.specs.Option.{IfSome}
 use Rattle.std.specs.Prelude.{IsSome, Option, None}
 use Rattle.code_units.specs.Calls.{output_by}
 use Rattle.unit_exec.specs.Showing.{Shows, ShowsBy, ShowStates}
-use Rattle.unit_vm.proofs.FusedLists.{each_more}
 use Rattle.unit_vm.specs.declared.program.Program.{Program}
 use Rattle.fixed_words.specs.Types.{is_word_of}
 use Rattle.fixed_words.specs.declared.types.Fault.TheVariants as fault
@@ -18,7 +17,7 @@ use Rattle.unit_vm.specs.Machine.{Work, State, Course, Ends, Faults, goes_on, lo
 use Rattle.unit_vm.specs.declared.instruction.Instruction.{Instruction}
 use Rattle.unit_vm.specs.declared.instruction.Instruction.TheVariants.{Load, Give}
 use Rattle.unit_vm.specs.declared.program.Sizes.{Sizes}
-use Rattle.list_laws.proofs.Members.{at_place, at_front}
+use Rattle.list_laws.proofs.Members.{at_front, at_place, at_push}
 
 tested : (fitting : Bool) (work : Work) (word : ℤ) (next : State → Course)
     → word_given (then_goes (if fitting then Ends work (Some word) else Faults fault.Range) next) ≡ Some (if fitting then Ok word else Err fault.Range)
@@ -74,7 +73,7 @@ pub show_more : (program : Program) (count : ℕ) (all : List (Option (ℕ × Ty
 show_more program count all one so_far shows_one = record {
   as_many = length-append all (one ∷ []) ∙ ap (λ n. n + 1) so_far.as_many;
   each = λ output shown at.
-      each_more (λ output one. (shown : ℕ × Ty) → one ≡ Some shown → Shows program output shown) all one
+      at_push (λ output one. (shown : ℕ × Ty) → one ≡ Some shown → Shows program output shown) all one
       (λ output one at shown is. so_far.each output shown (at ∙ ap Some is))
       (subst (λ n. (shown : ℕ × Ty) → one ≡ Some shown → Shows program n shown) (sym so_far.as_many) shows_one) output (Some shown) at shown refl;
 }

@@ -1,4 +1,5 @@
-use Rattle.cosim_io.proofs.WriteLemmas.{Written-slice, Written-more, Written-kept, Written-front, OnErr-always}
+use Rattle.list_laws.proofs.Options.{on_err}
+use Rattle.cosim_io.proofs.WriteLemmas.{Written-slice, Written-more, Written-kept, Written-front}
 use Rattle.cosim_io.proofs.edge.write_out.Goals as goal
 
 pub loop-rest-preserved : goal.loop-rest-preserved
@@ -14,4 +15,4 @@ returns-in_default-2-clause-front g c =
 
 pub returns-clause-front : goal.returns-clause-front
 returns-clause-front g c =
-    OnErr-always _ (Written-front _ _ _ _ (Written-kept _ _ _ _ _ c.loop-rest.invariant c.flush.ensures.bytes))
+    on_err _ (Written-front _ _ _ _ (Written-kept _ _ _ _ _ c.loop-rest.invariant c.flush.ensures.bytes))

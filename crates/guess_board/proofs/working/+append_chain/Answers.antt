@@ -2,7 +2,8 @@ use Rattle.std.proofs.Common.{◌≡◌, ◌∙◌, ◌-◌, ◌∷◌, ◌++◌
 use Rattle.guess_board.specs.Cells.{FitsCell}
 use Rattle.guess_board.specs.Chains.{chain_of, code_of, whole_state}
 use Rattle.guess_board.proofs.WorkLaws.{after_long, behind_fit, behind_is_after, behind_is_none, front_on, no_cells, none_appended, none_left}
-use Rattle.guess_board.proofs.WorkLaws.{on_err, step_chain}
+use Rattle.list_laws.proofs.Options.{on_err}
+use Rattle.guess_board.proofs.WorkLaws.{step_chain}
 use Rattle.guess_board.proofs.WorkLaws.{whole_on}
 use Rattle.std.specs.Option.{option_map}
 use Rattle.guess_board.proofs.working.+append_chain.Goals as goal

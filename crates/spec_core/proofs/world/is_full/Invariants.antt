@@ -1,5 +1,0 @@
-use Rattle.spec_core.proofs.ActLaws.{NoneWantedBelow}
-use Rattle.spec_core.proofs.world.is_full.Given as goal
-
-abbrev pub invariant-loop-instance : goal.invariant-loop-instance
-invariant-loop-instance l = NoneWantedBelow l.run l.instance
