@@ -2,14 +2,13 @@
 //!
 //! [`run_alone`] puts the header and each row of the whole trace as one piece, and reports how and where it ended; [`put_rest`]
 //! does so, without a header, from wherever a run was opened. Each steps every instance itself, so it starts no thread, waits for
-//! nothing and returns.
+//! nothing and returns. The loop over the rows is that of `trace_rows`, which is driven here by own steps alone.
 //!
 //! What is put and reported is that of the system's one trace, and of the one rest of a position: `Reports` of `trace_rows`, whose
 //! [`Report`] and [`CrewFault`] these calls answer. `specs/Alone.antt` says that nothing in the report came from others.
-//! `specs/Advances.antt`, which need not be believed, says how a run gets from one row to the next by its own steps.
 #![tactic(auto)]
 
-mod advance;
+mod alone;
 mod run;
 
 pub use run::{put_rest, run_alone};

@@ -5,12 +5,12 @@ ghost use Rattle.trace_rows.specs.Faults.{TellsFault};
 ghost use Rattle.trace_rows.specs.Reports.{PutsFront, PutsRestFront, ReportsRest, ReportsTrace};
 ghost use Rattle.unit_tree.specs.Trace.{HasCells};
 
-use crate::advance::advance;
+use crate::alone::Alone;
 use cosim_io::Sink;
 use std::alloc::Global;
 use std::sync::Arc;
-use trace_core::{Phase, Plan, Run};
-use trace_rows::{CrewFault, Report, RowRoom, Tally, put_header};
+use trace_core::{Plan, Run};
+use trace_rows::{CrewFault, Report, put_rest as put_driven, put_trace};
 
 /// Goes on with a run of the plan from where it was opened to its end: puts each row as one piece, and reports how it ended.
 ///
@@ -19,27 +19,20 @@ use trace_rows::{CrewFault, Report, RowRoom, Tally, put_header};
 pub fn put_rest<O: Sink>(
     alloc: Global,
     plan: &Plan,
-    run: &mut Run,
+    run: Run,
     out: &mut O,
 ) -> Result<Report, CrewFault>
-    requires opened { IsOpened plan.now run.old.opened run.old }
-    requires stands { Stands run.old }
-    ensures whole { IfOk result (ReportsRest plan.now run.old.opened (O.held out.old) (O.held out.new)) }
+    requires opened { IsOpened plan.now run.opened run }
+    requires stands { Stands run }
+    ensures whole { IfOk result (ReportsRest plan.now run.opened (O.held out.old) (O.held out.new)) }
     ensures alone { IfOk result IsAlone }
-    ensures front { OnErr result (PutsRestFront plan.now run.old.opened (O.held out.old) (O.held out.new)) }
+    ensures front { OnErr result (PutsRestFront plan.now run.opened (O.held out.old) (O.held out.new)) }
     ensures cause { TellsFault (O.faults out.old) (O.faults out.new) result }
 {
-    let instances = plan.instances();
-    let mut tally = Tally::new();
-    let mut room = RowRoom::new(alloc);
-    room.put_row(plan, run, &mut tally, out)?;
-    'rows: while advance(run, instances) {
-        room.put_row(plan, run, &mut tally, out)?;
-    }
-    let Phase::Ended(outcome) = run.phase() else {
-        unreachable!()
-    };
-    Ok(Report::of_run(run, outcome, tally))
+    let mut alone = Alone::new(run, plan.instances());
+    let told = put_driven(alloc, plan, &mut alone, out);
+    alone.facts();
+    told
 }
 
 /// Runs a plan in the calling thread: puts the header and each row of the trace as one piece, and reports how the trace ended.
@@ -55,7 +48,9 @@ pub fn run_alone<O: Sink>(alloc: Global, plan: Arc<Plan>, out: &mut O) -> Result
     ensures bounded { IfOk result (λ report. report.own ≤ 2 * length plan.value.run.members * report.rows) }
 {
     // All memory of the run but that of its lines is taken before anything is put.
-    let mut run = Run::open(alloc, Arc::clone(&plan)?)?;
-    put_header(alloc, &plan, out)?;
-    put_rest(alloc, &plan, &mut run, out)
+    let run = Run::open(alloc, Arc::clone(&plan)?)?;
+    let mut alone = Alone::new(run, plan.instances());
+    let told = put_trace(alloc, &plan, &mut alone, out);
+    alone.facts();
+    told
 }

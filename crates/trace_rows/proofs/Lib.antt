@@ -1,4 +1,6 @@
 pub mod BoundLaws
+pub mod DriveLaws
+pub mod Filling
 pub mod FreshRuns
 pub mod PassedStands
 pub mod PhaseCells

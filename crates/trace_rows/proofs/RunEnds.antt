@@ -1,13 +1,13 @@
 -- What a run has put and reports when it is over, or given up.
 use Rattle.std.proofs.Common.{◌≡◌, ℕ, ◌+◌, ◌*◌, ◌≤◌, List, [], ◌∷◌, ◌++◌, length, Option, Some, None, Result, Ok, Err, refl, sym, ap, subst, ◌∙◌, append-nil}
-use Rattle.std.proofs.Common.{arith}
+use Rattle.std.proofs.Common.{append_assoc, arith}
 use Rattle.std.specs.List.{cons_option}
 use Rattle.std.specs.Prelude.{IfOk, OnErr}
 use Rattle.std.specs.Io.KnownBytes.{Appends}
 use Rattle.std.proofs.KnownBytes.{Appends-trans}
 use Rattle.std.proofs.lemmas.List.Elements.{filter_map-append}
 use Rattle.cosim_io.specs.Pieces.{AppendsPrefix}
-use Rattle.cosim_io.proofs.PieceLemmas.{AppendsPrefix-nil, AppendsPrefix-after, AppendsPrefix-longer}
+use Rattle.cosim_io.proofs.PieceLemmas.{AppendsPrefix-nil, AppendsPrefix-after, AppendsPrefix-longer, AppendsPrefix-whole}
 use Rattle.trace_core.specs.Runs.{RunState, Stands, ArePortsKnown, IsPhase, first_end}
 use Rattle.trace_core.specs.declared.phase.Phase.TheVariants.{Ended}
 use Rattle.trace_csv.specs.Columns.{columns_of}
@@ -31,7 +31,7 @@ use Rattle.trace_rows.specs.declared.tally.Tally.{Tally}
 use Rattle.trace_rows.proofs.BoundLaws.{cells_are_bounded}
 use Rattle.trace_rows.proofs.FreshRuns.{phase_by, ended_as, cells_ended, same_end}
 use Rattle.trace_rows.proofs.RowLaws.{text_is}
-use Rattle.trace_rows.proofs.RunKept.{Given, ArePut, IsAt, Come, Kept, passed_at, cells-push, filled_more}
+use Rattle.trace_rows.proofs.RunKept.{Given, ArePut, IsAt, Come, Kept, passed_at, cells-push, filled_more, lines-append}
 use Rattle.trace_rows.proofs.PassedStands.{Walked, walked_end, last_is, front_along}
 
 -- ---- The run is over
@@ -169,6 +169,24 @@ front_come plan from r held0 held held' faults0 faults tally come front = record
       front_of plan.system plan.run from come.passed r.stand held0 held held' come.at.walked come.put.out front stands ending rest;
 }
 
+-- behind the row here
+pub front_kept : (plan : Planned) (from : Position) (r : RunState) (held0 held : Option (List ℕ)) (faults0 faults : ℕ) (tally : Tally)
+    → Kept plan from r held0 held faults0 faults tally → PutsRestFront plan from held0 held
+front_kept plan from r held0 held faults0 faults tally kept = record {
+  begins = λ stands ending rest.
+      let on = kept.at.walked stands ending rest in
+      let here = kept.passed ++ (r.stand ∷ []) in
+      let split : stands ≡ here ++ on.later = on.split ∙ sym (append_assoc kept.passed (r.stand ∷ []) on.later) in
+      let lines : lines_of plan.system (rows_of plan.run stands)
+      ≡ lines_of plan.system (rows_of plan.run here) ++ lines_of plan.system (rows_of plan.run on.later) =
+      ap (λ all. lines_of plan.system (rows_of plan.run all)) split
+      ∙ ap (lines_of plan.system) (filter_map-append (row_at plan.run) here on.later)
+      ∙ lines-append plan.system (rows_of plan.run here) (rows_of plan.run on.later) in
+      subst (AppendsPrefix held0 held) (sym lines)
+      (AppendsPrefix-longer held0 held (lines_of plan.system (rows_of plan.run here)) (lines_of plan.system (rows_of plan.run on.later))
+      (AppendsPrefix-whole held0 held (lines_of plan.system (rows_of plan.run here)) kept.put.out));
+}
+
 -- ---- A whole trace, which is the rest of the first position behind the header
 
 pub traced : (plan : Planned) (from : Position) (held0 held held' : Option (List ℕ)) (report : Report) → plan.run ≡ run_of plan.system
@@ -233,3 +251,8 @@ pub rest_bounded : (plan : Planned) (from : Position) (held held' : Option (List
 rest_bounded plan from held held' report rest =
     subst (λ filled. filled ≤ 2 * length plan.run.members * report.rows) (sym rest.cells)
     (subst (λ rows. cells_of plan.run rest.stands ≤ 2 * length plan.run.members * rows) (sym rest.rows_counted) (cells_are_bounded plan.run rest.stands))
+
+pub all_bounded : (plan : Planned) (from : Position) (held held' : Option (List ℕ)) (result : Result Report CrewFault)
+    → IfOk result (ReportsRest plan from held held') → IfOk result (λ report. report.found + report.own ≤ 2 * length plan.run.members * report.rows)
+all_bounded plan from held held' (Ok report) rest = rest_bounded plan from held held' report rest
+all_bounded plan from held held' (Err fault) rest = tt

@@ -70,7 +70,7 @@ pub record Kept (plan : Planned) (from : Position) (r : RunState) (held0 held : 
 
 -- ---- A row is put
 
-lines-append : (system : System) (one other : List Row) → lines_of system (one ++ other) ≡ lines_of system one ++ lines_of system other
+pub lines-append : (system : System) (one other : List Row) → lines_of system (one ++ other) ≡ lines_of system one ++ lines_of system other
 unfolding lines_of
 lines-append system one other = flat_map-append (λ row. row_line (resolution_of system) (columns_of system) row.point row.words) one other
 

@@ -1,8 +1,10 @@
 -- How a run passes from stand to stand, whoever fills its cells.
-use Rattle.std.specs.Prelude.{◌≡◌, ◌+◌, Bool, true, false, ◌⊎◌}
+use Rattle.std.specs.Prelude.{◌≡◌, ℕ, suc, ◌+◌, Bool, true, false, ◌⊎◌, Result, slice_set}
 use Rattle.std.specs.List.{count_by}
-use Rattle.trace_core.specs.Runs.{AreCellsFull, ArePortsKnown, RunState, arrived, is_empty_cell}
+use Rattle.fixed_words.specs.declared.types.Fault.{Fault}
+use Rattle.trace_core.specs.Runs.{Filled, AreCellsFull, ArePortsKnown, RunState, arrived, is_empty_cell}
 use Rattle.trace_core.specs.declared.phase.Phase.TheVariants.{Ended}
+use Rattle.unit_tree.specs.Components.{Moved}
 use Rattle.unit_tree.specs.Successor.{ends, successor}
 use Rattle.unit_tree.specs.Trace.{Goes, cells_at}
 use Rattle.unit_tree.specs.declared.ending.Ending.{Ending}
@@ -41,3 +43,9 @@ pub record AreStepsThere (old new : RunState) : Type 0 where
   pub full : AreCellsFull new.cells
   pub is : new ≡ record old { cells = new.cells; found = new.found; own = new.own }
   pub counted : new.found + new.own ≡ old.found + old.own + count_by is_empty_cell old.cells
+
+-- The step that was wanted of an instance is there, made by whomever.
+pub record IsFilled (old : RunState) (instance : ℕ) (new : RunState) : Type 0 where
+  pub step : Result Moved Fault
+  pub is : new ≡ record old { cells = slice_set old.cells instance (Filled step); found = new.found; own = new.own }
+  pub counted : new.found + new.own ≡ suc (old.found + old.own)

@@ -4,6 +4,7 @@ use Rattle.std.specs.Io.KnownBytes.{Appends}
 use Rattle.cosim_io.specs.Pieces.{AppendsPrefix}
 use Rattle.super_time.specs.declared.point.Point.{Point}
 use Rattle.trace_core.specs.Runs.{RunState}
+use Rattle.trace_core.specs.declared.phase.Phase.TheVariants.{Ended}
 use Rattle.trace_csv.specs.Columns.{columns_of}
 use Rattle.trace_csv.specs.TraceText.{trace_text}
 use Rattle.trace_plan.specs.Plans.{Planned}
@@ -30,6 +31,17 @@ report_of r ending tally = record {
   back = 0;
   lapsed = 0;
 }
+
+-- A report tells how and where a run ended, and how its steps were made; of tickets it tells nothing.
+pub record TellsRun (r : RunState) (report : Report) : Type 0 where
+  pub ended : r.phase ≡ Ended report.outcome
+  pub last : report.last ≡ r.stand.at.point
+  pub found : report.found ≡ r.found
+  pub own : report.own ≡ r.own
+  pub tickets : report.tickets ≡ 0
+  pub posted : report.posted ≡ 0
+  pub back : report.back ≡ 0
+  pub lapsed : report.lapsed ≡ 0
 
 -- Each ticket of a report was posted, given back, or lapsed.
 abbrev pub AreTicketsTold : Report → Type 0

@@ -11,12 +11,14 @@
 //! lemmas of `proofs/RunKept.antt` and `proofs/RunEnds.antt`.
 #![tactic(auto)]
 
+mod drive;
 mod fault;
 mod laws;
 mod report;
 mod rows;
 mod tally;
 
+pub use drive::{Drive, put_rest, put_trace};
 pub use fault::CrewFault;
 pub use laws::work_is_bounded;
 pub use report::Report;
