@@ -22,7 +22,7 @@ use Rattle.unit_tree.specs.Trace.{Stand}
 pub never : false ≡ true → ⊥
 never is = cc
 
-cells_fit_long : (run : Composition) (t h : ℕ) (cells : List Cell) → FitCells run t h cells → length cells ≤ length run.members
+pub cells_fit_long : (run : Composition) (t h : ℕ) (cells : List Cell) → FitCells run t h cells → length cells ≤ length run.members
 cells_fit_long run t h cells fit =
     let long : length cells ≡ length run.members =
     sym (length-map cells is_held_cell) ∙ ap length fit ∙ length-map run.members (λ (member : Member). is_held member.factor t h) in

@@ -16,7 +16,7 @@ use Rattle.spec_core.specs.Events.{HasFirst, HasNoTicket, HasTicket, with_hand, 
 use Rattle.spec_core.specs.Keeping.{Held, IsUnitOf, tickets_of}
 use Rattle.spec_core.specs.Worlds.{FitsInstance, IsWorld, WorldState, images_of}
 use Rattle.list_laws.proofs.Members.{read_at}
-use Rattle.spec_core.proofs.HandLaws.{first_is_out}
+use Rattle.spec_core.proofs.HandLaws.{ticket_is_out}
 use Rattle.unit_exec.specs.Images.{Compiled}
 use Rattle.unit_exec.specs.Running.{Running}
 
@@ -64,7 +64,8 @@ pub unit_image : (lanes : List LaneState) (units : List Running) (k : ℕ) (lane
     → slice_get lanes k ≡ Some lane → unit ≡ get_or units k unit → unit.image ≡ lane.image
 unit_image [] units k lane unit all at is = absurd (cc)
 unit_image (first ∷ lanes) [] k lane unit all at is = absurd all
-unit_image (first ∷ lanes) (one ∷ units) zero lane unit all at is = ap (λ (u : Running). u.image) is ∙ all.0 ∙ ap (λ (l : LaneState). l.image) (same_Some first lane at)
+unit_image (first ∷ lanes) (one ∷ units) zero lane unit all at is = ap (λ (u : Running). u.image) is ∙ all.0 ∙ ap (λ (l : LaneState). l.image)
+    (same_Some first lane at)
 unit_image (first ∷ lanes) (one ∷ units) (suc k) lane unit all at is = unit_image lanes units k lane unit all.1 at is
 
 pub units_long : (lanes : List LaneState) (units : List Running) → AllZip IsUnitOf lanes units → length units ≡ length lanes
@@ -92,21 +93,32 @@ pub record IsFirst (world : WorldState) (worker : ℕ) (ticket : TicketState) (o
 both_true : (a b : Bool) → a ≡ true → b ≡ true → (a && b) ≡ true
 both_true a b one other = cc
 
-pub first_ticket : (world : WorldState) (worker : ℕ) (ticket : TicketState) (others : List TicketState) → IsWorld world → HasFirst world worker ticket others
-    → IsFirst world worker ticket others
-first_ticket world worker ticket others is first =
-    let fits : FitsInstance (images_of world.lanes) ticket = (is.tickets worker (ticket ∷ others) first).0 in
+-- A ticket in a hand is outstanding in the lane of its instance, and fits it.
+pub record IsTicketThere (world : WorldState) (ticket : TicketState) : Type 0 where
+  pub lane : LaneState
+  pub there : slice_get world.lanes ticket.instance ≡ Some lane
+  pub own : is_of lane ticket ≡ true
+  pub fits : FitsImage lane.image ticket
+
+pub ticket_there : (world : WorldState) (worker place : ℕ) (hand : List TicketState) (ticket : TicketState) → IsWorld world
+    → slice_get world.hands worker ≡ Some hand → slice_get hand place ≡ Some ticket → FitsInstance (images_of world.lanes) ticket → IsTicketThere world ticket
+ticket_there world worker place hand ticket is at in_hand fits =
     let found = lane_imaged world.lanes ticket.instance fits.image fits.is_image in
     let lane = is.lanes ticket.instance found.0 found.1 in
     record {
-      first = first;
       lane = found.0;
       there = found.1;
       own = both_true (ticket.instance == found.0.instance) (is_listed ticket.number found.0.journal.outstanding)
           (eq-eqb ticket.instance found.0.instance (sym lane.own))
-          (first_is_out ticket.instance found.0.journal.outstanding world.hands lane.out worker ticket others first refl);
+          (ticket_is_out ticket.instance found.0.journal.outstanding world.hands lane.out worker place hand ticket at in_hand refl);
       fits = subst (λ image. FitsImage image ticket) (sym found.2) fits.fits;
     }
+
+pub first_ticket : (world : WorldState) (worker : ℕ) (ticket : TicketState) (others : List TicketState) → IsWorld world → HasFirst world worker ticket others
+    → IsFirst world worker ticket others
+first_ticket world worker ticket others is first =
+    let found = ticket_there world worker 0 (ticket ∷ others) ticket is first refl (is.tickets worker (ticket ∷ others) first).0 in
+    record { first = first; lane = found.lane; there = found.there; own = found.own; fits = found.fits }
 
 -- A ticket that was taken out of a hand.
 pub record IsTakenOut (world : WorldState) (hands : List Held) (worker : ℕ) (ticket : TicketState) (hand : Held) : Type 0 where
@@ -149,7 +161,8 @@ pub hand_read_at : (hands seen : List Held) (worker : ℕ) (hand : Held) → see
 hand_read_at hands seen worker hand same within is =
     ap (λ all. slice_get (tickets_of all) worker) (sym same) ∙ hand_there seen worker hand (grind (arith, nat_tests)) is
 
-has_by : (world : WorldState) (worker : ℕ) (tickets : List TicketState) → slice_get world.hands worker ≡ Some tickets → length tickets ≢ 0 → HasTicket world worker
+has_by : (world : WorldState) (worker : ℕ) (tickets : List TicketState) → slice_get world.hands worker ≡ Some tickets → length tickets ≢ 0 → HasTicket world
+    worker
 has_by world worker [] at some = absurd (some refl)
 has_by world worker (ticket ∷ others) at some = record { ticket = ticket; others = others; first = at }
 

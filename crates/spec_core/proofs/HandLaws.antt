@@ -1,7 +1,7 @@
 -- Tickets in hands: what is counted of them after a change of one hand, and which are outstanding.
-use Rattle.std.proofs.Common.{◌≡◌, ◌∙◌, ℕ, ◌+◌, ◌≤◌, ◌==◌, Bool, true, false, ◌||◌, if◌then◌else◌, List, [], ◌∷◌, ◌++◌, set, Some, refl, sym, ap, arith}
+use Rattle.std.proofs.Common.{◌≡◌, ◌∙◌, ℕ, ◌+◌, ◌≤◌, ◌==◌, Bool, true, false, ◌||◌, if◌then◌else◌, List, [], ◌∷◌, ◌++◌, set, Some, refl, sym, ap, subst, arith}
 use Rattle.std.proofs.lemmas.Bool.{eqb-true, eq-eqb}
-use Rattle.std.proofs.lemmas.List.Sums.{sum_by-cons, sum_by_push, sum_by-set}
+use Rattle.std.proofs.lemmas.List.Sums.{get_or-le-sum_by, sum_by-cons, sum_by_push, sum_by-set}
 use Rattle.std.proofs.lemmas.Option.{get_or_from_slice_get, slice_get_within}
 use Rattle.std.specs.List.{sum_by}
 use Rattle.std.specs.Prelude.{slice_get}
@@ -68,18 +68,26 @@ other_counts instance count ticket differ = at (ticket.instance == instance) ref
     at true same = absurd (differ (eqb-true ticket.instance instance same))
     at false same = refl
 
+-- What one of a list counts is at most what all of it do.
+weighs_in : {A : Type 0} (f : A → ℕ) (xs : List A) (k : ℕ) (x : A) → slice_get xs k ≡ Some x → f x ≤ sum_by f xs
+weighs_in f xs k x at = subst (λ y. f y ≤ sum_by f xs) (get_or_from_slice_get xs k x x at) (get_or-le-sum_by f xs k x (slice_get_within xs k x at))
+
 module _ (instance : ℕ) (outstanding : List ℕ) (hands : List (List TicketState)) (out : AreInHands instance outstanding hands) where
-  -- The first ticket of a hand is outstanding.
-  pub first_is_out : (worker : ℕ) (ticket : TicketState) (others : List TicketState) → slice_get hands worker ≡ Some (ticket ∷ others)
-      → ticket.instance ≡ instance → is_listed ticket.number outstanding ≡ true
-  first_is_out worker ticket others at same =
+  -- Each ticket in a hand is outstanding.
+  pub ticket_is_out : (worker place : ℕ) (hand : List TicketState) (ticket : TicketState) → slice_get hands worker ≡ Some hand
+      → slice_get hand place ≡ Some ticket → ticket.instance ≡ instance → is_listed ticket.number outstanding ≡ true
+  ticket_is_out worker place hand ticket at there same =
       let f = counted instance (unit_at ticket.number) in
       let all = out (unit_at ticket.number) in
-      let left = hand_set f hands worker (ticket ∷ others) others at in
       let own = own_counts instance (unit_at ticket.number) ticket same in
       let one = unit_itself ticket.number in
-      let first = sum_by-cons f ticket others in
-      is_there ticket.number outstanding (omega (arith, all, left, own, one, first))
+      let in_hand = weighs_in f hand place ticket there in
+      let in_all = weighs_in (λ tickets. sum_by f tickets) hands worker hand at in
+      is_there ticket.number outstanding (omega (arith, all, own, one, in_hand, in_all))
+
+  pub first_is_out : (worker : ℕ) (ticket : TicketState) (others : List TicketState) → slice_get hands worker ≡ Some (ticket ∷ others)
+      → ticket.instance ≡ instance → is_listed ticket.number outstanding ≡ true
+  first_is_out worker ticket others at same = ticket_is_out worker 0 (ticket ∷ others) ticket at refl same
 
   -- A ticket that ends is neither outstanding nor in its hand any more.
   pub end_keeps : (worker : ℕ) (ticket : TicketState) (others : List TicketState) → slice_get hands worker ≡ Some (ticket ∷ others)

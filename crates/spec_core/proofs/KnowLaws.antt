@@ -7,6 +7,7 @@ use Rattle.std.proofs.lemmas.List.Concat.{flat_map-append}
 use Rattle.std.proofs.lemmas.Option.{same_Some, slice_get_within}
 use Rattle.std.specs.List.{Contains, flat_map}
 use Rattle.std.specs.Prelude.{slice_get}
+use Rattle.list_laws.proofs.Members.{set_there}
 use Rattle.fixed_words.specs.declared.types.Fault.{Fault}
 use Rattle.guess_board.specs.Chains.{chain_of, code_of, is_same_key, left_of}
 use Rattle.guess_board.specs.Events.{backed, first_of, published, taken, with_taken}
@@ -22,7 +23,7 @@ use Rattle.spec_core.specs.Worlds.{IsOpenedWorld, WorldState}
 use Rattle.spec_core.specs.declared.event.Event.{Event}
 use Rattle.spec_core.specs.declared.event.Event.TheVariants as event
 use Rattle.spec_core.proofs.AnswerLaws.{common_among, contains_head, left_among, none_there, old_or_new, posted_goes_on}
-use Rattle.spec_core.proofs.WorldLaws.{at_set, set_there}
+use Rattle.spec_core.proofs.WorldLaws.{at_set}
 use Rattle.trace_core.specs.Runs.{Cell, Empty, Filled, RunState, Stands, cells_of, phase_at, with_found, with_own}
 use Rattle.trace_core.specs.Settling.{Moves, Settled, with_redo}
 use Rattle.trace_core.specs.declared.phase.Phase.{Phase}

@@ -1,10 +1,9 @@
 -- What is made once for a world, part by part.
-use Rattle.std.proofs.Common.{◌≡◌, ◌∙◌, ℕ, zero, suc, ◌+◌, List, [], ◌∷◌, ◌++◌, length, length-append, Some, refl, sym, ap, subst}
-use Rattle.std.proofs.lemmas.Option.{same_Some}
+use Rattle.std.proofs.Common.{◌≡◌, ◌∙◌, ℕ, ◌+◌, List, [], ◌∷◌, ◌++◌, length, length-append, Some, refl, sym, ap, subst}
 use Rattle.std.proofs.lemmas.List.{map-append, replicate-append-replicate}
 use Rattle.std.specs.List.{AllZip}
 use Rattle.std.specs.Prelude.{replicate, slice_get, take}
-use Rattle.list_laws.proofs.Members.{take_next}
+use Rattle.list_laws.proofs.Members.{at_push, take_next}
 use Rattle.list_laws.proofs.Pairs.{zip_append}
 use Rattle.guess_board.specs.Events.{opened}
 use Rattle.guess_board.specs.Lanes.{IsLane, LaneState}
@@ -14,13 +13,6 @@ use Rattle.trace_plan.specs.Plans.{ForMember}
 use Rattle.unit_exec.specs.Images.{Compiled, IsImageOf}
 use Rattle.unit_exec.specs.Running.{Running}
 use Rattle.unit_tree.specs.Compositions.{Composition}
-
-at_push : {A : Type 0} (P : ℕ → A → Type 0) (xs : List A) (x : A) → ((i : ℕ) (y : A) → slice_get xs i ≡ Some y → P i y) → P (length xs) x
-    → (i : ℕ) (y : A) → slice_get (xs ++ x ∷ []) i ≡ Some y → P i y
-at_push P [] x each own zero y is = subst (P 0) (same_Some x y is) own
-at_push P [] x each own (suc i) y is = absurd (cc)
-at_push P (z ∷ xs) x each own zero y is = each 0 y is
-at_push P (z ∷ xs) x each own (suc i) y is = at_push (λ k. P (suc k)) xs x (λ k. each (suc k)) own i y is
 
 -- The lanes of the first instances are opened.
 pub record AreFirstLanes (run : Composition) (count : ℕ) (lanes : List LaneState) : Type 0 where

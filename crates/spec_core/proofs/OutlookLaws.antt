@@ -52,7 +52,7 @@ step_most run stand (Redo h) cells members words is =
     omega (arith, less, most, same)
 step_most run stand (Ended ending) cells members words is = omega arith
 
-known_by : (run : Composition) (stand : Stand) (phase : Phase) (cells : List Cell) → is_ended phase ≡ false → IsPhase run stand phase cells
+pub known_by : (run : Composition) (stand : Stand) (phase : Phase) (cells : List Cell) → is_ended phase ≡ false → IsPhase run stand phase cells
     → ArePortsKnown run stand
 known_by run stand (Trial h) cells going is = is.going.ports_known
 known_by run stand (Redo h) cells going is = is.going.ports_known

@@ -1,5 +1,5 @@
 -- A ticket is taken into a hand, or goes from one to another.
-use Rattle.std.proofs.Common.{◌≡◌, ◌≢◌, ◌∙◌, ◌<◌, ℕ, zero, suc, get_or, length, remove, Bool, true, false, List, [], ◌∷◌, ◌++◌}
+use Rattle.std.proofs.Common.{◌≡◌, ◌≢◌, ◌∙◌, ◌<◌, ℕ, get_or, length, remove, Bool, true, false, List, [], ◌∷◌, ◌++◌}
 use Rattle.std.proofs.Common.{set, Option, Some, None, Result, Ok, Err, refl, sym, ap, subst, inl, inr}
 use Rattle.std.proofs.lemmas.Option.{same_Some}
 use Rattle.std.specs.Option.{option_map}
@@ -8,7 +8,7 @@ use Rattle.guess_board.specs.Chains.{Need}
 use Rattle.guess_board.specs.Events.{is_full, taken, ticket_for, ticket_of, with_taken}
 use Rattle.guess_board.specs.Lanes.{FitsImage, IsLane, LaneState, TicketState, lane_need}
 use Rattle.guess_board.proofs.TicketLaws.{ticket_fits}
-use Rattle.list_laws.proofs.Members.{set_same}
+use Rattle.list_laws.proofs.Members.{set_elsewhere, set_same}
 use Rattle.spec_core.specs.Events.{Happens, with_hand, with_lane}
 use Rattle.spec_core.specs.Keeping.{Held, MovesFirst, TakesInto, reply_of_take, tickets_of}
 use Rattle.spec_core.specs.Worlds.{IsWorld, WorldState}
@@ -23,7 +23,7 @@ of_lane lane true need ticket is = absurd (cc)
 of_lane lane false None ticket is = absurd (cc)
 of_lane lane false (Some need) ticket is = ap (λ (t : TicketState). t.instance) (sym (same_Some (ticket_for lane need) ticket is))
 
-ticket_own : (lane : LaneState) (ticket : TicketState) → ticket_of lane ≡ Some ticket → ticket.instance ≡ lane.instance
+pub ticket_own : (lane : LaneState) (ticket : TicketState) → ticket_of lane ≡ Some ticket → ticket.instance ≡ lane.instance
 ticket_own lane ticket is = of_lane lane (is_full lane || is_some lane.journal.current) (lane_need lane) ticket is
 
 fits_lane : (lane : LaneState) (ticket : TicketState) → IsLane lane → ticket_of lane ≡ Some ticket → FitsImage lane.image ticket
@@ -93,17 +93,6 @@ module _ (world : WorldState) (is : IsWorld world) (hands : List Held) (held : w
 
 -- ---- A ticket goes from hand to hand
 
-pub on_err : {T E P : Type 0} (r : Result T E) → P → OnErr r P
-on_err (Ok x) p = tt
-on_err (Err e) p = p
-
-elsewhere : {A : Type 0} (xs : List A) (k j : ℕ) (y : A) → (j ≡ k → ⊥) → slice_get (set xs k y) j ≡ slice_get xs j
-elsewhere [] k j y differ = refl
-elsewhere (x ∷ xs) zero zero y differ = absurd (differ refl)
-elsewhere (x ∷ xs) zero (suc j) y differ = refl
-elsewhere (x ∷ xs) (suc k) zero y differ = refl
-elsewhere (x ∷ xs) (suc k) (suc j) y differ = elsewhere xs k j y (λ is. differ (ap suc is))
-
 module _ (hands : List Held) (to from : ℕ) (apart : to ≢ from) (within : to < length hands) (ticket : TicketState) (others : List TicketState)
     (first : slice_get (tickets_of hands) from ≡ Some (ticket ∷ others)) (hand roomy : Held) (hand_is : hand ≡ get_or hands to hand)
     (same : roomy.items ≡ hand.items) where
@@ -134,7 +123,7 @@ module _ (hands : List Held) (to from : ℕ) (apart : to ≢ from) (within : to 
     own_is : (own : Held) → own ≡ get_or (set (set hands to roomy) from left) to own → own.items ≡ hand.items
     own_is own is =
         hand_read (set (set hands to roomy) from left) to own hand.items
-        (ap (λ all. slice_get all to) after_left ∙ elsewhere (tickets_of hands) from to others apart ∙ at_to) is
+        (ap (λ all. slice_get all to) after_left ∙ set_elsewhere (tickets_of hands) from to others apart ∙ at_to) is
 
     pub moves_first : (own put : Held) → own ≡ get_or (set (set hands to roomy) from left) to own → put.items ≡ own.items ++ taken ∷ []
         → MovesFirst (tickets_of hands) to from (tickets_of (set (set (set hands to roomy) from left) to put))
@@ -154,4 +143,4 @@ pub steal_keeps_world : (world : WorldState) (worker from : ℕ) (new : List (Li
 steal_keeps_world world worker from new is apart moves =
     subst (λ hands. IsWorld (record world { hands = hands })) (sym moves.is)
     (keeps_steal world is worker from moves.hand moves.others moves.ticket moves.first
-    (elsewhere world.hands from worker moves.others apart ∙ moves.is_hand))
+    (set_elsewhere world.hands from worker moves.others apart ∙ moves.is_hand))

@@ -1,7 +1,6 @@
 -- What every world keeps, after each change of its parts.
-use Rattle.std.proofs.Common.{◌≡◌, ◌∙◌, ℕ, zero, suc, ◌<◌, List, [], ◌∷◌, ◌++◌, set, map, length, Some, refl, sym, ap, subst, arith, length-set}
-use Rattle.std.proofs.lemmas.List.{get_or-set_same}
-use Rattle.std.proofs.lemmas.Option.{same_Some, slice_get-get_or, slice_get-map}
+use Rattle.std.proofs.Common.{◌≡◌, ◌∙◌, ℕ, zero, suc, List, [], ◌∷◌, ◌++◌, set, map, length, Some, refl, sym, ap, subst, arith, length-set}
+use Rattle.std.proofs.lemmas.Option.{same_Some, slice_get-map}
 use Rattle.std.specs.List.{AllByRecursion}
 use Rattle.std.specs.Option.{option_map}
 use Rattle.std.specs.Prelude.{slice_get}
@@ -27,10 +26,6 @@ at_set P (y ∷ ys) zero new others own (suc j) x is = others (suc j) x (λ e. o
 at_set P (y ∷ ys) (suc k) new others own zero x is = others zero x (λ e. omega (arith, e)) is
 at_set P (y ∷ ys) (suc k) new others own (suc j) x is =
     at_set (λ i. P (suc i)) ys k new (λ i z differ at. others (suc i) z (λ e. differ (omega (arith, e))) at) own j x is
-
-pub set_there : {A : Type 0} (xs : List A) (k : ℕ) (new : A) → k < length xs → slice_get (set xs k new) k ≡ Some new
-set_there xs k new within =
-    slice_get-get_or (set xs k new) k new (subst (λ n. k < n) (sym (length-set xs k new)) within) ∙ ap Some (get_or-set_same xs k new new within)
 
 map_kept : {A B : Type 0} (f : A → B) (xs : List A) (k : ℕ) (old new : A) → slice_get xs k ≡ Some old → f new ≡ f old → map f (set xs k new) ≡ map f xs
 map_kept f [] k old new at same = absurd (cc)

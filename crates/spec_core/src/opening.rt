@@ -1,5 +1,5 @@
 //! What is made once for a world.
-ghost use Rattle.std.specs.Prelude.{◌≡◌, ◌≤◌, [], replicate, map, IfOk};
+ghost use Rattle.std.specs.Prelude.{◌≡◌, [], replicate, map, IfOk};
 ghost use Rattle.std.specs.List.{AllZip};
 ghost use Rattle.spec_core.specs.Keeping.{AreLanes, IsUnitOf};
 ghost use Rattle.spec_core.specs.Worlds.{AreLanesOpened, cut_window};
@@ -15,7 +15,7 @@ use unit_exec::Unit;
 const MOST_CELLS: u64 = 4_000_000;
 
 /// The window that a run uses of the one that is asked for.
-pub(crate) fn cut_window(plan: &Plan, window: u32) -> u32
+pub fn cut_window(plan: &Plan, window: u32) -> u32
     ensures { result ≡ cut_window plan.now.run window }
 {
     let cells = plan.row_limit() * u64::from(plan.instances());

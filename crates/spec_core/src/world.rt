@@ -1,19 +1,18 @@
-ghost use Rattle.std.specs.Prelude.{◌≡◌, ◌≤◌, ◌<◌, ◌++◌, ◌∷◌, [], length, true, false, slice_get, Some, IfErr, IfOk, OnErr, OnOk, IsTrue, ◌≢◌, ◌↔◌, vec_len};
+ghost use Rattle.std.specs.Prelude.{◌≡◌, ◌≤◌, ◌<◌, ◌++◌, ◌∷◌, [], length, true, false, slice_get, Some, IfOk, OnErr, OnOk, IsTrue, ◌≢◌, ◌↔◌, vec_len};
 ghost use Rattle.std.specs.Vec.{vec_capacity};
 ghost use Rattle.spec_core.specs.Events.{Happens, HasNoTicket, HasTicket};
-ghost use Rattle.guess_board.specs.Events.{is_full, published};
-ghost use Rattle.guess_board.specs.Guesses.{IsOutlook, guessed_line, seen_of};
-ghost use Rattle.guess_board.specs.declared.fault.LaneFault.TheVariants as fault;
 ghost use Rattle.spec_core.specs.Keeping.{CanPost, HasFirstIn, MovesFirst, IsReplyToPublish, PostsFrom, TakesInto, reply_of_post, reply_of_take, tickets_of};
+ghost use Rattle.spec_core.specs.Draining.{IsHandDrained};
+ghost use Rattle.spec_core.specs.Tickets.{IsDrained};
 ghost use Rattle.spec_core.specs.Worlds.{IsOpenedWorld, IsWorld};
 ghost use Rattle.spec_core.specs.declared.event.Event.TheVariants as event;
 ghost use Rattle.trace_core.specs.Runs.{AreCellsFull, is_ended};
 
 use crate::event::{Event, Reply};
 use crate::opening::{cut_window, hands_of, lanes_of, units_of};
-use crate::outlooks::outlook;
+use crate::outlooks::{outlook, publish_from};
 use fixed_words::NoMemory;
-use guess_board::{Lane, LaneFault, Outlook, Policy, Ticket, guess_line, work_off};
+use guess_board::{Lane, LaneFault, Policy, Ticket, work_off};
 use std::alloc::{AllocError, Global};
 use std::marker::Model;
 use std::sync::Arc;
@@ -58,7 +57,7 @@ fn has_ended(run: &Run) -> bool
 }
 
 /// Whether all steps of the phase are there.
-fn is_full(run: &Run, instances: u32) -> bool
+fn are_steps_there(run: &Run, instances: u32) -> bool
     requires { length run.now.cells ≤ instances }
     ensures { IsTrue result ↔ AreCellsFull run.now.cells }
 {
@@ -101,29 +100,6 @@ fn taken_or_refused(taken: Result<bool, NoMemory>) -> Result<Reply, NoMemory>
         Ok(false) => Ok(Reply::Refused),
         Err(fault) => Err(fault),
     }
-}
-
-/// Publishes a lane with a state, and with the line that is guessed from what is seen.
-fn publish_from(
-    alloc: Global,
-    policy: Policy,
-    window: u32,
-    seen: Outlook<'_>,
-    state: &[i64],
-    lane: &mut Lane,
-) -> Result<u32, LaneFault>
-    requires window { window ≤ 16 }
-    requires outlook { IsOutlook (seen_of seen) }
-    requires each_state { length state.now ≡ lane.old.image.program.sizes.states }
-    requires each_input { length seen.last.now ≡ lane.old.image.program.sizes.inputs }
-    ensures published { OnOk result (lane.new ≡ published lane.old seen.entry.row state.now (guessed_line policy (seen_of seen.entry) window)) }
-    ensures kept { IfOk result (λ kept. kept ≡ length lane.new.answers) }
-    ensures room { OnOk result (is_full lane.old ≡ false) }
-    ensures full { IfErr result (λ why. why ≡ fault.Full → is_full lane.old ≡ true) }
-    ensures refused { OnErr result (lane.new ≡ lane.old) }
-{
-    let line = guess_line(alloc, policy, window, seen)?;
-    lane.publish(alloc, seen.row, state, line)
 }
 
 /// The reply to a publish: a lane that is full is refused.
@@ -326,14 +302,13 @@ impl World {
     }
 
     /// Has a worker give the first of its tickets back.
-    fn give_back(&mut self, worker: u32) -> Reply
+    fn give_back(&mut self, worker: usize) -> Reply
         ensures { Happens self.old (event.Back worker) result self.new }
     {
-        let at = worker as usize;
-        if !self.has_ticket(at) {
+        if !self.has_ticket(worker) {
             return Reply::Refused;
         }
-        let ticket = self.hands[at].remove(0);
+        let ticket = self.hands[worker].remove(0);
         let place = ticket.instance() as usize;
         match self.lanes[place].back(ticket) {
             Ok(()) => {
@@ -382,7 +357,7 @@ impl World {
         if has_ended(&self.run) {
             return Reply::Refused;
         }
-        if !is_full(&self.run, self.plan.instances()) {
+        if !are_steps_there(&self.run, self.plan.instances()) {
             return Reply::Refused;
         }
         Reply::Settled(self.run.settle())
@@ -402,10 +377,35 @@ impl World {
             Event::Take { worker, instance } => self.take(alloc, worker, instance),
             Event::Steal { worker, from } => self.steal(worker, from),
             Event::Post { worker, cells } => self.post(alloc, worker, cells),
-            Event::Back { worker } => Ok(self.give_back(worker)),
+            Event::Back { worker } => Ok(self.give_back(worker as usize)),
             Event::Find { instance } => Ok(self.find(instance)),
             Event::Compute { instance } => Ok(self.compute(instance)),
             Event::Settle => Ok(self.settle()),
         }
+    }
+
+    /// Has a worker give all its tickets back, and tells how many these were.
+    fn drain_hand(&mut self, worker: usize) -> u64
+        requires { worker < length self.old.hands }
+        ensures { IsHandDrained self.old worker self.new result }
+    {
+        let tickets = self.hands[worker].len();
+        for _ in 0..tickets {
+            self.give_back(worker);
+        }
+        tickets as u64
+    }
+
+    /// Has all workers give all their tickets back, hand by hand from the first, and tells how many these were. The run and all
+    /// answers stay.
+    pub fn drain(&mut self) -> u64
+        ensures { IsDrained self.old self.new result }
+    {
+        let mut count = 0;
+        for worker in 0..self.hands.len() {
+            count += self.drain_hand(worker);
+        }
+        self.facts();
+        count
     }
 }

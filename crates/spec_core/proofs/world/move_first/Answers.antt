@@ -1,5 +1,6 @@
 use Rattle.std.proofs.Common.{◌<◌, ap, sym, subst, length, arith}
-use Rattle.spec_core.proofs.TakeLaws.{from_within, moves_first, on_err, other_is, room_kept}
+use Rattle.list_laws.proofs.Options.{on_err}
+use Rattle.spec_core.proofs.TakeLaws.{from_within, moves_first, other_is, room_kept}
 use Rattle.spec_core.proofs.world.move_first.Goals as goal
 
 pub returns-in_err-reserve-clause-kept : goal.returns-in_err-reserve-clause-kept

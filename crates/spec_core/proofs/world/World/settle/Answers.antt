@@ -9,8 +9,8 @@ use Rattle.spec_core.proofs.WorldLaws.{keeps_run}
 use Rattle.trace_plan.specs.Plans.{Planned}
 use Rattle.spec_core.proofs.world.World.settle.Goals as goal
 
-pub is_full-requires : goal.is_full-requires
-is_full-requires c =
+pub are_steps_there-requires : goal.are_steps_there-requires
+are_steps_there-requires c =
     let few = few_cells c.self.inside.run c.self.invariant.is_world.stands in
     let planned = ap (λ (p : Planned). length p.run.members) (c.self.invariant.tied) in
     let count = c.instances.ensures.count in
@@ -32,7 +32,7 @@ returns c =
     (inl (record {
       to = c.settle.result;
       going = sym c.if-has_ended.ensures;
-      full = c.if-not-is_full.ensures.0 refl;
+      full = c.if-not-are_steps_there.ensures.0 refl;
       settled = c.settle.ensures.settled;
       is = refl;
       replied = refl;

@@ -1,0 +1,181 @@
+-- The replay of a seed: rounds of events, of which those of the workers are drawn, until the run has ended; and what came of them.
+use Rattle.std.specs.Prelude.{◌≡◌, ℕ, zero, suc, ◌*◌, ◌/◌, ◌%◌, ◌==◌, nat_lt, Bool, true, false, List, [], ◌∷◌, ◌++◌, length, map}
+use Rattle.std.specs.Prelude.{if◌then◌else◌, Option}
+use Rattle.std.specs.Io.KnownBytes.{Appends}
+use Rattle.std.specs.List.{count_by, flat_map, range_with_len, sum_by}
+use Rattle.draw_numbers.specs.Draws.{draw}
+use Rattle.guess_board.specs.declared.guesses.Policy.TheVariants.{Hold}
+use Rattle.spec_core.specs.Interleavings.{Done, Leads}
+use Rattle.spec_core.specs.Worlds.{IsOpenedWorld, IsWorld, WorldState, tickets_in}
+use Rattle.spec_core.specs.declared.counts.Counts.{Counts}
+use Rattle.spec_core.specs.declared.event.Event.{Event}
+use Rattle.spec_core.specs.declared.event.Event.TheVariants as event
+use Rattle.spec_core.specs.declared.event.Reply.{Reply}
+use Rattle.spec_core.specs.declared.event.Reply.TheVariants as reply
+use Rattle.super_time.specs.declared.point.Point.{Point}
+use Rattle.trace_core.specs.Runs.{IsWanted, RunState, is_ended}
+use Rattle.trace_core.specs.declared.phase.Phase.TheVariants.{Ended}
+use Rattle.trace_csv.specs.TraceText.{trace_text}
+use Rattle.trace_plan.specs.Plans.{HaveImages, IsBounded, Planned}
+use Rattle.unit_tree.specs.Compositions.{AreMembers, run_of}
+use Rattle.unit_tree.specs.Ports.{IsPlaceOrder}
+use Rattle.unit_tree.specs.Trace.{IsTraceOf, Row}
+use Rattle.unit_tree.specs.declared.ending.Ending.{Ending}
+use Rattle.unit_tree.specs.declared.system.System.{System}
+
+-- ---- Drawn events
+
+-- What a worker does by a kind from 0 to 7, and a number that chooses the instance or the worker from which it steals.
+abbrev pub event_of_kind : ℕ → ℕ → ℕ → ℕ → ℕ → Event
+event_of_kind workers instances worker kind choice =
+    if nat_lt kind 3 then event.Take worker (choice % instances)
+    else (if nat_lt kind 6 then event.Post worker 16
+    else (if kind == 6 then event.Steal worker (choice % workers)
+    else event.Back worker))
+
+-- The event of a draw: what it leaves of the number of workers tells the worker, and what the rest leaves of 8 the kind.
+abbrev pub worker_event : ℕ → ℕ → ℕ → Event
+worker_event x workers instances = event_of_kind workers instances (x % workers) (x / workers % 8) (x / workers / 8)
+
+-- Two events for each worker, by the draws of a seed from a place on.
+abbrev pub drawn_events : ℕ → ℕ → ℕ → ℕ → List Event
+drawn_events seed place workers instances = map (λ at. worker_event (draw seed at) workers instances) (range_with_len place (2 * workers))
+
+-- ---- A round
+
+abbrev pub events_of : List Done → List Event
+events_of past = map (λ one. one.event) past
+
+-- What is done for an instance: where its step is wanted it is looked for, and made where nothing is found; else nothing is done.
+abbrev pub IsServed : RunState → ℕ → List Done → Type 0
+IsServed run instance [] = IsWanted run instance → ⊥
+IsServed run instance (find ∷ []) = IsWanted run instance × (find.event ≡ event.Find instance) × (find.reply ≡ reply.Found)
+IsServed run instance (find ∷ compute ∷ []) =
+    IsWanted run instance × (find.event ≡ event.Find instance) × (find.reply ≡ reply.Missed) × (compute.event ≡ event.Compute instance)
+IsServed run instance (find ∷ compute ∷ other ∷ others) = ⊥
+
+-- What is done for so many instances from a number on, one after the other.
+abbrev pub AreServed : WorldState → ℕ → ℕ → List Done → WorldState → Type 0
+AreServed from instance zero past to = (past ≡ []) × (from ≡ to)
+AreServed from instance (suc count) past to =
+    (first : List Done) × (middle : WorldState) × (others : List Done) × (past ≡ first ++ others)
+    × IsServed from.run instance first × Leads from first middle × AreServed middle (suc instance) count others to
+
+-- A round: all lanes are published, the workers do what is drawn, all steps that are wanted are looked for or made, and the run
+-- settles. Rounds are counted from 0.
+pub record IsRound (seed workers number : ℕ) (from : WorldState) (past : List Done) (to : WorldState) : Type 0 where
+  pub published : List Done
+  pub lined : WorldState
+  pub publishes : events_of published ≡ map event.Publish (range_with_len 0 (length from.lanes))
+  pub leads_lined : Leads from published lined
+  pub drawn : List Done
+  pub worked : WorldState
+  pub draws : events_of drawn ≡ drawn_events seed (2 * workers * number) workers (length from.lanes)
+  pub leads_worked : Leads lined drawn worked
+  pub served : List Done
+  pub filled : WorldState
+  pub serves : AreServed worked 0 (length from.lanes) served filled
+  pub settle : Done
+  pub settles : settle.event ≡ event.Settle
+  pub leads_settled : Leads filled (settle ∷ []) to
+  pub is : past ≡ published ++ (drawn ++ (served ++ settle ∷ []))
+
+-- ---- All rounds
+
+-- From the round of a number on they follow each other, until the run has ended.
+abbrev pub AreRounds : ℕ → ℕ → ℕ → WorldState → List (List Done) → WorldState → Type 0
+AreRounds seed workers number from [] to = (is_ended from.run.phase ≡ true) × (from ≡ to)
+AreRounds seed workers number from (round ∷ rounds) to =
+    (is_ended from.run.phase ≡ false) × (middle : WorldState) × IsRound seed workers number from round middle
+    × AreRounds seed workers (suc number) middle rounds to
+
+-- Whatever is done in the replay of a seed, from the opened world, whose lines are guessed for 4 rows by words that stay.
+pub record IsReplay (plan : Planned) (seed workers : ℕ) (past : List Done) (to : WorldState) : Type 0 where
+  pub opened : WorldState
+  pub is_opened : IsOpenedWorld plan workers 4 Hold opened
+  pub is_world : IsWorld opened
+  pub rounds : List (List Done)
+  pub follow : AreRounds seed workers 0 opened rounds to
+  pub is : past ≡ flat_map (λ round. round) rounds
+
+-- ---- What came of it
+
+abbrev pub is_refused : Reply → Bool
+is_refused reply.Refused = true
+is_refused _ = false
+
+abbrev pub is_found : Reply → Bool
+is_found reply.Found = true
+is_found _ = false
+
+abbrev pub is_own : Reply → Bool
+is_own reply.Computed = true
+is_own _ = false
+
+abbrev pub is_taken : Reply → Bool
+is_taken reply.Taken = true
+is_taken _ = false
+
+abbrev pub is_posted : Reply → Bool
+is_posted (reply.Posted appended) = true
+is_posted _ = false
+
+abbrev pub is_back : Reply → Bool
+is_back reply.Back = true
+is_back _ = false
+
+abbrev pub appended_by : Reply → ℕ
+appended_by (reply.Posted appended) = appended
+appended_by _ = 0
+
+abbrev pub replies_of : List Done → List Reply
+replies_of past = map (λ one. one.reply) past
+
+-- The counts are numbers of the replies, how many tickets are left in the hands, and how and where the run ended.
+pub record AreCounts (past : List Done) (to : WorldState) (counts : Counts) : Type 0 where
+  pub outcome : to.run.phase ≡ Ended counts.outcome
+  pub last : counts.last ≡ to.run.stand.at.point
+  pub events : counts.events ≡ length past
+  pub refused : counts.refused ≡ count_by is_refused (replies_of past)
+  pub found : counts.found ≡ count_by is_found (replies_of past)
+  pub own : counts.own ≡ count_by is_own (replies_of past)
+  pub tickets : counts.tickets ≡ count_by is_taken (replies_of past)
+  pub posted : counts.posted ≡ count_by is_posted (replies_of past)
+  pub back : counts.back ≡ count_by is_back (replies_of past)
+  pub lapsed : counts.lapsed ≡ tickets_in to.hands
+  pub appended : counts.appended ≡ sum_by appended_by (replies_of past)
+
+-- The counts are those of the replay of a seed.
+pub record IsReplayed (plan : Planned) (seed workers : ℕ) (counts : Counts) : Type 0 where
+  pub past : List Done
+  pub to : WorldState
+  pub replay : IsReplay plan seed workers past to
+  pub counted : AreCounts past to counts
+
+-- ---- What a replay puts
+
+-- The text of the system's trace was put, which ended so.
+pub record PutsTrace (system : System) (last : Point) (outcome : Ending) (old new : Option (List ℕ)) : Type 0 where
+  pub rows : List Row
+  pub trace : IsTraceOf system rows last outcome
+  pub out : Appends old new (trace_text system rows)
+
+-- ---- What holds of replays
+
+-- A system whose run has an order, its members and images, and is bounded, is replayed by every seed, with any number of workers that
+-- there may be, and in one way: there are no two counts of it.
+pub record CanReplay (plan : Planned) : Type 0 where
+  pub composed : plan.run ≡ run_of plan.system
+  pub order : List ℕ
+  pub ordered : IsPlaceOrder plan.run order
+  pub bounded : IsBounded plan.run
+  pub members : AreMembers plan.run
+  pub images : HaveImages plan.run
+
+abbrev pub EverySeedIsReplayed : Type 0
+EverySeedIsReplayed = (plan : Planned) (seed workers : ℕ) → CanReplay plan → (counts : Counts) × IsReplayed plan seed workers counts
+
+abbrev pub ReplaysAreCountedOnce : Type 0
+ReplaysAreCountedOnce =
+    (plan : Planned) (seed workers : ℕ) (one other : Counts) → CanReplay plan → IsReplayed plan seed workers one → IsReplayed plan seed workers other
+    → one ≡ other
