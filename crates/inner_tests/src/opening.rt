@@ -8,13 +8,13 @@ use unit_check::check;
 use unit_text::read_system;
 
 /// The plan of the system of a text, which breaks no rule but perhaps that of cycles.
-pub(crate) fn perhaps_plan(alloc: Global, text: &str) -> Result<Result<Plan, PlanFault>, Fail> {
+pub fn perhaps_plan(alloc: Global, text: &str) -> Result<Result<Plan, PlanFault>, Fail> {
     let read = read_system(alloc, text.as_bytes())?;
     let checked = check(alloc, read.system)?;
     Ok(Plan::new(alloc, checked))
 }
 
 /// The plan of the system of a text that breaks no rule.
-pub(crate) fn plan_of(alloc: Global, text: &str) -> Result<Arc<Plan>, Fail> {
+pub fn plan_of(alloc: Global, text: &str) -> Result<Arc<Plan>, Fail> {
     Ok(Arc::new(alloc, perhaps_plan(alloc, text)??)?)
 }

@@ -41,9 +41,9 @@ const fn at(
 }
 
 /// The lines of a run from where it was opened.
-fn lines_of(alloc: Global, plan: &Plan, run: &mut Run) -> Result<MemSink, Fail>
-    requires opened { IsOpened plan.now run.old.opened run.old }
-    requires stands { Stands run.old }
+fn lines_of(alloc: Global, plan: &Plan, run: Run) -> Result<MemSink, Fail>
+    requires opened { IsOpened plan.now run.opened run }
+    requires stands { Stands run }
 {
     let mut sink = MemSink::new(alloc, ROOM, Vec::new(alloc))?;
     put_rest(alloc, plan, run, &mut sink)?;
@@ -53,11 +53,11 @@ fn lines_of(alloc: Global, plan: &Plan, run: &mut Run) -> Result<MemSink, Fail>
 /// The lines from a position; none where it doesn't fit.
 fn lines_from(alloc: Global, plan: &Arc<Plan>, case: &Case) -> Result<Option<MemSink>, Fail> {
     let shared = Arc::clone(plan)?;
-    let mut run = match Run::open_at(alloc, shared, case.row, case.point, case.states) {
+    let run = match Run::open_at(alloc, shared, case.row, case.point, case.states) {
         Err(OpenFault::Misfit) => return Ok(None),
         opened => opened?,
     };
-    Ok(Some(lines_of(alloc, plan, &mut run)?))
+    Ok(Some(lines_of(alloc, plan, run)?))
 }
 
 /// At the first position all lines come but the header. A position need not be on the trace: 7 and 40 are not. At the stop, and at

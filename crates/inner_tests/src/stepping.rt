@@ -9,7 +9,7 @@ use trace_core::{Phase, Run, Settle};
 const MOST_INSTANCES: u32 = 64;
 
 /// Makes the step of an instance, where it is wanted.
-pub(crate) fn step(run: &mut Run, instance: u32) {
+pub fn step(run: &mut Run, instance: u32) {
     if run.wants(instance).is_some() {
         run.compute(instance);
     }
@@ -44,7 +44,7 @@ fn can_settle(run: &Run) -> bool
 }
 
 /// Makes all steps that are wanted, and settles the phase.
-pub(crate) fn settle(run: &mut Run, last_first: bool) -> Result<Settle, Fail> {
+pub fn settle(run: &mut Run, last_first: bool) -> Result<Settle, Fail> {
     step_all(run, last_first);
     if !can_settle(run) {
         Err("the run ended, or wants a step")?;

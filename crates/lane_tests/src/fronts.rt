@@ -1,0 +1,76 @@
+//! Fronts of lanes that are written out: whether a lane takes them is asked here, as its contract asks it.
+ghost use Rattle.std.specs.Prelude.{◌≡◌, ◌≤◌, ◌+◌, ◌^◌, length, true};
+ghost use Rattle.std.specs.List.{AllByRecursion};
+ghost use Rattle.guess_board.specs.Cells.{FitsCell, FitsLine, RisesFrom};
+
+use fixed_words::List;
+use guess_board::{Cell, Lane};
+use std::alloc::Global;
+use std::test::Fail;
+use unit_exec::Image;
+
+/// Times and steps here are at most this.
+const LATEST: u64 = 1000;
+
+/// Whether the rows of cells rise from a row on.
+fn rises(row: u64, line: &[Cell]) -> bool
+    ensures { result ≡ true → RisesFrom row line.now }
+{
+    match line {
+        [cell, cells @ ..] => row <= cell.row && cell.row < LATEST && rises(cell.row + 1, cells),
+        [] => true,
+    }
+}
+
+/// Whether each cell has so many inputs, and ends in time.
+fn each_fits(inputs: u32, line: &[Cell]) -> bool
+    ensures { result ≡ true → AllByRecursion (FitsCell inputs) line.now }
+{
+    match line {
+        [cell, cells @ ..] => {
+            cell.inputs.len() == inputs as usize
+                && cell.time <= LATEST
+                && cell.step <= LATEST
+                && each_fits(inputs, cells)
+        }
+        [] => true,
+    }
+}
+
+/// Whether a front fits an image.
+fn fits(image: &Image, row: u64, state: &[i64], line: &[Cell]) -> bool
+    ensures { result ≡ true → FitsLine image.now row state.now line.now }
+{
+    line.len() <= 16
+        && state.len() == image.states() as usize
+        && rises(row, line)
+        && each_fits(image.inputs(), line)
+}
+
+/// Publishes a lane with a front that fits it.
+pub(crate) fn publish(
+    alloc: Global,
+    lane: &mut Lane,
+    row: u64,
+    state: &[i64],
+    line: Vec<Cell>,
+) -> Result<u32, Fail> {
+    if !fits(lane.image(), row, state, &line) {
+        Err("the front does not fit the lane")?;
+    }
+    Ok(lane.publish(alloc, row, state, line)?)
+}
+
+/// Cells of rows, each with its own number as the time, a step of 1 and one input.
+pub(crate) fn line(alloc: Global, rows: &[u64], input: i64) -> Result<Vec<Cell>, Fail> {
+    let mut cells = Vec::new(alloc);
+    for row in rows {
+        cells.push(Cell {
+            row: *row,
+            time: *row,
+            step: 1,
+            inputs: List::from_slice(alloc, &[input])?,
+        })?;
+    }
+    Ok(cells)
+}
