@@ -1,6 +1,8 @@
 -- What each command's answers keep: there is one for each text, and there are no two.
 use Rattle.std.proofs.Common.{◌≡◌, ℕ, ◌<◌, ◌≤◌, ◌⊎◌, List, length, Option, Some, None, refl, sym, ap, subst, ◌∙◌, inl, inr, arith}
+use Rattle.std.specs.Prelude.{IfSome}
 use Rattle.std.proofs.lemmas.Option.{same_Some}
+use Rattle.spec_core.proofs.ReplayLaws.{counted_once_lem}
 use Rattle.text_accept.specs.Accepting.{IsAcceptedAs, IsRefusedAt}
 use Rattle.text_accept.proofs.Acceptance.{judged_once}
 use Rattle.text_tokens.proofs.LineLemmas.{length_le_size_of}
@@ -12,12 +14,17 @@ use Rattle.cosim_call.specs.Answers.{Answer, IsEndOfWork, piece_answer, refused_
 use Rattle.cosim_call.proofs.ComingLaws.{IsAnswered}
 use Rattle.cosim_call.specs.declared.status.Status.{Status}
 use Rattle.cosim_call.specs.declared.status.Status.TheVariants as status
-use Rattle.cosim_app.specs.Answer.{Answers, AnswersOf, AnswersRefusal, OnAccepted, RefusedBy, ServedBy, TellsTrace, accepted_text, printed_text, run_answer}
-use Rattle.cosim_app.specs.Commands.{UsageClause, command_of, input_of}
+use Rattle.cosim_app.specs.Answer.{Answers, AnswersBench, AnswersGen, AnswersOf, AnswersRefusal, OnAccepted, RefusedBy, ServedBy, TellsTrace}
+use Rattle.cosim_app.specs.Answer.{TellsReplay, accepted_text, figures_answer, planned, printed_answer, printed_text, run_answer, with_counts}
+use Rattle.cosim_app.specs.Commands.{KeepsRanges, UsageClause, command_of, input_of}
+use Rattle.cosim_app.specs.Generations.{Asked, CanGive, system_asked}
 use Rattle.cosim_app.specs.Laws.{AnswersAgree, EndsAreServed, EveryCallIsAnswered, NoCallIsAnsweredTwice, RefusalsAreOfRules}
 use Rattle.cosim_app.specs.declared.command_words.Command.{Command}
-use Rattle.cosim_app.specs.declared.command_words.Command.TheVariants.{Run, Check, Print}
-use Rattle.cosim_app.proofs.TraceLaws.{IsWhole, is_end, one_outcome, whole_of}
+use Rattle.cosim_app.specs.declared.command_words.Command.TheVariants.{Run, Check, Print, Replay, Gen, Bench}
+use Rattle.cosim_app.proofs.RangeLaws.{ranges_kept}
+use Rattle.cosim_app.proofs.TraceLaws.{IsWhole, is_end, one_outcome, plain_outcome, whole_asked, whole_of}
+use Rattle.cosim_app.proofs.ReplayLaws.{can_replay_of, counts_there}
+use Rattle.cosim_app.specs.declared.replaying.Replaying.{Replaying}
 
 -- ---- What a command supplies
 
@@ -89,7 +96,43 @@ lawful_piece piece = lawful_on_accepted (λ system answer. answer ≡ piece_answ
 determined_piece : (piece : System → List ℕ) → IsDetermined (OnAccepted (λ system answer. answer ≡ piece_answer (piece system)))
 determined_piece piece = determined_on_accepted (λ system answer. answer ≡ piece_answer (piece system)) (λ system whole one other a b. a ∙ sym b)
 
--- ---- Each command
+-- ---- Commands that read nothing
+
+-- of the answers of one: there is exactly one, with the status of an end
+record HasOneAnswer (IsAnswer : Answer → Type 0) : Type 0 where
+  answer : Answer
+  is : IsAnswer answer
+  only : (other : Answer) → IsAnswer other → other ≡ answer
+  ends : IsEndOfWork answer.status
+
+lawful_unread : (IsAnswer : Answer → Type 0) → HasOneAnswer IsAnswer → IsLawful (λ text line rule. ⊥) (λ text. IsAnswer)
+lawful_unread IsAnswer one = record {
+  judged = λ text. inr (one.answer, one.is);
+  one_refusal = λ text line by other rule refused. absurd refused;
+  not_both = λ text line rule answer refused. absurd refused;
+  agree = λ text a b is also. agree_as_same a b (one.only a is ∙ sym (one.only b also));
+  ends = λ text answer is. subst (λ (a : Answer). IsEndOfWork a.status) (sym (one.only answer is)) one.ends;
+}
+
+determined_unread : (IsAnswer : Answer → Type 0) → HasOneAnswer IsAnswer → IsDetermined (λ text. IsAnswer)
+determined_unread IsAnswer one text a b is also = one.only a is ∙ sym (one.only b also)
+
+gen_answer : (asked : Asked) → HasOneAnswer (AnswersGen asked)
+gen_answer asked = record { answer = printed_answer (system_asked asked); is = refl; only = λ other is. is; ends = tt }
+
+bench_answer : (asked : Asked) → CanGive asked → HasOneAnswer (AnswersBench asked)
+bench_answer asked can =
+    let outcome = plain_outcome (system_asked asked) (whole_asked asked can) in
+    record {
+      answer = figures_answer asked outcome.rows outcome.last;
+      is = record { rows = outcome.rows; last = outcome.last; ending = outcome.ending; trace = outcome.is_trace; is = refl };
+      only = λ other tells.
+          let same = outcome.is_only tells.rows tells.last tells.ending tells.trace in
+          tells.is ∙ ap (λ rows. figures_answer asked rows tells.last) same.0 ∙ ap (figures_answer asked outcome.rows) same.1;
+      ends = tt;
+    }
+
+-- ---- Each command, where its numbers are in their ranges
 
 -- two runs of a system answer the same
 traces_same : (system : System) → IsWhole system → (one other : Answer) → TellsTrace system one → TellsTrace system other → one ≡ other
@@ -114,15 +157,42 @@ traces_answer = record {
   ends = λ system answer tells. is_end tells.ending answer.status (ap (λ (a : Answer). a.status) tells.is);
 }
 
-lawful : (command : Command) → IsLawful (RefusedBy command) (ServedBy command)
-lawful Run = lawful_on_accepted TellsTrace traces_answer
-lawful Check = lawful_piece (λ system. accepted_text)
-lawful Print = lawful_piece printed_text
+-- two replays of a system answer the same
+replays_same : (asked : Replaying) (system : System) → IsWhole system → (one other : Answer) → TellsReplay asked system one → TellsReplay asked system other
+    → one ≡ other
+replays_same asked system whole one other a b =
+    a.is
+    ∙ ap (λ counts. with_counts counts a.run)
+    (counted_once_lem (planned system) asked.seed asked.workers a.counts b.counts (can_replay_of system whole) a.replayed b.replayed)
+    ∙ ap (with_counts b.counts) (traces_same system whole a.run b.run a.tells b.tells)
+    ∙ sym b.is
 
-determined : (command : Command) → IsDetermined (ServedBy command)
-determined Run = determined_on_accepted TellsTrace traces_same
-determined Check = determined_piece (λ system. accepted_text)
-determined Print = determined_piece printed_text
+replays_answer : (asked : Replaying) → AnswersSystems (TellsReplay asked)
+replays_answer asked = record {
+  some = λ system whole.
+      let run = traces_answer.some system whole in
+      let counts = counts_there asked system whole in
+      (with_counts counts.0 run.0, record { run = run.0; tells = run.1; counts = counts.0; replayed = counts.1; is = refl });
+  agree = λ system whole one other a b. agree_as_same one other (replays_same asked system whole one other a b);
+  ends = λ system answer tells.
+      is_end tells.tells.ending answer.status (ap (λ (a : Answer). a.status) tells.is ∙ ap (λ (a : Answer). a.status) tells.tells.is);
+}
+
+lawful : (command : Command) → KeepsRanges command → IsLawful (RefusedBy command) (ServedBy command)
+lawful Run keeps = lawful_on_accepted TellsTrace traces_answer
+lawful Check keeps = lawful_piece (λ system. accepted_text)
+lawful Print keeps = lawful_piece printed_text
+lawful (Replay asked) keeps = lawful_on_accepted (TellsReplay asked) (replays_answer asked)
+lawful (Gen asked) keeps = lawful_unread (AnswersGen asked) (gen_answer asked)
+lawful (Bench asked) keeps = lawful_unread (AnswersBench asked) (bench_answer asked keeps)
+
+determined : (command : Command) → KeepsRanges command → IsDetermined (ServedBy command)
+determined Run keeps = determined_on_accepted TellsTrace traces_same
+determined Check keeps = determined_piece (λ system. accepted_text)
+determined Print keeps = determined_piece printed_text
+determined (Replay asked) keeps = determined_on_accepted (TellsReplay asked) (replays_same asked)
+determined (Gen asked) keeps = determined_unread (AnswersGen asked) (gen_answer asked)
+determined (Bench asked) keeps = determined_unread (AnswersBench asked) (bench_answer asked keeps)
 
 -- an input that is too long breaks the rule of its length
 too_long : (limit : ℕ) (text : List ℕ) → Some text_limit ≡ Some limit → limit < length text → IsRefusedAt text 1 2
@@ -135,6 +205,9 @@ long_by : (command : Command) (limit : ℕ) (text : List ℕ) → input_of comma
 long_by Run limit text is long = too_long limit text is long
 long_by Check limit text is long = too_long limit text is long
 long_by Print limit text is long = too_long limit text is long
+long_by (Replay asked) limit text is long = too_long limit text is long
+long_by (Gen asked) limit text is long = absurd (cc)
+long_by (Bench asked) limit text is long = absurd (cc)
 
 -- a command that reads nothing has the same answers for all inputs
 free_by : (command : Command) → input_of command ≡ None → (one other : List ℕ) (answer : Answer) → Answers command one answer
@@ -142,77 +215,87 @@ free_by : (command : Command) → input_of command ≡ None → (one other : Lis
 free_by Run is one other answer answers = absurd (cc)
 free_by Check is one other answer answers = absurd (cc)
 free_by Print is one other answer answers = absurd (cc)
+free_by (Replay asked) is one other answer answers = absurd (cc)
+free_by (Gen asked) is one other answer (inl refusal) = absurd refusal.refused
+free_by (Gen asked) is one other answer (inr serves) = inr serves
+free_by (Bench asked) is one other answer (inl refusal) = absurd refusal.refused
+free_by (Bench asked) is one other answer (inr serves) = inr serves
 
 -- ---- All commands
 
 -- a text that is refused is answered so, and what serves any other is its answer
-answered : (command : Command) (text : List ℕ) → (answer : Answer) × Answers command text answer
-answered command text = by ((lawful command).judged text)
+answered : (command : Command) → KeepsRanges command → (text : List ℕ) → (answer : Answer) × Answers command text answer
+answered command keeps text = by ((lawful command keeps).judged text)
   where
     by : ((line : ℕ) × (rule : ℕ) × RefusedBy command text line rule) ⊎ ((answer : Answer) × ServedBy command text answer)
         → (answer : Answer) × Answers command text answer
     by (inl (line, rule, refused)) = (refused_answer line rule, inl (record { line = line; rule = rule; refused = refused; is = refl }))
     by (inr (answer, serves)) = (answer, inr serves)
 
-pub is_answered : (command : Command) → IsAnswered (input_of command) (Answers command)
-is_answered command = record {
-  some = answered command;
+pub is_answered : (command : Command) → KeepsRanges command → IsAnswered (input_of command) (Answers command)
+is_answered command keeps = record {
+  some = answered command keeps;
   long = λ limit text is long. inl (record { line = 1; rule = 2; refused = long_by command limit text is long; is = refl });
   free = free_by command;
 }
 
-refused_once : (command : Command) (text : List ℕ) (one other : Answer) → AnswersRefusal command text one → AnswersRefusal command text other → one ≡ other
-refused_once command text one other a b =
-    let same = (lawful command).one_refusal text a.line a.rule b.line b.rule a.refused b.refused in
-    a.is ∙ ap (λ line. refused_answer line a.rule) same.0 ∙ ap (refused_answer b.line) same.1 ∙ sym b.is
+module _ (command : Command) (keeps : KeepsRanges command) (text : List ℕ) where
+  refused_once : (one other : Answer) → AnswersRefusal command text one → AnswersRefusal command text other → one ≡ other
+  refused_once one other a b =
+      let same = (lawful command keeps).one_refusal text a.line a.rule b.line b.rule a.refused b.refused in
+      a.is ∙ ap (λ line. refused_answer line a.rule) same.0 ∙ ap (refused_answer b.line) same.1 ∙ sym b.is
 
-answers_same : (command : Command) (text : List ℕ) (one other : Answer) → Answers command text one → Answers command text other → one ≡ other
-answers_same command text one other (inl a) (inl b) = refused_once command text one other a b
-answers_same command text one other (inl a) (inr b) = absurd ((lawful command).not_both text a.line a.rule other a.refused b)
-answers_same command text one other (inr a) (inl b) = absurd ((lawful command).not_both text b.line b.rule one b.refused a)
-answers_same command text one other (inr a) (inr b) = determined command text one other a b
+  never_both : (refused served : Answer) → AnswersRefusal command text refused → ServedBy command text served → ⊥
+  never_both refused served a b = (lawful command keeps).not_both text a.line a.rule served a.refused b
 
-answers_agree_by : (command : Command) (text : List ℕ) (one other : Answer) → Answers command text one → Answers command text other → Agree one other
-answers_agree_by command text one other (inl a) (inl b) = agree_as_same one other (refused_once command text one other a b)
-answers_agree_by command text one other (inl a) (inr b) = absurd ((lawful command).not_both text a.line a.rule other a.refused b)
-answers_agree_by command text one other (inr a) (inl b) = absurd ((lawful command).not_both text b.line b.rule one b.refused a)
-answers_agree_by command text one other (inr a) (inr b) = (lawful command).agree text one other a b
+  answers_same : (one other : Answer) → Answers command text one → Answers command text other → one ≡ other
+  answers_same one other (inl a) (inl b) = refused_once one other a b
+  answers_same one other (inl a) (inr b) = absurd (never_both one other a b)
+  answers_same one other (inr a) (inl b) = absurd (never_both other one b a)
+  answers_same one other (inr a) (inr b) = determined command keeps text one other a b
 
-answered_by : (command : Option Command) (text : List ℕ) → (answer : Answer) × AnswersOf command text answer
-answered_by (Some command) text = answered command text
-answered_by None text = (usage_answer, refl)
+  answers_agree_by : (one other : Answer) → Answers command text one → Answers command text other → Agree one other
+  answers_agree_by one other (inl a) (inl b) = agree_as_same one other (refused_once one other a b)
+  answers_agree_by one other (inl a) (inr b) = absurd (never_both one other a b)
+  answers_agree_by one other (inr a) (inl b) = absurd (never_both other one b a)
+  answers_agree_by one other (inr a) (inr b) = (lawful command keeps).agree text one other a b
+
+answered_by : (command : Option Command) → IfSome command KeepsRanges → (text : List ℕ) → (answer : Answer) × AnswersOf command text answer
+answered_by (Some command) keeps text = answered command keeps text
+answered_by None keeps text = (usage_answer, refl)
 
 pub every_call_is_answered : EveryCallIsAnswered
-every_call_is_answered words text = answered_by (command_of words) text
+every_call_is_answered words text = answered_by (command_of words) (ranges_kept words) text
 
-same_by : (command : Option Command) (text : List ℕ) (one other : Answer) → AnswersOf command text one → AnswersOf command text other → one ≡ other
-same_by (Some command) text one other a b = answers_same command text one other a b
-same_by None text one other a b = a ∙ sym b
+same_by : (command : Option Command) → IfSome command KeepsRanges → (text : List ℕ) (one other : Answer) → AnswersOf command text one
+    → AnswersOf command text other → one ≡ other
+same_by (Some command) keeps text one other a b = answers_same command keeps text one other a b
+same_by None keeps text one other a b = a ∙ sym b
 
 pub no_call_is_answered_twice : NoCallIsAnsweredTwice
-no_call_is_answered_twice words text one other a b = same_by (command_of words) text one other a b
+no_call_is_answered_twice words text one other a b = same_by (command_of words) (ranges_kept words) text one other a b
 
-agree_by : (command : Option Command) (text : List ℕ) (one other : Answer) → AnswersOf command text one → AnswersOf command text other
-    → (one.out ≡ other.out) × (one.status ≡ other.status)
-agree_by (Some command) text one other a b = answers_agree_by command text one other a b
-agree_by None text one other a b = agree_as_same one other (a ∙ sym b)
+agree_by : (command : Option Command) → IfSome command KeepsRanges → (text : List ℕ) (one other : Answer) → AnswersOf command text one
+    → AnswersOf command text other → (one.out ≡ other.out) × (one.status ≡ other.status)
+agree_by (Some command) keeps text one other a b = answers_agree_by command keeps text one other a b
+agree_by None keeps text one other a b = agree_as_same one other (a ∙ sym b)
 
 pub answers_agree : AnswersAgree
-answers_agree words text one other a b = agree_by (command_of words) text one other a b
+answers_agree words text one other a b = agree_by (command_of words) (ranges_kept words) text one other a b
 
 -- ---- What a status tells
 
 no_refusal : status.Usage ≡ status.Refused → ⊥
 no_refusal is = cc
 
-refusal_by : (found : Option Command) (text : List ℕ) (answer : Answer) → AnswersOf found text answer → answer.status ≡ status.Refused
-    → (command : Command) × (Some command ≡ found) × AnswersRefusal command text answer
-refusal_by (Some command) text answer (inl refusal) is = (command, refl, refusal)
-refusal_by (Some command) text answer (inr serves) is = absurd (subst IsEndOfWork is ((lawful command).ends text answer serves))
-refusal_by None text answer usage is = absurd (no_refusal (sym (ap (λ (a : Answer). a.status) usage) ∙ is))
+refusal_by : (found : Option Command) → IfSome found KeepsRanges → (text : List ℕ) (answer : Answer) → AnswersOf found text answer
+    → answer.status ≡ status.Refused → (command : Command) × (Some command ≡ found) × AnswersRefusal command text answer
+refusal_by (Some command) keeps text answer (inl refusal) is = (command, refl, refusal)
+refusal_by (Some command) keeps text answer (inr serves) is = absurd (subst IsEndOfWork is ((lawful command keeps).ends text answer serves))
+refusal_by None keeps text answer usage is = absurd (no_refusal (sym (ap (λ (a : Answer). a.status) usage) ∙ is))
 
 pub refusals_are_of_rules : RefusalsAreOfRules
-refusals_are_of_rules words text answer is refused = refusal_by (command_of words) text answer is refused
+refusals_are_of_rules words text answer is refused = refusal_by (command_of words) (ranges_kept words) text answer is refused
 
 served_by : (found : Option Command) (text : List ℕ) (answer : Answer) → AnswersOf found text answer → IsEndOfWork answer.status
     → (command : Command) × (Some command ≡ found) × ServedBy command text answer

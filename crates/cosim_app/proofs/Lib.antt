@@ -1,3 +1,4 @@
+pub mod BenchLaws
 pub mod CommandLaws
 pub mod MakingLaws
 pub mod NumberLaws
@@ -5,5 +6,7 @@ pub mod OptionLaws
 pub mod OptionOrders
 pub mod OptionParts
 pub mod OutputNames
+pub mod RangeLaws
+pub mod ReplayLaws
 pub mod RunLaws
 pub mod TraceLaws

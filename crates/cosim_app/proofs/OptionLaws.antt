@@ -12,12 +12,12 @@ use Rattle.std.proofs.lemmas.List.{take_all}
 use Rattle.std.proofs.lemmas.List.Elements.{filter-append, filter_map-append}
 use Rattle.std.proofs.lemmas.Option.{same_Some}
 use Rattle.cosim_app.specs.Options.{◌>>=◌, at_most_one, given_of, no_options, option_of, options_of, with_all, with_one}
-use Rattle.cosim_app.specs.Options.{guess_in, is_report, window_in, workers_in}
+use Rattle.cosim_app.specs.Options.{guess_in, instances_in, is_report, rows_in, seed_in, window_in, workers_in}
 use Rattle.cosim_app.specs.Words.{bytes_of}
 use Rattle.cosim_app.specs.declared.options.Given.{Given}
 use Rattle.cosim_app.specs.declared.options.Policy.{Policy}
 use Rattle.cosim_app.specs.declared.options.CommandOption.{CommandOption}
-use Rattle.cosim_app.specs.declared.options.CommandOption.TheVariants.{Workers, Window, Guess, Report}
+use Rattle.cosim_app.specs.declared.options.CommandOption.TheVariants.{Workers, Window, Guess, Seed, Instances, Rows, Report}
 
 -- ---- How many there are of a kind
 
@@ -81,6 +81,9 @@ pub record Ones : Type 0 where
   pub workers : Option (Option ℕ)
   pub window : Option (Option ℕ)
   pub guess : Option (Option Policy)
+  pub seed : Option (Option ℕ)
+  pub instances : Option (Option ℕ)
+  pub rows : Option (Option ℕ)
   pub report : Option (Option CommandOption)
 
 abbrev pub ones_of : List CommandOption → Ones
@@ -88,6 +91,9 @@ ones_of options = record {
   workers = ones workers_in options;
   window = ones window_in options;
   guess = ones guess_in options;
+  seed = ones seed_in options;
+  instances = ones instances_in options;
+  rows = ones rows_in options;
   report = at_most_one (filter is_report options);
 }
 
@@ -97,14 +103,28 @@ each all = do
   workers ← all.workers
   window ← all.window
   guess ← all.guess
+  seed ← all.seed
+  instances ← all.instances
+  rows ← all.rows
   report ← all.report
-  Some (record { workers = workers; window = window; guess = guess; report = is_some report })
+  Some (record {
+    workers = workers;
+    window = window;
+    guess = guess;
+    seed = seed;
+    instances = instances;
+    rows = rows;
+    report = is_some report;
+  })
 
 abbrev all_behind : Ones → Ones → Ones
 all_behind more before = record {
   workers = behind more.workers before.workers;
   window = behind more.window before.window;
   guess = behind more.guess before.guess;
+  seed = behind more.seed before.seed;
+  instances = behind more.instances before.instances;
+  rows = behind more.rows before.rows;
   report = behind more.report before.report;
 }
 
@@ -113,6 +133,9 @@ all_joined before more = λ i. record {
   workers = ones_joined workers_in before more i;
   window = ones_joined window_in before more i;
   guess = ones_joined guess_in before more i;
+  seed = ones_joined seed_in before more i;
+  instances = ones_joined instances_in before more i;
+  rows = ones_joined rows_in before more i;
   report = reports_joined before more i;
 }
 
@@ -124,7 +147,10 @@ none_after before more is =
     none_behind before.workers more.workers _ _ is (λ _ _ is.
     none_behind before.window more.window _ _ is (λ _ _ is.
     none_behind before.guess more.guess _ _ is (λ _ _ is.
-    none_behind before.report more.report _ _ is (λ _ _ is. some_given _ is))))
+    none_behind before.seed more.seed _ _ is (λ _ _ is.
+    none_behind before.instances more.instances _ _ is (λ _ _ is.
+    none_behind before.rows more.rows _ _ is (λ _ _ is.
+    none_behind before.report more.report _ _ is (λ _ _ is. some_given _ is)))))))
 
 -- the ones that gave so much, with the one of `--report`, of which just this is kept that it is there
 abbrev known_ones : Given → Option CommandOption → Ones
@@ -132,6 +158,9 @@ known_ones given report = record {
   workers = Some given.workers;
   window = Some given.window;
   guess = Some given.guess;
+  seed = Some given.seed;
+  instances = Some given.instances;
+  rows = Some given.rows;
   report = Some report;
 }
 
@@ -141,7 +170,10 @@ known_by all given is =
     let workers = taken all.workers _ given is in
     let window = taken all.window _ given workers.2 in
     let guess = taken all.guess _ given window.2 in
-    let report = taken all.report _ given guess.2 in
+    let seed = taken all.seed _ given guess.2 in
+    let instances = taken all.instances _ given seed.2 in
+    let rows = taken all.rows _ given instances.2 in
+    let report = taken all.report _ given rows.2 in
     let same = same_Some _ given report.2 in (
       report.0,
       sym (ap (λ (g : Given). g.report) same),
@@ -149,6 +181,9 @@ known_by all given is =
         workers = (workers.1 ∙ ap (λ (g : Given). Some g.workers) same) i;
         window = (window.1 ∙ ap (λ (g : Given). Some g.window) same) i;
         guess = (guess.1 ∙ ap (λ (g : Given). Some g.guess) same) i;
+        seed = (seed.1 ∙ ap (λ (g : Given). Some g.seed) same) i;
+        instances = (instances.1 ∙ ap (λ (g : Given). Some g.instances) same) i;
+        rows = (rows.1 ∙ ap (λ (g : Given). Some g.rows) same) i;
         report = report.1 i;
       },
     )
@@ -170,6 +205,15 @@ one_more (Window number) given report is =
 one_more (Guess policy) given report is =
     once given.guess policy (λ one. record given { guess = one })
     ∙ ap (λ r. behind (Some (Some policy)) (Some given.guess) >>= λ one. Some (record given { guess = one; report = r })) is
+one_more (Seed number) given report is =
+    once given.seed number (λ one. record given { seed = one })
+    ∙ ap (λ r. behind (Some (Some number)) (Some given.seed) >>= λ one. Some (record given { seed = one; report = r })) is
+one_more (Instances number) given report is =
+    once given.instances number (λ one. record given { instances = one })
+    ∙ ap (λ r. behind (Some (Some number)) (Some given.instances) >>= λ one. Some (record given { instances = one; report = r })) is
+one_more (Rows number) given report is =
+    once given.rows number (λ one. record given { rows = one })
+    ∙ ap (λ r. behind (Some (Some number)) (Some given.rows) >>= λ one. Some (record given { rows = one; report = r })) is
 one_more Report given None is = ap (λ r. then_some (not r) (record given { report = true })) is
 one_more Report given (Some other) is = ap (λ r. then_some (not r) (record given { report = true })) is
 

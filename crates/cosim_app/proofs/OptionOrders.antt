@@ -6,7 +6,7 @@ use Rattle.std.specs.Option.{option_map}
 use Rattle.std.proofs.lemmas.List.Sorted.{sum_by-IsPermutation}
 use Rattle.std.proofs.lemmas.List.Sums.{sum_by-cons}
 use Rattle.cosim_app.specs.Laws.{OptionsHaveNoOrder}
-use Rattle.cosim_app.specs.Options.{◌>>=◌, at_most_one, given_of, guess_in, is_report, window_in, workers_in}
+use Rattle.cosim_app.specs.Options.{◌>>=◌, at_most_one, given_of, guess_in, instances_in, is_report, rows_in, seed_in, window_in, workers_in}
 use Rattle.cosim_app.specs.declared.options.Policy.{Policy}
 use Rattle.cosim_app.specs.declared.options.Policy.TheVariants.{Hold, Linear}
 use Rattle.cosim_app.specs.declared.options.CommandOption.{CommandOption}
@@ -92,6 +92,9 @@ all_same options other moves = λ i. record {
   workers = ones_same (λ n. n) (λ a b is. is) workers_in options other moves i;
   window = ones_same (λ n. n) (λ a b is. is) window_in options other moves i;
   guess = ones_same policy_number same_policy guess_in options other moves i;
+  seed = ones_same (λ n. n) (λ a b is. is) seed_in options other moves i;
+  instances = ones_same (λ n. n) (λ a b is. is) instances_in options other moves i;
+  rows = ones_same (λ n. n) (λ a b is. is) rows_in options other moves i;
   report = reports_same options other moves i;
 }
 

@@ -20,7 +20,7 @@ use Rattle.cosim_call.specs.Coming.{Begins, Serves}
 use Rattle.cosim_call.specs.declared.coming.Served.{Served}
 use Rattle.cosim_call.specs.declared.coming.Stopped.{Stopped}
 use Rattle.cosim_call.specs.declared.coming.Stopped.TheVariants as stopped
-use Rattle.cosim_app.specs.Answer.{Answers, run_answer, traced_notes, traced_text}
+use Rattle.cosim_app.specs.Answer.{Answers, TellsTrace, run_answer, traced_notes, traced_text}
 use Rattle.cosim_app.specs.Notes.{ending_notes}
 use Rattle.cosim_app.specs.Serving.{IsAccepted, IsUnaccepted, Runs, TellsEnding}
 use Rattle.cosim_app.specs.SourcePlaces.{source_end}
@@ -39,7 +39,7 @@ notes_are system lent resolution ending last lent_is resolution_is =
     ∙ ap (λ r. ending_notes system r (source_end system ending) last) resolution_is
 
 -- its text
-text_is : (system : System) → IsWhole system → (rows : List Row) (last : Point) (ending : Ending) → IsTraceOf system rows last ending
+pub text_is : (system : System) → IsWhole system → (rows : List Row) (last : Point) (ending : Ending) → IsTraceOf system rows last ending
     → trace_text system rows ≡ traced_text system (read_rows system rows)
 unfolding traced_text
 text_is system whole rows last ending trace = text_read system whole.ranged whole.well_formed whole.ordered rows last ending trace
@@ -49,7 +49,18 @@ told : (system : System) → IsWhole system → (rows : List Row) (last : Point)
     → IsEventTraceOf system (read_rows system rows) last (read_end system ending)
 told system whole rows last ending trace = tells system whole.ranged whole.well_formed whole.ordered rows last ending trace
 
--- so that there is an answer for the text of which it is the text
+-- so that the answer of a run tells it
+pub trace_told : (system : System) → IsWhole system → (rows : List Row) (last : Point) (ending : Ending) → IsTraceOf system rows last ending
+    → TellsTrace system (run_answer system (read_rows system rows) last (read_end system ending))
+trace_told system whole rows last ending trace = record {
+  rows = read_rows system rows;
+  last = last;
+  ending = read_end system ending;
+  trace = told system whole rows last ending trace;
+  is = refl;
+}
+
+-- and there is an answer for the text of which it is the text
 run_answers : (text : List ℕ) (system : System) → IsAccepted text system → (rows : List Row) (last : Point) (ending : Ending)
     → IsTraceOf system rows last ending → Answers Run text (run_answer system (read_rows system rows) last (read_end system ending))
 run_answers text system (lines, accepted) rows last ending trace =
@@ -57,13 +68,7 @@ run_answers text system (lines, accepted) rows last ending trace =
       system = system;
       lines = lines;
       accepted = accepted;
-      is = record {
-        rows = read_rows system rows;
-        last = last;
-        ending = read_end system ending;
-        trace = told system (whole_of text system lines accepted) rows last ending trace;
-        is = refl;
-      };
+      is = trace_told system (whole_of text system lines accepted) rows last ending trace;
     })
 
 -- ---- What a run comes to

@@ -16,9 +16,13 @@ use Rattle.run_laws.proofs.RunOrders.{runs_have_orders}
 use Rattle.run_laws.proofs.RunTraces.{one_trace, one_trace_of}
 use Rattle.unit_tree.specs.declared.ending.Ending.{Ending}
 use Rattle.unit_tree.specs.declared.ending.Ending.TheVariants.{Completed, RowBudget, ZeroBudget, UnitFault, StepRefused}
+use Rattle.cosim_gen.proofs.Lines.{is_well_formed}
+use Rattle.cosim_gen.proofs.Outputs.{has_no_cycle}
+use Rattle.cosim_gen.proofs.Printing.{is_printable}
 use Rattle.cosim_call.specs.Answers.{IsEndOfWork}
 use Rattle.cosim_call.specs.declared.status.Status.{Status}
 use Rattle.cosim_app.specs.Answer.{status_of}
+use Rattle.cosim_app.specs.Generations.{Asked, CanGive, system_asked}
 
 -- a system that is in range and keeps all rules, and whose outputs have an order
 pub record IsWhole (system : System) : Type 0 where
@@ -32,6 +36,15 @@ whole_of text system lines accepted = record {
   ranged = (read_is_printable text system accepted.reads.reads).ranged;
   well_formed = accepted.well_formed;
   ordered = accepted.ordered;
+}
+
+-- and so does a generated system
+pub whole_asked : (asked : Asked) → CanGive asked → IsWhole (system_asked asked)
+unfolding system_asked
+whole_asked asked can = record {
+  ranged = (is_printable asked.seed asked.instances asked.rows can).ranged;
+  well_formed = is_well_formed asked.seed asked.instances asked.rows can;
+  ordered = has_no_cycle asked.seed asked.instances asked.rows can;
 }
 
 -- it has one trace

@@ -1,12 +1,19 @@
 -- Answers: what the program puts out and notes, and how it ends, for the words of a command line and the bytes
 -- of its input.
-use Rattle.std.specs.Prelude.{◌≡◌, ℕ, List, ◌++◌, Option, Some, None, codes, ◌⊎◌}
+use Rattle.std.specs.Prelude.{◌≡◌, ℕ, ℤ, List, [], ◌∷◌, ◌++◌, length, Option, Some, None, codes, ◌⊎◌}
 use Rattle.event_csv.specs.EventText.{event_text}
 use Rattle.event_runs.specs.EventRuns.{IsEventTraceOf}
 use Rattle.event_runs.specs.EventTrace.{EventRow}
+use Rattle.spec_core.specs.Replays.{IsReplayed}
+use Rattle.spec_core.specs.declared.counts.Counts.{Counts}
 use Rattle.super_time.specs.declared.point.Point.{Point}
 use Rattle.text_accept.specs.Accepting.{IsAcceptedAs, IsRefusedAt}
+use Rattle.trace_csv.specs.Columns.{columns_of}
+use Rattle.trace_plan.specs.Plans.{Planned}
+use Rattle.trace_rows.specs.Sums.{sum_shown}
 use Rattle.unit_tree.specs.Canonical.{canonical_text}
+use Rattle.unit_tree.specs.Compositions.{run_of}
+use Rattle.unit_tree.specs.Trace.{IsTraceOf, Row}
 use Rattle.unit_tree.specs.WellFormed.{resolution_of}
 use Rattle.unit_tree.specs.declared.ending.Ending.{Ending}
 use Rattle.unit_tree.specs.declared.ending.Ending.TheVariants.{Completed, RowBudget, ZeroBudget, UnitFault, StepRefused}
@@ -16,9 +23,12 @@ use Rattle.cosim_call.specs.Notes.{line_end}
 use Rattle.cosim_call.specs.declared.status.Status.{Status}
 use Rattle.cosim_call.specs.declared.status.Status.TheVariants as status
 use Rattle.cosim_app.specs.Commands.{command_of}
-use Rattle.cosim_app.specs.Notes.{ending_notes}
+use Rattle.cosim_app.specs.Figures.{figures_text}
+use Rattle.cosim_app.specs.Generations.{Asked, system_asked}
+use Rattle.cosim_app.specs.Notes.{counts_text, ending_notes}
 use Rattle.cosim_app.specs.declared.command_words.Command.{Command}
-use Rattle.cosim_app.specs.declared.command_words.Command.TheVariants.{Run, Check, Print}
+use Rattle.cosim_app.specs.declared.command_words.Command.TheVariants.{Run, Check, Print, Replay, Gen, Bench}
+use Rattle.cosim_app.specs.declared.replaying.Replaying.{Replaying}
 
 abbrev pub status_of : Ending → Status
 status_of Completed = status.Done
@@ -81,17 +91,62 @@ printed_answer system = piece_answer (printed_text system)
 abbrev pub AnswersPrint : List ℕ → Answer → Type 0
 AnswersPrint = OnAccepted (λ system answer. answer ≡ printed_answer system)
 
+-- A system with what is run of it.
+abbrev pub planned : System → Planned
+planned system = record { system = system; run = run_of system }
+
+-- The answer of a run, with the line of a replay's counts behind its notes.
+abbrev pub with_counts : Counts → Answer → Answer
+with_counts counts answer = record answer { notes = answer.notes ++ counts_text counts ∷ [] }
+
+-- As a run does, and by the counts of its replay.
+pub record TellsReplay (asked : Replaying) (system : System) (answer : Answer) : Type 0 where
+  pub run : Answer
+  pub tells : TellsTrace system run
+  pub counts : Counts
+  pub replayed : IsReplayed (planned system) asked.seed asked.workers counts
+  pub is : answer ≡ with_counts counts run
+
+abbrev pub AnswersReplay : Replaying → List ℕ → Answer → Type 0
+AnswersReplay asked = OnAccepted (TellsReplay asked)
+
+-- By the canonical text of the system that is asked for.
+abbrev pub AnswersGen : Asked → Answer → Type 0
+AnswersGen asked answer = answer ≡ printed_answer (system_asked asked)
+
+-- The sum of all words that the trace of a system shows.
+unfoldable pub traced_sum : System → List Row → ℤ
+traced_sum system rows = sum_shown (columns_of system) rows
+
+-- The figures of a trace of the generated system.
+abbrev pub figures_answer : Asked → List Row → Point → Answer
+figures_answer asked rows last = piece_answer (figures_text asked.instances (length rows) last (traced_sum (system_asked asked) rows))
+
+-- By figures of the trace of the generated system, however this ends.
+pub record AnswersBench (asked : Asked) (answer : Answer) : Type 0 where
+  pub rows : List Row
+  pub last : Point
+  pub ending : Ending
+  pub trace : IsTraceOf (system_asked asked) rows last ending
+  pub is : answer ≡ figures_answer asked rows last
+
 -- The answer of a command for a text that it serves.
 abbrev pub ServedBy : Command → List ℕ → Answer → Type 0
 ServedBy Run text answer = AnswersRun text answer
 ServedBy Check text answer = AnswersCheck text answer
 ServedBy Print text answer = AnswersPrint text answer
+ServedBy (Replay asked) text answer = AnswersReplay asked text answer
+ServedBy (Gen asked) text answer = AnswersGen asked answer
+ServedBy (Bench asked) text answer = AnswersBench asked answer
 
--- The line and the rule by which a command refuses a text.
+-- The line and the rule by which a command refuses a text; one that reads nothing refuses nothing.
 abbrev pub RefusedBy : Command → List ℕ → ℕ → ℕ → Type 0
 RefusedBy Run text line rule = IsRefusedAt text line rule
 RefusedBy Check text line rule = IsRefusedAt text line rule
 RefusedBy Print text line rule = IsRefusedAt text line rule
+RefusedBy (Replay asked) text line rule = IsRefusedAt text line rule
+RefusedBy (Gen asked) text line rule = ⊥
+RefusedBy (Bench asked) text line rule = ⊥
 
 -- A text that is refused is answered by its line and rule.
 pub record AnswersRefusal (command : Command) (text : List ℕ) (answer : Answer) : Type 0 where

@@ -1,17 +1,32 @@
 -- The commands of the program, by their words, and what each reads.
-use Rattle.std.specs.Prelude.{◌≡◌, ℕ, List, [], ◌∷◌, codes, Option, Some, None, if◌then◌else◌, ◌⊎◌}
+use Rattle.std.specs.Prelude.{◌≡◌, ℕ, List, [], ◌∷◌, codes, Option, Some, None, if◌then◌else◌, ◌⊎◌, ⊤}
+use Rattle.std.specs.Option.{option_map}
 use Rattle.std.specs.Str.{bytes_eq}
 use Rattle.unit_tree.specs.Texts.{text_limit}
 use Rattle.cosim_call.specs.declared.status.Status.{Status}
 use Rattle.cosim_call.specs.declared.status.Status.TheVariants as status
+use Rattle.cosim_app.specs.Generations.{Asked, CanGive, asked_by}
 use Rattle.cosim_app.specs.Options.{◌>>=◌, given_by, is_given_none}
 use Rattle.cosim_app.specs.declared.command_words.Command.{Command}
-use Rattle.cosim_app.specs.declared.command_words.Command.TheVariants.{Run, Check, Print}
+use Rattle.cosim_app.specs.declared.command_words.Command.TheVariants.{Run, Check, Print, Replay, Gen, Bench}
+use Rattle.cosim_app.specs.Ranges.{required_within}
 use Rattle.cosim_app.specs.declared.options.Given.{Given}
+use Rattle.cosim_app.specs.declared.replaying.Replaying.{Replaying}
 
 -- A command where no option was given. Of one that takes some: where none is left of what was given without these.
 abbrev pub without_options : {A : Type 0} → A → Given → Option A
 without_options command given = if is_given_none given then Some command else None
+
+-- What a command that generates its system asks for: a seed, components and rows, and nothing else.
+abbrev pub generation_of : Given → Option Asked
+generation_of given = asked_by given >>= λ asked. without_options asked (record given { seed = None; instances = None; rows = None })
+
+-- What a replay is asked: a seed, and 0 to 16 workers, and nothing else.
+abbrev pub replaying_of : Given → Option Replaying
+replaying_of given = do
+  seed ← given.seed
+  workers ← required_within 0 16 given.workers
+  without_options (record { seed = seed; workers = workers }) (record given { seed = None; workers = None })
 
 -- The command of a word with the options that were given: a row for each command, with the options that it takes.
 abbrev pub command_with : List ℕ → Given → Option Command
@@ -19,7 +34,10 @@ command_with word given =
     if bytes_eq word (codes "run") then without_options Run given
     else (if bytes_eq word (codes "check") then without_options Check given
     else (if bytes_eq word (codes "print") then without_options Print given
-    else None))
+    else (if bytes_eq word (codes "replay") then option_map Replay (replaying_of given)
+    else (if bytes_eq word (codes "gen") then option_map Gen (generation_of given)
+    else (if bytes_eq word (codes "bench") then option_map Bench (generation_of given)
+    else None)))))
 
 -- The command that words are of; words that are of none have no form.
 abbrev pub command_of : List (List ℕ) → Option Command
@@ -31,6 +49,15 @@ abbrev pub input_of : Command → Option ℕ
 input_of Run = Some text_limit
 input_of Check = Some text_limit
 input_of Print = Some text_limit
+input_of (Replay asked) = Some text_limit
+input_of (Gen asked) = None
+input_of (Bench asked) = None
+
+-- What `bench` asks for is in its ranges, so that there is the system which it runs. The answers of other commands ask no more of their
+-- numbers.
+abbrev pub KeepsRanges : Command → Type 0
+KeepsRanges (Bench asked) = CanGive asked
+KeepsRanges _ = ⊤
 
 -- Words without a form read nothing.
 abbrev pub input_of_words : Option Command → Option ℕ

@@ -1,5 +1,7 @@
 pub mod Answer
 pub mod Commands
+pub mod Figures
+pub mod Generations
 pub mod Laws
 pub mod Notes
 pub mod Options

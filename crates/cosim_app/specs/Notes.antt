@@ -2,9 +2,10 @@
 use Rattle.std.specs.Prelude.{ℕ, List, [], ◌∷◌, ◌++◌, codes, Option, Some, None, slice_get}
 use Rattle.std.specs.Option.{option_and_then, option_map, unwrap_or}
 use Rattle.std.specs.Fmt.{decimal}
-use Rattle.cosim_call.specs.Notes.{note}
+use Rattle.cosim_call.specs.Notes.{line_end, note}
 use Rattle.fixed_words.specs.declared.types.Fault.{Fault}
 use Rattle.fixed_words.specs.declared.types.Fault.TheVariants.{Overflow, Range, ZeroDivisor, Accept, Max}
+use Rattle.spec_core.specs.declared.counts.Counts.{Counts}
 use Rattle.super_time.specs.Seconds.{seconds_text_of}
 use Rattle.unit_tree.specs.Names.{output_ports, unit_of_instance}
 use Rattle.unit_tree.specs.declared.ending.Ending.{Ending}
@@ -75,3 +76,28 @@ ending_notes system resolution (UnitFault instance where_ fault) point =
     fault_text resolution (instance_name system instance) (place_text system instance where_) fault point ∷ []
 ending_notes system resolution (StepRefused instance asked accepted) point =
     step_refused_text resolution (instance_name system instance) asked accepted point ∷ []
+
+-- A count with its name.
+abbrev pub count_text : List ℕ → ℕ → List ℕ
+count_text name count = codes " " ++ name ++ codes " " ++ decimal count
+
+-- What came of the events of a replay: how many there were, how many were refused, and how the steps of the run were made.
+abbrev pub events_text : Counts → List ℕ
+events_text counts =
+    count_text (codes "events") counts.events
+    ++ count_text (codes "refused") counts.refused
+    ++ count_text (codes "found") counts.found
+    ++ count_text (codes "own") counts.own
+
+-- What became of its tickets, and how many answers came of them.
+abbrev pub tickets_text : Counts → List ℕ
+tickets_text counts =
+    count_text (codes "tickets") counts.tickets
+    ++ count_text (codes "posted") counts.posted
+    ++ count_text (codes "back") counts.back
+    ++ count_text (codes "lapsed") counts.lapsed
+    ++ count_text (codes "appended") counts.appended
+
+-- The line of a replay's counts.
+abbrev pub counts_text : Counts → List ℕ
+counts_text counts = codes "cosim:" ++ events_text counts ++ tickets_text counts ++ line_end

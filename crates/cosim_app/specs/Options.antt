@@ -10,7 +10,7 @@ use Rattle.cosim_app.specs.declared.options.Given.{Given}
 use Rattle.cosim_app.specs.declared.options.Policy.{Policy}
 use Rattle.cosim_app.specs.declared.options.Policy.TheVariants.{Hold, Linear}
 use Rattle.cosim_app.specs.declared.options.CommandOption.{CommandOption}
-use Rattle.cosim_app.specs.declared.options.CommandOption.TheVariants.{Workers, Window, Guess, Report}
+use Rattle.cosim_app.specs.declared.options.CommandOption.TheVariants.{Workers, Window, Guess, Seed, Instances, Rows, Report}
 
 -- What comes of the value, where there is one.
 infixl 10 ◌>>=◌
@@ -19,10 +19,13 @@ given >>= next = option_and_then next given
 
 -- No option was given.
 abbrev pub is_given_none : Given → Bool
-is_given_none given = is_none given.workers && (is_none given.window && (is_none given.guess && not given.report))
+is_given_none given =
+    is_none given.workers
+    && (is_none given.window
+    && (is_none given.guess && (is_none given.seed && (is_none given.instances && (is_none given.rows && not given.report)))))
 
 abbrev pub no_options : Given
-no_options = record { workers = None; window = None; guess = None; report = false }
+no_options = record { workers = None; window = None; guess = None; seed = None; instances = None; rows = None; report = false }
 
 -- ---- Words as options
 
@@ -39,7 +42,10 @@ option_of flag word =
     if bytes_eq flag (codes "--workers") then option_map Workers (number_of_word word)
     else (if bytes_eq flag (codes "--window") then option_map Window (number_of_word word)
     else (if bytes_eq flag (codes "--guess") then option_map Guess (policy_named word)
-    else None))
+    else (if bytes_eq flag (codes "--seed") then option_map Seed (number_of_word word)
+    else (if bytes_eq flag (codes "--instances") then option_map Instances (number_of_word word)
+    else (if bytes_eq flag (codes "--rows") then option_map Rows (number_of_word word)
+    else None)))))
 
 -- Words as options: `--report` stands alone, any other flag has its value in the next word. None where some word is of no option.
 abbrev pub options_of : List (List ℕ) → Option (List CommandOption)
@@ -64,6 +70,18 @@ abbrev pub guess_in : CommandOption → Option Policy
 guess_in (Guess policy) = Some policy
 guess_in _ = None
 
+abbrev pub seed_in : CommandOption → Option ℕ
+seed_in (Seed number) = Some number
+seed_in _ = None
+
+abbrev pub instances_in : CommandOption → Option ℕ
+instances_in (Instances number) = Some number
+instances_in _ = None
+
+abbrev pub rows_in : CommandOption → Option ℕ
+rows_in (Rows number) = Some number
+rows_in _ = None
+
 -- One that has no value is there or not.
 abbrev pub is_report : CommandOption → Bool
 is_report Report = true
@@ -81,8 +99,19 @@ given_of options = do
   workers ← at_most_one (filter_map workers_in options)
   window ← at_most_one (filter_map window_in options)
   guess ← at_most_one (filter_map guess_in options)
+  seed ← at_most_one (filter_map seed_in options)
+  instances ← at_most_one (filter_map instances_in options)
+  rows ← at_most_one (filter_map rows_in options)
   report ← at_most_one (filter is_report options)
-  Some (record { workers = workers; window = window; guess = guess; report = is_some report })
+  Some (record {
+    workers = workers;
+    window = window;
+    guess = guess;
+    seed = seed;
+    instances = instances;
+    rows = rows;
+    report = is_some report;
+  })
 
 -- What words give; nothing, where they are no options, or two of them are of a kind.
 abbrev pub given_by : List (List ℕ) → Option Given
@@ -99,6 +128,9 @@ abbrev pub with_one : Given → CommandOption → Option Given
 with_one given (Workers number) = then_some (is_none given.workers) (record given { workers = Some number })
 with_one given (Window number) = then_some (is_none given.window) (record given { window = Some number })
 with_one given (Guess policy) = then_some (is_none given.guess) (record given { guess = Some policy })
+with_one given (Seed number) = then_some (is_none given.seed) (record given { seed = Some number })
+with_one given (Instances number) = then_some (is_none given.instances) (record given { instances = Some number })
+with_one given (Rows number) = then_some (is_none given.rows) (record given { rows = Some number })
 with_one given Report = then_some (not given.report) (record given { report = true })
 
 -- And with all of these, one after the other.

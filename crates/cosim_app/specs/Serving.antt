@@ -1,7 +1,10 @@
 -- What the parts of commands do with a text and with the plan of a run.
-use Rattle.std.specs.Prelude.{◌≡◌, ℕ, List, Result, Ok, Err, ⊤}
+use Rattle.std.specs.Prelude.{◌≡◌, ℕ, List, [], ◌∷◌, ◌++◌, Result, Ok, Err, ⊤}
+use Rattle.spec_core.specs.Replays.{IsReplayed, PutsTrace}
+use Rattle.spec_core.specs.declared.counts.Counts.{Counts}
 use Rattle.text_accept.specs.Accepting.{IsAcceptedAs, IsRefusedAt}
 use Rattle.text_accept.specs.declared.accepting.AcceptedText.{AcceptedText}
+use Rattle.trace_plan.specs.Plans.{Planned}
 use Rattle.trace_rows.specs.Reports.{PutsFront, ReportsTrace}
 use Rattle.trace_rows.specs.declared.report.Report.{Report}
 use Rattle.unit_tree.specs.Compositions.{run_of}
@@ -12,7 +15,9 @@ use Rattle.cosim_call.specs.declared.coming.Served.{Served}
 use Rattle.cosim_call.specs.declared.coming.Stopped.{Stopped}
 use Rattle.cosim_call.specs.declared.coming.Stopped.TheVariants as stopped
 use Rattle.cosim_app.specs.Answer.{status_of, traced_notes}
+use Rattle.cosim_app.specs.Notes.{counts_text}
 use Rattle.cosim_app.specs.SourcePlaces.{source_end}
+use Rattle.cosim_app.specs.declared.replaying.Replaying.{Replaying}
 
 -- Why a text was not accepted: the refusal of it, or want of memory, which says nothing.
 abbrev pub IsUnaccepted : List ℕ → Stopped → Type 0
@@ -42,3 +47,19 @@ abbrev pub TellsEnding : System → Report → Result Served Stopped → Type 0
 TellsEnding system report (Ok served) =
     (served.status ≡ status_of report.outcome) × (served.notes ≡ traced_notes system (source_end system report.outcome) report.last)
 TellsEnding system report (Err why) = why ≡ stopped.NoMemory
+
+-- A plan was replayed: the text of the trace of what is run was put, which ended so, and the counts are those of the replay; or it was
+-- given up, and what was put begins that text.
+abbrev pub Replays : Planned → Replaying → Stream → Stream → Result Counts Stopped → Type 0
+Replays plan asked out out' (Ok counts) =
+    PutsTrace plan.system counts.last counts.outcome out.bytes out'.bytes × IsReplayed plan asked.seed asked.workers counts × (out'.faults ≡ out.faults)
+Replays plan asked out out' (Err stopped.WriteFault) = PutsFront plan.system out.bytes out'.bytes × Fails out out'
+Replays plan asked out out' (Err stopped.NoMemory) = PutsFront plan.system out.bytes out'.bytes × (out'.faults ≡ out.faults)
+Replays plan asked out out' (Err _) = ⊥
+
+-- The end of a replay is told as that of a run, with the line of its counts behind.
+abbrev pub TellsReplayed : System → Counts → Result Served Stopped → Type 0
+TellsReplayed system counts (Ok served) =
+    (served.status ≡ status_of counts.outcome)
+    × (served.notes ≡ traced_notes system (source_end system counts.outcome) counts.last ++ counts_text counts ∷ [])
+TellsReplayed system counts (Err why) = why ≡ stopped.NoMemory

@@ -1,13 +1,13 @@
 -- Words that were worked out by hand: which options they give, and which command they are of.
-use Rattle.std.specs.Prelude.{◌≡◌, true, [], ◌∷◌, codes, Some, None}
+use Rattle.std.specs.Prelude.{◌≡◌, ℕ, true, List, [], ◌∷◌, codes, Some, None}
 use Rattle.cosim_app.specs.Commands.{command_of}
 use Rattle.cosim_app.specs.Options.{given_by, no_options, number_of_word}
-use Rattle.cosim_app.specs.declared.command_words.Command.TheVariants.{Run, Check, Print}
+use Rattle.cosim_app.specs.declared.command_words.Command.TheVariants.{Run, Check, Print, Replay, Gen, Bench}
 use Rattle.cosim_app.specs.declared.options.Given.{Given}
 use Rattle.cosim_app.specs.declared.options.Policy.TheVariants.{Hold, Linear}
 
 abbrev all_options : Given
-all_options = record no_options { workers = Some 4; window = Some 0; guess = Some Linear; report = true }
+all_options = record { workers = Some 4; window = Some 0; guess = Some Linear; seed = Some 7; instances = Some 2; rows = Some 3; report = true }
 
 -- A number has one to nineteen digits, and nothing else.
 pub record NumbersAreWorked : Type 0 where
@@ -22,9 +22,11 @@ pub record NumbersAreWorked : Type 0 where
 pub record OptionsAreWorked : Type 0 where
   pub none : given_by [] ≡ Some no_options
   pub all : given_by
-      (codes "--workers" ∷ codes "4" ∷ codes "--window" ∷ codes "0" ∷ codes "--guess" ∷ codes "linear" ∷ codes "--report" ∷ []) ≡ Some all_options
+      (codes "--workers" ∷ codes "4" ∷ codes "--window" ∷ codes "0" ∷ codes "--guess" ∷ codes "linear" ∷ codes "--seed" ∷ codes "7"
+      ∷ codes "--instances" ∷ codes "2" ∷ codes "--rows" ∷ codes "3" ∷ codes "--report" ∷ []) ≡ Some all_options
   pub turned : given_by
-      (codes "--report" ∷ codes "--guess" ∷ codes "linear" ∷ codes "--window" ∷ codes "00" ∷ codes "--workers" ∷ codes "04" ∷ []) ≡ Some all_options
+      (codes "--rows" ∷ codes "3" ∷ codes "--instances" ∷ codes "02" ∷ codes "--seed" ∷ codes "7" ∷ codes "--report" ∷ codes "--guess" ∷ codes "linear"
+      ∷ codes "--window" ∷ codes "00" ∷ codes "--workers" ∷ codes "04" ∷ []) ≡ Some all_options
   pub one : given_by (codes "--guess" ∷ codes "hold" ∷ []) ≡ Some (record no_options { guess = Some Hold })
   pub number_twice : given_by (codes "--window" ∷ codes "4" ∷ codes "--window" ∷ codes "4" ∷ []) ≡ None
   pub policy_twice : given_by (codes "--guess" ∷ codes "hold" ∷ codes "--guess" ∷ codes "hold" ∷ []) ≡ None
@@ -35,11 +37,36 @@ pub record OptionsAreWorked : Type 0 where
   pub joined : given_by (codes "--workers=4" ∷ []) ≡ None
   pub other_option : given_by (codes "--help" ∷ []) ≡ None
 
--- One word is of each command, and other words are of none.
+-- What `gen` and `bench` are given in this order.
+abbrev asking : List ℕ → List ℕ → List ℕ → List (List ℕ)
+asking seed instances rows = codes "--seed" ∷ seed ∷ codes "--instances" ∷ instances ∷ codes "--rows" ∷ rows ∷ []
+
+-- Each command has its word, with the options that it takes, and other words are of none.
 pub record CommandsAreWorked : Type 0 where
   pub run : command_of (codes "run" ∷ []) ≡ Some Run
   pub check : command_of (codes "check" ∷ []) ≡ Some Check
   pub print : command_of (codes "print" ∷ []) ≡ Some Print
+  pub replay : command_of (codes "replay" ∷ codes "--workers" ∷ codes "0" ∷ codes "--seed" ∷ codes "9999999999999999999" ∷ [])
+      ≡ Some (Replay (record { seed = 9999999999999999999; workers = 0 }))
+  pub all_workers : command_of (codes "replay" ∷ codes "--seed" ∷ codes "1" ∷ codes "--workers" ∷ codes "16" ∷ [])
+      ≡ Some (Replay (record { seed = 1; workers = 16 }))
+  pub many_workers : command_of (codes "replay" ∷ codes "--seed" ∷ codes "1" ∷ codes "--workers" ∷ codes "17" ∷ []) ≡ None
+  pub replay_alone : command_of (codes "replay" ∷ []) ≡ None
+  pub no_workers : command_of (codes "replay" ∷ codes "--seed" ∷ codes "1" ∷ []) ≡ None
+  pub window_of_none : command_of (codes "replay" ∷ codes "--seed" ∷ codes "1" ∷ codes "--workers" ∷ codes "1" ∷ codes "--window" ∷ codes "4" ∷ []) ≡ None
+  pub gen : command_of (codes "gen" ∷ asking (codes "0") (codes "2") (codes "3")) ≡ Some (Gen (record { seed = 0; instances = 2; rows = 3 }))
+  pub least : command_of (codes "bench" ∷ asking (codes "0") (codes "1") (codes "1")) ≡ Some (Bench (record { seed = 0; instances = 1; rows = 1 }))
+  pub most : command_of (codes "bench" ∷ asking (codes "9999999999999999999") (codes "64") (codes "15625"))
+      ≡ Some (Bench (record { seed = 9999999999999999999; instances = 64; rows = 15625 }))
+  pub most_rows : command_of (codes "gen" ∷ asking (codes "1") (codes "10") (codes "100000"))
+      ≡ Some (Gen (record { seed = 1; instances = 10; rows = 100000 }))
+  pub no_instance : command_of (codes "gen" ∷ asking (codes "0") (codes "0") (codes "3")) ≡ None
+  pub many_instances : command_of (codes "gen" ∷ asking (codes "0") (codes "65") (codes "3")) ≡ None
+  pub no_row : command_of (codes "gen" ∷ asking (codes "0") (codes "2") (codes "0")) ≡ None
+  pub many_rows : command_of (codes "gen" ∷ asking (codes "0") (codes "1") (codes "100001")) ≡ None
+  pub many_steps : command_of (codes "bench" ∷ asking (codes "0") (codes "64") (codes "15626")) ≡ None
+  pub no_seed : command_of (codes "gen" ∷ codes "--instances" ∷ codes "2" ∷ codes "--rows" ∷ codes "3" ∷ []) ≡ None
+  pub reported : command_of (codes "bench" ∷ codes "--report" ∷ asking (codes "0") (codes "2") (codes "3")) ≡ None
   pub no_word : command_of [] ≡ None
   pub empty : command_of ([] ∷ []) ≡ None
   pub other_case : command_of (codes "Run" ∷ []) ≡ None

@@ -7,7 +7,7 @@ ghost use Rattle.cosim_app.specs.Laws.{AnswersAgree, EndsAreServed, EveryCallIsA
 ghost use Rattle.cosim_app.specs.Words.{bytes_of};
 
 use crate::command_words::{Command, command_of};
-use crate::commands::{check, print, run};
+use crate::commands::{bench, check, generate, print, replay, run};
 use cosim_call::{Served, Status, Stopped, finish, put_made, read_input, tell};
 use cosim_io::{Sink, Source};
 use std::alloc::Global;
@@ -28,6 +28,9 @@ fn serve<O: Sink>(
         Command::Run => run::serve(alloc, text, out),
         Command::Check => put_made(alloc, check::make(alloc, text), out),
         Command::Print => put_made(alloc, print::make(alloc, text), out),
+        Command::Replay(asked) => replay::serve(alloc, *asked, text, out),
+        Command::Gen(asked) => put_made(alloc, generate::make(alloc, asked), out),
+        Command::Bench(asked) => put_made(alloc, bench::make(alloc, asked), out),
     }
 }
 

@@ -1,11 +1,13 @@
 //! The words of the commands.
 ghost use Rattle.std.specs.Prelude.{◌≡◌};
-ghost use Rattle.cosim_app.specs.Commands.{command_of, command_with, input_of, without_options};
+ghost use Rattle.cosim_app.specs.Commands.{KeepsRanges, command_of, command_with, generation_of, input_of, without_options};
 ghost use Rattle.cosim_app.specs.Words.{bytes_of};
 ghost use Rattle.cosim_app.specs.WorkedRows.{MistakesAreWorked, RangesAreWorked, RowsAreWorked};
 ghost use Rattle.cosim_app.specs.WorkedWords.{CommandsAreWorked, NumbersAreWorked, OptionsAreWorked};
 
+use crate::generation::Generation;
 use crate::options::{Given, given_by};
+use crate::replaying::{Replaying, replaying_of};
 use unit_text::LONGEST_TEXT;
 
 /// A command of the program, with its options.
@@ -17,15 +19,30 @@ pub enum Command {
     Check,
     /// Puts the canonical text of the text's system.
     Print,
+    /// Puts the trace of the text's system, by a world whose workers do what a seed draws.
+    Replay(Replaying),
+    /// Puts the canonical text of a generated system.
+    Gen(Generation),
+    /// Runs a generated system, and puts figures of its trace.
+    Bench(Generation),
 }
 
 impl Command {
     /// How many bytes it reads at most; none where it reads nothing.
     pub(crate) fn input(&self) -> Option<usize>
-        ensures { result ≡ input_of self.now }
+        ensures input { result ≡ input_of self.now }
+        ensures ranges { KeepsRanges self.now }
     {
         match self {
-            Command::Run | Command::Check | Command::Print => Some(LONGEST_TEXT),
+            Command::Run | Command::Check | Command::Print | Command::Replay(_) => {
+                Some(LONGEST_TEXT)
+            }
+            Command::Gen(_) => None,
+            Command::Bench(asked) => {
+                // That its numbers are in their ranges is known by the clauses of this call alone.
+                let _ = asked.instances();
+                None
+            }
         }
     }
 }
@@ -38,6 +55,19 @@ pub(crate) fn without_options<T: Copy>(command: T, given: Given) -> Option<T>
     if given.is_none() { Some(command) } else { None }
 }
 
+/// What a command that generates its system asks for, which takes no other options.
+fn generation_of(given: Given) -> Option<Generation>
+    ensures { result ≡ generation_of given }
+{
+    let left = Given {
+        seed: None,
+        instances: None,
+        rows: None,
+        ..given
+    };
+    without_options(Generation::asked(given)?, left)
+}
+
 /// The command of a word with the options that were given: a row for each command, with the options that it takes.
 fn command_with(word: &str, given: Given) -> Option<Command>
     ensures { result ≡ command_with word.now given }
@@ -48,6 +78,12 @@ fn command_with(word: &str, given: Given) -> Option<Command>
         without_options(Command::Check, given)
     } else if word == "print" {
         without_options(Command::Print, given)
+    } else if word == "replay" {
+        Some(Command::Replay(replaying_of(given)?))
+    } else if word == "gen" {
+        Some(Command::Gen(generation_of(given)?))
+    } else if word == "bench" {
+        Some(Command::Bench(generation_of(given)?))
     } else {
         None
     }

@@ -1,8 +1,11 @@
 //! The commands, one a module. A command that makes one piece has a `make`, any other a `serve`.
 ghost use Rattle.cosim_app.specs.Serving.{Accepts};
 
+pub(crate) mod bench;
 pub(crate) mod check;
+pub(crate) mod generate;
 pub(crate) mod print;
+pub(crate) mod replay;
 pub(crate) mod run;
 
 use cosim_call::Stopped;

@@ -4,11 +4,12 @@ ghost use Rattle.cosim_call.specs.Notes.{line_end};
 ghost use Rattle.cosim_app.specs.Answer.{traced_notes};
 ghost use Rattle.cosim_app.specs.SourcePlaces.{instance_shape, source_end, source_place};
 ghost use Rattle.event_runs.specs.Readings.{event_shape, output_read};
-ghost use Rattle.cosim_app.specs.Notes.{fault_number, instance_name, name_in, output_name, place_text, point_text, fault_text, budget_text, lengths_text, step_refused_text, ending_notes};
+ghost use Rattle.cosim_app.specs.Notes.{count_text, counts_text, events_text, tickets_text, fault_number, instance_name, name_in, output_name, place_text, point_text, fault_text, budget_text, lengths_text, step_refused_text, ending_notes};
 
 use cosim_call::append_all;
 use fixed_words::{Fault, List, NoMemory};
 use itoa::Buffer;
+use spec_core::Counts;
 use std::alloc::Global;
 use super_time::seconds_text;
 use trace_core::Plan;
@@ -166,6 +167,46 @@ fn refused_step_note(
     put_lengths(&mut note, asked, accepted)?;
     append_all(&mut note, &[b", at "])?;
     end_at(&mut note, resolution, point)?;
+    Ok(note)
+}
+
+/// Adds a count with its name.
+fn put_count(note: &mut Vec<u8>, name: &[u8], count: u64) -> Result<(), NoMemory>
+    ensures { OnOk result (note.new.items ≡ note.old.items ++ count_text name.now count) }
+{
+    let mut digits = Buffer::new();
+    append_all(note, &[b" ", name, b" ", digits.format(count).as_bytes()])
+}
+
+/// Adds what came of the events of a replay.
+fn put_events(note: &mut Vec<u8>, counts: Counts) -> Result<(), NoMemory>
+    ensures { OnOk result (note.new.items ≡ note.old.items ++ events_text counts) }
+{
+    put_count(note, b"events", counts.events)?;
+    put_count(note, b"refused", counts.refused)?;
+    put_count(note, b"found", counts.found)?;
+    put_count(note, b"own", counts.own)
+}
+
+/// Adds what became of its tickets.
+fn put_tickets(note: &mut Vec<u8>, counts: Counts) -> Result<(), NoMemory>
+    ensures { OnOk result (note.new.items ≡ note.old.items ++ tickets_text counts) }
+{
+    put_count(note, b"tickets", counts.tickets)?;
+    put_count(note, b"posted", counts.posted)?;
+    put_count(note, b"back", counts.back)?;
+    put_count(note, b"lapsed", counts.lapsed)?;
+    put_count(note, b"appended", counts.appended)
+}
+
+/// The counts of a replay.
+pub(crate) fn counts(alloc: Global, counts: Counts) -> Result<Vec<u8>, NoMemory>
+    ensures { IfOk result (λ note. note.items ≡ counts_text counts) }
+{
+    let mut note = Vec::from_slice(alloc, b"cosim:")?;
+    put_events(&mut note, counts)?;
+    put_tickets(&mut note, counts)?;
+    append_all(&mut note, &[b"\n"])?;
     Ok(note)
 }
 

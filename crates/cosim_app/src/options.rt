@@ -23,6 +23,12 @@ pub enum CommandOption {
     Window(u64),
     /// `--guess hold` or `--guess linear`
     Guess(Policy),
+    /// `--seed N`
+    Seed(u64),
+    /// `--instances N`
+    Instances(u64),
+    /// `--rows N`
+    Rows(u64),
     /// `--report`
     Report,
 }
@@ -33,6 +39,9 @@ pub struct Given {
     pub workers: Option<u64>,
     pub window: Option<u64>,
     pub guess: Option<Policy>,
+    pub seed: Option<u64>,
+    pub instances: Option<u64>,
+    pub rows: Option<u64>,
     pub report: bool,
 }
 
@@ -42,6 +51,9 @@ impl Given {
         workers: None,
         window: None,
         guess: None,
+        seed: None,
+        instances: None,
+        rows: None,
         report: false,
     };
 
@@ -49,7 +61,13 @@ impl Given {
     pub(crate) fn is_none(self) -> bool
         ensures { result ≡ is_given_none self }
     {
-        self.workers.is_none() && self.window.is_none() && self.guess.is_none() && !self.report
+        self.workers.is_none()
+            && self.window.is_none()
+            && self.guess.is_none()
+            && self.seed.is_none()
+            && self.instances.is_none()
+            && self.rows.is_none()
+            && !self.report
     }
 
     /// With one option more; none where one of its kind was given before.
@@ -67,6 +85,18 @@ impl Given {
             }),
             CommandOption::Guess(policy) => self.guess.is_none().then_some(Given {
                 guess: Some(policy),
+                ..self
+            }),
+            CommandOption::Seed(number) => self.seed.is_none().then_some(Given {
+                seed: Some(number),
+                ..self
+            }),
+            CommandOption::Instances(number) => self.instances.is_none().then_some(Given {
+                instances: Some(number),
+                ..self
+            }),
+            CommandOption::Rows(number) => self.rows.is_none().then_some(Given {
+                rows: Some(number),
                 ..self
             }),
             CommandOption::Report => (!self.report).then_some(Given {
@@ -139,6 +169,12 @@ fn option_of(flag: &str, word: &str) -> Option<CommandOption>
         Some(CommandOption::Window(number(word.as_bytes())?))
     } else if flag == "--guess" {
         Some(CommandOption::Guess(policy_named(word)?))
+    } else if flag == "--seed" {
+        Some(CommandOption::Seed(number(word.as_bytes())?))
+    } else if flag == "--instances" {
+        Some(CommandOption::Instances(number(word.as_bytes())?))
+    } else if flag == "--rows" {
+        Some(CommandOption::Rows(number(word.as_bytes())?))
     } else {
         None
     }

@@ -28,7 +28,11 @@ pub(crate) fn plan_of(alloc: Global, text: &[u8]) -> Result<Arc<Plan>, Stopped>
 }
 
 /// Runs a plan in the calling thread, so that all cells of its report are its own and there are no tickets.
-fn run_plan<O: Sink>(alloc: Global, plan: &Arc<Plan>, out: &mut O) -> Result<Report, Stopped>
+pub(crate) fn run_plan<O: Sink>(
+    alloc: Global,
+    plan: &Arc<Plan>,
+    out: &mut O,
+) -> Result<Report, Stopped>
     ensures runs { Runs plan.now.value.system (stream (O.held out.old) (O.faults out.old)) (stream (O.held out.new) (O.faults out.new)) result }
     ensures alone { IfOk result IsAlone }
 {
@@ -40,7 +44,7 @@ fn run_plan<O: Sink>(alloc: Global, plan: &Arc<Plan>, out: &mut O) -> Result<Rep
 }
 
 /// The status of how a run ended.
-fn status(ending: Ending) -> Status
+pub(crate) fn status(ending: Ending) -> Status
     ensures { result ≡ status_of ending }
 {
     match ending {

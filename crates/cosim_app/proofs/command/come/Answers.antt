@@ -15,9 +15,9 @@ returns g c =
     let out = stream (g.O.Sink.held c.args.out.now) (g.O.Sink.faults c.args.out.now) in
     let out' = stream (g.O.Sink.held c.serve.new.out) (g.O.Sink.faults c.serve.new.out) in
     comes_whole (input_of c.args.command.now) (Answers c.args.command.now) source source' out out'
-    c.in_ok-text.text c.serve.result (is_answered c.args.command.now)
-    (subst (λ (input : Option ℕ). ReadsInput input source source' (Ok c.in_ok-text.text)) c.input.ensures c.in_ok-text.ensures.reads)
-    (subst (λ (input : Option ℕ). TakesAtMost input source source') c.input.ensures c.in_ok-text.ensures.taken)
+    c.in_ok-text.text c.serve.result (is_answered c.args.command.now c.input.ensures.ranges)
+    (subst (λ (input : Option ℕ). ReadsInput input source source' (Ok c.in_ok-text.text)) c.input.ensures.input c.in_ok-text.ensures.reads)
+    (subst (λ (input : Option ℕ). TakesAtMost input source source') c.input.ensures.input c.in_ok-text.ensures.taken)
     (subst (λ (text : List ℕ). Serves (Answers c.args.command.now text) out out' c.serve.result) c.deref.ensures.value c.serve.ensures)
 
 pub returns-in_err-text : goal.returns-in_err-text
@@ -27,6 +27,7 @@ returns-in_err-text g c =
     let out = stream (g.O.Sink.held c.args.out.now) (g.O.Sink.faults c.args.out.now) in
     handed_on (Comes (input_of c.args.command.now) (Answers c.args.command.now) source source' out out) c.from_residual.result c.in_err-text.field-0.0
     c.from_residual.ensures.1
-    (comes_unread (input_of c.args.command.now) (Answers c.args.command.now) source source' out c.in_err-text.field-0.0 (is_answered c.args.command.now)
-    (subst (λ (input : Option ℕ). ReadsInput input source source' (Err c.in_err-text.field-0.0)) c.input.ensures c.in_err-text.ensures.reads)
-    (subst (λ (input : Option ℕ). TakesAtMost input source source') c.input.ensures c.in_err-text.ensures.taken))
+    (comes_unread (input_of c.args.command.now) (Answers c.args.command.now) source source' out c.in_err-text.field-0.0
+    (is_answered c.args.command.now c.input.ensures.ranges)
+    (subst (λ (input : Option ℕ). ReadsInput input source source' (Err c.in_err-text.field-0.0)) c.input.ensures.input c.in_err-text.ensures.reads)
+    (subst (λ (input : Option ℕ). TakesAtMost input source source') c.input.ensures.input c.in_err-text.ensures.taken))

@@ -24,5 +24,30 @@ returns-clause-options c = record {
 
 pub returns-clause-commands : goal.returns-clause-commands
 unfolding given_of option_of
-returns-clause-commands c =
-    record { run = refl; check = refl; print = refl; no_word = refl; empty = refl; other_case = refl; two_commands = refl; option_of_none = refl }
+returns-clause-commands c = record {
+  run = refl;
+  check = refl;
+  print = refl;
+  replay = refl;
+  all_workers = refl;
+  many_workers = refl;
+  replay_alone = refl;
+  no_workers = refl;
+  window_of_none = refl;
+  gen = refl;
+  least = refl;
+  most = refl;
+  most_rows = refl;
+  no_instance = refl;
+  many_instances = refl;
+  no_row = refl;
+  many_rows = refl;
+  many_steps = refl;
+  no_seed = refl;
+  reported = refl;
+  no_word = refl;
+  empty = refl;
+  other_case = refl;
+  two_commands = refl;
+  option_of_none = refl;
+}

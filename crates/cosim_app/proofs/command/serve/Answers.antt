@@ -1,0 +1,24 @@
+use Rattle.std.proofs.Common.{sym, subst}
+use Rattle.cosim_call.specs.Calls.{stream}
+use Rattle.cosim_call.specs.Coming.{Serves}
+use Rattle.cosim_call.proofs.ComingLaws.{serves_made}
+use Rattle.cosim_app.specs.Answer.{Answers}
+use Rattle.cosim_app.specs.declared.command_words.Command.{Command}
+use Rattle.cosim_app.specs.declared.command_words.Command.TheVariants.{Gen, Bench}
+use Rattle.cosim_app.proofs.command.serve.Goals as goal
+
+pub returns-in-Gen : goal.returns-in-Gen
+returns-in-Gen g c =
+    let out = stream (g.O.Sink.held c.args.out.now) (g.O.Sink.faults c.args.out.now) in
+    let out' = stream (g.O.Sink.held c.put_made-in-Gen.new.out) (g.O.Sink.faults c.put_made-in-Gen.new.out) in
+    subst (λ (command : Command). Serves (Answers command c.args.text.now) out out' c.put_made-in-Gen.result) (sym c.in-Gen.is)
+    (serves_made (Answers (Gen c.in-Gen.asked) c.args.text.now) out out' c.make-in-Gen.result c.put_made-in-Gen.result
+    (c.make-in-Gen.ensures c.args.text.now) c.put_made-in-Gen.ensures)
+
+pub returns-in-Bench : goal.returns-in-Bench
+returns-in-Bench g c =
+    let out = stream (g.O.Sink.held c.args.out.now) (g.O.Sink.faults c.args.out.now) in
+    let out' = stream (g.O.Sink.held c.put_made-in-Bench.new.out) (g.O.Sink.faults c.put_made-in-Bench.new.out) in
+    subst (λ (command : Command). Serves (Answers command c.args.text.now) out out' c.put_made-in-Bench.result) (sym c.in-Bench.is)
+    (serves_made (Answers (Bench c.in-Bench.asked) c.args.text.now) out out' c.make-in-Bench.result c.put_made-in-Bench.result
+    (c.make-in-Bench.ensures c.args.text.now) c.put_made-in-Bench.ensures)
