@@ -2,39 +2,21 @@
 use Rattle.std.proofs.Common.{◌≡◌, ◌≢◌, ◌∙◌, ℕ, zero, suc, ◌+◌, ◌==◌, ◌<◌, ◌≤◌, Bool, true, false, List}
 use Rattle.std.proofs.Common.{[], ◌∷◌, length, Some, refl, sym, ap, subst, arith, inl, inr}
 use Rattle.std.proofs.lemmas.Bool.{eqb-true, eqb-false}
-use Rattle.std.proofs.lemmas.List.{length-map}
 use Rattle.std.proofs.lemmas.Option.{same_Some, slice_get_within}
 use Rattle.std.specs.Prelude.{slice_get}
 use Rattle.spec_core.specs.Events.{Happens, IsRefused}
 use Rattle.spec_core.specs.Worlds.{IsWorld, WorldState}
 use Rattle.spec_core.specs.declared.event.Event.{Event}
 use Rattle.spec_core.specs.declared.event.Reply.TheVariants as reply
-use Rattle.trace_core.specs.Runs.{AreCellsFull, Cell, Empty, Filled, FitCells, Held, IsPhase, IsWanted, RunState, Stands, is_empty_cell, is_held_cell}
+use Rattle.trace_core.specs.Runs.{AreCellsFull, Cell, Empty, IsWanted, RunState, Stands, is_empty_cell}
 use Rattle.trace_core.specs.Settling.{Settled}
-use Rattle.trace_core.specs.declared.phase.Phase.{Phase}
 use Rattle.trace_core.specs.declared.phase.Settle.{Settle}
 use Rattle.trace_core.specs.declared.phase.Settle.TheVariants as settle
-use Rattle.trace_core.specs.declared.phase.Phase.TheVariants.{Trial, Redo, Ended}
-use Rattle.unit_tree.specs.Compositions.{Composition, Member}
-use Rattle.unit_tree.specs.Negotiation.{is_held}
-use Rattle.unit_tree.specs.Trace.{Stand}
+use Rattle.trace_core.specs.declared.phase.Phase.TheVariants.{Redo, Ended}
+use Rattle.trace_rows.proofs.Filling.{few_cells, full_cell}
 
 pub never : false ≡ true → ⊥
 never is = cc
-
-pub cells_fit_long : (run : Composition) (t h : ℕ) (cells : List Cell) → FitCells run t h cells → length cells ≤ length run.members
-cells_fit_long run t h cells fit =
-    let long : length cells ≡ length run.members =
-    sym (length-map cells is_held_cell) ∙ ap length fit ∙ length-map run.members (λ (member : Member). is_held member.factor t h) in
-    omega (arith, long)
-
-cells_long : (run : Composition) (stand : Stand) (phase : Phase) (cells : List Cell) → IsPhase run stand phase cells → length cells ≤ length run.members
-cells_long run stand (Trial h) cells is = cells_fit_long run stand.at.point.t h cells is.cells_fit
-cells_long run stand (Redo h) cells is = cells_fit_long run stand.at.point.t h cells is.cells_fit
-cells_long run stand (Ended ending) cells is = let none = ap length is.none in omega (arith, none)
-
-pub few_cells : (r : RunState) → Stands r → length r.cells ≤ length r.plan.run.members
-few_cells r stands = cells_long r.plan.run r.stand r.phase r.cells stands.phase_is
 
 -- An instance of which a step is wanted is there.
 pub wanted_within : (r : RunState) (instance : ℕ) → Stands r → IsWanted r instance → instance < length r.plan.run.members
@@ -83,11 +65,6 @@ empty_one (cell ∷ cells) (suc instance) at full = empty_one cells instance at 
 
 pub not_full : (r : RunState) (instance : ℕ) → IsWanted r instance → AreCellsFull r.cells → ⊥
 not_full r instance wanted full = empty_one r.cells instance wanted full
-
-full_cell : (cell : Cell) → (Some cell ≡ Some Empty → ⊥) → is_empty_cell cell ≡ false
-full_cell Held not = refl
-full_cell Empty not = absurd (not refl)
-full_cell (Filled step) not = refl
 
 all_cells : (cells : List Cell) → ((instance : ℕ) → slice_get cells instance ≡ Some Empty → ⊥) → AreCellsFull cells
 all_cells [] none = tt

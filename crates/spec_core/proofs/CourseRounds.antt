@@ -11,7 +11,7 @@ use Rattle.spec_core.specs.declared.event.Event.TheVariants as event
 use Rattle.spec_core.specs.declared.event.Reply.TheVariants as reply
 use Rattle.spec_core.specs.declared.replies.Replies.{Replies}
 use Rattle.spec_core.specs.declared.rounds.Course.{Course}
-use Rattle.spec_core.proofs.ActLaws.{few_cells}
+use Rattle.trace_rows.proofs.Filling.{few_cells}
 use Rattle.spec_core.proofs.DoneLaws.{counted_more, done, draws_on, drawn_are, length-drawn_from, length-publishes, replies_append}
 use Rattle.spec_core.proofs.FillingLaws.{all_leave, drawn_leave, leaves_run, publishes_leave, served_there}
 use Rattle.spec_core.proofs.ServeLaws.{settled_so}

@@ -24,7 +24,8 @@ use Rattle.spec_core.specs.declared.event.Event.{Event}
 use Rattle.spec_core.specs.declared.event.Event.TheVariants as event
 use Rattle.spec_core.specs.declared.event.Reply.{Reply}
 use Rattle.spec_core.specs.declared.event.Reply.TheVariants as reply
-use Rattle.spec_core.proofs.ActLaws.{cells_fit_long, refused_so}
+use Rattle.spec_core.proofs.ActLaws.{refused_so}
+use Rattle.trace_rows.proofs.Filling.{fit_long}
 use Rattle.spec_core.proofs.AnswerLaws.{posted_goes_on}
 use Rattle.spec_core.proofs.HappenLaws.{IsOrdered, code_for}
 use Rattle.super_time.specs.LocalTime.{local_step, local_time}
@@ -94,8 +95,8 @@ refuses : (world : WorldState) (what : Event) → IsRefused world what → HasRe
 refuses world what is = (reply.Refused, world, refused_so world what is)
 
 pub cells_few : (run : Composition) (t : ℕ) (phase : Phase) (cells : List Cell) → FitPhase run t phase cells → length cells ≤ length run.members
-cells_few run t (Trial h) cells fit = cells_fit_long run t h cells fit
-cells_few run t (Redo h) cells fit = cells_fit_long run t h cells fit
+cells_few run t (Trial h) cells fit = omega (arith, fit_long run t h cells fit)
+cells_few run t (Redo h) cells fit = omega (arith, fit_long run t h cells fit)
 cells_few run t (Ended ending) cells none = let long = ap length none in omega (arith, long)
 
 inputs_many : (r : RunState) → length (all_inputs r.plan.run r.stand.ports) ≡ length r.plan.run.members

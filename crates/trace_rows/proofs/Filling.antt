@@ -23,7 +23,7 @@ use Rattle.unit_tree.specs.Trace.{Stand}
 
 -- ---- How many cells there are
 
-fit_long : (run : Composition) (t h : ℕ) (cells : List Cell) → FitCells run t h cells → length cells ≡ length run.members
+pub fit_long : (run : Composition) (t h : ℕ) (cells : List Cell) → FitCells run t h cells → length cells ≡ length run.members
 fit_long run t h cells fit = sym (length-map cells is_held_cell) ∙ ap length fit ∙ length-map run.members (λ (member : Member). is_held member.factor t h)
 
 cells_long : (run : Composition) (stand : Stand) (phase : Phase) (cells : List Cell) → IsPhase run stand phase cells → is_ended phase ≡ false
@@ -34,6 +34,21 @@ cells_long run stand (Ended ending) cells is going = absurd (cc)
 
 pub one_for_each : (r : RunState) → Stands r → is_ended r.phase ≡ false → length r.cells ≡ length r.plan.run.members
 one_for_each r stands going = cells_long r.plan.run r.stand r.phase r.cells stands.phase_is going
+
+cells_within : (run : Composition) (stand : Stand) (phase : Phase) (cells : List Cell) → IsPhase run stand phase cells
+    → length cells ≤ length run.members
+cells_within run stand (Trial h) cells is = omega (arith, fit_long run stand.at.point.t h cells is.cells_fit)
+cells_within run stand (Redo h) cells is = omega (arith, fit_long run stand.at.point.t h cells is.cells_fit)
+cells_within run stand (Ended ending) cells is = omega (arith, ap length is.none)
+
+pub few_cells : (r : RunState) → Stands r → length r.cells ≤ length r.plan.run.members
+few_cells r stands = cells_within r.plan.run r.stand r.phase r.cells stands.phase_is
+
+-- One whose step isn't wanted is full.
+pub full_cell : (cell : Cell) → (Some cell ≡ Some Empty → ⊥) → is_empty_cell cell ≡ false
+full_cell Held not = refl
+full_cell Empty not = absurd (not refl)
+full_cell (Filled step) not = refl
 
 -- ---- One step
 
