@@ -1,0 +1,250 @@
+//! The coordinator: it drives the run, and takes from the lanes what workers have answered.
+ghost use Rattle.std.specs.Prelude.{◌≡◌, ◌+◌, ◌≤◌, ◌<◌, length, true, false};
+ghost use Rattle.std.specs.Arc.{arc_value};
+ghost use Rattle.trace_core.specs.Runs.{IsWanted, is_ended};
+ghost use Rattle.trace_rows.specs.Passing.{AreStepsThere, IsFilled};
+
+use crate::desk::Desk;
+use crate::gate::Gate;
+use crate::patience::Patience;
+use fixed_words::NoMemory;
+use front_cell::{FrontCell, Writer};
+use guess_board::{Lane, Policy};
+use spec_core::{outlook, publish_from};
+use std::alloc::Global;
+use std::sync::{Arc, Mutex, Wait};
+use trace_core::{Plan, Run, Settle};
+use trace_rows::Drive;
+
+/// After so many looks a step that nobody has answered is made in any case.
+const MOST_TURNS: u64 = 20_000_000;
+
+/// How lines are guessed: for so many rows, and by which policy.
+#[derive(Clone, Copy)]
+pub(crate) struct Guessing {
+    pub(crate) window: u32,
+    pub(crate) policy: Policy,
+    ghost few: { window ≤ 16 },
+}
+
+/// A run whose steps are found in lanes, or made where nobody has answered them, with the front that tells the workers of it.
+#[derive(Drop)]
+pub(crate) struct Coordinator<'a, R, G> {
+    pub(crate) rt: R,
+    pub(crate) alloc: Global,
+    pub(crate) plan: Arc<Plan>,
+    pub(crate) run: Run,
+    pub(crate) desk: Arc<Desk>,
+    pub(crate) front: Arc<FrontCell>,
+    pub(crate) writer: Writer,
+    pub(crate) guessing: Guessing,
+    /// By instance.
+    pub(crate) patience: Vec<Patience>,
+    pub(crate) gate: &'a G,
+    ghost planned: { run.plan ≡ plan.value },
+    ghost same_cell: { writer.cell ≡ arc_value front },
+    ghost still_open: { writer.front.closed ≡ false },
+    ghost not_ahead: { writer.front.rows ≤ run.stand.at.number + 1 },
+}
+
+/// Takes what is found in a lane for the step that is wanted of an instance, and tells whether there was something.
+fn take_found<R: Wait>(rt: &R, lane: &Mutex<Lane>, run: &mut Run, instance: u32) -> bool
+    ensures taken { result ≡ true → IsFilled run.old instance run.new }
+    ensures kept { result ≡ false → run.new ≡ run.old }
+{
+    let Some(want) = run.wants(instance) else {
+        return false;
+    };
+    let lane = lane.lock(rt);
+    match lane.find(want) {
+        Some(one) => run.accept(instance, one),
+        None => false,
+    }
+}
+
+/// Looks in a lane for the step that is wanted of an instance, as often as the gate lets, and tells whether it was found.
+fn look<R: Wait, G: Gate>(
+    rt: &R,
+    gate: &G,
+    lane: &Mutex<Lane>,
+    run: &mut Run,
+    instance: u32,
+) -> bool
+    ensures taken { result ≡ true → IsFilled run.old instance run.new }
+    ensures kept { result ≡ false → run.new ≡ run.old }
+{
+    let row = run.number();
+    for turn in 0..MOST_TURNS {
+        if take_found(rt, lane, run, instance) {
+            return true;
+        }
+        if !gate.again(row, instance, turn) {
+            return false;
+        }
+    }
+    take_found(rt, lane, run, instance)
+}
+
+/// Looks in the lane of an instance, if it was published, and has it remembered whether there was something.
+fn look_again<R: Wait, G: Gate>(
+    rt: &R,
+    gate: &G,
+    desk: &Desk,
+    patience: &mut [Patience],
+    run: &mut Run,
+    instance: u32,
+) -> bool
+    ensures taken { result ≡ true → IsFilled run.old instance run.new }
+    ensures kept { result ≡ false → run.new ≡ run.old }
+{
+    let Some(lane) = desk.lane(instance) else {
+        return false;
+    };
+    let Some(patience) = patience.get_mut(instance as usize) else {
+        return false;
+    };
+    if patience.rests() {
+        return false;
+    }
+    let found = look(rt, gate, lane, run, instance);
+    patience.tell(found);
+    found
+}
+
+/// Fills the cell of an instance: with what is found in its lane, or by an own step.
+fn fill<R: Wait, G: Gate>(
+    rt: &R,
+    gate: &G,
+    desk: &Desk,
+    patience: &mut [Patience],
+    run: &mut Run,
+    instance: u32,
+)
+    requires wanted { IsWanted run.old instance }
+    ensures { IsFilled run.old instance run.new }
+{
+    if !look_again(rt, gate, desk, patience, run, instance) {
+        run.compute(instance);
+    }
+}
+
+/// Fills all cells that are empty, one instance after the other.
+fn fill_all<R: Wait, G: Gate>(
+    rt: &R,
+    gate: &G,
+    desk: &Desk,
+    patience: &mut [Patience],
+    run: &mut Run,
+    instances: u32,
+)
+    requires { instances ≡ length run.old.cells }
+    ensures { AreStepsThere run.old run.new }
+{
+    for instance in 0..instances {
+        if run.is_wanted(instance) {
+            fill(rt, gate, desk, patience, run, instance);
+        }
+    }
+}
+
+/// Publishes the lane of an instance with what is guessed where the run stands, if it is one of that instance's image. Where that is
+/// refused the workers have less to do ahead, and nothing else follows.
+fn publish<R: Wait>(
+    rt: &R,
+    alloc: Global,
+    plan: &Plan,
+    run: &Run,
+    guessing: Guessing,
+    lane: &Mutex<Lane>,
+    instance: u32,
+)
+    requires own { run.now.plan ≡ plan.now }
+    requires there { instance < length run.now.plan.run.members }
+    requires going { is_ended run.now.phase ≡ false }
+{
+    let seen = outlook(plan, run, instance);
+    let state = run.state(instance);
+    let mut lane = lane.lock(rt);
+    let (states, inputs) = (lane.image().states(), lane.image().inputs());
+    if state.len() == states as usize && seen.last.len() == inputs as usize {
+        let _ = publish_from(
+            alloc,
+            guessing.policy,
+            guessing.window,
+            seen,
+            state,
+            &mut lane,
+        );
+    }
+}
+
+/// Publishes all lanes but those that are left alone for now.
+fn publish_all<R: Wait>(
+    rt: &R,
+    alloc: Global,
+    plan: &Plan,
+    run: &Run,
+    guessing: Guessing,
+    desk: &Desk,
+    patience: &mut [Patience],
+)
+    requires own { run.now.plan ≡ plan.now }
+    requires going { is_ended run.now.phase ≡ false }
+{
+    for instance in 0..plan.instances() {
+        let Some(lane) = desk.lane(instance) else {
+            continue;
+        };
+        let Some(patience) = patience.get_mut(instance as usize) else {
+            continue;
+        };
+        if patience.begin_phase() {
+            publish(rt, alloc, plan, run, guessing, lane, instance);
+        }
+    }
+}
+
+impl<'a, R: Wait + Drop, G: Gate> Coordinator<'a, R, G> {
+    /// Tells the workers that no row will follow.
+    pub(crate) fn close(self) {
+        let mut writer = self.writer;
+        self.front.close(&self.rt, &mut writer);
+    }
+}
+
+impl<'a, R: Wait + Drop, G: Gate> Drive for Coordinator<'a, R, G> {
+    ghost state = { λ coordinator. coordinator.run };
+
+    fn run(&self) -> &Run {
+        &self.run
+    }
+
+    fn make_steps(&mut self) -> Result<(), NoMemory> {
+        // The row where the run stands was put.
+        let rows = self.run.number() + 1;
+        self.front.advance(&self.rt, &mut self.writer, rows);
+        publish_all(
+            &self.rt,
+            self.alloc,
+            &self.plan,
+            &self.run,
+            self.guessing,
+            &self.desk,
+            &mut self.patience,
+        );
+        let instances = self.plan.instances();
+        fill_all(
+            &self.rt,
+            self.gate,
+            &self.desk,
+            &mut self.patience,
+            &mut self.run,
+            instances,
+        );
+        Ok(())
+    }
+
+    fn settle(&mut self) -> Settle {
+        self.run.settle()
+    }
+}

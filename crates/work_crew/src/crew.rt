@@ -1,0 +1,260 @@
+//! A run with workers.
+ghost use Rattle.std.specs.Prelude.{◌≡◌, ◌≤◌, ◌<◌, IfOk, OnErr};
+ghost use Rattle.std.specs.Arc.{arc_value};
+ghost use Rattle.front_cell.specs.Front.{opening};
+ghost use Rattle.trace_rows.specs.Faults.{TellsFault};
+ghost use Rattle.trace_rows.specs.Reports.{PutsFront, ReportsTrace};
+
+use crate::coordinator::{Coordinator, Guessing};
+use crate::desk::{Desk, TicketSums};
+use crate::gate::Gate;
+use crate::patience::Patience;
+use crate::worker::{Bench, Home, Seat, Tickets, Watch, Worker, Works};
+use cosim_io::Sink;
+use fixed_words::NoMemory;
+use front_cell::{FrontCell, Writer};
+use guess_board::{Policy, Ticket};
+use spec_core::cut_window;
+use std::alloc::Global;
+use std::sync::{Arc, Wait};
+use std::thread;
+use std::thread::{JoinHandle, Threads};
+use ticket_deque::{Hand, Reach, make};
+use trace_core::{Plan, Run};
+use trace_rows::{CrewFault, Report, put_trace};
+
+/// The ends of the workers' deques: the hands, and a first reach of each.
+#[derive(Drop)]
+struct Ends {
+    hands: Vec<Hand<Ticket>>,
+    reaches: Vec<Reach<Ticket>>,
+}
+
+/// A deque for each worker.
+fn make_ends(alloc: Global, workers: u32) -> Result<Ends, NoMemory> {
+    let mut hands = Vec::new(alloc);
+    let mut reaches = Vec::new(alloc);
+    for _ in 0..workers {
+        let (hand, reach) = make(alloc)?;
+        hands.push(hand)?;
+        reaches.push(reach)?;
+    }
+    Ok(Ends { hands, reaches })
+}
+
+/// Appends a reach of its own into the deque of each.
+fn add_reaches(
+    alloc: Global,
+    of: &mut [Reach<Ticket>],
+    reaches: &mut Vec<Reach<Ticket>>,
+) -> Result<(), NoMemory> {
+    for reach in of.iter_mut() {
+        reaches.push(reach.split(alloc)?)?;
+    }
+    Ok(())
+}
+
+/// The reaches of a worker into the hands of the others, in rising order behind its own.
+fn reaches_of(
+    alloc: Global,
+    reaches: &mut [Reach<Ticket>],
+    number: u32,
+) -> Result<Vec<Reach<Ticket>>, NoMemory> {
+    let mut others = Vec::new(alloc);
+    let (before, own) = reaches.split_at_mut((number as usize).min(reaches.len()));
+    if let [_, behind @ ..] = own {
+        add_reaches(alloc, behind, &mut others)?;
+    }
+    add_reaches(alloc, before, &mut others)?;
+    Ok(others)
+}
+
+/// A bench for each instance of a plan.
+fn benches_of(alloc: Global, plan: &Plan) -> Result<Vec<Bench>, NoMemory> {
+    let mut benches = Vec::with_capacity(alloc, plan.instances() as usize)?;
+    for instance in 0..plan.instances() {
+        benches.push(Bench::new(Arc::clone(plan.image(instance))?))?;
+    }
+    Ok(benches)
+}
+
+/// What the threads of a run share.
+#[derive(Drop)]
+struct Shared {
+    desk: Arc<Desk>,
+    front: Arc<FrontCell>,
+}
+
+/// What is shared, with the end of the front that advances it. No row is there yet.
+fn share(alloc: Global, plan: &Plan) -> Result<(Shared, Writer), NoMemory>
+    ensures cell { IfOk result (λ made. made.1.cell ≡ arc_value made.0.front) }
+    ensures front { IfOk result (λ made. made.1.front ≡ opening) }
+{
+    let desk = Desk::open(alloc, plan)?;
+    let (front, writer) = FrontCell::new(alloc)?;
+    let shared = Shared {
+        desk: Arc::new(alloc, desk)?,
+        front: Arc::new(alloc, front)?,
+    };
+    Ok((shared, writer))
+}
+
+/// The workers, before any of them is started.
+fn make_crew<R: Wait>(
+    rt: &R,
+    alloc: Global,
+    plan: &Plan,
+    shared: &Shared,
+    writer: &mut Writer,
+    workers: u32,
+) -> Result<Vec<Worker>, NoMemory>
+    requires own { writer.old.cell ≡ arc_value shared.now.front }
+    ensures same { writer.new ≡ writer.old }
+{
+    let Ends { hands, mut reaches } = make_ends(alloc, workers)?;
+    let mut crew = Vec::with_capacity(alloc, workers as usize)?;
+    for (number, hand) in (0..workers).zip(hands) {
+        let front = Arc::clone(&shared.front)?;
+        let reader = front.split(rt, writer);
+        let seat = Seat {
+            watch: Watch { front, reader },
+            desk: Arc::clone(&shared.desk)?,
+            home: Home { number, workers },
+            alloc,
+        };
+        let others = reaches_of(alloc, &mut reaches, number)?;
+        crew.push(Worker {
+            seat,
+            tickets: Tickets { hand, others },
+            benches: benches_of(alloc, plan)?,
+        })?;
+    }
+    Ok(crew)
+}
+
+/// The patience with each lane, at the beginning of a run.
+fn patience_of(alloc: Global, plan: &Plan) -> Result<Vec<Patience>, NoMemory> {
+    let mut patience = Vec::new(alloc);
+    patience.resize(plan.instances() as usize, Patience::NEW)?;
+    Ok(patience)
+}
+
+/// Starts a thread with a worker's parts, if it can be started.
+fn start_parts<
+    R: Threads + Wait + Copy + Send + 'static,
+    S: Works<T, B> + Send + Drop + 'static,
+    T: Send + Drop + 'static,
+    B: Send + Drop + 'static,
+>(rt: R, seat: S, tickets: T, benches: B) -> Option<JoinHandle<()>> {
+    thread::spawn(&rt, move || seat.work(tickets, benches, &rt)).ok()
+}
+
+/// Starts a worker, if its thread can be started.
+fn start_one<R: Threads + Wait + Copy + Send + 'static>(
+    rt: R,
+    worker: Worker,
+) -> Option<JoinHandle<()>> {
+    let Worker {
+        seat,
+        tickets,
+        benches,
+    } = worker;
+    start_parts(rt, seat, tickets, benches)
+}
+
+/// Workers that were started. It can't be let go, so that nobody returns who hasn't waited for them.
+struct Started {
+    handles: Vec<JoinHandle<()>>,
+}
+
+/// Starts the workers, for whose handles there is room. One that can't be started is not there.
+fn start<R: Threads + Wait + Copy + Send + 'static>(
+    rt: R,
+    crew: Vec<Worker>,
+    room: Vec<JoinHandle<()>>,
+) -> Started {
+    let mut handles = room;
+    for worker in crew {
+        if let Some(handle) = start_one(rt, worker) {
+            let _ = handles.push(handle);
+        }
+    }
+    Started { handles }
+}
+
+/// Waits until all workers have ended.
+fn join_all<R: Threads>(rt: &R, started: Started) {
+    let Started { handles } = started;
+    for handle in handles {
+        handle.join(rt);
+    }
+}
+
+/// A report with what became of the tickets.
+fn with_tickets(report: Report, sums: TicketSums) -> Report
+    ensures { result ≡ record report { tickets = sums.tickets; posted = sums.posted; back = sums.back; lapsed = sums.lapsed } }
+{
+    Report {
+        tickets: sums.tickets,
+        posted: sums.posted,
+        back: sums.back,
+        lapsed: sums.lapsed,
+        ..report
+    }
+}
+
+/// Runs a plan with so many workers, which step instances ahead from inputs that are guessed for so many rows: puts the header and
+/// each row of the trace as one piece, and reports how the trace ended. What is put and how it ends is that of the run without
+/// workers, whatever the workers do and however often the gate lets the run wait for them.
+///
+/// A worker that can't be started, and want of memory of a worker, cost speculation alone. All workers that were started have ended
+/// when the call returns.
+///
+/// [`CrewFault::WriteFault`] where a put failed, and only there; then, or where there is no memory, what was put begins the text
+/// of the trace.
+pub fn run_crew<R: Threads + Wait + Copy + Send + Drop + 'static, O: Sink, G: Gate>(
+    rt: R,
+    alloc: Global,
+    plan: Arc<Plan>,
+    workers: u32,
+    window: u32,
+    policy: Policy,
+    out: &mut O,
+    gate: &G,
+) -> Result<Report, CrewFault>
+    requires workers { workers ≤ 16 }
+    requires window { window ≤ 16 }
+    ensures whole { IfOk result (ReportsTrace plan.value.system (O.held out.old) (O.held out.new)) }
+    ensures front { OnErr result (PutsFront plan.value.system (O.held out.old) (O.held out.new)) }
+    ensures cause { TellsFault (O.faults out.old) (O.faults out.new) result }
+{
+    // All memory but that of the lines is taken before anything is put, and before any worker is started.
+    let run = Run::open(alloc, Arc::clone(&plan)?)?;
+    let (shared, mut writer) = share(alloc, &plan)?;
+    let crew = make_crew(&rt, alloc, &plan, &shared, &mut writer, workers)?;
+    let handles = Vec::with_capacity(alloc, workers as usize)?;
+    let guessing = Guessing {
+        window: cut_window(&plan, window),
+        policy,
+    };
+    let mut coordinator = Coordinator {
+        rt,
+        alloc,
+        plan: Arc::clone(&plan)?,
+        run,
+        desk: Arc::clone(&shared.desk)?,
+        front: Arc::clone(&shared.front)?,
+        writer,
+        guessing,
+        patience: patience_of(alloc, &plan)?,
+        gate,
+    };
+    let started = start(rt, crew, handles);
+    let ended = put_trace(alloc, &plan, &mut coordinator, out);
+    coordinator.close();
+    join_all(&rt, started);
+    Ok(with_tickets(ended?, shared.desk.sums(&rt)))
+}
+
+#[cfg(test)]
+mod tests;

@@ -1,0 +1,15 @@
+/// Who decides whether a run waits for the step of an instance that no worker has answered yet.
+pub trait Gate {
+    /// Whether to look again for the step of an instance at a row, after so many looks before.
+    fn again(&self, row: u64, instance: u32, turn: u64) -> bool;
+}
+
+/// Never waits: what nobody has answered yet is made at once.
+#[derive(Clone, Copy, Debug, PartialEq, Eq)]
+pub struct OpenGate;
+
+impl Gate for OpenGate {
+    fn again(&self, _row: u64, _instance: u32, _turn: u64) -> bool {
+        false
+    }
+}

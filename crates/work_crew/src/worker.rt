@@ -1,0 +1,221 @@
+//! A worker: it takes tickets, steps components ahead from guessed inputs, and posts what they answer.
+ghost use Rattle.std.specs.Prelude.{◌≡◌, true};
+ghost use Rattle.std.specs.Option.{ForSome};
+ghost use Rattle.std.specs.Arc.{arc_value};
+ghost use Rattle.guess_board.specs.Lanes.{FitsImage};
+
+use crate::desk::Desk;
+use crossbeam_utils::Backoff;
+use fixed_words::NoMemory;
+use front_cell::{Front, FrontCell, Reader};
+use guess_board::{Ticket, work_off};
+use std::alloc::Global;
+use std::sync::{Arc, Wait};
+use ticket_deque::{Hand, Reach};
+use unit_answers::Proven;
+use unit_exec::{Image, Unit};
+
+/// A ticket has no more cells.
+const ALL_CELLS: u32 = 16;
+
+/// A worker's view of the front.
+#[derive(Drop)]
+pub(crate) struct Watch {
+    pub(crate) front: Arc<FrontCell>,
+    pub(crate) reader: Reader,
+    ghost same_cell: { reader.cell ≡ arc_value front },
+}
+
+impl Watch {
+    /// How far the run has come.
+    fn look<R: Wait>(&mut self, rt: &R) -> Front {
+        self.front.read(rt, &mut self.reader)
+    }
+}
+
+/// What a worker makes the answers of an instance with: its image, and a unit of the worker's own, where it has answered one.
+#[derive(Drop)]
+pub(crate) struct Bench {
+    image: Arc<Image>,
+    unit: Option<Unit>,
+    ghost own: { ForSome unit (λ made. made.image ≡ image.value) },
+}
+
+impl Bench {
+    /// One without a unit.
+    pub(crate) fn new(image: Arc<Image>) -> Bench {
+        Bench { image, unit: None }
+    }
+
+    /// Appends the answers to a ticket, those to its first cells where there is no memory for all. There are none to a ticket that
+    /// does not fit.
+    fn answer(
+        &mut self,
+        alloc: Global,
+        ticket: &Ticket,
+        answers: &mut Vec<Proven>,
+    ) -> Result<(), NoMemory> {
+        if !fits(&self.image, ticket) {
+            return Ok(());
+        }
+        let mut unit = match self.unit.take() {
+            Some(unit) => unit,
+            None => Unit::new(alloc, Arc::clone(&self.image)?)?,
+        };
+        let answered = work_off(alloc, &mut unit, &self.image, ticket, ALL_CELLS, answers);
+        self.unit = Some(unit);
+        answered
+    }
+}
+
+/// Whether a ticket fits an image: there is a word at its start for each state, and one of each cell for each input.
+fn fits(image: &Image, ticket: &Ticket) -> bool
+    ensures { result ≡ true → FitsImage image.now ticket.now }
+{
+    let [first, ..] = ticket.cells() else {
+        return false;
+    };
+    ticket.start().len() == image.states() as usize
+        && first.inputs.as_slice().len() == image.inputs() as usize
+}
+
+/// The lanes from which a worker takes tickets first: those whose numbers leave its own of the number of workers.
+#[derive(Clone, Copy)]
+pub(crate) struct Home {
+    pub(crate) number: u32,
+    pub(crate) workers: u32,
+}
+
+impl Home {
+    /// Whether the lane of an instance is one of them.
+    fn has(self, instance: u32) -> bool {
+        instance % self.workers.max(1) == self.number
+    }
+}
+
+/// What a worker sees of the run, and the lanes of its own.
+#[derive(Drop)]
+pub(crate) struct Seat {
+    pub(crate) watch: Watch,
+    pub(crate) desk: Arc<Desk>,
+    pub(crate) home: Home,
+    pub(crate) alloc: Global,
+}
+
+/// The tickets that a worker may take: those of its hand, and by reaches those of the others, in rising order behind its own.
+#[derive(Drop)]
+pub(crate) struct Tickets {
+    pub(crate) hand: Hand<Ticket>,
+    pub(crate) others: Vec<Reach<Ticket>>,
+}
+
+impl Tickets {
+    /// The next ticket of the hand, or one of another's.
+    fn next<R: Wait>(&mut self, rt: &R) -> Option<Ticket> {
+        if let Some(ticket) = self.hand.next() {
+            return Some(ticket);
+        }
+        for other in self.others.iter_mut() {
+            if let Some(ticket) = other.steal(rt) {
+                return Some(ticket);
+            }
+        }
+        None
+    }
+
+    /// Gives back what the hand holds.
+    fn give_back<R: Wait>(&mut self, rt: &R, desk: &Desk) {
+        while let Some(ticket) = self.hand.next() {
+            desk.back(rt, ticket);
+        }
+    }
+}
+
+/// What a worker has.
+#[derive(Drop)]
+pub(crate) struct Worker {
+    pub(crate) seat: Seat,
+    pub(crate) tickets: Tickets,
+    /// By instance.
+    pub(crate) benches: Vec<Bench>,
+}
+
+/// What is done in a thread that is given a worker's parts. Who starts it knows of each part by itself that it may go to a thread.
+pub(crate) trait Works<T, B> {
+    /// Does it.
+    fn work<R: Wait>(self, tickets: T, benches: B, rt: &R);
+}
+
+impl Works<Tickets, Vec<Bench>> for Seat {
+    fn work<R: Wait>(self, tickets: Tickets, benches: Vec<Bench>, rt: &R) {
+        let worker = Worker {
+            seat: self,
+            tickets,
+            benches,
+        };
+        worker.work(rt);
+    }
+}
+
+impl Worker {
+    /// Works turn by turn, until the front is closed or there is no memory. Then it gives back all that it holds.
+    fn work<R: Wait>(mut self, rt: &R) {
+        let backoff = Backoff::new();
+        let mut rows = 0;
+        for _ in rt.forever() {
+            let front = self.seat.watch.look(rt);
+            if front.closed {
+                break;
+            }
+            if front.rows > rows {
+                rows = front.rows;
+                backoff.reset();
+            }
+            match self.turn(rt) {
+                Ok(true) => {}
+                Ok(false) => backoff.snooze(),
+                Err(_) => break,
+            }
+        }
+        self.tickets.give_back(rt, &self.seat.desk);
+    }
+
+    /// One turn, and whether it found a ticket.
+    fn turn<R: Wait>(&mut self, rt: &R) -> Result<bool, NoMemory> {
+        self.take_home(rt)?;
+        match self.tickets.next(rt) {
+            Some(ticket) => {
+                self.serve(rt, ticket)?;
+                Ok(true)
+            }
+            None => Ok(false),
+        }
+    }
+
+    /// Takes a ticket of each home lane that gives one. One that its hand has no room for is served at once.
+    fn take_home<R: Wait>(&mut self, rt: &R) -> Result<(), NoMemory> {
+        for instance in 0..self.seat.desk.len() as u32 {
+            if !self.seat.home.has(instance) {
+                continue;
+            }
+            let Ok(Some(ticket)) = self.seat.desk.take(rt, self.seat.alloc, instance) else {
+                continue;
+            };
+            if let Err(ticket) = self.tickets.hand.put(ticket) {
+                self.serve(rt, ticket)?;
+            }
+        }
+        Ok(())
+    }
+
+    /// Answers a ticket, and posts what was answered.
+    fn serve<R: Wait>(&mut self, rt: &R, ticket: Ticket) -> Result<(), NoMemory> {
+        let mut answers = Vec::new(self.seat.alloc);
+        let answered = match self.benches.get_mut(ticket.instance() as usize) {
+            Some(bench) => bench.answer(self.seat.alloc, &ticket, &mut answers),
+            None => Ok(()),
+        };
+        self.seat.desk.post(rt, ticket, answers);
+        answered
+    }
+}
