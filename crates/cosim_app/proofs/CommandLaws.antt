@@ -1,5 +1,5 @@
 -- What each command's answers keep: there is one for each text, and there are no two.
-use Rattle.std.proofs.Common.{◌≡◌, ℕ, ◌<◌, ◌≤◌, ◌⊎◌, List, length, Option, Some, None, refl, sym, ap, subst, ◌∙◌, inl, inr, arith}
+use Rattle.std.proofs.Common.{◌≡◌, ℕ, ◌+◌, ◌<◌, ◌≤◌, ◌⊎◌, Bool, true, false, if◌then◌else◌, List, [], ◌∷◌, ◌++◌, length, Option, Some, None, refl, sym, ap, subst, ◌∙◌, inl, inr, arith}
 use Rattle.std.specs.Prelude.{IfSome}
 use Rattle.std.proofs.lemmas.Option.{same_Some}
 use Rattle.spec_core.proofs.ReplayLaws.{counted_once_lem}
@@ -15,16 +15,21 @@ use Rattle.cosim_call.proofs.ComingLaws.{IsAnswered}
 use Rattle.cosim_call.specs.declared.status.Status.{Status}
 use Rattle.cosim_call.specs.declared.status.Status.TheVariants as status
 use Rattle.cosim_app.specs.Answer.{Answers, AnswersBench, AnswersGen, AnswersOf, AnswersRefusal, OnAccepted, RefusedBy, ServedBy, TellsTrace}
-use Rattle.cosim_app.specs.Answer.{TellsReplay, accepted_text, figures_answer, planned, printed_answer, printed_text, run_answer, with_counts}
+use Rattle.cosim_app.specs.Answer.{CanReport, TellsReplay, TellsReported, accepted_text, figures_answer, planned, printed_answer, printed_text}
+use Rattle.cosim_app.specs.Answer.{report_lines, run_answer, with_counts, with_report}
 use Rattle.cosim_app.specs.Commands.{KeepsRanges, UsageClause, command_of, input_of}
 use Rattle.cosim_app.specs.Generations.{Asked, CanGive, system_asked}
-use Rattle.cosim_app.specs.Laws.{AnswersAgree, EndsAreServed, EveryCallIsAnswered, NoCallIsAnsweredTwice, RefusalsAreOfRules}
+use Rattle.cosim_app.specs.Notes.{report_text}
+use Rattle.cosim_app.specs.Laws.{AnswersAgree, EndsAreServed, EveryCallIsAnswered, IsDetermined, NoCallIsAnsweredTwice, RefusalsAreOfRules, RunsAgree}
 use Rattle.cosim_app.specs.declared.command_words.Command.{Command}
 use Rattle.cosim_app.specs.declared.command_words.Command.TheVariants.{Run, Check, Print, Replay, Gen, Bench}
 use Rattle.cosim_app.proofs.RangeLaws.{ranges_kept}
 use Rattle.cosim_app.proofs.TraceLaws.{IsWhole, is_end, one_outcome, plain_outcome, whole_asked, whole_of}
 use Rattle.cosim_app.proofs.ReplayLaws.{can_replay_of, counts_there}
 use Rattle.cosim_app.specs.declared.replaying.Replaying.{Replaying}
+use Rattle.cosim_app.specs.declared.running.Running.{Running}
+use Rattle.cosim_app.proofs.RunLaws.{alone_can, alone_report}
+use Rattle.trace_rows.specs.declared.report.Report.{Report}
 
 -- ---- What a command supplies
 
@@ -45,8 +50,8 @@ record IsLawful (Refuses : List ℕ → ℕ → ℕ → Type 0) (Serves : List �
   ends : (text : List ℕ) (answer : Answer) → Serves text answer → IsEndOfWork answer.status
 
 -- and a command whose answer is determined, notes and all: there are no two for a text that it serves
-abbrev IsDetermined : (List ℕ → Answer → Type 0) → Type 0
-IsDetermined Serves = (text : List ℕ) (one other : Answer) → Serves text one → Serves text other → one ≡ other
+abbrev HasNoOther : (List ℕ → Answer → Type 0) → Type 0
+HasNoOther Serves = (text : List ℕ) (one other : Answer) → Serves text one → Serves text other → one ≡ other
 
 -- ---- Commands that answer a text that keeps all rules, and refuse any other by these
 
@@ -81,7 +86,7 @@ lawful_on_accepted IsAnswer answers = record {
 
 determined_on_accepted : (IsAnswer : System → Answer → Type 0)
     → ((system : System) → IsWhole system → (one other : Answer) → IsAnswer system one → IsAnswer system other → one ≡ other)
-    → IsDetermined (OnAccepted IsAnswer)
+    → HasNoOther (OnAccepted IsAnswer)
 determined_on_accepted IsAnswer same text one other a b =
     same b.system (whole_of text b.system b.lines b.accepted) one other (on_one_system IsAnswer text one other a b) b.is
 
@@ -93,7 +98,7 @@ lawful_piece piece = lawful_on_accepted (λ system answer. answer ≡ piece_answ
   ends = λ system answer is. subst (λ (a : Answer). IsEndOfWork a.status) (sym is) tt;
 })
 
-determined_piece : (piece : System → List ℕ) → IsDetermined (OnAccepted (λ system answer. answer ≡ piece_answer (piece system)))
+determined_piece : (piece : System → List ℕ) → HasNoOther (OnAccepted (λ system answer. answer ≡ piece_answer (piece system)))
 determined_piece piece = determined_on_accepted (λ system answer. answer ≡ piece_answer (piece system)) (λ system whole one other a b. a ∙ sym b)
 
 -- ---- Commands that read nothing
@@ -114,7 +119,7 @@ lawful_unread IsAnswer one = record {
   ends = λ text answer is. subst (λ (a : Answer). IsEndOfWork a.status) (sym (one.only answer is)) one.ends;
 }
 
-determined_unread : (IsAnswer : Answer → Type 0) → HasOneAnswer IsAnswer → IsDetermined (λ text. IsAnswer)
+determined_unread : (IsAnswer : Answer → Type 0) → HasOneAnswer IsAnswer → HasNoOther (λ text. IsAnswer)
 determined_unread IsAnswer one text a b is also = one.only a is ∙ sym (one.only b also)
 
 gen_answer : (asked : Asked) → HasOneAnswer (AnswersGen asked)
@@ -167,6 +172,90 @@ replays_same asked system whole one other a b =
     ∙ ap (with_counts b.counts) (traces_same system whole a.run b.run a.tells b.tells)
     ∙ sym b.is
 
+-- the rows of two tellings of a system are the same
+rows_same : (system : System) → IsWhole system → (one other : Answer) (a : TellsTrace system one) (b : TellsTrace system other) → a.rows ≡ b.rows
+rows_same system whole one other a b =
+    let outcome = one_outcome system whole in
+    (outcome.is_only a.rows a.last a.ending a.trace).0 ∙ sym (outcome.is_only b.rows b.last b.ending b.trace).0
+
+-- reports of runs without workers have the same line
+lines_alone : (system : System) → IsWhole system → (rows : ℕ) (one other : Report) → CanReport 0 system rows one → CanReport 0 system rows other
+    → report_text one ≡ report_text other
+lines_alone system whole rows one other a b =
+    let cells = (plain_outcome system whole).is_only_count in
+    let counts = cells (one.found + one.own) a.cells ∙ sym (cells (other.found + other.own) b.cells) in
+    let mine = a.alone refl in
+    let yours = b.alone refl in
+    let own : one.own ≡ other.own = omega (arith, counts, mine.found, yours.found) in
+    rw (
+      a.rows_counted,
+      b.rows_counted,
+      mine.found,
+      yours.found,
+      own,
+      mine.tickets,
+      yours.tickets,
+      mine.posted,
+      yours.posted,
+      mine.back,
+      yours.back,
+      mine.lapsed,
+      yours.lapsed,
+    ) refl
+
+-- of runs that are asked for alike, one without workers where it is reported of, the reports add the same
+lines_same : (asked : Running) → (asked.report ≡ true → asked.workers ≡ 0) → (system : System) → IsWhole system → (rows : ℕ) (one other : Report)
+    → CanReport asked.workers system rows one → CanReport asked.workers system rows other → report_lines asked one ≡ report_lines asked other
+lines_same asked settled system whole rows one other a b = by asked.report refl
+  where
+    by : (flag : Bool) → asked.report ≡ flag → (if flag then report_text one ∷ [] else []) ≡ (if flag then report_text other ∷ [] else [])
+    by false is = refl
+    by true is =
+        ap (λ line. line ∷ [])
+        (lines_alone system whole rows one other (subst (λ workers. CanReport workers system rows one) (settled is) a)
+        (subst (λ workers. CanReport workers system rows other) (settled is) b))
+
+-- and so two such runs of a system answer the same
+reported_same : (asked : Running) → (asked.report ≡ true → asked.workers ≡ 0) → (system : System) → IsWhole system → (one other : Answer)
+    → TellsReported asked system one → TellsReported asked system other → one ≡ other
+reported_same asked settled system whole one other a b =
+    let rows = rows_same system whole a.trace b.trace a.tells b.tells in
+    a.is
+    ∙ ap (λ lines. record a.trace { notes = a.trace.notes ++ lines })
+    (lines_same asked settled system whole (length b.tells.rows) a.report b.report
+    (subst (λ rows. CanReport asked.workers system (length rows) a.report) rows a.can) b.can)
+    ∙ ap (with_report asked b.report) (traces_same system whole a.trace b.trace a.tells b.tells)
+    ∙ sym b.is
+
+-- any two runs put the same and have one status
+reported_agree : (asked also : Running) (system : System) → IsWhole system → (one other : Answer) → TellsReported asked system one
+    → TellsReported also system other → Agree one other
+reported_agree asked also system whole one other a b =
+    let same = traces_same system whole a.trace b.trace a.tells b.tells in (
+      ap (λ (x : Answer). x.out) a.is ∙ ap (λ (x : Answer). x.out) same ∙ sym (ap (λ (x : Answer). x.out) b.is),
+      ap (λ (x : Answer). x.status) a.is ∙ ap (λ (x : Answer). x.status) same ∙ sym (ap (λ (x : Answer). x.status) b.is),
+    )
+
+reported_answer : (asked : Running) → AnswersSystems (TellsReported asked)
+reported_answer asked = record {
+  some = λ system whole.
+      let trace = traces_answer.some system whole in
+      let one = plain_outcome system whole in
+      let report = alone_report (length trace.1.rows) one.cells one.ending one.last in (
+        with_report asked report trace.0,
+        record {
+          trace = trace.0;
+          tells = trace.1;
+          report = report;
+          can = alone_can asked.workers system (length trace.1.rows) one.cells one.ending one.last one.has_cells;
+          is = refl;
+        },
+      );
+  agree = λ system whole one other a b. reported_agree asked asked system whole one other a b;
+  ends = λ system answer tells.
+      is_end tells.tells.ending answer.status (ap (λ (a : Answer). a.status) tells.is ∙ ap (λ (a : Answer). a.status) tells.tells.is);
+}
+
 replays_answer : (asked : Replaying) → AnswersSystems (TellsReplay asked)
 replays_answer asked = record {
   some = λ system whole.
@@ -179,20 +268,20 @@ replays_answer asked = record {
 }
 
 lawful : (command : Command) → KeepsRanges command → IsLawful (RefusedBy command) (ServedBy command)
-lawful Run keeps = lawful_on_accepted TellsTrace traces_answer
+lawful (Run asked) keeps = lawful_on_accepted (TellsReported asked) (reported_answer asked)
 lawful Check keeps = lawful_piece (λ system. accepted_text)
 lawful Print keeps = lawful_piece printed_text
 lawful (Replay asked) keeps = lawful_on_accepted (TellsReplay asked) (replays_answer asked)
 lawful (Gen asked) keeps = lawful_unread (AnswersGen asked) (gen_answer asked)
 lawful (Bench asked) keeps = lawful_unread (AnswersBench asked) (bench_answer asked keeps)
 
-determined : (command : Command) → KeepsRanges command → IsDetermined (ServedBy command)
-determined Run keeps = determined_on_accepted TellsTrace traces_same
-determined Check keeps = determined_piece (λ system. accepted_text)
-determined Print keeps = determined_piece printed_text
-determined (Replay asked) keeps = determined_on_accepted (TellsReplay asked) (replays_same asked)
-determined (Gen asked) keeps = determined_unread (AnswersGen asked) (gen_answer asked)
-determined (Bench asked) keeps = determined_unread (AnswersBench asked) (bench_answer asked keeps)
+determined : (command : Command) → KeepsRanges command → IsDetermined (Some command) → HasNoOther (ServedBy command)
+determined (Run asked) keeps settled = determined_on_accepted (TellsReported asked) (reported_same asked settled)
+determined Check keeps settled = determined_piece (λ system. accepted_text)
+determined Print keeps settled = determined_piece printed_text
+determined (Replay asked) keeps settled = determined_on_accepted (TellsReplay asked) (replays_same asked)
+determined (Gen asked) keeps settled = determined_unread (AnswersGen asked) (gen_answer asked)
+determined (Bench asked) keeps settled = determined_unread (AnswersBench asked) (bench_answer asked keeps)
 
 -- an input that is too long breaks the rule of its length
 too_long : (limit : ℕ) (text : List ℕ) → Some text_limit ≡ Some limit → limit < length text → IsRefusedAt text 1 2
@@ -202,7 +291,7 @@ too_long limit text is long = inl (long_refused text (more (same_Some text_limit
     more is size long = omega (arith, is, size, long)
 
 long_by : (command : Command) (limit : ℕ) (text : List ℕ) → input_of command ≡ Some limit → limit < length text → RefusedBy command text 1 2
-long_by Run limit text is long = too_long limit text is long
+long_by (Run asked) limit text is long = too_long limit text is long
 long_by Check limit text is long = too_long limit text is long
 long_by Print limit text is long = too_long limit text is long
 long_by (Replay asked) limit text is long = too_long limit text is long
@@ -212,7 +301,7 @@ long_by (Bench asked) limit text is long = absurd (cc)
 -- a command that reads nothing has the same answers for all inputs
 free_by : (command : Command) → input_of command ≡ None → (one other : List ℕ) (answer : Answer) → Answers command one answer
     → Answers command other answer
-free_by Run is one other answer answers = absurd (cc)
+free_by (Run asked) is one other answer answers = absurd (cc)
 free_by Check is one other answer answers = absurd (cc)
 free_by Print is one other answer answers = absurd (cc)
 free_by (Replay asked) is one other answer answers = absurd (cc)
@@ -248,11 +337,11 @@ module _ (command : Command) (keeps : KeepsRanges command) (text : List ℕ) whe
   never_both : (refused served : Answer) → AnswersRefusal command text refused → ServedBy command text served → ⊥
   never_both refused served a b = (lawful command keeps).not_both text a.line a.rule served a.refused b
 
-  answers_same : (one other : Answer) → Answers command text one → Answers command text other → one ≡ other
-  answers_same one other (inl a) (inl b) = refused_once one other a b
-  answers_same one other (inl a) (inr b) = absurd (never_both one other a b)
-  answers_same one other (inr a) (inl b) = absurd (never_both other one b a)
-  answers_same one other (inr a) (inr b) = determined command keeps text one other a b
+  answers_same : IsDetermined (Some command) → (one other : Answer) → Answers command text one → Answers command text other → one ≡ other
+  answers_same settled one other (inl a) (inl b) = refused_once one other a b
+  answers_same settled one other (inl a) (inr b) = absurd (never_both one other a b)
+  answers_same settled one other (inr a) (inl b) = absurd (never_both other one b a)
+  answers_same settled one other (inr a) (inr b) = determined command keeps settled text one other a b
 
   answers_agree_by : (one other : Answer) → Answers command text one → Answers command text other → Agree one other
   answers_agree_by one other (inl a) (inl b) = agree_as_same one other (refused_once one other a b)
@@ -267,13 +356,23 @@ answered_by None keeps text = (usage_answer, refl)
 pub every_call_is_answered : EveryCallIsAnswered
 every_call_is_answered words text = answered_by (command_of words) (ranges_kept words) text
 
-same_by : (command : Option Command) → IfSome command KeepsRanges → (text : List ℕ) (one other : Answer) → AnswersOf command text one
-    → AnswersOf command text other → one ≡ other
-same_by (Some command) keeps text one other a b = answers_same command keeps text one other a b
-same_by None keeps text one other a b = a ∙ sym b
+same_by : (command : Option Command) → IfSome command KeepsRanges → IsDetermined command → (text : List ℕ) (one other : Answer)
+    → AnswersOf command text one → AnswersOf command text other → one ≡ other
+same_by (Some command) keeps settled text one other a b = answers_same command keeps text settled one other a b
+same_by None keeps settled text one other a b = a ∙ sym b
 
 pub no_call_is_answered_twice : NoCallIsAnsweredTwice
-no_call_is_answered_twice words text one other a b = same_by (command_of words) (ranges_kept words) text one other a b
+no_call_is_answered_twice words text one other settled a b = same_by (command_of words) (ranges_kept words) settled text one other a b
+
+pub runs_agree : RunsAgree
+runs_agree asked also text one other (inl a) (inl b) =
+    let same = (judged_once text).one_refusal a.line a.rule b.line b.rule a.refused b.refused in
+    agree_as_same one other (a.is ∙ ap (λ line. refused_answer line a.rule) same.0 ∙ ap (refused_answer b.line) same.1 ∙ sym b.is)
+runs_agree asked also text one other (inl a) (inr b) = absurd ((judged_once text).not_both b.system b.lines a.line a.rule b.accepted a.refused)
+runs_agree asked also text one other (inr a) (inl b) = absurd ((judged_once text).not_both a.system a.lines b.line b.rule a.accepted b.refused)
+runs_agree asked also text one other (inr a) (inr b) =
+    reported_agree asked also b.system (whole_of text b.system b.lines b.accepted) one other
+    (subst (λ (s : System). TellsReported asked s one) ((judged_once text).one_system a.system b.system a.lines b.lines a.accepted b.accepted).0 a.is) b.is
 
 agree_by : (command : Option Command) → IfSome command KeepsRanges → (text : List ℕ) (one other : Answer) → AnswersOf command text one
     → AnswersOf command text other → (one.out ≡ other.out) × (one.status ≡ other.status)

@@ -15,7 +15,7 @@ use Rattle.cosim_app.specs.Options.{◌>>=◌, at_most_one, given_of, no_options
 use Rattle.cosim_app.specs.Options.{guess_in, instances_in, is_report, rows_in, seed_in, window_in, workers_in}
 use Rattle.cosim_app.specs.Words.{bytes_of}
 use Rattle.cosim_app.specs.declared.options.Given.{Given}
-use Rattle.cosim_app.specs.declared.options.Policy.{Policy}
+use Rattle.guess_board.specs.declared.guesses.Policy.{Policy}
 use Rattle.cosim_app.specs.declared.options.CommandOption.{CommandOption}
 use Rattle.cosim_app.specs.declared.options.CommandOption.TheVariants.{Workers, Window, Guess, Seed, Instances, Rows, Report}
 

@@ -7,8 +7,8 @@ use Rattle.std.proofs.lemmas.List.Sorted.{sum_by-IsPermutation}
 use Rattle.std.proofs.lemmas.List.Sums.{sum_by-cons}
 use Rattle.cosim_app.specs.Laws.{OptionsHaveNoOrder}
 use Rattle.cosim_app.specs.Options.{◌>>=◌, at_most_one, given_of, guess_in, instances_in, is_report, rows_in, seed_in, window_in, workers_in}
-use Rattle.cosim_app.specs.declared.options.Policy.{Policy}
-use Rattle.cosim_app.specs.declared.options.Policy.TheVariants.{Hold, Linear}
+use Rattle.guess_board.specs.declared.guesses.Policy.{Policy}
+use Rattle.guess_board.specs.declared.guesses.Policy.TheVariants.{Hold, Linear}
 use Rattle.cosim_app.specs.declared.options.CommandOption.{CommandOption}
 use Rattle.cosim_app.specs.declared.options.CommandOption.TheVariants.{Report}
 use Rattle.cosim_app.proofs.OptionLaws.{each, ones, ones_of}

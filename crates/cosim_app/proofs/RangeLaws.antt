@@ -4,7 +4,7 @@ use Rattle.std.specs.Prelude.{◌&&◌, codes, nat_le, IfSome, ⊤}
 use Rattle.std.specs.Option.{option_map}
 use Rattle.std.specs.Str.{bytes_eq}
 use Rattle.std.proofs.lemmas.Bool.Decides.{nat_tests}
-use Rattle.cosim_app.specs.Commands.{KeepsRanges, command_of, command_with, generation_of, replaying_of, without_options}
+use Rattle.cosim_app.specs.Commands.{KeepsRanges, command_of, command_with, generation_of, replaying_of, running_of, without_options}
 use Rattle.cosim_app.specs.Generations.{CanGive, asked_by}
 use Rattle.cosim_app.specs.Options.{◌>>=◌, given_by, is_given_none}
 use Rattle.cosim_app.specs.Ranges.{required_within, within}
@@ -78,7 +78,7 @@ generation_kept given =
 
 row_kept : (word : List ℕ) (given : Given) → IfSome (command_with word given) KeepsRanges
 row_kept word given =
-    either KeepsRanges (bytes_eq word (codes "run")) _ _ (without_kept KeepsRanges Run given tt)
+    either KeepsRanges (bytes_eq word (codes "run")) _ _ (mapped KeepsRanges Run (running_of given) (any (running_of given)))
     (either KeepsRanges (bytes_eq word (codes "check")) _ _ (without_kept KeepsRanges Check given tt)
     (either KeepsRanges (bytes_eq word (codes "print")) _ _ (without_kept KeepsRanges Print given tt)
     (either KeepsRanges (bytes_eq word (codes "replay")) _ _ (mapped KeepsRanges Replay (replaying_of given) (any (replaying_of given)))

@@ -1,19 +1,22 @@
 -- Answers: what the program puts out and notes, and how it ends, for the words of a command line and the bytes
 -- of its input.
-use Rattle.std.specs.Prelude.{◌≡◌, ℕ, ℤ, List, [], ◌∷◌, ◌++◌, length, Option, Some, None, codes, ◌⊎◌}
+use Rattle.std.specs.Prelude.{◌≡◌, ℕ, ℤ, ◌+◌, if◌then◌else◌, List, [], ◌∷◌, ◌++◌, length, Option, Some, None, codes, ◌⊎◌}
 use Rattle.event_csv.specs.EventText.{event_text}
 use Rattle.event_runs.specs.EventRuns.{IsEventTraceOf}
 use Rattle.event_runs.specs.EventTrace.{EventRow}
+use Rattle.serial_run.specs.Alone.{IsAlone}
 use Rattle.spec_core.specs.Replays.{IsReplayed}
 use Rattle.spec_core.specs.declared.counts.Counts.{Counts}
 use Rattle.super_time.specs.declared.point.Point.{Point}
 use Rattle.text_accept.specs.Accepting.{IsAcceptedAs, IsRefusedAt}
 use Rattle.trace_csv.specs.Columns.{columns_of}
 use Rattle.trace_plan.specs.Plans.{Planned}
+use Rattle.trace_rows.specs.Reports.{AreTicketsTold}
 use Rattle.trace_rows.specs.Sums.{sum_shown}
+use Rattle.trace_rows.specs.declared.report.Report.{Report}
 use Rattle.unit_tree.specs.Canonical.{canonical_text}
 use Rattle.unit_tree.specs.Compositions.{run_of}
-use Rattle.unit_tree.specs.Trace.{IsTraceOf, Row}
+use Rattle.unit_tree.specs.Trace.{HasCells, IsTraceOf, Row}
 use Rattle.unit_tree.specs.WellFormed.{resolution_of}
 use Rattle.unit_tree.specs.declared.ending.Ending.{Ending}
 use Rattle.unit_tree.specs.declared.ending.Ending.TheVariants.{Completed, RowBudget, ZeroBudget, UnitFault, StepRefused}
@@ -25,10 +28,11 @@ use Rattle.cosim_call.specs.declared.status.Status.TheVariants as status
 use Rattle.cosim_app.specs.Commands.{command_of}
 use Rattle.cosim_app.specs.Figures.{figures_text}
 use Rattle.cosim_app.specs.Generations.{Asked, system_asked}
-use Rattle.cosim_app.specs.Notes.{counts_text, ending_notes}
+use Rattle.cosim_app.specs.Notes.{counts_text, ending_notes, report_text}
 use Rattle.cosim_app.specs.declared.command_words.Command.{Command}
 use Rattle.cosim_app.specs.declared.command_words.Command.TheVariants.{Run, Check, Print, Replay, Gen, Bench}
 use Rattle.cosim_app.specs.declared.replaying.Replaying.{Replaying}
+use Rattle.cosim_app.specs.declared.running.Running.{Running}
 
 abbrev pub status_of : Ending → Status
 status_of Completed = status.Done
@@ -67,8 +71,32 @@ pub record TellsTrace (system : System) (answer : Answer) : Type 0 where
   pub trace : IsEventTraceOf system rows last ending
   pub is : answer ≡ run_answer system rows last ending
 
-abbrev pub AnswersRun : List ℕ → Answer → Type 0
-AnswersRun = OnAccepted TellsTrace
+-- What a run of a system with so many workers may report, whose trace has so many rows: these, and how its cells were filled, from
+-- answers or by own steps; each ticket was posted, given back or lapsed. Without workers nothing came from others.
+pub record CanReport (workers : ℕ) (system : System) (rows : ℕ) (report : Report) : Type 0 where
+  pub rows_counted : report.rows ≡ rows
+  pub cells : HasCells system (report.found + report.own)
+  pub tickets : AreTicketsTold report
+  pub alone : workers ≡ 0 → IsAlone report
+
+-- The line of a report, where one is asked for.
+abbrev pub report_lines : Running → Report → List (List ℕ)
+report_lines asked report = if asked.report then report_text report ∷ [] else []
+
+-- The answer by a trace, with the line of a report behind its notes where one is asked for.
+abbrev pub with_report : Running → Report → Answer → Answer
+with_report asked report answer = record answer { notes = answer.notes ++ report_lines asked report }
+
+-- By the trace of the system, and by what a run of it may report.
+pub record TellsReported (asked : Running) (system : System) (answer : Answer) : Type 0 where
+  pub trace : Answer
+  pub tells : TellsTrace system trace
+  pub report : Report
+  pub can : CanReport asked.workers system (length tells.rows) report
+  pub is : answer ≡ with_report asked report trace
+
+abbrev pub AnswersRun : Running → List ℕ → Answer → Type 0
+AnswersRun asked = OnAccepted (TellsReported asked)
 
 abbrev pub accepted_text : List ℕ
 accepted_text = codes "accepted" ++ line_end
@@ -132,7 +160,7 @@ pub record AnswersBench (asked : Asked) (answer : Answer) : Type 0 where
 
 -- The answer of a command for a text that it serves.
 abbrev pub ServedBy : Command → List ℕ → Answer → Type 0
-ServedBy Run text answer = AnswersRun text answer
+ServedBy (Run asked) text answer = AnswersRun asked text answer
 ServedBy Check text answer = AnswersCheck text answer
 ServedBy Print text answer = AnswersPrint text answer
 ServedBy (Replay asked) text answer = AnswersReplay asked text answer
@@ -141,7 +169,7 @@ ServedBy (Bench asked) text answer = AnswersBench asked answer
 
 -- The line and the rule by which a command refuses a text; one that reads nothing refuses nothing.
 abbrev pub RefusedBy : Command → List ℕ → ℕ → ℕ → Type 0
-RefusedBy Run text line rule = IsRefusedAt text line rule
+RefusedBy (Run asked) text line rule = IsRefusedAt text line rule
 RefusedBy Check text line rule = IsRefusedAt text line rule
 RefusedBy Print text line rule = IsRefusedAt text line rule
 RefusedBy (Replay asked) text line rule = IsRefusedAt text line rule

@@ -1,13 +1,15 @@
 -- Laws of answers, and of options.
-use Rattle.std.specs.Prelude.{◌≡◌, ℕ, List, [], ◌∷◌, Some, None, IsPermutation}
+use Rattle.std.specs.Prelude.{◌≡◌, ℕ, true, ⊤, List, [], ◌∷◌, Option, Some, None, IsPermutation}
 use Rattle.std.specs.List.{All, flat_map}
 use Rattle.cosim_call.specs.Answers.{Answer, IsEndOfWork}
 use Rattle.cosim_call.specs.declared.status.Status.TheVariants as status
-use Rattle.cosim_app.specs.Answer.{AnswersRefusal, IsAnswer, ServedBy}
+use Rattle.cosim_app.specs.Answer.{Answers, AnswersRefusal, IsAnswer, ServedBy}
 use Rattle.cosim_app.specs.Commands.{command_of}
 use Rattle.cosim_app.specs.Options.{given_by, options_of}
 use Rattle.cosim_app.specs.declared.command_words.Command.{Command}
+use Rattle.cosim_app.specs.declared.command_words.Command.TheVariants.{Run}
 use Rattle.cosim_app.specs.declared.options.CommandOption.{CommandOption}
+use Rattle.cosim_app.specs.declared.running.Running.{Running}
 
 -- For each list of words and each input there is an answer.
 abbrev pub EveryCallIsAnswered : Type 0
@@ -19,10 +21,22 @@ AnswersAgree =
     (words : List (List ℕ)) (text : List ℕ) (one other : Answer) → IsAnswer words text one → IsAnswer words text other
     → (one.out ≡ other.out) × (one.status ≡ other.status)
 
--- There are no two.
+-- All is determined but what is reported of workers.
+abbrev pub IsDetermined : Option Command → Type 0
+IsDetermined (Some (Run asked)) = asked.report ≡ true → asked.workers ≡ 0
+IsDetermined _ = ⊤
+
+-- Then there are no two.
 abbrev pub NoCallIsAnsweredTwice : Type 0
 NoCallIsAnsweredTwice =
-    (words : List (List ℕ)) (text : List ℕ) (one other : Answer) → IsAnswer words text one → IsAnswer words text other → one ≡ other
+    (words : List (List ℕ)) (text : List ℕ) (one other : Answer) → IsDetermined (command_of words)
+    → IsAnswer words text one → IsAnswer words text other → one ≡ other
+
+-- A run puts the same and has the same status however it is asked for.
+abbrev pub RunsAgree : Type 0
+RunsAgree =
+    (asked also : Running) (text : List ℕ) (one other : Answer) → Answers (Run asked) text one → Answers (Run also) text other
+    → (one.out ≡ other.out) × (one.status ≡ other.status)
 
 -- An answer by Refused is the refusal of the text by the command of the words.
 abbrev pub RefusalsAreOfRules : Type 0

@@ -7,6 +7,7 @@ use Rattle.fixed_words.specs.declared.types.Fault.{Fault}
 use Rattle.fixed_words.specs.declared.types.Fault.TheVariants.{Overflow, Range, ZeroDivisor, Accept, Max}
 use Rattle.spec_core.specs.declared.counts.Counts.{Counts}
 use Rattle.super_time.specs.Seconds.{seconds_text_of}
+use Rattle.trace_rows.specs.declared.report.Report.{Report}
 use Rattle.unit_tree.specs.Names.{output_ports, unit_of_instance}
 use Rattle.unit_tree.specs.declared.ending.Ending.{Ending}
 use Rattle.unit_tree.specs.declared.ending.Ending.TheVariants.{Completed, RowBudget, ZeroBudget, UnitFault, StepRefused}
@@ -81,23 +82,32 @@ ending_notes system resolution (StepRefused instance asked accepted) point =
 abbrev pub count_text : List ℕ → ℕ → List ℕ
 count_text name count = codes " " ++ name ++ codes " " ++ decimal count
 
--- What came of the events of a replay: how many there were, how many were refused, and how the steps of the run were made.
-abbrev pub events_text : Counts → List ℕ
-events_text counts =
-    count_text (codes "events") counts.events
-    ++ count_text (codes "refused") counts.refused
-    ++ count_text (codes "found") counts.found
-    ++ count_text (codes "own") counts.own
+-- How the steps of a run were made: from answers that were found, or by the run itself.
+abbrev pub steps_text : ℕ → ℕ → List ℕ
+steps_text found own = count_text (codes "found") found ++ count_text (codes "own") own
 
--- What became of its tickets, and how many answers came of them.
-abbrev pub tickets_text : Counts → List ℕ
-tickets_text counts =
-    count_text (codes "tickets") counts.tickets
-    ++ count_text (codes "posted") counts.posted
-    ++ count_text (codes "back") counts.back
-    ++ count_text (codes "lapsed") counts.lapsed
-    ++ count_text (codes "appended") counts.appended
+-- How many tickets there were, and what became of them.
+abbrev pub tickets_text : ℕ → ℕ → ℕ → ℕ → List ℕ
+tickets_text tickets posted back lapsed =
+    count_text (codes "tickets") tickets ++ count_text (codes "posted") posted ++ count_text (codes "back") back ++ count_text (codes "lapsed") lapsed
 
--- The line of a replay's counts.
+-- The line of a replay's counts: how many events there were and how many were refused, the steps, the tickets, and the answers that
+-- came of these.
 abbrev pub counts_text : Counts → List ℕ
-counts_text counts = codes "cosim:" ++ events_text counts ++ tickets_text counts ++ line_end
+counts_text counts =
+    codes "cosim:"
+    ++ count_text (codes "events") counts.events
+    ++ count_text (codes "refused") counts.refused
+    ++ steps_text counts.found counts.own
+    ++ tickets_text counts.tickets counts.posted counts.back counts.lapsed
+    ++ count_text (codes "appended") counts.appended
+    ++ line_end
+
+-- The line of a run's report: how many rows were put, the steps, and the tickets.
+abbrev pub report_text : Report → List ℕ
+report_text report =
+    codes "cosim:"
+    ++ count_text (codes "rows") report.rows
+    ++ steps_text report.found report.own
+    ++ tickets_text report.tickets report.posted report.back report.lapsed
+    ++ line_end

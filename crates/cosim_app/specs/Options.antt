@@ -7,8 +7,8 @@ use Rattle.std.specs.Option.{option_and_then, option_map}
 use Rattle.std.specs.Str.{bytes_eq}
 use Rattle.fixed_words.specs.Digits.{is_digit, number_from}
 use Rattle.cosim_app.specs.declared.options.Given.{Given}
-use Rattle.cosim_app.specs.declared.options.Policy.{Policy}
-use Rattle.cosim_app.specs.declared.options.Policy.TheVariants.{Hold, Linear}
+use Rattle.guess_board.specs.declared.guesses.Policy.{Policy}
+use Rattle.guess_board.specs.declared.guesses.Policy.TheVariants.{Hold, Linear}
 use Rattle.cosim_app.specs.declared.options.CommandOption.{CommandOption}
 use Rattle.cosim_app.specs.declared.options.CommandOption.TheVariants.{Workers, Window, Guess, Seed, Instances, Rows, Report}
 

@@ -14,10 +14,11 @@ use Rattle.cosim_call.specs.Calls.{Stream, Fails}
 use Rattle.cosim_call.specs.declared.coming.Served.{Served}
 use Rattle.cosim_call.specs.declared.coming.Stopped.{Stopped}
 use Rattle.cosim_call.specs.declared.coming.Stopped.TheVariants as stopped
-use Rattle.cosim_app.specs.Answer.{status_of, traced_notes}
+use Rattle.cosim_app.specs.Answer.{report_lines, status_of, traced_notes}
 use Rattle.cosim_app.specs.Notes.{counts_text}
 use Rattle.cosim_app.specs.SourcePlaces.{source_end}
 use Rattle.cosim_app.specs.declared.replaying.Replaying.{Replaying}
+use Rattle.cosim_app.specs.declared.running.Running.{Running}
 
 -- Why a text was not accepted: the refusal of it, or want of memory, which says nothing.
 abbrev pub IsUnaccepted : List ℕ → Stopped → Type 0
@@ -42,11 +43,13 @@ Runs system out out' (Err stopped.WriteFault) = PutsFront system out.bytes out'.
 Runs system out out' (Err stopped.NoMemory) = PutsFront system out.bytes out'.bytes × (out'.faults ≡ out.faults)
 Runs system out out' (Err _) = ⊥
 
--- The end of a run of the system is told by its status, and its notes by the names in the system; or there was no memory for these.
-abbrev pub TellsEnding : System → Report → Result Served Stopped → Type 0
-TellsEnding system report (Ok served) =
-    (served.status ≡ status_of report.outcome) × (served.notes ≡ traced_notes system (source_end system report.outcome) report.last)
-TellsEnding system report (Err why) = why ≡ stopped.NoMemory
+-- The end of a run of the system is told by its status, and its notes by the names in the system, with the line of the report where it
+-- is asked for; or there was no memory for these.
+abbrev pub TellsEnding : System → Running → Report → Result Served Stopped → Type 0
+TellsEnding system asked report (Ok served) =
+    (served.status ≡ status_of report.outcome)
+    × (served.notes ≡ traced_notes system (source_end system report.outcome) report.last ++ report_lines asked report)
+TellsEnding system asked report (Err why) = why ≡ stopped.NoMemory
 
 -- A plan was replayed: the text of the trace of what is run was put, which ended so, and the counts are those of the replay; or it was
 -- given up, and what was put begins that text.

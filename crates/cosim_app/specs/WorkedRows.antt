@@ -6,8 +6,8 @@ use Rattle.cosim_app.specs.Commands.{without_options}
 use Rattle.cosim_app.specs.Options.{◌>>=◌, given_by}
 use Rattle.cosim_app.specs.Ranges.{required_within, within, within_or}
 use Rattle.cosim_app.specs.declared.options.Given.{Given}
-use Rattle.cosim_app.specs.declared.options.Policy.{Policy}
-use Rattle.cosim_app.specs.declared.options.Policy.TheVariants.{Hold, Linear}
+use Rattle.guess_board.specs.declared.guesses.Policy.{Policy}
+use Rattle.guess_board.specs.declared.guesses.Policy.TheVariants.{Hold, Linear}
 
 -- ---- The table
 

@@ -1,10 +1,10 @@
 -- Words that were worked out by hand: which options they give, and which command they are of.
-use Rattle.std.specs.Prelude.{◌≡◌, ℕ, true, List, [], ◌∷◌, codes, Some, None}
+use Rattle.std.specs.Prelude.{◌≡◌, ℕ, true, false, List, [], ◌∷◌, codes, Some, None}
 use Rattle.cosim_app.specs.Commands.{command_of}
 use Rattle.cosim_app.specs.Options.{given_by, no_options, number_of_word}
 use Rattle.cosim_app.specs.declared.command_words.Command.TheVariants.{Run, Check, Print, Replay, Gen, Bench}
 use Rattle.cosim_app.specs.declared.options.Given.{Given}
-use Rattle.cosim_app.specs.declared.options.Policy.TheVariants.{Hold, Linear}
+use Rattle.guess_board.specs.declared.guesses.Policy.TheVariants.{Hold, Linear}
 
 abbrev all_options : Given
 all_options = record { workers = Some 4; window = Some 0; guess = Some Linear; seed = Some 7; instances = Some 2; rows = Some 3; report = true }
@@ -43,7 +43,16 @@ asking seed instances rows = codes "--seed" ∷ seed ∷ codes "--instances" ∷
 
 -- Each command has its word, with the options that it takes, and other words are of none.
 pub record CommandsAreWorked : Type 0 where
-  pub run : command_of (codes "run" ∷ []) ≡ Some Run
+  pub run : command_of (codes "run" ∷ []) ≡ Some (Run (record { workers = 0; window = 4; guess = Hold; report = false }))
+  pub run_crew : command_of
+      (codes "run" ∷ codes "--guess" ∷ codes "linear" ∷ codes "--report" ∷ codes "--window" ∷ codes "16" ∷ codes "--workers" ∷ codes "016" ∷ [])
+      ≡ Some (Run (record { workers = 16; window = 16; guess = Linear; report = true }))
+  pub no_window : command_of (codes "run" ∷ codes "--window" ∷ codes "0" ∷ [])
+      ≡ Some (Run (record { workers = 0; window = 0; guess = Hold; report = false }))
+  pub long_window : command_of (codes "run" ∷ codes "--window" ∷ codes "17" ∷ []) ≡ None
+  pub large_crew : command_of (codes "run" ∷ codes "--workers" ∷ codes "17" ∷ []) ≡ None
+  pub window_twice : command_of (codes "run" ∷ codes "--window" ∷ codes "4" ∷ codes "--window" ∷ codes "4" ∷ []) ≡ None
+  pub seed_of_none : command_of (codes "run" ∷ codes "--seed" ∷ codes "1" ∷ []) ≡ None
   pub check : command_of (codes "check" ∷ []) ≡ Some Check
   pub print : command_of (codes "print" ∷ []) ≡ Some Print
   pub replay : command_of (codes "replay" ∷ codes "--workers" ∷ codes "0" ∷ codes "--seed" ∷ codes "9999999999999999999" ∷ [])

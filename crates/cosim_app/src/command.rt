@@ -3,7 +3,7 @@ ghost use Rattle.cosim_call.specs.Calls.{Promises, stream, streams};
 ghost use Rattle.cosim_call.specs.Coming.{Comes, Serves};
 ghost use Rattle.cosim_app.specs.Answer.{Answers, IsAnswer};
 ghost use Rattle.cosim_app.specs.Commands.{UsageClause, command_of, input_of, input_of_words};
-ghost use Rattle.cosim_app.specs.Laws.{AnswersAgree, EndsAreServed, EveryCallIsAnswered, NoCallIsAnsweredTwice, RefusalsAreOfRules};
+ghost use Rattle.cosim_app.specs.Laws.{AnswersAgree, EndsAreServed, EveryCallIsAnswered, NoCallIsAnsweredTwice, RefusalsAreOfRules, RunsAgree};
 ghost use Rattle.cosim_app.specs.Words.{bytes_of};
 
 use crate::command_words::{Command, command_of};
@@ -13,6 +13,7 @@ use cosim_io::{Sink, Source};
 use std::alloc::Global;
 use std::sync::Wait;
 use std::thread::Threads;
+use work_crew::{Gate, OpenGate};
 
 /// A command on its whole text, in the calling thread.
 #[tactic(auto, using(cosim_call::proofs::ComingLaws::serves_made))]
@@ -25,7 +26,7 @@ fn serve<O: Sink>(
     ensures { Serves (Answers command.now text.now) (stream (O.held out.old) (O.faults out.old)) (stream (O.held out.new) (O.faults out.new)) result }
 {
     match command {
-        Command::Run => run::serve(alloc, text, out),
+        Command::Run(asked) => run::serve(alloc, asked, text, out),
         Command::Check => put_made(alloc, check::make(alloc, text), out),
         Command::Print => put_made(alloc, print::make(alloc, text), out),
         Command::Replay(asked) => replay::serve(alloc, *asked, text, out),
@@ -34,7 +35,28 @@ fn serve<O: Sink>(
     }
 }
 
-/// A command on what the source has left, as far as it asks for it.
+/// A command on its whole text, with workers where it has some.
+#[tactic(auto, using(cosim_call::proofs::ComingLaws::serves_made))]
+fn serve_crewed<R: Threads + Wait + Copy + Send + Drop + 'static, O: Sink, G: Gate>(
+    rt: R,
+    alloc: Global,
+    command: &Command,
+    text: &[u8],
+    out: &mut O,
+    gate: &G,
+) -> Result<Served, Stopped>
+    ensures { Serves (Answers command.now text.now) (stream (O.held out.old) (O.faults out.old)) (stream (O.held out.new) (O.faults out.new)) result }
+{
+    match command {
+        Command::Run(asked) if asked.workers.get() > 0 => {
+            run::serve_crewed(rt, alloc, asked, text, out, gate)
+        }
+        Command::Bench(asked) => put_made(alloc, bench::make_crewed(rt, alloc, asked, gate), out),
+        _ => serve(alloc, command, text, out),
+    }
+}
+
+/// A command on what the source has left, as far as it asks for it, in the calling thread.
 fn come<S: Source, O: Sink>(
     alloc: Global,
     command: &Command,
@@ -48,6 +70,24 @@ fn come<S: Source, O: Sink>(
 {
     let text = read_input(alloc, source, command.input())?;
     serve(alloc, command, &text, out)
+}
+
+/// The same, with workers where the command has some.
+fn come_crewed<R: Threads + Wait + Copy + Send + Drop + 'static, S: Source, O: Sink, G: Gate>(
+    rt: R,
+    alloc: Global,
+    command: &Command,
+    source: &mut S,
+    out: &mut O,
+    gate: &G,
+) -> Result<Served, Stopped>
+    ensures { Comes (input_of command.now) (Answers command.now)
+        (stream (S.left source.old) (S.faults source.old)) (stream (S.left source.new) (S.faults source.new))
+        (stream (O.held out.old) (O.faults out.old)) (stream (O.held out.new) (O.faults out.new))
+        result }
+{
+    let text = read_input(alloc, source, command.input())?;
+    serve_crewed(rt, alloc, command, &text, out, gate)
 }
 
 /// Serves every form of words in the calling thread, and returns.
@@ -76,8 +116,41 @@ pub fn cosim_alone<S: Source, O: Sink, N: Sink>(
     }
 }
 
-/// The program: `rt` is the leave to start threads and to wait, which no command uses yet.
-pub fn cosim<R: Threads + Wait + Copy + Send, S: Source, O: Sink, N: Sink>(
+/// The program: serves every form of words, with workers where these ask for some. `rt` is the leave to start threads and to wait,
+/// and the gate says how long a run waits for its workers; no promise depends on it. Where no workers are asked for, the call is
+/// [`cosim_alone`].
+pub fn cosim_gated<
+    R: Threads + Wait + Copy + Send + Drop + 'static,
+    S: Source,
+    O: Sink,
+    N: Sink,
+    G: Gate,
+>(
+    rt: R,
+    alloc: Global,
+    words: &[String],
+    source: &mut S,
+    out: &mut O,
+    notes: &mut N,
+    gate: &G,
+) -> Status
+    ensures headline { Promises (input_of_words (command_of (bytes_of words.now))) (IsAnswer (bytes_of words.now))
+        (streams (S.left source.old) (S.faults source.old) (O.held out.old) (O.faults out.old) (N.held notes.old) (N.faults notes.old))
+        (streams (S.left source.new) (S.faults source.new) (O.held out.new) (O.faults out.new) (N.held notes.new) (N.faults notes.new))
+        result }
+    ensures usage { UsageClause (bytes_of words.now) result }
+{
+    match command_of(words) {
+        Some(command) if command.has_workers() => {
+            let came = come_crewed(rt, alloc, &command, source, out, gate);
+            finish(alloc, notes, came)
+        }
+        _ => cosim_alone(alloc, words, source, out, notes),
+    }
+}
+
+/// The program with the gate that never waits.
+pub fn cosim<R: Threads + Wait + Copy + Send + Drop + 'static, S: Source, O: Sink, N: Sink>(
     rt: R,
     alloc: Global,
     words: &[String],
@@ -91,16 +164,21 @@ pub fn cosim<R: Threads + Wait + Copy + Send, S: Source, O: Sink, N: Sink>(
         result }
     ensures usage { UsageClause (bytes_of words.now) result }
 {
-    let _unused = rt;
-    cosim_alone(alloc, words, source, out, notes)
+    cosim_gated(rt, alloc, words, source, out, notes, &OpenGate)
 }
 
 /// A law: for each list of words and each input there is an answer, all answers put the same and have the same status, and
-/// there are no two.
+/// there are no two, but where workers are reported of.
 pub fn one_answer()
     ensures some { EveryCallIsAnswered }
     ensures agree { AnswersAgree }
     ensures only { NoCallIsAnsweredTwice }
+{}
+
+/// A law: a run puts the same and has the same status with any number of workers, over any window, by any guesses, and with a
+/// report or without one.
+pub fn workers_change_nothing()
+    ensures { RunsAgree }
 {}
 
 /// A law: the status of an answer tells where it comes from. One by `Refused` is a refusal of the text by the command of the
@@ -109,3 +187,6 @@ pub fn statuses_have_causes()
     ensures refused { RefusalsAreOfRules }
     ensures served { EndsAreServed }
 {}
+
+#[cfg(test)]
+mod tests;

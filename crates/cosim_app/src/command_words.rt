@@ -8,13 +8,14 @@ ghost use Rattle.cosim_app.specs.WorkedWords.{CommandsAreWorked, NumbersAreWorke
 use crate::generation::Generation;
 use crate::options::{Given, given_by};
 use crate::replaying::{Replaying, replaying_of};
+use crate::running::{Running, running_of};
 use unit_text::LONGEST_TEXT;
 
 /// A command of the program, with its options.
 #[derive(Clone, Copy, Debug, PartialEq, Eq)]
 pub enum Command {
     /// Puts the trace of the text's system.
-    Run,
+    Run(Running),
     /// Tells that the text keeps all rules.
     Check,
     /// Puts the canonical text of the text's system.
@@ -34,7 +35,7 @@ impl Command {
         ensures ranges { KeepsRanges self.now }
     {
         match self {
-            Command::Run | Command::Check | Command::Print | Command::Replay(_) => {
+            Command::Run(_) | Command::Check | Command::Print | Command::Replay(_) => {
                 Some(LONGEST_TEXT)
             }
             Command::Gen(_) => None,
@@ -43,6 +44,15 @@ impl Command {
                 let _ = asked.instances();
                 None
             }
+        }
+    }
+
+    /// Whether it is run with workers.
+    pub(crate) fn has_workers(&self) -> bool {
+        match self {
+            Command::Run(asked) => asked.workers.get() > 0,
+            Command::Bench(_) => true,
+            _ => false,
         }
     }
 }
@@ -73,7 +83,7 @@ fn command_with(word: &str, given: Given) -> Option<Command>
     ensures { result ≡ command_with word.now given }
 {
     if word == "run" {
-        without_options(Command::Run, given)
+        Some(Command::Run(running_of(given)?))
     } else if word == "check" {
         without_options(Command::Check, given)
     } else if word == "print" {

@@ -4,7 +4,7 @@ ghost use Rattle.cosim_call.specs.Notes.{line_end};
 ghost use Rattle.cosim_app.specs.Answer.{traced_notes};
 ghost use Rattle.cosim_app.specs.SourcePlaces.{instance_shape, source_end, source_place};
 ghost use Rattle.event_runs.specs.Readings.{event_shape, output_read};
-ghost use Rattle.cosim_app.specs.Notes.{count_text, counts_text, events_text, tickets_text, fault_number, instance_name, name_in, output_name, place_text, point_text, fault_text, budget_text, lengths_text, step_refused_text, ending_notes};
+ghost use Rattle.cosim_app.specs.Notes.{count_text, counts_text, report_text, steps_text, tickets_text, fault_number, instance_name, name_in, output_name, place_text, point_text, fault_text, budget_text, lengths_text, step_refused_text, ending_notes};
 
 use cosim_call::append_all;
 use fixed_words::{Fault, List, NoMemory};
@@ -13,6 +13,7 @@ use spec_core::Counts;
 use std::alloc::Global;
 use super_time::seconds_text;
 use trace_core::Plan;
+use trace_rows::Report;
 use unit_tree::{Ending, Place, Point, System, Unit};
 
 /// The number by which notes tell a fault.
@@ -178,25 +179,28 @@ fn put_count(note: &mut Vec<u8>, name: &[u8], count: u64) -> Result<(), NoMemory
     append_all(note, &[b" ", name, b" ", digits.format(count).as_bytes()])
 }
 
-/// Adds what came of the events of a replay.
-fn put_events(note: &mut Vec<u8>, counts: Counts) -> Result<(), NoMemory>
-    ensures { OnOk result (note.new.items ≡ note.old.items ++ events_text counts) }
+/// Adds how the steps of a run were made.
+fn put_steps(note: &mut Vec<u8>, found: u64, own: u64) -> Result<(), NoMemory>
+    ensures { OnOk result (note.new.items ≡ note.old.items ++ steps_text found own) }
 {
-    put_count(note, b"events", counts.events)?;
-    put_count(note, b"refused", counts.refused)?;
-    put_count(note, b"found", counts.found)?;
-    put_count(note, b"own", counts.own)
+    put_count(note, b"found", found)?;
+    put_count(note, b"own", own)
 }
 
-/// Adds what became of its tickets.
-fn put_tickets(note: &mut Vec<u8>, counts: Counts) -> Result<(), NoMemory>
-    ensures { OnOk result (note.new.items ≡ note.old.items ++ tickets_text counts) }
+/// Adds how many tickets there were, and what became of them.
+fn put_tickets(
+    note: &mut Vec<u8>,
+    tickets: u64,
+    posted: u64,
+    back: u64,
+    lapsed: u64,
+) -> Result<(), NoMemory>
+    ensures { OnOk result (note.new.items ≡ note.old.items ++ tickets_text tickets posted back lapsed) }
 {
-    put_count(note, b"tickets", counts.tickets)?;
-    put_count(note, b"posted", counts.posted)?;
-    put_count(note, b"back", counts.back)?;
-    put_count(note, b"lapsed", counts.lapsed)?;
-    put_count(note, b"appended", counts.appended)
+    put_count(note, b"tickets", tickets)?;
+    put_count(note, b"posted", posted)?;
+    put_count(note, b"back", back)?;
+    put_count(note, b"lapsed", lapsed)
 }
 
 /// The counts of a replay.
@@ -204,8 +208,35 @@ pub(crate) fn counts(alloc: Global, counts: Counts) -> Result<Vec<u8>, NoMemory>
     ensures { IfOk result (λ note. note.items ≡ counts_text counts) }
 {
     let mut note = Vec::from_slice(alloc, b"cosim:")?;
-    put_events(&mut note, counts)?;
-    put_tickets(&mut note, counts)?;
+    put_count(&mut note, b"events", counts.events)?;
+    put_count(&mut note, b"refused", counts.refused)?;
+    put_steps(&mut note, counts.found, counts.own)?;
+    put_tickets(
+        &mut note,
+        counts.tickets,
+        counts.posted,
+        counts.back,
+        counts.lapsed,
+    )?;
+    put_count(&mut note, b"appended", counts.appended)?;
+    append_all(&mut note, &[b"\n"])?;
+    Ok(note)
+}
+
+/// The report of a run.
+pub(crate) fn report(alloc: Global, report: Report) -> Result<Vec<u8>, NoMemory>
+    ensures { IfOk result (λ note. note.items ≡ report_text report) }
+{
+    let mut note = Vec::from_slice(alloc, b"cosim:")?;
+    put_count(&mut note, b"rows", report.rows)?;
+    put_steps(&mut note, report.found, report.own)?;
+    put_tickets(
+        &mut note,
+        report.tickets,
+        report.posted,
+        report.back,
+        report.lapsed,
+    )?;
     append_all(&mut note, &[b"\n"])?;
     Ok(note)
 }

@@ -5,14 +5,7 @@ ghost use Rattle.cosim_app.specs.Laws.{OptionsHaveNoOrder, OtherWordsHaveNoForm,
 ghost use Rattle.cosim_app.specs.Options.{given_by, is_given_none, number_behind, number_of_word, policy_named, option_of, options_of, with_all, with_one};
 ghost use Rattle.cosim_app.specs.Words.{bytes_of};
 
-/// How the words are guessed that a component will be given.
-#[derive(Clone, Copy, Debug, PartialEq, Eq)]
-pub enum Policy {
-    /// The last ones once more.
-    Hold,
-    /// As far on from the last ones as these are from those before.
-    Linear,
-}
+use work_crew::Policy;
 
 /// One option, with its value where it has one.
 #[derive(Clone, Copy, Debug)]

@@ -4,9 +4,7 @@ ghost use Rattle.cosim_app.specs.Commands.{replaying_of};
 
 use crate::command_words::without_options;
 use crate::options::Given;
-use crate::ranges::Within;
-
-type Workers = Within<0, 16>;
+use crate::running::Workers;
 
 /// By which seed a system is replayed, and with how many workers.
 #[derive(Clone, Copy, Debug, PartialEq, Eq)]

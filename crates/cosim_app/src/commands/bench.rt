@@ -7,18 +7,27 @@ ghost use Rattle.cosim_app.specs.Figures.{figure_line, figures_text, ticks_text}
 ghost use Rattle.cosim_app.specs.Generations.{system_asked};
 ghost use Rattle.cosim_app.specs.declared.command_words.Command.TheVariants.{Bench};
 
-use crate::commands::run::run_plan;
+use crate::commands::run::{Ahead, run_crewed, run_plan};
 use crate::generation::Generation;
 use cosim_call::{Stopped, append_all};
 use cosim_io::NullSink;
 use itoa::Buffer;
-use serial_run::Report;
 use std::alloc::{AllocError, Global};
-use std::sync::Arc;
+use std::sync::{Arc, Wait};
+use std::thread::Threads;
 use trace_core::Plan;
 use trace_plan::PlanFault;
+use trace_rows::Report;
 use unit_check::{CheckFault, check};
 use unit_tree::{Checked, Point};
+use work_crew::{Gate, Policy};
+
+/// How the generated system is run with workers.
+const AHEAD: Ahead = Ahead {
+    workers: 4,
+    window: 4,
+    policy: Policy::Hold,
+};
 
 /// The generated system, judged: no rule refuses it.
 fn judged(alloc: Global, asked: &Generation) -> Result<Checked, AllocError>
@@ -82,11 +91,25 @@ fn figures(alloc: Global, instances: u32, report: Report) -> Result<Vec<u8>, All
     Ok(text)
 }
 
-/// What is put, whatever the input: the figures of the trace of the generated system.
+/// What is put, whatever the input: the figures of the trace of the generated system, which is run in the calling thread.
 pub(crate) fn make(alloc: Global, asked: &Generation) -> Result<Vec<u8>, Stopped>
     ensures { (text : List ℕ) → Makes (Answers (Bench asked.now) text) result }
 {
     let plan = Arc::new(alloc, plan_of(alloc, asked)?)?;
     let report = run_plan(alloc, &plan, &mut NullSink)?;
+    Ok(figures(alloc, asked.instances(), report)?)
+}
+
+/// The same, where the system is run with workers.
+pub(crate) fn make_crewed<R: Threads + Wait + Copy + Send + Drop + 'static, G: Gate>(
+    rt: R,
+    alloc: Global,
+    asked: &Generation,
+    gate: &G,
+) -> Result<Vec<u8>, Stopped>
+    ensures { (text : List ℕ) → Makes (Answers (Bench asked.now) text) result }
+{
+    let plan = Arc::new(alloc, plan_of(alloc, asked)?)?;
+    let report = run_crewed(rt, alloc, &plan, AHEAD, &mut NullSink, gate)?;
     Ok(figures(alloc, asked.instances(), report)?)
 }

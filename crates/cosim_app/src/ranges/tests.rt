@@ -4,8 +4,9 @@ ghost use Rattle.cosim_app.specs.WorkedRows.{draw_row};
 
 use super::Within;
 use crate::command_words::without_options;
-use crate::options::{Given, Policy, given_by};
+use crate::options::{Given, given_by};
 use std::test::Fail;
+use work_crew::Policy;
 
 type Window = Within<1, 16>;
 

@@ -26,6 +26,12 @@ pub returns-clause-commands : goal.returns-clause-commands
 unfolding given_of option_of
 returns-clause-commands c = record {
   run = refl;
+  run_crew = refl;
+  no_window = refl;
+  long_window = refl;
+  large_crew = refl;
+  window_twice = refl;
+  seed_of_none = refl;
   check = refl;
   print = refl;
   replay = refl;
