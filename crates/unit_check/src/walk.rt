@@ -90,12 +90,12 @@ pub enum Stop {
 
 /// What each line is asked, and what is known of the system.
 #[derive(Clone, Copy)]
-pub(crate) struct Walker<'a> {
-    question: Question<'a>,
-    tables: &'a SystemTables<'a>,
+pub(crate) struct Walker<'w, 's> {
+    question: Question<'w>,
+    tables: &'w SystemTables<'s>,
 }
 
-impl Walker<'_> {
+impl Walker<'_, '_> {
     /// The system.
     fn system(&self) -> &System
         ensures { result.now ≡ self.now.tables.now }
@@ -139,7 +139,7 @@ impl Walker<'_> {
 /// The number behind a line of a step and its block.
 #[cycle(steps)]
 fn past_line(
-    walker: &Walker<'_>,
+    walker: &Walker<'_, '_>,
     unit: &UnitNames<'_>,
     first: u32,
     line: &Line,
@@ -179,7 +179,7 @@ fn past_line(
 /// The number behind lines of a step and their blocks.
 #[cycle(steps)]
 fn past_lines(
-    walker: &Walker<'_>,
+    walker: &Walker<'_, '_>,
     unit: &UnitNames<'_>,
     first: u32,
     lines: &[Line],
@@ -198,7 +198,7 @@ ghost use Rattle.unit_tree.specs.Sites.{TopScope, UnitScope, StepScope, Instance
 
 /// The number behind a step, with its own `step` and `end`.
 fn past_step(
-    walker: &Walker<'_>,
+    walker: &Walker<'_, '_>,
     unit: &UnitNames<'_>,
     lines: &[Line],
     number: u32,
@@ -211,7 +211,7 @@ fn past_step(
 }
 
 fn past_params(
-    walker: &Walker<'_>,
+    walker: &Walker<'_, '_>,
     unit: &UnitNames<'_>,
     first: u32,
     number: u32,
@@ -226,7 +226,7 @@ fn past_params(
 }
 
 fn past_states(
-    walker: &Walker<'_>,
+    walker: &Walker<'_, '_>,
     unit: &UnitNames<'_>,
     first: u32,
     number: u32,
@@ -241,7 +241,7 @@ fn past_states(
 }
 
 fn past_locals(
-    walker: &Walker<'_>,
+    walker: &Walker<'_, '_>,
     unit: &UnitNames<'_>,
     first: u32,
     number: u32,
@@ -256,7 +256,7 @@ fn past_locals(
 }
 
 fn past_inputs(
-    walker: &Walker<'_>,
+    walker: &Walker<'_, '_>,
     unit: &UnitNames<'_>,
     first: u32,
     number: u32,
@@ -271,7 +271,7 @@ fn past_inputs(
 }
 
 fn past_events_in(
-    walker: &Walker<'_>,
+    walker: &Walker<'_, '_>,
     unit: &UnitNames<'_>,
     first: u32,
     number: u32,
@@ -291,7 +291,7 @@ fn past_events_in(
 }
 
 fn past_outputs(
-    walker: &Walker<'_>,
+    walker: &Walker<'_, '_>,
     unit: &UnitNames<'_>,
     first: u32,
     number: u32,
@@ -306,7 +306,7 @@ fn past_outputs(
 }
 
 fn past_events_out(
-    walker: &Walker<'_>,
+    walker: &Walker<'_, '_>,
     unit: &UnitNames<'_>,
     first: u32,
     number: u32,
@@ -326,7 +326,7 @@ fn past_events_out(
 }
 
 fn past_plain_names(
-    walker: &Walker<'_>,
+    walker: &Walker<'_, '_>,
     unit: &UnitNames<'_>,
     first: u32,
     number: u32,
@@ -339,7 +339,7 @@ fn past_plain_names(
 }
 
 fn past_ports(
-    walker: &Walker<'_>,
+    walker: &Walker<'_, '_>,
     unit: &UnitNames<'_>,
     first: u32,
     number: u32,
@@ -353,7 +353,7 @@ fn past_ports(
 }
 
 /// The number behind the lines of a unit that declare names.
-fn past_names(walker: &Walker<'_>, unit: &UnitNames<'_>, number: u32) -> Result<u32, Stop>
+fn past_names(walker: &Walker<'_, '_>, unit: &UnitNames<'_>, number: u32) -> Result<u32, Stop>
     ensures { result ≡ names_walk (past_from (asked_of walker.now.question walker.now.tables.now (UnitScope unit.now)) number) unit.now number }
 {
     let first = number;
@@ -361,7 +361,7 @@ fn past_names(walker: &Walker<'_>, unit: &UnitNames<'_>, number: u32) -> Result<
     past_ports(walker, unit, first, number)
 }
 
-fn past_resolution(walker: &Walker<'_>, unit: &UnitNames<'_>, number: u32) -> Result<u32, Stop>
+fn past_resolution(walker: &Walker<'_, '_>, unit: &UnitNames<'_>, number: u32) -> Result<u32, Stop>
     ensures { result ≡ if_given (λ decimals. past (asked_of walker.now.question walker.now.tables.now (UnitScope unit.now) 0 (form.Resolution decimals))) unit.now.resolution number }
 {
     match unit.unit().resolution {
@@ -375,7 +375,7 @@ fn past_resolution(walker: &Walker<'_>, unit: &UnitNames<'_>, number: u32) -> Re
     }
 }
 
-fn past_max(walker: &Walker<'_>, unit: &UnitNames<'_>, number: u32) -> Result<u32, Stop>
+fn past_max(walker: &Walker<'_, '_>, unit: &UnitNames<'_>, number: u32) -> Result<u32, Stop>
     ensures { result ≡ if_given (λ value. past (asked_of walker.now.question walker.now.tables.now (UnitScope unit.now) 0 (form.Max value))) unit.now.max number }
 {
     match &unit.unit().max {
@@ -384,7 +384,7 @@ fn past_max(walker: &Walker<'_>, unit: &UnitNames<'_>, number: u32) -> Result<u3
     }
 }
 
-fn past_given_step(walker: &Walker<'_>, unit: &UnitNames<'_>, number: u32) -> Result<u32, Stop>
+fn past_given_step(walker: &Walker<'_, '_>, unit: &UnitNames<'_>, number: u32) -> Result<u32, Stop>
     ensures { result ≡ if_given (step_walk (asked_of walker.now.question walker.now.tables.now) unit.now) unit.now.step number }
 {
     match &unit.unit().step {
@@ -394,7 +394,7 @@ fn past_given_step(walker: &Walker<'_>, unit: &UnitNames<'_>, number: u32) -> Re
 }
 
 /// The number behind what a unit does, and its `end`.
-fn past_behaviour(walker: &Walker<'_>, unit: &UnitNames<'_>, number: u32) -> Result<u32, Stop>
+fn past_behaviour(walker: &Walker<'_, '_>, unit: &UnitNames<'_>, number: u32) -> Result<u32, Stop>
     ensures { result ≡ behaviour_walk (asked_of walker.now.question walker.now.tables.now) unit.now number }
 {
     let number = past_max(walker, unit, number)?;
@@ -403,7 +403,7 @@ fn past_behaviour(walker: &Walker<'_>, unit: &UnitNames<'_>, number: u32) -> Res
 }
 
 /// The number behind the block of a unit.
-fn past_unit(walker: &Walker<'_>, unit: &UnitNames<'_>, number: u32) -> Result<u32, Stop>
+fn past_unit(walker: &Walker<'_, '_>, unit: &UnitNames<'_>, number: u32) -> Result<u32, Stop>
     ensures { result ≡ unit_walk (asked_of walker.now.question walker.now.tables.now) unit.now number }
 {
     let number = past_resolution(walker, unit, number)?;
@@ -412,7 +412,7 @@ fn past_unit(walker: &Walker<'_>, unit: &UnitNames<'_>, number: u32) -> Result<u
 }
 
 /// The number behind the unit of a place and its block, where there is one.
-fn past_numbered(walker: &Walker<'_>, place: usize, number: u32) -> Result<u32, Stop>
+fn past_numbered(walker: &Walker<'_, '_>, place: usize, number: u32) -> Result<u32, Stop>
     ensures { result ≡ numbered_walk (asked_of walker.now.question walker.now.tables.now) place (slice_get walker.now.tables.now.units place) number }
 {
     match walker.tables.names().unit(place) {
@@ -426,7 +426,7 @@ fn past_numbered(walker: &Walker<'_>, place: usize, number: u32) -> Result<u32, 
 }
 
 #[tactic(auto, using(crate::proofs::NumberedWalks::unit_on))]
-fn past_units(walker: &Walker<'_>, number: u32) -> Result<u32, Stop>
+fn past_units(walker: &Walker<'_, '_>, number: u32) -> Result<u32, Stop>
     ensures { result ≡ units_walk (asked_of walker.now.question walker.now.tables.now) 0 walker.now.tables.now.units number }
 {
     let mut next = number;
@@ -436,7 +436,7 @@ fn past_units(walker: &Walker<'_>, number: u32) -> Result<u32, Stop>
     Ok(next)
 }
 
-fn past_settings(walker: &Walker<'_>, instance: &Instance, number: u32) -> Result<u32, Stop>
+fn past_settings(walker: &Walker<'_, '_>, instance: &Instance, number: u32) -> Result<u32, Stop>
     ensures { result ≡ each (λ setting. past_from (asked_of walker.now.question walker.now.tables.now (InstanceScope instance.now)) number (form.Setting setting)) instance.now.settings number }
 {
     let mut next = number;
@@ -452,14 +452,14 @@ fn past_settings(walker: &Walker<'_>, instance: &Instance, number: u32) -> Resul
 }
 
 /// The number behind the block of an instance.
-fn past_instance(walker: &Walker<'_>, instance: &Instance, number: u32) -> Result<u32, Stop>
+fn past_instance(walker: &Walker<'_, '_>, instance: &Instance, number: u32) -> Result<u32, Stop>
     ensures { result ≡ instance_walk (asked_of walker.now.question walker.now.tables.now) instance.now number }
 {
     let number = past_settings(walker, instance, number)?;
     walker.past(ScopeRef::Instance(instance), 0, FormRef::End, number)
 }
 
-fn past_instances(walker: &Walker<'_>, number: u32) -> Result<u32, Stop>
+fn past_instances(walker: &Walker<'_, '_>, number: u32) -> Result<u32, Stop>
     ensures { result ≡ instances_walk (asked_of walker.now.question walker.now.tables.now) 0 walker.now.tables.now.instances number }
 {
     let mut next = number;
@@ -470,7 +470,7 @@ fn past_instances(walker: &Walker<'_>, number: u32) -> Result<u32, Stop>
     Ok(next)
 }
 
-fn past_wires(walker: &Walker<'_>, number: u32) -> Result<u32, Stop>
+fn past_wires(walker: &Walker<'_, '_>, number: u32) -> Result<u32, Stop>
     ensures { result ≡ each (λ wire. past_from (asked_of walker.now.question walker.now.tables.now TopScope) number (form.Connect wire)) walker.now.tables.now.wires number }
 {
     let mut next = number;
@@ -480,7 +480,7 @@ fn past_wires(walker: &Walker<'_>, number: u32) -> Result<u32, Stop>
     Ok(next)
 }
 
-fn past_samples(walker: &Walker<'_>, number: u32) -> Result<u32, Stop>
+fn past_samples(walker: &Walker<'_, '_>, number: u32) -> Result<u32, Stop>
     ensures { result ≡ each (λ port. past_from (asked_of walker.now.question walker.now.tables.now TopScope) number (form.Sample port)) walker.now.tables.now.samples number }
 {
     let mut next = number;
@@ -491,7 +491,7 @@ fn past_samples(walker: &Walker<'_>, number: u32) -> Result<u32, Stop>
 }
 
 /// The number behind what a system is made of.
-fn past_parts(walker: &Walker<'_>, number: u32) -> Result<u32, Stop>
+fn past_parts(walker: &Walker<'_, '_>, number: u32) -> Result<u32, Stop>
     ensures { result ≡ parts_walk (asked_of walker.now.question walker.now.tables.now) walker.now.tables.now number }
 {
     let number = past_units(walker, number)?;
@@ -499,7 +499,7 @@ fn past_parts(walker: &Walker<'_>, number: u32) -> Result<u32, Stop>
     past_wires(walker, number)
 }
 
-fn past_stop(walker: &Walker<'_>, given: Option<Literal>, number: u32) -> Result<u32, Stop>
+fn past_stop(walker: &Walker<'_, '_>, given: Option<Literal>, number: u32) -> Result<u32, Stop>
     ensures { result ≡ if_given (λ seconds. past (asked_of walker.now.question walker.now.tables.now TopScope 0 (form.Stop seconds))) given number }
 {
     match given {
@@ -508,7 +508,7 @@ fn past_stop(walker: &Walker<'_>, given: Option<Literal>, number: u32) -> Result
     }
 }
 
-fn past_longest(walker: &Walker<'_>, given: Option<Literal>, number: u32) -> Result<u32, Stop>
+fn past_longest(walker: &Walker<'_, '_>, given: Option<Literal>, number: u32) -> Result<u32, Stop>
     ensures { result ≡ if_given (λ seconds. past (asked_of walker.now.question walker.now.tables.now TopScope 0 (form.Longest seconds))) given number }
 {
     match given {
@@ -517,7 +517,7 @@ fn past_longest(walker: &Walker<'_>, given: Option<Literal>, number: u32) -> Res
     }
 }
 
-fn past_zero(walker: &Walker<'_>, given: Option<u32>, number: u32) -> Result<u32, Stop>
+fn past_zero(walker: &Walker<'_, '_>, given: Option<u32>, number: u32) -> Result<u32, Stop>
     ensures { result ≡ if_given (λ count. past (asked_of walker.now.question walker.now.tables.now TopScope 0 (form.Zero count))) given number }
 {
     match given {
@@ -526,7 +526,7 @@ fn past_zero(walker: &Walker<'_>, given: Option<u32>, number: u32) -> Result<u32
     }
 }
 
-fn past_rows(walker: &Walker<'_>, given: Option<u32>, number: u32) -> Result<u32, Stop>
+fn past_rows(walker: &Walker<'_, '_>, given: Option<u32>, number: u32) -> Result<u32, Stop>
     ensures { result ≡ if_given (λ count. past (asked_of walker.now.question walker.now.tables.now TopScope 0 (form.Rows count))) given number }
 {
     match given {
@@ -536,7 +536,7 @@ fn past_rows(walker: &Walker<'_>, given: Option<u32>, number: u32) -> Result<u32
 }
 
 /// The number behind the lines that say how a system is run.
-fn past_limits(walker: &Walker<'_>, number: u32) -> Result<u32, Stop>
+fn past_limits(walker: &Walker<'_, '_>, number: u32) -> Result<u32, Stop>
     ensures { result ≡ limits_walk (asked_of walker.now.question walker.now.tables.now TopScope 0) walker.now.tables.now number }
 {
     let number = past_stop(walker, walker.system().stop, number)?;
@@ -546,7 +546,7 @@ fn past_limits(walker: &Walker<'_>, number: u32) -> Result<u32, Stop>
 }
 
 /// The number behind the last line.
-fn past_system(walker: &Walker<'_>) -> Result<u32, Stop>
+fn past_system(walker: &Walker<'_, '_>) -> Result<u32, Stop>
     ensures { result ≡ system_walk (asked_of walker.now.question walker.now.tables.now) walker.now.tables.now 1 }
 {
     let number = walker.past(

@@ -1,9 +1,11 @@
 -- How a name is found among those that are declared: by its first declaration.
 use Rattle.std.specs.Prelude.{◌≡◌, ℕ, ◌+◌, ◌++◌, List, [], ◌∷◌, map, Option, Some, None, if◌then◌else◌}
 use Rattle.std.specs.List.{position_from}
+use Rattle.std.specs.BTreeMap.{BTreeMap, get_by}
 use Rattle.std.specs.Borrow.{Bor}
+use Rattle.std.specs.Cmp.Lexicographic.{slice_cmp}
+use Rattle.std.specs.Ordering.{nat_cmp}
 use Rattle.std.specs.Str.{bytes_eq}
-use Rattle.indexmap.specs.IndexMap.{IndexMap, get_by}
 use Rattle.unit_names.specs.Entries.{Named, port_as_named}
 use Rattle.unit_names.specs.declared.tables.Declared.{Declared}
 use Rattle.unit_names.specs.declared.tables.Entry.{Entry}
@@ -47,13 +49,13 @@ abbrev pub as_named : Entry → Named
 as_named entry = record { name = entry.name.now; ty = entry.ty; is_event = entry.is_event }
 
 -- What a table finds by the bytes of a name.
-abbrev pub found_in : {V S : Type 0} → IndexMap (Bor (List ℕ)) V S → List ℕ → Option V
-found_in table name = get_by (λ key. bytes_eq name key.now) table
+abbrev pub found_in : {V : Type 0} → BTreeMap (Bor (List ℕ)) V → List ℕ → Option V
+found_in table name = get_by (λ key. slice_cmp nat_cmp name key.now) table
 
 -- The table finds each name's first declaration among these.
-abbrev pub FindsDeclared : {S : Type 0} → List Named → IndexMap (Bor (List ℕ)) Declared S → Type 0
+abbrev pub FindsDeclared : List Named → BTreeMap (Bor (List ℕ)) Declared → Type 0
 FindsDeclared all table = (name : List ℕ) → found_in table name ≡ declared_among all name
 
 -- The table finds each name's first place in a list.
-abbrev pub FindsPlaces : {S : Type 0} → List (List ℕ) → IndexMap (Bor (List ℕ)) ℕ S → Type 0
+abbrev pub FindsPlaces : List (List ℕ) → BTreeMap (Bor (List ℕ)) ℕ → Type 0
 FindsPlaces names table = (name : List ℕ) → found_in table name ≡ first_place names name

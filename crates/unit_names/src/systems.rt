@@ -8,8 +8,8 @@ ghost use Rattle.unit_names.specs.Systems.{unit_names, instance_names, input_fou
 use crate::tables::{Declared, Places, find, note};
 use crate::units::UnitNames;
 use fixed_words::NoMemory;
-use indexmap::IndexMap;
 use std::alloc::Global;
+use std::collections::BTreeMap;
 use std::marker::Model;
 use unit_tree::{Instance, PortName, System, Unit};
 
@@ -57,7 +57,7 @@ fn units_of<'a>(alloc: Global, units: &'a [Unit]) -> Result<Vec<UnitNames<'a>>, 
 fn places_of_units<'a>(alloc: Global, units: &'a [Unit]) -> Result<Places<'a>, NoMemory>
     ensures { IfOk result (FindsPlaces (map (λ unit. unit.name) units.now)) }
 {
-    let mut places = IndexMap::new(alloc);
+    let mut places = BTreeMap::new(alloc);
     for (place, unit) in units.iter().enumerate() {
         note(&mut places, unit.name.as_slice(), place)?;
     }
@@ -67,7 +67,7 @@ fn places_of_units<'a>(alloc: Global, units: &'a [Unit]) -> Result<Places<'a>, N
 fn places_of_instances<'a>(alloc: Global, instances: &'a [Instance]) -> Result<Places<'a>, NoMemory>
     ensures { IfOk result (FindsPlaces (map (λ instance. instance.name) instances.now)) }
 {
-    let mut places = IndexMap::new(alloc);
+    let mut places = BTreeMap::new(alloc);
     for (place, instance) in instances.iter().enumerate() {
         note(&mut places, instance.name.as_slice(), place)?;
     }

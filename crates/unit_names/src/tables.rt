@@ -4,8 +4,8 @@ ghost use Rattle.std.specs.Option.{option_or};
 ghost use Rattle.unit_names.specs.Found.{as_named, found_in, FindsDeclared};
 
 use fixed_words::{NoMemory, Ty};
-use indexmap::IndexMap;
 use std::alloc::Global;
+use std::collections::BTreeMap;
 
 /// How a name is declared first among some: at which place, counted from 0, with which type, and whether as an
 /// event port.
@@ -25,13 +25,13 @@ pub(crate) struct Entry<'a> {
 }
 
 /// Declarations by name.
-pub(crate) type Table<'a> = IndexMap<&'a [u8], Declared>;
+pub(crate) type Table<'a> = BTreeMap<&'a [u8], Declared>;
 
 /// Places by name.
-pub(crate) type Places<'a> = IndexMap<&'a [u8], usize>;
+pub(crate) type Places<'a> = BTreeMap<&'a [u8], usize>;
 
 /// What is noted under a name.
-pub(crate) fn find<V: Copy>(table: &IndexMap<&[u8], V>, name: &[u8]) -> Option<V>
+pub(crate) fn find<V: Copy>(table: &BTreeMap<&[u8], V>, name: &[u8]) -> Option<V>
     ensures { result ≡ found_in table.now name.now }
 {
     table.get(name).copied()
@@ -39,7 +39,7 @@ pub(crate) fn find<V: Copy>(table: &IndexMap<&[u8], V>, name: &[u8]) -> Option<V
 
 /// Notes a name, where it was not noted before.
 pub(crate) fn note<'a, V: Drop>(
-    table: &mut IndexMap<&'a [u8], V>,
+    table: &mut BTreeMap<&'a [u8], V>,
     name: &'a [u8],
     value: V,
 ) -> Result<(), NoMemory>
@@ -56,7 +56,7 @@ pub(crate) fn note<'a, V: Drop>(
 pub(crate) fn table_of<'a>(alloc: Global, entries: &[Entry<'a>]) -> Result<Table<'a>, NoMemory>
     ensures { IfOk result (FindsDeclared (map as_named entries.now)) }
 {
-    let mut table = IndexMap::new(alloc);
+    let mut table = BTreeMap::new(alloc);
     for (place, entry) in entries.iter().enumerate() {
         note(
             &mut table,
