@@ -1,0 +1,4 @@
+pub mod Added
+pub mod Laws
+pub mod Upgrades
+pub mod Worked
