@@ -1,0 +1,10 @@
+pub mod CountLaws
+pub mod LineLaws
+pub mod NumberTexts
+pub mod PartTexts
+pub mod PositionTexts
+pub mod PutTexts
+pub mod ReadStates
+pub mod SavedOnce
+pub mod SavedTraces
+pub mod WalkLaws

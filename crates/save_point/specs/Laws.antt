@@ -1,0 +1,50 @@
+-- Laws of saved texts.
+use Rattle.std.specs.Prelude.{◌≡◌, ◌⊎◌, ℕ, List, length, map}
+use Rattle.std.specs.List.{AllByRecursion, flat_map}
+use Rattle.save_point.specs.Saving.{FitsSaved}
+use Rattle.save_point.specs.SavedTexts.{AreNumbers, BreaksAtLine, IsSaved, IsState, ended, named_states, saved_lines, saved_text}
+use Rattle.save_point.specs.declared.reading.Saved.{Saved}
+use Rattle.unit_tree.specs.Compositions.{run_of}
+use Rattle.unit_tree.specs.Printable.{IsRanged}
+use Rattle.unit_tree.specs.Successor.{Position}
+use Rattle.unit_tree.specs.Trace.{IsPositionOf}
+use Rattle.unit_tree.specs.WellFormed.{IsWellFormed}
+use Rattle.unit_tree.specs.declared.system.System.{System}
+
+-- A text saves one position, or breaks at one line, and not both.
+pub record SavesOrBreaks (text : List ℕ) : Type 0 where
+  pub some : ((saved : Saved) × IsSaved text saved) ⊎ ((number : ℕ) × BreaksAtLine text number)
+  pub saved_once : (one other : Saved) → IsSaved text one → IsSaved text other → one ≡ other
+  pub breaks_once : (one other : ℕ) → BreaksAtLine text one → BreaksAtLine text other → one ≡ other
+  pub not_both : (saved : Saved) (number : ℕ) → IsSaved text saved → BreaksAtLine text number → ⊥
+
+abbrev pub TextsSaveOrBreak : Type 0
+TextsSaveOrBreak = (text : List ℕ) → SavesOrBreaks text
+
+-- What the saved text of a position saves: the position, and the canonical text as the rest.
+abbrev pub saved_of : System → Position → Saved
+saved_of system at = record {
+  row = at.number;
+  point = at.point;
+  names = map (λ state. state.name) (named_states system at);
+  counts = map (λ state. length state.words) (named_states system at);
+  states = flat_map (λ state. state.words) (named_states system at);
+  rest = length (ended (saved_lines at.number at.point (named_states system at)));
+}
+
+-- The saved text of a position is a saved text, and saves the position.
+abbrev pub PositionsAreSaved : Type 0
+PositionsAreSaved =
+    (system : System) (at : Position) → AreNumbers at.number at.point → AllByRecursion IsState (named_states system at)
+    → IsSaved (saved_text system at) (saved_of system at)
+
+-- What is saved of a position is the position: its saved text saves it, and it is the position of the system's run that fits what was
+-- saved.
+pub record CanBeResumed (system : System) (at : Position) : Type 0 where
+  pub saved : IsSaved (saved_text system at) (saved_of system at)
+  pub fits : FitsSaved (record { system = system; run = run_of system }) (saved_of system at) at
+
+-- So it is with each position of the trace of a system that is judged.
+abbrev pub TracesCanBeResumed : Type 0
+TracesCanBeResumed =
+    (system : System) (number : ℕ) (at : Position) → IsRanged system → IsWellFormed system → IsPositionOf (run_of system) number at → CanBeResumed system at

@@ -1,0 +1,111 @@
+//! Positions of a trace that are put as texts.
+ghost use Rattle.std.specs.Prelude.{◌≡◌, ◌++◌, ◌∷◌, [], length, map, decimal, Err, OnOk, OnErr};
+ghost use Rattle.save_point.specs.SavedTexts.{ended, named, point_line, row_line, saved_text, spaced_words, state_line, states_of, title_line};
+ghost use Rattle.save_point.specs.Saving.{HasNoPosition, PutsPosition};
+
+use crate::fault::SaveFault;
+use crate::walking::go_on;
+use fixed_words::NoMemory;
+use itoa::Buffer;
+use std::alloc::Global;
+use std::sync::Arc;
+use trace_core::{Plan, Run};
+use unit_print::print_system;
+use unit_tree::{Instance, Point};
+
+/// Puts a number behind a text, with these bytes in front and this one behind it.
+fn put_number(text: &mut Vec<u8>, front: &[u8], number: u64, end: u8) -> Result<(), NoMemory>
+    ensures { OnOk result (text.new.items ≡ text.old.items ++ (front.now ++ (decimal number ++ end ∷ []))) }
+{
+    let mut buffer = Buffer::new();
+    text.extend_from_slice(front)?;
+    text.extend_from_slice(buffer.format(number).as_bytes())?;
+    text.push(end)?;
+    Ok(())
+}
+
+/// Puts the lines of the title, of a row and of a point behind a text.
+fn put_point(text: &mut Vec<u8>, row: u64, point: Point) -> Result<(), NoMemory>
+    ensures { OnOk result (text.new.items ≡ text.old.items ++ ended (title_line ∷ row_line row ∷ point_line point ∷ [])) }
+{
+    put_number(text, b"saved 1\nrow ", row, b'\n')?;
+    put_number(text, b"at ", point.t, b' ')?;
+    put_number(text, b"", point.n, b'\n')
+}
+
+/// Puts words behind a text, each behind a space.
+fn put_words(text: &mut Vec<u8>, words: &[i64]) -> Result<(), NoMemory>
+    ensures { OnOk result (text.new.items ≡ text.old.items ++ spaced_words words.now) }
+{
+    let mut buffer = Buffer::new();
+    for word in words {
+        text.push(b' ')?;
+        text.extend_from_slice(buffer.format(*word).as_bytes())?;
+    }
+    Ok(())
+}
+
+/// Puts the line of a state behind a text.
+fn put_state(text: &mut Vec<u8>, name: &[u8], words: &[i64]) -> Result<(), NoMemory>
+    ensures { OnOk result (text.new.items ≡ text.old.items ++ (state_line (named (name.now, words.now)) ++ 10 ∷ [])) }
+{
+    text.extend_from_slice(b"state ")?;
+    text.extend_from_slice(name)?;
+    put_words(text, words)?;
+    text.push(b'\n')?;
+    Ok(())
+}
+
+/// Puts the lines of all states of a run behind a text, each with the name of its instance.
+fn put_states(text: &mut Vec<u8>, instances: &[Instance], run: &Run) -> Result<(), NoMemory>
+    requires { length instances.now ≡ length run.now.plan.run.members }
+    ensures { OnOk result (text.new.items ≡ text.old.items ++ ended (map state_line (states_of instances.now run.now.stand.at.states))) }
+{
+    // What a run keeps is known by the clauses of this call alone.
+    let _ = run.phase();
+    for (place, instance) in instances.iter().enumerate() {
+        put_state(text, instance.name.as_slice(), run.state(place as u32))?;
+    }
+    Ok(())
+}
+
+/// Puts the saved text of where a run of the plan stands behind a text.
+fn put_stand(alloc: Global, plan: &Plan, run: &Run, text: &mut Vec<u8>) -> Result<(), NoMemory>
+    requires { run.now.plan ≡ plan.now }
+    ensures { OnOk result (text.new.items ≡ text.old.items ++ saved_text plan.now.system run.now.stand.at) }
+{
+    let system = plan.checked().source();
+    // That the system is judged is known by the clauses of this call alone.
+    let _ = plan.checked().system();
+    put_point(text, run.number(), run.point())?;
+    put_states(text, system.instances.as_slice(), run)?;
+    print_system(alloc, system, text)
+}
+
+/// Appends the saved text of the position of this number in the plan's trace: of a position that has no row too, as the last one
+/// where an output faults there.
+///
+/// # Errors
+///
+/// [`SaveFault::NoRow`] exactly where the trace has no position of this number. Want of memory is a free answer. After either `out`
+/// is as before.
+pub fn save_text(
+    alloc: Global,
+    plan: &Arc<Plan>,
+    row: u64,
+    out: &mut Vec<u8>,
+) -> Result<(), SaveFault>
+    ensures put { OnOk result (PutsPosition plan.now.value row out.old.items out.new.items) }
+    ensures no_row { result ≡ Err SaveFault.NoRow → HasNoPosition plan.now.value.run row }
+    ensures kept { OnErr result (out.new.items ≡ out.old.items) }
+{
+    let shared = Arc::clone(plan)?;
+    let mut run = Run::open(alloc, shared)?;
+    if !go_on(&mut run, plan.instances(), row) {
+        return Err(SaveFault::NoRow);
+    }
+    let mut text = Vec::new(alloc);
+    put_stand(alloc, plan, &run, &mut text)?;
+    out.extend_from_slice(text.as_slice())?;
+    Ok(())
+}

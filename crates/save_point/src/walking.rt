@@ -1,0 +1,43 @@
+//! A run that goes on to a row by its own steps.
+ghost use Rattle.std.specs.Prelude.{◌≡◌, ◌<◌, ◌≤◌, length, true, false};
+ghost use Rattle.trace_core.specs.Runs.{Stands, is_ended};
+ghost use Rattle.trace_rows.specs.Passing.{AreStepsThere};
+
+use trace_core::{Phase, Run};
+
+/// Makes all steps that the phase wants.
+fn make_steps(run: &mut Run, instances: u32)
+    requires { instances ≡ length run.old.cells }
+    ensures { AreStepsThere run.old run.new }
+{
+    for instance in 0..instances {
+        if run.is_wanted(instance) {
+            run.compute(instance);
+        }
+    }
+}
+
+/// Goes on until the run stands at the row of this number, or has ended before it. The answer tells whether it stands there.
+///
+/// At the last position an output may fault, so that it has no row. The run stands there too.
+pub(crate) fn go_on(run: &mut Run, instances: u32, row: u64) -> bool
+    requires instances { instances ≡ length run.old.plan.run.members }
+    requires before { run.old.stand.at.number ≤ row }
+    ensures plan { run.new.plan ≡ run.old.plan }
+    ensures opened { run.new.opened ≡ run.old.opened }
+    ensures stands { Stands run.new }
+    ensures there { result ≡ true → run.new.stand.at.number ≡ row }
+    ensures ended { result ≡ false → is_ended run.new.phase ≡ true }
+    ensures short { result ≡ false → run.new.stand.at.number < row }
+{
+    while run.number() < row {
+        if let Phase::Ended(_) = run.phase() {
+            return false;
+        }
+        make_steps(run, instances);
+        let _ = run.settle();
+    }
+    // What a run keeps is known by the clauses of this call alone.
+    let _ = run.phase();
+    true
+}

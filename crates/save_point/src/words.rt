@@ -1,0 +1,102 @@
+//! Numbers and words of a saved text's lines.
+ghost use Rattle.std.specs.Prelude.{◌≡◌, ◌≤◌, ℕ, ℤ, ◌&&◌, nat_lt, length, decimal, true, Some};
+ghost use Rattle.std.specs.Fmt.{signed_decimal};
+ghost use Rattle.std.specs.List.{list_all, prefix_len};
+ghost use Rattle.std.specs.Option.{option_map};
+ghost use Rattle.fixed_words.specs.Types.{is_word_of};
+ghost use Rattle.fixed_words.specs.declared.types.Ty.TheVariants.{Int64};
+ghost use Rattle.save_point.specs.Reading.{IsNumberText, IsWordText, Tells, first_part, is_inside, is_word, other_parts, word_in};
+ghost use Rattle.save_point.specs.SavedTexts.{number_limit};
+ghost use Rattle.unit_tree.specs.Tokens.{is_word_byte};
+
+use itoa::Buffer;
+use unit_tree::{is_letter, is_word_byte};
+
+/// The greatest number that a saved text may have.
+const GREATEST_NUMBER: u64 = 1_000_000_000_000_000;
+
+/// The most bytes of a word of the language.
+const LONGEST_WORD: usize = 32;
+
+/// The number that bytes are the text of, perhaps with more in front, as a sign or zeros.
+fn parse_number(bytes: &[u8]) -> Option<u64>
+    ensures { (number : ℕ) → number ≤ number_limit → bytes.now ≡ decimal number → result ≡ Some number }
+{
+    str::from_utf8(bytes).ok()?.parse().ok()
+}
+
+/// The number that bytes are the text of, as it is written.
+pub(crate) fn number_in(bytes: &[u8]) -> Option<u64>
+    ensures { Tells result (IsNumberText bytes.now) }
+{
+    let number = parse_number(bytes)?;
+    let mut buffer = Buffer::new();
+    if number <= GREATEST_NUMBER && buffer.format(number).as_bytes() == bytes {
+        Some(number)
+    } else {
+        None
+    }
+}
+
+/// The word that bytes are the text of, perhaps with more in front, as a sign or zeros.
+fn parse_word(bytes: &[u8]) -> Option<i64>
+    ensures { (word : ℤ) → is_word_of Int64 word ≡ true → bytes.now ≡ signed_decimal word → result ≡ Some word }
+{
+    str::from_utf8(bytes).ok()?.parse().ok()
+}
+
+/// The word that bytes are the text of, as it is written.
+pub(crate) fn word_in(bytes: &[u8]) -> Option<i64>
+    ensures { result ≡ word_in bytes.now }
+{
+    let word = parse_word(bytes)?;
+    let mut buffer = Buffer::new();
+    if buffer.format(word).as_bytes() == bytes {
+        Some(word)
+    } else {
+        None
+    }
+}
+
+/// How many bytes come before the first space.
+fn part_length(bytes: &[u8]) -> usize
+    ensures length { result ≡ prefix_len is_inside bytes.now }
+    ensures within { result ≤ length bytes.now }
+{
+    bytes.iter().take_while(|byte| **byte != b' ').count()
+}
+
+/// The bytes up to the first space, and those behind it, where there is one.
+pub(crate) fn cut_part(bytes: &[u8]) -> (&[u8], Option<&[u8]>)
+    ensures first { result.0.now ≡ first_part bytes.now }
+    ensures others { option_map (λ others. others.now) result.1 ≡ other_parts bytes.now }
+{
+    let (part, behind) = bytes.split_at(part_length(bytes));
+    match behind {
+        [] => (part, None),
+        [_, others @ ..] => (part, Some(others)),
+    }
+}
+
+fn are_word_bytes(bytes: &[u8]) -> bool
+    ensures { result ≡ list_all is_word_byte bytes.now }
+{
+    bytes.iter().all(|byte| is_word_byte(*byte))
+}
+
+/// Whether bytes may stand behind the first of a word.
+fn goes_on(others: &[u8]) -> bool
+    ensures { result ≡ (list_all is_word_byte others.now && nat_lt (length others.now) 32) }
+{
+    are_word_bytes(others) && others.len() < LONGEST_WORD
+}
+
+/// Whether bytes are a word of the language, a reserved one too.
+pub(crate) fn is_word(bytes: &[u8]) -> bool
+    ensures { result ≡ is_word bytes.now }
+{
+    match bytes {
+        [] => false,
+        [first, others @ ..] => is_letter(*first) && goes_on(others),
+    }
+}
