@@ -1,16 +1,12 @@
-//! Worlds by hand: all that may happen, and what is refused; and replays.
-ghost use Rattle.std.specs.Prelude.{◌≤◌};
+//! Worlds by hand: all that may happen, and what is refused.
 
-use cosim_io::MemSink;
 use guess_board::{LaneCounts, Policy};
 use inner_tests::plan_of;
-use spec_core::{Counts, Event, Reply, World, replay};
+use spec_core::{Event, Reply, World};
 use std::alloc::Global;
 use std::process::Abort;
-use std::sync::Arc;
 use std::test::Fail;
-use trace_core::{Plan, Settle};
-use unit_tree::{Ending, Point};
+use trace_core::Settle;
 
 /// Its state and its input stay 0, so that each guess is right. It makes three steps.
 const RESTER: &str =
@@ -169,53 +165,5 @@ fn a_drain_gives_all_tickets_back(rt: HostRuntime) -> Result<(), Fail> {
     };
     assert_eq!(rt; world.lane(0).counts(), counts);
     assert_eq!(rt; world.drain(), 0);
-    Ok(())
-}
-
-/// What a replay of seed 0 counts, and what it puts.
-fn replayed(alloc: Global, plan: &Arc<Plan>, workers: u32) -> Result<(Counts, MemSink), Fail>
-    requires { workers ≤ 16 }
-{
-    let mut sink = MemSink::new(alloc, 64, Vec::new(alloc))?;
-    let counts = replay(alloc, Arc::clone(plan)?, 0, workers, &mut sink)?;
-    Ok((counts, sink))
-}
-
-/// Without a worker each of three rounds publishes, finds nothing, makes the step and settles. A worker does two events in each: it
-/// gives back from an empty hand and takes; steals from itself and posts two answers, which are found; takes where nothing is needed
-/// and posts from an empty hand.
-#[test]
-fn replays_are_counted(rt: HostRuntime) -> Result<(), Fail> {
-    let plan = plan_of(rt.alloc(), COUNTER)?;
-    let (alone, put) = replayed(rt.alloc(), &plan, 0)?;
-    let expected = Counts {
-        outcome: Ending::Completed,
-        last: Point { t: 3, n: 0 },
-        events: 12,
-        refused: 0,
-        found: 0,
-        own: 3,
-        tickets: 0,
-        posted: 0,
-        back: 0,
-        lapsed: 0,
-        appended: 0,
-    };
-    assert_eq!(rt; alone, expected);
-    let rows = b"time,index,a.y\n0,0,0\n1,0,1\n2,0,2\n3,0,3\n";
-    assert_eq!(rt; put.bytes(), &rows[..]);
-    let (beside, put) = replayed(rt.alloc(), &plan, 1)?;
-    let expected = Counts {
-        events: 16,
-        refused: 4,
-        found: 2,
-        own: 1,
-        tickets: 1,
-        posted: 1,
-        appended: 2,
-        ..expected
-    };
-    assert_eq!(rt; beside, expected);
-    assert_eq!(rt; put.bytes(), &rows[..]);
     Ok(())
 }

@@ -6,7 +6,7 @@ ghost use Rattle.trace_rows.specs.Passing.{AreStepsThere, IsFilled};
 
 use crate::desk::Desk;
 use crate::gate::Gate;
-use crate::patience::Patience;
+use crate::patience::{Due, Patience};
 use fixed_words::NoMemory;
 use front_cell::{FrontCell, Writer};
 use guess_board::{Lane, Policy};
@@ -86,7 +86,7 @@ fn look<R: Wait, G: Gate>(
 }
 
 /// Looks in the lane of an instance, if it was published, and has it remembered whether there was something.
-fn look_again<R: Wait, G: Gate>(
+fn look_if_published<R: Wait, G: Gate>(
     rt: &R,
     gate: &G,
     desk: &Desk,
@@ -123,7 +123,7 @@ fn fill<R: Wait, G: Gate>(
     requires wanted { IsWanted run.old instance }
     ensures { IsFilled run.old instance run.new }
 {
-    if !look_again(rt, gate, desk, patience, run, instance) {
+    if !look_if_published(rt, gate, desk, patience, run, instance) {
         run.compute(instance);
     }
 }
@@ -178,7 +178,7 @@ fn publish<R: Wait>(
     }
 }
 
-/// Publishes all lanes but those that are left alone for now.
+/// Publishes all lanes but those that are left alone for now, which give no tickets meanwhile.
 fn publish_all<R: Wait>(
     rt: &R,
     alloc: Global,
@@ -198,17 +198,31 @@ fn publish_all<R: Wait>(
         let Some(patience) = patience.get_mut(instance as usize) else {
             continue;
         };
-        if patience.begin_phase() {
-            publish(rt, alloc, plan, run, guessing, lane, instance);
-        }
+        let window = match patience.begin_phase() {
+            Due::Publish => guessing.window,
+            Due::Withdraw => 0,
+            Due::Nothing => continue,
+        };
+        let guessing = Guessing {
+            window,
+            policy: guessing.policy,
+        };
+        publish(rt, alloc, plan, run, guessing, lane, instance);
     }
 }
 
 impl<'a, R: Wait + Drop, G: Gate> Coordinator<'a, R, G> {
-    /// Tells the workers that no row will follow.
-    pub(crate) fn close(self) {
-        let mut writer = self.writer;
-        self.front.close(&self.rt, &mut writer);
+    /// Tells the workers that no row will follow, and leaves the desk.
+    pub(crate) fn close(self) -> Arc<Desk> {
+        let Coordinator {
+            rt,
+            desk,
+            front,
+            mut writer,
+            ..
+        } = self;
+        front.close(&rt, &mut writer);
+        desk
     }
 }
 
@@ -220,9 +234,6 @@ impl<'a, R: Wait + Drop, G: Gate> Drive for Coordinator<'a, R, G> {
     }
 
     fn make_steps(&mut self) -> Result<(), NoMemory> {
-        // The row where the run stands was put.
-        let rows = self.run.number() + 1;
-        self.front.advance(&self.rt, &mut self.writer, rows);
         publish_all(
             &self.rt,
             self.alloc,
@@ -232,6 +243,9 @@ impl<'a, R: Wait + Drop, G: Gate> Drive for Coordinator<'a, R, G> {
             &self.desk,
             &mut self.patience,
         );
+        // The row where the run stands was put. What is behind it is given back, of which the lanes give no more by now.
+        let rows = self.run.number() + 1;
+        self.front.advance(&self.rt, &mut self.writer, rows);
         let instances = self.plan.instances();
         fill_all(
             &self.rt,

@@ -1,15 +1,17 @@
 //! A run with workers.
-ghost use Rattle.std.specs.Prelude.{◌≡◌, ◌≤◌, ◌<◌, IfOk, OnErr};
+ghost use Rattle.std.specs.Prelude.{◌≡◌, ◌+◌, ◌*◌, ◌≤◌, ◌<◌, length, IfOk, OnErr};
 ghost use Rattle.std.specs.Arc.{arc_value};
 ghost use Rattle.front_cell.specs.Front.{opening};
+ghost use Rattle.trace_core.specs.Runs.{IsOpened, Stands};
 ghost use Rattle.trace_rows.specs.Faults.{TellsFault};
 ghost use Rattle.trace_rows.specs.Reports.{PutsFront, ReportsTrace};
+ghost use Rattle.unit_tree.specs.Successor.{first_position};
 
 use crate::coordinator::{Coordinator, Guessing};
 use crate::desk::{Desk, TicketSums};
 use crate::gate::Gate;
 use crate::patience::Patience;
-use crate::worker::{Bench, Home, Seat, Tickets, Watch, Worker, Works};
+use crate::worker::{Home, Seat, Tickets, Watch, Worker, Workplace, Works};
 use cosim_io::Sink;
 use fixed_words::NoMemory;
 use front_cell::{FrontCell, Writer};
@@ -22,6 +24,8 @@ use std::thread::{JoinHandle, Threads};
 use ticket_deque::{Hand, Reach, make};
 use trace_core::{Plan, Run};
 use trace_rows::{CrewFault, Report, put_trace};
+use unit_names::lines_cost;
+use unit_tree::{Instance, System, Unit};
 
 /// The ends of the workers' deques: the hands, and a first reach of each.
 #[derive(Drop)]
@@ -69,13 +73,13 @@ fn reaches_of(
     Ok(others)
 }
 
-/// A bench for each instance of a plan.
-fn benches_of(alloc: Global, plan: &Plan) -> Result<Vec<Bench>, NoMemory> {
-    let mut benches = Vec::with_capacity(alloc, plan.instances() as usize)?;
+/// A workplace for each instance of a plan.
+fn workplaces_of(alloc: Global, plan: &Plan) -> Result<Vec<Workplace>, NoMemory> {
+    let mut workplaces = Vec::with_capacity(alloc, plan.instances() as usize)?;
     for instance in 0..plan.instances() {
-        benches.push(Bench::new(Arc::clone(plan.image(instance))?))?;
+        workplaces.push(Workplace::new(Arc::clone(plan.image(instance))?))?;
     }
-    Ok(benches)
+    Ok(workplaces)
 }
 
 /// What the threads of a run share.
@@ -126,27 +130,90 @@ fn make_crew<R: Wait>(
         crew.push(Worker {
             seat,
             tickets: Tickets { hand, others },
-            benches: benches_of(alloc, plan)?,
+            workplaces: workplaces_of(alloc, plan)?,
         })?;
     }
     Ok(crew)
 }
 
+/// What the steps of an instance cost at most.
+fn step_cost(system: &System, instance: &Instance) -> u32 {
+    match system.unit_of(instance) {
+        Some(
+            Unit {
+                step: Some(lines),
+                ..
+            },
+        ) => lines_cost(lines.as_slice()),
+        _ => 0,
+    }
+}
+
 /// The patience with each lane, at the beginning of a run.
 fn patience_of(alloc: Global, plan: &Plan) -> Result<Vec<Patience>, NoMemory> {
-    let mut patience = Vec::new(alloc);
-    patience.resize(plan.instances() as usize, Patience::NEW)?;
+    let system = plan.checked().system();
+    let mut patience = Vec::with_capacity(alloc, system.instances.len())?;
+    for instance in system.instances.as_slice() {
+        patience.push(Patience::new(step_cost(system, instance)))?;
+    }
     Ok(patience)
+}
+
+/// A run that was opened with its crew: who drives it, the workers, of whom none is started, and a place for the thread of each.
+#[derive(Drop)]
+struct Opened<'a, R, G> {
+    coordinator: Coordinator<'a, R, G>,
+    crew: Vec<Worker>,
+    threads: Vec<Option<JoinHandle<()>>>,
+}
+
+/// Opens the run of a plan with its crew: takes all memory but that of the lines.
+fn open_crew<'a, R: Threads + Wait + Copy + Send + Drop + 'static, G: Gate>(
+    rt: R,
+    alloc: Global,
+    plan: &Arc<Plan>,
+    workers: u32,
+    guessing: Guessing,
+    gate: &'a G,
+) -> Result<Opened<'a, R, G>, NoMemory>
+    ensures opened { IfOk result (λ made. IsOpened plan.now.value (first_position plan.now.value.run) made.coordinator.run) }
+    ensures stands { IfOk result (λ made. Stands made.coordinator.run) }
+{
+    let run = Run::open(alloc, Arc::clone(plan)?)?;
+    let (shared, mut writer) = share(alloc, plan)?;
+    let crew = make_crew(&rt, alloc, plan, &shared, &mut writer, workers)?;
+    let mut threads = Vec::with_capacity(alloc, workers as usize)?;
+    for _ in 0..workers {
+        threads.push(None)?;
+    }
+    let patience = patience_of(alloc, plan)?;
+    let coordinator = Coordinator {
+        rt,
+        alloc,
+        plan: Arc::clone(plan)?,
+        run,
+        desk: shared.desk,
+        front: shared.front,
+        writer,
+        guessing,
+        patience,
+        gate,
+    };
+    Ok(Opened {
+        coordinator,
+        crew,
+        threads,
+    })
 }
 
 /// Starts a thread with a worker's parts, if it can be started.
 fn start_parts<
     R: Threads + Wait + Copy + Send + 'static,
-    S: Works<T, B> + Send + Drop + 'static,
+    S: Works<T, P> + Send + Drop + 'static,
     T: Send + Drop + 'static,
-    B: Send + Drop + 'static,
->(rt: R, seat: S, tickets: T, benches: B) -> Option<JoinHandle<()>> {
-    thread::spawn(&rt, move || seat.work(tickets, benches, &rt)).ok()
+    P: Send + Drop + 'static,
+>(rt: R, seat: S, tickets: T, workplaces: P) -> Option<JoinHandle<()>> {
+    thread::spawn(&rt, move || seat.work(tickets, workplaces, &rt)).ok()
 }
 
 /// Starts a worker, if its thread can be started.
@@ -157,36 +224,35 @@ fn start_one<R: Threads + Wait + Copy + Send + 'static>(
     let Worker {
         seat,
         tickets,
-        benches,
+        workplaces,
     } = worker;
-    start_parts(rt, seat, tickets, benches)
+    start_parts(rt, seat, tickets, workplaces)
 }
 
 /// Workers that were started. It can't be let go, so that nobody returns who hasn't waited for them.
 struct Started {
-    handles: Vec<JoinHandle<()>>,
+    threads: Vec<Option<JoinHandle<()>>>,
 }
 
-/// Starts the workers, for whose handles there is room. One that can't be started is not there.
+/// Starts the workers, each in a place that is there for it. One that can't be started is not there.
 fn start<R: Threads + Wait + Copy + Send + 'static>(
     rt: R,
     crew: Vec<Worker>,
-    room: Vec<JoinHandle<()>>,
+    mut threads: Vec<Option<JoinHandle<()>>>,
 ) -> Started {
-    let mut handles = room;
-    for worker in crew {
-        if let Some(handle) = start_one(rt, worker) {
-            let _ = handles.push(handle);
-        }
+    for (thread, worker) in threads.iter_mut().zip(crew) {
+        *thread = start_one(rt, worker);
     }
-    Started { handles }
+    Started { threads }
 }
 
 /// Waits until all workers have ended.
 fn join_all<R: Threads>(rt: &R, started: Started) {
-    let Started { handles } = started;
-    for handle in handles {
-        handle.join(rt);
+    let Started { threads } = started;
+    for thread in threads {
+        if let Some(thread) = thread {
+            thread.join(rt);
+        }
     }
 }
 
@@ -227,33 +293,23 @@ pub fn run_crew<R: Threads + Wait + Copy + Send + Drop + 'static, O: Sink, G: Ga
     ensures whole { IfOk result (ReportsTrace plan.value.system (O.held out.old) (O.held out.new)) }
     ensures front { OnErr result (PutsFront plan.value.system (O.held out.old) (O.held out.new)) }
     ensures cause { TellsFault (O.faults out.old) (O.faults out.new) result }
+    ensures bounded { IfOk result (λ report. report.found + report.own ≤ 2 * length plan.value.run.members * report.rows) }
 {
     // All memory but that of the lines is taken before anything is put, and before any worker is started.
-    let run = Run::open(alloc, Arc::clone(&plan)?)?;
-    let (shared, mut writer) = share(alloc, &plan)?;
-    let crew = make_crew(&rt, alloc, &plan, &shared, &mut writer, workers)?;
-    let handles = Vec::with_capacity(alloc, workers as usize)?;
     let guessing = Guessing {
         window: cut_window(&plan, window),
         policy,
     };
-    let mut coordinator = Coordinator {
-        rt,
-        alloc,
-        plan: Arc::clone(&plan)?,
-        run,
-        desk: Arc::clone(&shared.desk)?,
-        front: Arc::clone(&shared.front)?,
-        writer,
-        guessing,
-        patience: patience_of(alloc, &plan)?,
-        gate,
-    };
-    let started = start(rt, crew, handles);
+    let Opened {
+        mut coordinator,
+        crew,
+        threads,
+    } = open_crew(rt, alloc, &plan, workers, guessing, gate)?;
+    let started = start(rt, crew, threads);
     let ended = put_trace(alloc, &plan, &mut coordinator, out);
-    coordinator.close();
+    let desk = coordinator.close();
     join_all(&rt, started);
-    Ok(with_tickets(ended?, shared.desk.sums(&rt)))
+    Ok(with_tickets(ended?, desk.sums(&rt)))
 }
 
 #[cfg(test)]

@@ -1,6 +1,9 @@
+//! Gates: how long a run waits for its workers.
+
 /// Who decides whether a run waits for the step of an instance that no worker has answered yet.
 pub trait Gate {
-    /// Whether to look again for the step of an instance at a row, after so many looks before.
+    /// Whether to look once more for the step of an instance at a row. `turn` is how many looks were in vain before the last, from 0
+    /// on. It isn't asked of an instance whose lane is left alone.
     fn again(&self, row: u64, instance: u32, turn: u64) -> bool;
 }
 

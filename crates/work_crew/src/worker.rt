@@ -15,9 +15,6 @@ use ticket_deque::{Hand, Reach};
 use unit_answers::Proven;
 use unit_exec::{Image, Unit};
 
-/// A ticket has no more cells.
-const ALL_CELLS: u32 = 16;
-
 /// A worker's view of the front.
 #[derive(Drop)]
 pub(crate) struct Watch {
@@ -33,36 +30,35 @@ impl Watch {
     }
 }
 
-/// What a worker makes the answers of an instance with: its image, and a unit of the worker's own, where it has answered one.
+/// Where a worker makes the answers of an instance: its image, and a unit of the worker's own, where it has answered one.
 #[derive(Drop)]
-pub(crate) struct Bench {
+pub(crate) struct Workplace {
     image: Arc<Image>,
     unit: Option<Unit>,
     ghost own: { ForSome unit (λ made. made.image ≡ image.value) },
 }
 
-impl Bench {
+impl Workplace {
     /// One without a unit.
-    pub(crate) fn new(image: Arc<Image>) -> Bench {
-        Bench { image, unit: None }
+    pub(crate) fn new(image: Arc<Image>) -> Workplace {
+        Workplace { image, unit: None }
     }
 
-    /// Appends the answers to a ticket, those to its first cells where there is no memory for all. There are none to a ticket that
-    /// does not fit.
+    /// Appends the answers to a ticket that fits, those to its first cells where there is no memory for all.
     fn answer(
         &mut self,
         alloc: Global,
         ticket: &Ticket,
         answers: &mut Vec<Proven>,
-    ) -> Result<(), NoMemory> {
-        if !fits(&self.image, ticket) {
-            return Ok(());
-        }
+    ) -> Result<(), NoMemory>
+        requires fits { FitsImage self.old.image.value ticket.now }
+    {
         let mut unit = match self.unit.take() {
             Some(unit) => unit,
             None => Unit::new(alloc, Arc::clone(&self.image)?)?,
         };
-        let answered = work_off(alloc, &mut unit, &self.image, ticket, ALL_CELLS, answers);
+        let cells = ticket.cells().len() as u32;
+        let answered = work_off(alloc, &mut unit, &self.image, ticket, cells, answers);
         self.unit = Some(unit);
         answered
     }
@@ -77,6 +73,14 @@ fn fits(image: &Image, ticket: &Ticket) -> bool
     };
     ticket.start().len() == image.states() as usize
         && first.inputs.as_slice().len() == image.inputs() as usize
+}
+
+/// Whether a ticket begins before the row where a run stands that has put so many.
+fn is_behind(ticket: &Ticket, rows: u64) -> bool {
+    match ticket.cells() {
+        [first, ..] => first.row.saturating_add(1) < rows,
+        [] => false,
+    }
 }
 
 /// The lanes from which a worker takes tickets first: those whose numbers leave its own of the number of workers.
@@ -137,21 +141,21 @@ pub(crate) struct Worker {
     pub(crate) seat: Seat,
     pub(crate) tickets: Tickets,
     /// By instance.
-    pub(crate) benches: Vec<Bench>,
+    pub(crate) workplaces: Vec<Workplace>,
 }
 
 /// What is done in a thread that is given a worker's parts. Who starts it knows of each part by itself that it may go to a thread.
-pub(crate) trait Works<T, B> {
+pub(crate) trait Works<T, P> {
     /// Does it.
-    fn work<R: Wait>(self, tickets: T, benches: B, rt: &R);
+    fn work<R: Wait>(self, tickets: T, workplaces: P, rt: &R);
 }
 
-impl Works<Tickets, Vec<Bench>> for Seat {
-    fn work<R: Wait>(self, tickets: Tickets, benches: Vec<Bench>, rt: &R) {
+impl Works<Tickets, Vec<Workplace>> for Seat {
+    fn work<R: Wait>(self, tickets: Tickets, workplaces: Vec<Workplace>, rt: &R) {
         let worker = Worker {
             seat: self,
             tickets,
-            benches,
+            workplaces,
         };
         worker.work(rt);
     }
@@ -171,7 +175,7 @@ impl Worker {
                 rows = front.rows;
                 backoff.reset();
             }
-            match self.turn(rt) {
+            match self.turn(rt, rows) {
                 Ok(true) => {}
                 Ok(false) => backoff.snooze(),
                 Err(_) => break,
@@ -180,20 +184,27 @@ impl Worker {
         self.tickets.give_back(rt, &self.seat.desk);
     }
 
-    /// One turn, and whether it found a ticket.
-    fn turn<R: Wait>(&mut self, rt: &R) -> Result<bool, NoMemory> {
-        self.take_home(rt)?;
+    /// One turn, when so many rows were put, and whether it found a ticket. One that begins at a row which the run has left is given
+    /// back: what is needed from where it stands is on another.
+    fn turn<R: Wait>(&mut self, rt: &R, rows: u64) -> Result<bool, NoMemory> {
+        let served = self.take_home(rt)?;
         match self.tickets.next(rt) {
+            Some(ticket) if is_behind(&ticket, rows) => {
+                self.seat.desk.back(rt, ticket);
+                Ok(true)
+            }
             Some(ticket) => {
                 self.serve(rt, ticket)?;
                 Ok(true)
             }
-            None => Ok(false),
+            None => Ok(served),
         }
     }
 
-    /// Takes a ticket of each home lane that gives one. One that its hand has no room for is served at once.
-    fn take_home<R: Wait>(&mut self, rt: &R) -> Result<(), NoMemory> {
+    /// Takes a ticket of each home lane that gives one. One that its hand has no room for is served at once; whether there was one is
+    /// the answer.
+    fn take_home<R: Wait>(&mut self, rt: &R) -> Result<bool, NoMemory> {
+        let mut served = false;
         for instance in 0..self.seat.desk.len() as u32 {
             if !self.seat.home.has(instance) {
                 continue;
@@ -203,18 +214,24 @@ impl Worker {
             };
             if let Err(ticket) = self.tickets.hand.put(ticket) {
                 self.serve(rt, ticket)?;
+                served = true;
             }
         }
-        Ok(())
+        Ok(served)
     }
 
-    /// Answers a ticket, and posts what was answered.
+    /// Answers a ticket, and posts what was answered. One that fits no workplace is given back.
     fn serve<R: Wait>(&mut self, rt: &R, ticket: Ticket) -> Result<(), NoMemory> {
-        let mut answers = Vec::new(self.seat.alloc);
-        let answered = match self.benches.get_mut(ticket.instance() as usize) {
-            Some(bench) => bench.answer(self.seat.alloc, &ticket, &mut answers),
-            None => Ok(()),
+        let Some(workplace) = self.workplaces.get_mut(ticket.instance() as usize) else {
+            self.seat.desk.back(rt, ticket);
+            return Ok(());
         };
+        if !fits(&workplace.image, &ticket) {
+            self.seat.desk.back(rt, ticket);
+            return Ok(());
+        }
+        let mut answers = Vec::new(self.seat.alloc);
+        let answered = workplace.answer(self.seat.alloc, &ticket, &mut answers);
         self.seat.desk.post(rt, ticket, answers);
         answered
     }
