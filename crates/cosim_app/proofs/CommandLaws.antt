@@ -1,6 +1,7 @@
 -- What each command's answers keep: there is one for each text, and there are no two.
 use Rattle.std.proofs.Common.{◌≡◌, ℕ, ◌+◌, ◌<◌, ◌≤◌, ◌⊎◌, Bool, true, false, if◌then◌else◌, List, [], ◌∷◌, ◌++◌, length, Option, Some, None, refl, sym, ap, subst, ◌∙◌, inl, inr, arith}
-use Rattle.std.specs.Prelude.{IfSome}
+use Rattle.std.specs.Prelude.{IfSome, nat_le}
+use Rattle.std.proofs.lemmas.Bool.Decides.{nat_tests}
 use Rattle.std.proofs.lemmas.Option.{same_Some}
 use Rattle.spec_core.proofs.ReplayLaws.{counted_once_lem}
 use Rattle.text_accept.specs.Accepting.{IsAcceptedAs, IsRefusedAt}
@@ -10,6 +11,7 @@ use Rattle.unit_text.proofs.ReadingLaws.{long_refused}
 use Rattle.unit_tree.specs.Lines.{size_of}
 use Rattle.unit_tree.specs.Texts.{text_limit}
 use Rattle.unit_tree.specs.declared.system.System.{System}
+use Rattle.unit_upgrade.specs.Upgrades.{upgraded}
 use Rattle.cosim_call.specs.Answers.{Answer, IsEndOfWork, piece_answer, refused_answer, usage_answer}
 use Rattle.cosim_call.proofs.ComingLaws.{IsAnswered}
 use Rattle.cosim_call.specs.declared.status.Status.{Status}
@@ -17,12 +19,13 @@ use Rattle.cosim_call.specs.declared.status.Status.TheVariants as status
 use Rattle.cosim_app.specs.Answer.{Answers, AnswersBench, AnswersGen, AnswersOf, AnswersRefusal, OnAccepted, RefusedBy, ServedBy, TellsTrace}
 use Rattle.cosim_app.specs.Answer.{CanReport, TellsReplay, TellsReported, accepted_text, figures_answer, planned, printed_answer, printed_text}
 use Rattle.cosim_app.specs.Answer.{report_lines, run_answer, with_counts, with_report}
+use Rattle.cosim_app.specs.Answer.{AnswersUpgrade, RefusesUpgrade, TellsUpgrade}
 use Rattle.cosim_app.specs.Commands.{KeepsRanges, UsageClause, command_of, input_of}
 use Rattle.cosim_app.specs.Generations.{Asked, CanGive, system_asked}
 use Rattle.cosim_app.specs.Notes.{report_text}
-use Rattle.cosim_app.specs.Laws.{AnswersAgree, EndsAreServed, EveryCallIsAnswered, IsDetermined, NoCallIsAnsweredTwice, RefusalsAreOfRules, RunsAgree}
+use Rattle.cosim_app.specs.Laws.{AnswersAgree, EndsAreServed, EveryCallIsAnswered, IsDetermined, IsNoted, NoCallIsAnsweredTwice, NotesAgree, RefusalsAreOfRules, RunsAgree}
 use Rattle.cosim_app.specs.declared.command_words.Command.{Command}
-use Rattle.cosim_app.specs.declared.command_words.Command.TheVariants.{Run, Check, Print, Replay, Gen, Bench}
+use Rattle.cosim_app.specs.declared.command_words.Command.TheVariants.{Run, Check, Print, Upgrade, Replay, Gen, Bench}
 use Rattle.cosim_app.proofs.RangeLaws.{ranges_kept}
 use Rattle.cosim_app.proofs.TraceLaws.{IsWhole, is_end, one_outcome, plain_outcome, whole_asked, whole_of}
 use Rattle.cosim_app.proofs.ReplayLaws.{can_replay_of, counts_there}
@@ -100,6 +103,56 @@ lawful_piece piece = lawful_on_accepted (λ system answer. answer ≡ piece_answ
 
 determined_piece : (piece : System → List ℕ) → HasNoOther (OnAccepted (λ system answer. answer ≡ piece_answer (piece system)))
 determined_piece piece = determined_on_accepted (λ system answer. answer ≡ piece_answer (piece system)) (λ system whole one other a b. a ∙ sym b)
+
+-- a number is at most a limit or above it, and not both
+at_most_or_above : (n limit : ℕ) → (n ≤ limit) ⊎ (limit < n)
+at_most_or_above n limit = by (nat_le n limit) refl
+  where
+    by : (told : Bool) → nat_le n limit ≡ told → (n ≤ limit) ⊎ (limit < n)
+    by true is = inl (grind (arith, nat_tests))
+    by false is = inr (grind (arith, nat_tests))
+
+above_is_not : (n limit : ℕ) → n ≤ limit → limit < n → ⊥
+above_is_not n limit most above = absurd (omega (arith, most, above))
+
+-- and that whose answer for a system is its upgrade, which refuses a text where this is too long
+upgrade_lawful : IsLawful RefusesUpgrade AnswersUpgrade
+upgrade_lawful = record {
+  judged = λ text. by text (judged_once text).judged;
+  one_refusal = λ text. once text;
+  not_both = λ text. never_too text;
+  agree = λ text one other a b. agree_as_same one other ((on_one_system TellsUpgrade text one other a b).is ∙ sym b.is.is);
+  ends = λ text answer serves. subst (λ (a : Answer). IsEndOfWork a.status) (sym serves.is.is) tt;
+}
+  where
+    fitting : (text : List ℕ) (system : System) (lines : List ℕ) → IsAcceptedAs text system lines → (length (printed_text (upgraded system)) ≤ text_limit)
+        ⊎ (text_limit < length (printed_text (upgraded system)))
+        → ((line : ℕ) × (rule : ℕ) × RefusesUpgrade text line rule) ⊎ ((answer : Answer) × AnswersUpgrade text answer)
+    fitting text system lines accepted (inl fits) = inr (
+      printed_answer (upgraded system),
+      record { system = system; lines = lines; accepted = accepted; is = record { fits = fits; is = refl } },
+    )
+    fitting text system lines accepted (inr long) =
+        inl (1, 37, inr (record { system = system; lines = lines; accepted = accepted; long = long; at = refl; by = refl }))
+
+    by : (text : List ℕ) → ((system : System) × (lines : List ℕ) × IsAcceptedAs text system lines) ⊎ ((line : ℕ) × (rule : ℕ) × IsRefusedAt text line rule)
+        → ((line : ℕ) × (rule : ℕ) × RefusesUpgrade text line rule) ⊎ ((answer : Answer) × AnswersUpgrade text answer)
+    by text (inl (system, lines, accepted)) =
+        fitting text system lines accepted (at_most_or_above (length (printed_text (upgraded system))) text_limit)
+    by text (inr (line, rule, refused)) = inl (line, rule, inl refused)
+
+    once : (text : List ℕ) (line rule other third : ℕ) → RefusesUpgrade text line rule → RefusesUpgrade text other third → (line ≡ other) × (rule ≡ third)
+    once text line rule other third (inl a) (inl b) = (judged_once text).one_refusal line rule other third a b
+    once text line rule other third (inl a) (inr b) = absurd ((judged_once text).not_both b.system b.lines line rule b.accepted a)
+    once text line rule other third (inr a) (inl b) = absurd ((judged_once text).not_both a.system a.lines other third a.accepted b)
+    once text line rule other third (inr a) (inr b) = (a.at ∙ sym b.at, a.by ∙ sym b.by)
+
+    never_too : (text : List ℕ) (line rule : ℕ) (answer : Answer) → RefusesUpgrade text line rule → AnswersUpgrade text answer → ⊥
+    never_too text line rule answer (inl refused) serves = (judged_once text).not_both serves.system serves.lines line rule serves.accepted refused
+    never_too text line rule answer (inr long) serves =
+        let same = ((judged_once text).one_system long.system serves.system long.lines serves.lines long.accepted serves.accepted).0 in
+        above_is_not (length (printed_text (upgraded serves.system))) text_limit serves.is.fits
+        (subst (λ (s : System). text_limit < length (printed_text (upgraded s))) same long.long)
 
 -- ---- Commands that read nothing
 
@@ -236,6 +289,16 @@ reported_agree asked also system whole one other a b =
       ap (λ (x : Answer). x.status) a.is ∙ ap (λ (x : Answer). x.status) same ∙ sym (ap (λ (x : Answer). x.status) b.is),
     )
 
+-- and note the same, each with the lines of its own report behind
+reported_noted : (asked also : Running) (system : System) → IsWhole system → (one other : Answer) → TellsReported asked system one
+    → TellsReported also system other → (notes : List (List ℕ)) × IsNoted asked notes one × IsNoted also notes other
+reported_noted asked also system whole one other a b =
+    let same = traces_same system whole a.trace b.trace a.tells b.tells in (
+      b.trace.notes,
+      inr (a.report, ap (λ (x : Answer). x.notes) a.is ∙ ap (λ (x : Answer). x.notes ++ report_lines asked a.report) same),
+      inr (b.report, ap (λ (x : Answer). x.notes) b.is),
+    )
+
 reported_answer : (asked : Running) → AnswersSystems (TellsReported asked)
 reported_answer asked = record {
   some = λ system whole.
@@ -271,6 +334,7 @@ lawful : (command : Command) → KeepsRanges command → IsLawful (RefusedBy com
 lawful (Run asked) keeps = lawful_on_accepted (TellsReported asked) (reported_answer asked)
 lawful Check keeps = lawful_piece (λ system. accepted_text)
 lawful Print keeps = lawful_piece printed_text
+lawful Upgrade keeps = upgrade_lawful
 lawful (Replay asked) keeps = lawful_on_accepted (TellsReplay asked) (replays_answer asked)
 lawful (Gen asked) keeps = lawful_unread (AnswersGen asked) (gen_answer asked)
 lawful (Bench asked) keeps = lawful_unread (AnswersBench asked) (bench_answer asked keeps)
@@ -279,6 +343,7 @@ determined : (command : Command) → KeepsRanges command → IsDetermined (Some 
 determined (Run asked) keeps settled = determined_on_accepted (TellsReported asked) (reported_same asked settled)
 determined Check keeps settled = determined_piece (λ system. accepted_text)
 determined Print keeps settled = determined_piece printed_text
+determined Upgrade keeps settled = determined_on_accepted TellsUpgrade (λ system whole one other a b. a.is ∙ sym b.is)
 determined (Replay asked) keeps settled = determined_on_accepted (TellsReplay asked) (replays_same asked)
 determined (Gen asked) keeps settled = determined_unread (AnswersGen asked) (gen_answer asked)
 determined (Bench asked) keeps settled = determined_unread (AnswersBench asked) (bench_answer asked keeps)
@@ -294,6 +359,7 @@ long_by : (command : Command) (limit : ℕ) (text : List ℕ) → input_of comma
 long_by (Run asked) limit text is long = too_long limit text is long
 long_by Check limit text is long = too_long limit text is long
 long_by Print limit text is long = too_long limit text is long
+long_by Upgrade limit text is long = inl (too_long limit text is long)
 long_by (Replay asked) limit text is long = too_long limit text is long
 long_by (Gen asked) limit text is long = absurd (cc)
 long_by (Bench asked) limit text is long = absurd (cc)
@@ -304,6 +370,7 @@ free_by : (command : Command) → input_of command ≡ None → (one other : Lis
 free_by (Run asked) is one other answer answers = absurd (cc)
 free_by Check is one other answer answers = absurd (cc)
 free_by Print is one other answer answers = absurd (cc)
+free_by Upgrade is one other answer answers = absurd (cc)
 free_by (Replay asked) is one other answer answers = absurd (cc)
 free_by (Gen asked) is one other answer (inl refusal) = absurd refusal.refused
 free_by (Gen asked) is one other answer (inr serves) = inr serves
@@ -364,15 +431,34 @@ same_by None keeps settled text one other a b = a ∙ sym b
 pub no_call_is_answered_twice : NoCallIsAnsweredTwice
 no_call_is_answered_twice words text one other settled a b = same_by (command_of words) (ranges_kept words) settled text one other a b
 
+module _ (asked also : Running) (text : List ℕ) (one other : Answer) where
+  refused_alike : AnswersRefusal (Run asked) text one → AnswersRefusal (Run also) text other → one ≡ other
+  refused_alike a b =
+      let same = (judged_once text).one_refusal a.line a.rule b.line b.rule a.refused b.refused in
+      a.is ∙ ap (λ line. refused_answer line a.rule) same.0 ∙ ap (refused_answer b.line) same.1 ∙ sym b.is
+
+  on_other_system : (a : OnAccepted (TellsReported asked) text one) (b : OnAccepted (TellsReported also) text other) → TellsReported asked b.system one
+  on_other_system a b =
+      subst (λ (s : System). TellsReported asked s one)
+      ((judged_once text).one_system a.system b.system a.lines b.lines a.accepted b.accepted).0 a.is
+
 pub runs_agree : RunsAgree
-runs_agree asked also text one other (inl a) (inl b) =
-    let same = (judged_once text).one_refusal a.line a.rule b.line b.rule a.refused b.refused in
-    agree_as_same one other (a.is ∙ ap (λ line. refused_answer line a.rule) same.0 ∙ ap (refused_answer b.line) same.1 ∙ sym b.is)
+runs_agree asked also text one other (inl a) (inl b) = agree_as_same one other (refused_alike asked also text one other a b)
 runs_agree asked also text one other (inl a) (inr b) = absurd ((judged_once text).not_both b.system b.lines a.line a.rule b.accepted a.refused)
 runs_agree asked also text one other (inr a) (inl b) = absurd ((judged_once text).not_both a.system a.lines b.line b.rule a.accepted b.refused)
 runs_agree asked also text one other (inr a) (inr b) =
-    reported_agree asked also b.system (whole_of text b.system b.lines b.accepted) one other
-    (subst (λ (s : System). TellsReported asked s one) ((judged_once text).one_system a.system b.system a.lines b.lines a.accepted b.accepted).0 a.is) b.is
+    reported_agree asked also b.system (whole_of text b.system b.lines b.accepted) one other (on_other_system asked also text one other a b) b.is
+
+pub notes_agree : NotesAgree
+notes_agree asked also text one other (inl a) (inl b) = (
+  one.notes,
+  inl (ap (λ (x : Answer). x.status) a.is, refl),
+  inl (ap (λ (x : Answer). x.status) b.is, sym (ap (λ (x : Answer). x.notes) (refused_alike asked also text one other a b))),
+)
+notes_agree asked also text one other (inl a) (inr b) = absurd ((judged_once text).not_both b.system b.lines a.line a.rule b.accepted a.refused)
+notes_agree asked also text one other (inr a) (inl b) = absurd ((judged_once text).not_both a.system a.lines b.line b.rule a.accepted b.refused)
+notes_agree asked also text one other (inr a) (inr b) =
+    reported_noted asked also b.system (whole_of text b.system b.lines b.accepted) one other (on_other_system asked also text one other a b) b.is
 
 agree_by : (command : Option Command) → IfSome command KeepsRanges → (text : List ℕ) (one other : Answer) → AnswersOf command text one
     → AnswersOf command text other → (one.out ≡ other.out) × (one.status ≡ other.status)

@@ -10,3 +10,4 @@ pub mod RangeLaws
 pub mod ReplayLaws
 pub mod RunLaws
 pub mod TraceLaws
+pub mod UpgradeLaws

@@ -8,7 +8,7 @@ use Rattle.cosim_app.specs.Commands.{KeepsRanges, command_of, command_with, gene
 use Rattle.cosim_app.specs.Generations.{CanGive, asked_by}
 use Rattle.cosim_app.specs.Options.{◌>>=◌, given_by, is_given_none}
 use Rattle.cosim_app.specs.Ranges.{required_within, within}
-use Rattle.cosim_app.specs.declared.command_words.Command.TheVariants.{Run, Check, Print, Replay, Gen, Bench}
+use Rattle.cosim_app.specs.declared.command_words.Command.TheVariants.{Run, Check, Print, Upgrade, Replay, Gen, Bench}
 use Rattle.cosim_app.specs.declared.options.Given.{Given}
 
 -- ---- What holds of a value, where there is one
@@ -81,10 +81,11 @@ row_kept word given =
     either KeepsRanges (bytes_eq word (codes "run")) _ _ (mapped KeepsRanges Run (running_of given) (any (running_of given)))
     (either KeepsRanges (bytes_eq word (codes "check")) _ _ (without_kept KeepsRanges Check given tt)
     (either KeepsRanges (bytes_eq word (codes "print")) _ _ (without_kept KeepsRanges Print given tt)
+    (either KeepsRanges (bytes_eq word (codes "upgrade")) _ _ (without_kept KeepsRanges Upgrade given tt)
     (either KeepsRanges (bytes_eq word (codes "replay")) _ _ (mapped KeepsRanges Replay (replaying_of given) (any (replaying_of given)))
     (either KeepsRanges (bytes_eq word (codes "gen")) _ _ (mapped KeepsRanges Gen (generation_of given) (any (generation_of given)))
     (either KeepsRanges (bytes_eq word (codes "bench")) _ _ (mapped KeepsRanges Bench (generation_of given) (generation_kept given))
-    tt)))))
+    tt))))))
 
 pub ranges_kept : (words : List (List ℕ)) → IfSome (command_of words) KeepsRanges
 ranges_kept [] = tt

@@ -1,6 +1,6 @@
 -- Answers: what the program puts out and notes, and how it ends, for the words of a command line and the bytes
 -- of its input.
-use Rattle.std.specs.Prelude.{◌≡◌, ℕ, ℤ, ◌+◌, if◌then◌else◌, List, [], ◌∷◌, ◌++◌, length, Option, Some, None, codes, ◌⊎◌}
+use Rattle.std.specs.Prelude.{◌≡◌, ℕ, ℤ, ◌+◌, ◌<◌, ◌≤◌, if◌then◌else◌, List, [], ◌∷◌, ◌++◌, length, Option, Some, None, codes, ◌⊎◌}
 use Rattle.event_csv.specs.EventText.{event_text}
 use Rattle.event_runs.specs.EventRuns.{IsEventTraceOf}
 use Rattle.event_runs.specs.EventTrace.{EventRow}
@@ -16,11 +16,13 @@ use Rattle.trace_rows.specs.Sums.{sum_shown}
 use Rattle.trace_rows.specs.declared.report.Report.{Report}
 use Rattle.unit_tree.specs.Canonical.{canonical_text}
 use Rattle.unit_tree.specs.Compositions.{run_of}
+use Rattle.unit_tree.specs.Texts.{text_limit}
 use Rattle.unit_tree.specs.Trace.{HasCells, IsTraceOf, Row}
 use Rattle.unit_tree.specs.WellFormed.{resolution_of}
 use Rattle.unit_tree.specs.declared.ending.Ending.{Ending}
 use Rattle.unit_tree.specs.declared.ending.Ending.TheVariants.{Completed, RowBudget, ZeroBudget, UnitFault, StepRefused}
 use Rattle.unit_tree.specs.declared.system.System.{System}
+use Rattle.unit_upgrade.specs.Upgrades.{upgraded}
 use Rattle.cosim_call.specs.Answers.{Answer, piece_answer, refused_answer, usage_answer}
 use Rattle.cosim_call.specs.Notes.{line_end}
 use Rattle.cosim_call.specs.declared.status.Status.{Status}
@@ -30,7 +32,7 @@ use Rattle.cosim_app.specs.Figures.{figures_text}
 use Rattle.cosim_app.specs.Generations.{Asked, system_asked}
 use Rattle.cosim_app.specs.Notes.{counts_text, ending_notes, report_text}
 use Rattle.cosim_app.specs.declared.command_words.Command.{Command}
-use Rattle.cosim_app.specs.declared.command_words.Command.TheVariants.{Run, Check, Print, Replay, Gen, Bench}
+use Rattle.cosim_app.specs.declared.command_words.Command.TheVariants.{Run, Check, Print, Upgrade, Replay, Gen, Bench}
 use Rattle.cosim_app.specs.declared.replaying.Replaying.{Replaying}
 use Rattle.cosim_app.specs.declared.running.Running.{Running}
 
@@ -119,6 +121,26 @@ printed_answer system = piece_answer (printed_text system)
 abbrev pub AnswersPrint : List ℕ → Answer → Type 0
 AnswersPrint = OnAccepted (λ system answer. answer ≡ printed_answer system)
 
+-- By the canonical text of the system in version 2, which is no longer than a text may be.
+pub record TellsUpgrade (system : System) (answer : Answer) : Type 0 where
+  pub fits : length (printed_text (upgraded system)) ≤ text_limit
+  pub is : answer ≡ printed_answer (upgraded system)
+
+abbrev pub AnswersUpgrade : List ℕ → Answer → Type 0
+AnswersUpgrade = OnAccepted TellsUpgrade
+
+-- The text keeps all rules, and the canonical text of its system in version 2 is longer than a text may be: rule 37, at line 1.
+pub record IsTooLongInVersion2 (text : List ℕ) (line rule : ℕ) : Type 0 where
+  pub system : System
+  pub lines : List ℕ
+  pub accepted : IsAcceptedAs text system lines
+  pub long : text_limit < length (printed_text (upgraded system))
+  pub at : line ≡ 1
+  pub by : rule ≡ 37
+
+abbrev pub RefusesUpgrade : List ℕ → ℕ → ℕ → Type 0
+RefusesUpgrade text line rule = IsRefusedAt text line rule ⊎ IsTooLongInVersion2 text line rule
+
 -- A system with what is run of it.
 abbrev pub planned : System → Planned
 planned system = record { system = system; run = run_of system }
@@ -163,6 +185,7 @@ abbrev pub ServedBy : Command → List ℕ → Answer → Type 0
 ServedBy (Run asked) text answer = AnswersRun asked text answer
 ServedBy Check text answer = AnswersCheck text answer
 ServedBy Print text answer = AnswersPrint text answer
+ServedBy Upgrade text answer = AnswersUpgrade text answer
 ServedBy (Replay asked) text answer = AnswersReplay asked text answer
 ServedBy (Gen asked) text answer = AnswersGen asked answer
 ServedBy (Bench asked) text answer = AnswersBench asked answer
@@ -172,6 +195,7 @@ abbrev pub RefusedBy : Command → List ℕ → ℕ → ℕ → Type 0
 RefusedBy (Run asked) text line rule = IsRefusedAt text line rule
 RefusedBy Check text line rule = IsRefusedAt text line rule
 RefusedBy Print text line rule = IsRefusedAt text line rule
+RefusedBy Upgrade text line rule = RefusesUpgrade text line rule
 RefusedBy (Replay asked) text line rule = IsRefusedAt text line rule
 RefusedBy (Gen asked) text line rule = ⊥
 RefusedBy (Bench asked) text line rule = ⊥

@@ -1,5 +1,5 @@
 -- The commands of the program, by their words, and what each reads.
-use Rattle.std.specs.Prelude.{◌≡◌, ℕ, false, List, [], ◌∷◌, codes, Option, Some, None, if◌then◌else◌, ◌⊎◌, ⊤}
+use Rattle.std.specs.Prelude.{◌≡◌, ℕ, Bool, true, false, nat_le, List, [], ◌∷◌, codes, Option, Some, None, if◌then◌else◌, ◌⊎◌, ⊤}
 use Rattle.std.specs.Option.{option_map, unwrap_or}
 use Rattle.std.specs.Str.{bytes_eq}
 use Rattle.guess_board.specs.declared.guesses.Policy.TheVariants.{Hold}
@@ -9,7 +9,7 @@ use Rattle.cosim_call.specs.declared.status.Status.TheVariants as status
 use Rattle.cosim_app.specs.Generations.{Asked, CanGive, asked_by}
 use Rattle.cosim_app.specs.Options.{◌>>=◌, given_by, is_given_none}
 use Rattle.cosim_app.specs.declared.command_words.Command.{Command}
-use Rattle.cosim_app.specs.declared.command_words.Command.TheVariants.{Run, Check, Print, Replay, Gen, Bench}
+use Rattle.cosim_app.specs.declared.command_words.Command.TheVariants.{Run, Check, Print, Upgrade, Replay, Gen, Bench}
 use Rattle.cosim_app.specs.Ranges.{required_within, within_or}
 use Rattle.cosim_app.specs.declared.options.Given.{Given}
 use Rattle.cosim_app.specs.declared.replaying.Replaying.{Replaying}
@@ -45,10 +45,11 @@ command_with word given =
     if bytes_eq word (codes "run") then option_map Run (running_of given)
     else (if bytes_eq word (codes "check") then without_options Check given
     else (if bytes_eq word (codes "print") then without_options Print given
+    else (if bytes_eq word (codes "upgrade") then without_options Upgrade given
     else (if bytes_eq word (codes "replay") then option_map Replay (replaying_of given)
     else (if bytes_eq word (codes "gen") then option_map Gen (generation_of given)
     else (if bytes_eq word (codes "bench") then option_map Bench (generation_of given)
-    else None)))))
+    else None))))))
 
 -- The command that words are of; words that are of none have no form.
 abbrev pub command_of : List (List ℕ) → Option Command
@@ -60,9 +61,16 @@ abbrev pub input_of : Command → Option ℕ
 input_of (Run asked) = Some text_limit
 input_of Check = Some text_limit
 input_of Print = Some text_limit
+input_of Upgrade = Some text_limit
 input_of (Replay asked) = Some text_limit
 input_of (Gen asked) = None
 input_of (Bench asked) = None
+
+-- Which commands are run with workers: a run that asks for some, and `bench`.
+abbrev pub has_workers : Command → Bool
+has_workers (Run asked) = nat_le 1 asked.workers
+has_workers (Bench asked) = true
+has_workers _ = false
 
 -- What `bench` asks for is in its ranges, so that there is the system which it runs. The answers of other commands ask no more of their
 -- numbers.

@@ -1,15 +1,16 @@
 -- Laws of answers, and of options.
-use Rattle.std.specs.Prelude.{◌≡◌, ℕ, true, ⊤, List, [], ◌∷◌, Option, Some, None, IsPermutation}
+use Rattle.std.specs.Prelude.{◌≡◌, ℕ, true, ⊤, List, [], ◌∷◌, ◌++◌, ◌⊎◌, Option, Some, None, IsPermutation}
 use Rattle.std.specs.List.{All, flat_map}
 use Rattle.cosim_call.specs.Answers.{Answer, IsEndOfWork}
 use Rattle.cosim_call.specs.declared.status.Status.TheVariants as status
-use Rattle.cosim_app.specs.Answer.{Answers, AnswersRefusal, IsAnswer, ServedBy}
+use Rattle.cosim_app.specs.Answer.{Answers, AnswersRefusal, IsAnswer, ServedBy, report_lines}
 use Rattle.cosim_app.specs.Commands.{command_of}
 use Rattle.cosim_app.specs.Options.{given_by, options_of}
 use Rattle.cosim_app.specs.declared.command_words.Command.{Command}
 use Rattle.cosim_app.specs.declared.command_words.Command.TheVariants.{Run}
 use Rattle.cosim_app.specs.declared.options.CommandOption.{CommandOption}
 use Rattle.cosim_app.specs.declared.running.Running.{Running}
+use Rattle.trace_rows.specs.declared.report.Report.{Report}
 
 -- For each list of words and each input there is an answer.
 abbrev pub EveryCallIsAnswered : Type 0
@@ -37,6 +38,17 @@ abbrev pub RunsAgree : Type 0
 RunsAgree =
     (asked also : Running) (text : List ℕ) (one other : Answer) → Answers (Run asked) text one → Answers (Run also) text other
     → (one.out ≡ other.out) × (one.status ≡ other.status)
+
+-- These are the notes of a run that is asked for so, but for the line of a report, where one is asked for. A refusal has none.
+abbrev pub IsNoted : Running → List (List ℕ) → Answer → Type 0
+IsNoted asked notes answer =
+    ((answer.status ≡ status.Refused) × (answer.notes ≡ notes)) ⊎ ((report : Report) × (answer.notes ≡ notes ++ report_lines asked report))
+
+-- A run notes the same of its text however it is asked for, but for the line of a report.
+abbrev pub NotesAgree : Type 0
+NotesAgree =
+    (asked also : Running) (text : List ℕ) (one other : Answer) → Answers (Run asked) text one → Answers (Run also) text other
+    → (notes : List (List ℕ)) × IsNoted asked notes one × IsNoted also notes other
 
 -- An answer by Refused is the refusal of the text by the command of the words.
 abbrev pub RefusalsAreOfRules : Type 0

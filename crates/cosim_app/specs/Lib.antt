@@ -9,5 +9,4 @@ pub mod Ranges
 pub mod Serving
 pub mod SourcePlaces
 pub mod Words
-pub mod WorkedRows
 pub mod WorkedWords

@@ -1,5 +1,5 @@
 -- What the parts of commands do with a text and with the plan of a run.
-use Rattle.std.specs.Prelude.{◌≡◌, ℕ, List, [], ◌∷◌, ◌++◌, Result, Ok, Err, ⊤}
+use Rattle.std.specs.Prelude.{◌≡◌, ℕ, ◌<◌, ◌≤◌, List, [], ◌∷◌, ◌++◌, length, Result, Ok, Err, ⊤}
 use Rattle.spec_core.specs.Replays.{IsReplayed, PutsTrace}
 use Rattle.spec_core.specs.declared.counts.Counts.{Counts}
 use Rattle.text_accept.specs.Accepting.{IsAcceptedAs, IsRefusedAt}
@@ -9,12 +9,14 @@ use Rattle.trace_rows.specs.Reports.{PutsFront, ReportsTrace}
 use Rattle.trace_rows.specs.declared.report.Report.{Report}
 use Rattle.unit_tree.specs.Compositions.{run_of}
 use Rattle.unit_tree.specs.Routes.{IsOrderOf}
+use Rattle.unit_tree.specs.Texts.{text_limit}
 use Rattle.unit_tree.specs.declared.system.System.{System}
+use Rattle.unit_upgrade.specs.Upgrades.{upgraded}
 use Rattle.cosim_call.specs.Calls.{Stream, Fails}
 use Rattle.cosim_call.specs.declared.coming.Served.{Served}
 use Rattle.cosim_call.specs.declared.coming.Stopped.{Stopped}
 use Rattle.cosim_call.specs.declared.coming.Stopped.TheVariants as stopped
-use Rattle.cosim_app.specs.Answer.{report_lines, status_of, traced_notes}
+use Rattle.cosim_app.specs.Answer.{printed_text, report_lines, status_of, traced_notes}
 use Rattle.cosim_app.specs.Notes.{counts_text}
 use Rattle.cosim_app.specs.SourcePlaces.{source_end}
 use Rattle.cosim_app.specs.declared.replaying.Replaying.{Replaying}
@@ -34,6 +36,13 @@ Accepts text (Err why) = IsUnaccepted text why
 -- The text is accepted as the system.
 abbrev pub IsAccepted : List ℕ → System → Type 0
 IsAccepted text system = (lines : List ℕ) × IsAcceptedAs text system lines
+
+-- A system was upgraded, or why it was not: its text would be too long, or there was no memory.
+abbrev pub Upgrades : System → Result System Stopped → Type 0
+Upgrades system (Ok made) = (made ≡ upgraded system) × (length (printed_text (upgraded system)) ≤ text_limit)
+Upgrades system (Err (stopped.Refused line rule)) = (line ≡ 1) × (rule ≡ 37) × (text_limit < length (printed_text (upgraded system)))
+Upgrades system (Err stopped.NoMemory) = ⊤
+Upgrades system (Err _) = ⊥
 
 -- A system was run: the text of the trace of what is run was put, and the report is that of this trace; or the run was given up,
 -- and what was put begins that text.

@@ -1,8 +1,9 @@
--- Words that were worked out by hand: which options they give, and which command they are of.
+-- Words that were worked out by hand: which numbers they are, which options they give, and which command they are of.
 use Rattle.std.specs.Prelude.{◌≡◌, ℕ, true, false, List, [], ◌∷◌, codes, Some, None}
 use Rattle.cosim_app.specs.Commands.{command_of}
 use Rattle.cosim_app.specs.Options.{given_by, no_options, number_of_word}
-use Rattle.cosim_app.specs.declared.command_words.Command.TheVariants.{Run, Check, Print, Replay, Gen, Bench}
+use Rattle.cosim_app.specs.Ranges.{required_within, within, within_or}
+use Rattle.cosim_app.specs.declared.command_words.Command.TheVariants.{Run, Check, Print, Upgrade, Replay, Gen, Bench}
 use Rattle.cosim_app.specs.declared.options.Given.{Given}
 use Rattle.guess_board.specs.declared.guesses.Policy.TheVariants.{Hold, Linear}
 
@@ -17,6 +18,21 @@ pub record NumbersAreWorked : Type 0 where
   pub no_digit : number_of_word [] ≡ None
   pub signed : number_of_word (codes "+1") ≡ None
   pub behind : number_of_word (codes "1 ") ≡ None
+
+-- A range has both of its ends and nothing beyond them, whether its number is given or a default's.
+pub record RangesAreWorked : Type 0 where
+  pub below : within 1 16 0 ≡ None
+  pub least : within 1 16 1 ≡ Some 1
+  pub greatest : within 1 16 16 ≡ Some 16
+  pub beyond : within 1 16 17 ≡ None
+  pub single : within 4 4 4 ≡ Some 4
+  pub empty : within 4 3 4 ≡ None
+  pub required : required_within 1 16 (Some 16) ≡ Some 16
+  pub required_beyond : required_within 1 16 (Some 17) ≡ None
+  pub left_out : required_within 1 16 None ≡ None
+  pub given : within_or 0 16 4 (Some 0) ≡ Some 0
+  pub given_beyond : within_or 0 16 4 (Some 17) ≡ None
+  pub default : within_or 0 16 4 None ≡ Some 4
 
 -- Options stand in any order, each at most once, and have their values.
 pub record OptionsAreWorked : Type 0 where
@@ -34,6 +50,10 @@ pub record OptionsAreWorked : Type 0 where
   pub no_value : given_by (codes "--report" ∷ codes "--workers" ∷ []) ≡ None
   pub other_value : given_by (codes "--workers" ∷ codes "--report" ∷ []) ≡ None
   pub other_policy : given_by (codes "--guess" ∷ codes "Hold" ∷ []) ≡ None
+  pub no_number : given_by (codes "--window" ∷ codes "four" ∷ []) ≡ None
+  pub empty : given_by (codes "--window" ∷ [] ∷ []) ≡ None
+  pub word_over : given_by (codes "--window" ∷ codes "1" ∷ codes "1" ∷ []) ≡ None
+  pub other_case : given_by (codes "--Window" ∷ codes "1" ∷ []) ≡ None
   pub joined : given_by (codes "--workers=4" ∷ []) ≡ None
   pub other_option : given_by (codes "--help" ∷ []) ≡ None
 
@@ -55,6 +75,8 @@ pub record CommandsAreWorked : Type 0 where
   pub seed_of_none : command_of (codes "run" ∷ codes "--seed" ∷ codes "1" ∷ []) ≡ None
   pub check : command_of (codes "check" ∷ []) ≡ Some Check
   pub print : command_of (codes "print" ∷ []) ≡ Some Print
+  pub upgrade : command_of (codes "upgrade" ∷ []) ≡ Some Upgrade
+  pub upgrade_rows : command_of (codes "upgrade" ∷ codes "--rows" ∷ codes "3" ∷ []) ≡ None
   pub replay : command_of (codes "replay" ∷ codes "--workers" ∷ codes "0" ∷ codes "--seed" ∷ codes "9999999999999999999" ∷ [])
       ≡ Some (Replay (record { seed = 9999999999999999999; workers = 0 }))
   pub all_workers : command_of (codes "replay" ∷ codes "--seed" ∷ codes "1" ∷ codes "--workers" ∷ codes "16" ∷ [])

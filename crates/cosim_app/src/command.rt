@@ -1,13 +1,14 @@
 //! The call of the program.
+ghost use Rattle.std.specs.Prelude.{◌≡◌, true};
 ghost use Rattle.cosim_call.specs.Calls.{Promises, stream, streams};
 ghost use Rattle.cosim_call.specs.Coming.{Comes, Serves};
 ghost use Rattle.cosim_app.specs.Answer.{Answers, IsAnswer};
-ghost use Rattle.cosim_app.specs.Commands.{UsageClause, command_of, input_of, input_of_words};
-ghost use Rattle.cosim_app.specs.Laws.{AnswersAgree, EndsAreServed, EveryCallIsAnswered, NoCallIsAnsweredTwice, RefusalsAreOfRules, RunsAgree};
+ghost use Rattle.cosim_app.specs.Commands.{UsageClause, command_of, has_workers, input_of, input_of_words};
+ghost use Rattle.cosim_app.specs.Laws.{AnswersAgree, EndsAreServed, EveryCallIsAnswered, NoCallIsAnsweredTwice, NotesAgree, RefusalsAreOfRules, RunsAgree};
 ghost use Rattle.cosim_app.specs.Words.{bytes_of};
 
 use crate::command_words::{Command, command_of};
-use crate::commands::{bench, check, generate, print, replay, run};
+use crate::commands::{bench, check, generate, print, replay, run, upgrade};
 use cosim_call::{Served, Status, Stopped, finish, put_made, read_input, tell};
 use cosim_io::{Sink, Source};
 use std::alloc::Global;
@@ -29,13 +30,14 @@ fn serve<O: Sink>(
         Command::Run(asked) => run::serve(alloc, asked, text, out),
         Command::Check => put_made(alloc, check::make(alloc, text), out),
         Command::Print => put_made(alloc, print::make(alloc, text), out),
+        Command::Upgrade => put_made(alloc, upgrade::make(alloc, text), out),
         Command::Replay(asked) => replay::serve(alloc, *asked, text, out),
         Command::Gen(asked) => put_made(alloc, generate::make(alloc, asked), out),
         Command::Bench(asked) => put_made(alloc, bench::make(alloc, asked), out),
     }
 }
 
-/// A command on its whole text, with workers where it has some.
+/// A command that has workers on its whole text, with these.
 #[tactic(auto, using(cosim_call::proofs::ComingLaws::serves_made))]
 fn serve_crewed<R: Threads + Wait + Copy + Send + Drop + 'static, O: Sink, G: Gate>(
     rt: R,
@@ -45,14 +47,14 @@ fn serve_crewed<R: Threads + Wait + Copy + Send + Drop + 'static, O: Sink, G: Ga
     out: &mut O,
     gate: &G,
 ) -> Result<Served, Stopped>
+    requires { has_workers command.now ≡ true }
     ensures { Serves (Answers command.now text.now) (stream (O.held out.old) (O.faults out.old)) (stream (O.held out.new) (O.faults out.new)) result }
 {
     match command {
-        Command::Run(asked) if asked.workers.get() > 0 => {
-            run::serve_crewed(rt, alloc, asked, text, out, gate)
-        }
+        Command::Run(asked) => run::serve_crewed(rt, alloc, asked, text, out, gate),
         Command::Bench(asked) => put_made(alloc, bench::make_crewed(rt, alloc, asked, gate), out),
-        _ => serve(alloc, command, text, out),
+        Command::Check | Command::Print | Command::Upgrade | Command::Replay(_) | Command::Gen(_) =>
+            { unreachable!() }
     }
 }
 
@@ -72,7 +74,7 @@ fn come<S: Source, O: Sink>(
     serve(alloc, command, &text, out)
 }
 
-/// The same, with workers where the command has some.
+/// The same of a command that has workers, with these.
 fn come_crewed<R: Threads + Wait + Copy + Send + Drop + 'static, S: Source, O: Sink, G: Gate>(
     rt: R,
     alloc: Global,
@@ -81,6 +83,7 @@ fn come_crewed<R: Threads + Wait + Copy + Send + Drop + 'static, S: Source, O: S
     out: &mut O,
     gate: &G,
 ) -> Result<Served, Stopped>
+    requires { has_workers command.now ≡ true }
     ensures { Comes (input_of command.now) (Answers command.now)
         (stream (S.left source.old) (S.faults source.old)) (stream (S.left source.new) (S.faults source.new))
         (stream (O.held out.old) (O.faults out.old)) (stream (O.held out.new) (O.faults out.new))
@@ -176,9 +179,10 @@ pub fn one_answer()
 {}
 
 /// A law: a run puts the same and has the same status with any number of workers, over any window, by any guesses, and with a
-/// report or without one.
+/// report or without one. Its notes are the same too, but for the line of the report.
 pub fn workers_change_nothing()
-    ensures { RunsAgree }
+    ensures agree { RunsAgree }
+    ensures notes { NotesAgree }
 {}
 
 /// A law: the status of an answer tells where it comes from. One by `Refused` is a refusal of the text by the command of the

@@ -1,9 +1,8 @@
 //! The words of the commands.
 ghost use Rattle.std.specs.Prelude.{◌≡◌};
-ghost use Rattle.cosim_app.specs.Commands.{KeepsRanges, command_of, command_with, generation_of, input_of, without_options};
+ghost use Rattle.cosim_app.specs.Commands.{KeepsRanges, command_of, command_with, generation_of, has_workers, input_of, without_options};
 ghost use Rattle.cosim_app.specs.Words.{bytes_of};
-ghost use Rattle.cosim_app.specs.WorkedRows.{MistakesAreWorked, RangesAreWorked, RowsAreWorked};
-ghost use Rattle.cosim_app.specs.WorkedWords.{CommandsAreWorked, NumbersAreWorked, OptionsAreWorked};
+ghost use Rattle.cosim_app.specs.WorkedWords.{CommandsAreWorked, NumbersAreWorked, OptionsAreWorked, RangesAreWorked};
 
 use crate::generation::Generation;
 use crate::options::{Given, given_by};
@@ -20,6 +19,8 @@ pub enum Command {
     Check,
     /// Puts the canonical text of the text's system.
     Print,
+    /// Puts the canonical text of the text's system in version 2 of the language.
+    Upgrade,
     /// Puts the trace of the text's system, by a world whose workers do what a seed draws.
     Replay(Replaying),
     /// Puts the canonical text of a generated system.
@@ -35,9 +36,11 @@ impl Command {
         ensures ranges { KeepsRanges self.now }
     {
         match self {
-            Command::Run(_) | Command::Check | Command::Print | Command::Replay(_) => {
-                Some(LONGEST_TEXT)
-            }
+            Command::Run(_)
+            | Command::Check
+            | Command::Print
+            | Command::Upgrade
+            | Command::Replay(_) => Some(LONGEST_TEXT),
             Command::Gen(_) => None,
             Command::Bench(asked) => {
                 // That its numbers are in their ranges is known by the clauses of this call alone.
@@ -48,9 +51,11 @@ impl Command {
     }
 
     /// Whether it is run with workers.
-    pub(crate) fn has_workers(&self) -> bool {
+    pub(crate) fn has_workers(&self) -> bool
+        ensures { result ≡ has_workers self.now }
+    {
         match self {
-            Command::Run(asked) => asked.workers.get() > 0,
+            Command::Run(asked) => asked.workers.get() >= 1,
             Command::Bench(_) => true,
             _ => false,
         }
@@ -88,6 +93,8 @@ fn command_with(word: &str, given: Given) -> Option<Command>
         without_options(Command::Check, given)
     } else if word == "print" {
         without_options(Command::Print, given)
+    } else if word == "upgrade" {
+        without_options(Command::Upgrade, given)
     } else if word == "replay" {
         Some(Command::Replay(replaying_of(given)?))
     } else if word == "gen" {
@@ -109,17 +116,11 @@ pub(crate) fn command_of(words: &[String]) -> Option<Command>
     }
 }
 
-/// A law: words that were worked out by hand give the options and are of the commands that they should.
+/// A law: words that were worked out by hand are the numbers, give the options and are of the commands that they should, and a number
+/// is in a range where it was found to be.
 pub fn words_are_worked()
     ensures numbers { NumbersAreWorked }
+    ensures ranges { RangesAreWorked }
     ensures options { OptionsAreWorked }
     ensures commands { CommandsAreWorked }
-{}
-
-/// A law: rows of a made-up table, which ask of options what a row may ask, take the words that were worked out by hand, and turn
-/// down each kind of mistake.
-pub fn rows_are_worked()
-    ensures ranges { RangesAreWorked }
-    ensures rows { RowsAreWorked }
-    ensures mistakes { MistakesAreWorked }
 {}

@@ -7,6 +7,7 @@ pub(crate) mod generate;
 pub(crate) mod print;
 pub(crate) mod replay;
 pub(crate) mod run;
+pub(crate) mod upgrade;
 
 use cosim_call::Stopped;
 use std::alloc::Global;

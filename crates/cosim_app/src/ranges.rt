@@ -64,6 +64,3 @@ impl<const LEAST: u64, const GREATEST: u64> Within<LEAST, GREATEST> {
         self.number
     }
 }
-
-#[cfg(test)]
-mod tests;

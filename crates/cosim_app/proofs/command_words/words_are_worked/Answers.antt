@@ -5,6 +5,22 @@ use Rattle.cosim_app.proofs.command_words.words_are_worked.Goals as goal
 pub returns-clause-numbers : goal.returns-clause-numbers
 returns-clause-numbers c = record { leading_zeros = refl; nineteen = refl; twenty = refl; no_digit = refl; signed = refl; behind = refl }
 
+pub returns-clause-ranges : goal.returns-clause-ranges
+returns-clause-ranges c = record {
+  below = refl;
+  least = refl;
+  greatest = refl;
+  beyond = refl;
+  single = refl;
+  empty = refl;
+  required = refl;
+  required_beyond = refl;
+  left_out = refl;
+  given = refl;
+  given_beyond = refl;
+  default = refl;
+}
+
 pub returns-clause-options : goal.returns-clause-options
 unfolding given_of option_of
 returns-clause-options c = record {
@@ -18,6 +34,10 @@ returns-clause-options c = record {
   no_value = refl;
   other_value = refl;
   other_policy = refl;
+  no_number = refl;
+  empty = refl;
+  word_over = refl;
+  other_case = refl;
   joined = refl;
   other_option = refl;
 }
@@ -34,6 +54,8 @@ returns-clause-commands c = record {
   seed_of_none = refl;
   check = refl;
   print = refl;
+  upgrade = refl;
+  upgrade_rows = refl;
   replay = refl;
   all_workers = refl;
   many_workers = refl;
