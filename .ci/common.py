@@ -6,8 +6,11 @@ import sys
 ROOT = os.path.join(os.path.dirname(os.path.abspath(__file__)), "..")
 BUILT = "crates/cosim_app/out/cosim_app"
 
-# The note on words that have no form.
+# The notes on words that have no form, on streams that fail, and on want of memory.
 USAGE = "cosim: usage\n"
+READ_FAULT = "cosim: read fault\n"
+WRITE_FAULT = "cosim: write fault\n"
+NO_MEMORY = "cosim: no memory\n"
 
 # How much of a line is told, in characters.
 LONGEST_TOLD = 200
