@@ -24,9 +24,9 @@ use Rattle.cosim_call.specs.declared.coming.Stopped.{Stopped}
 use Rattle.cosim_call.specs.declared.coming.Stopped.TheVariants as stopped
 use Rattle.cosim_app.specs.Answer.{Answers, traced_sum}
 use Rattle.cosim_app.specs.Figures.{figures_text}
-use Rattle.cosim_app.specs.Generations.{Asked, CanGive, system_asked}
+use Rattle.command_line.specs.Generations.{Asked, CanGive, system_asked}
 use Rattle.cosim_app.specs.Serving.{Runs}
-use Rattle.cosim_app.specs.declared.command_words.Command.TheVariants.{Bench}
+use Rattle.command_line.specs.declared.commands.Command.TheVariants.{Bench}
 use Rattle.cosim_app.proofs.MakingLaws.{made}
 use Rattle.cosim_app.proofs.TraceLaws.{whole_asked}
 

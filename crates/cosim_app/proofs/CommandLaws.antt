@@ -1,10 +1,10 @@
 -- What each command's answers keep: there is one for each text, and there are no two.
-use Rattle.std.proofs.Common.{◌≡◌, ℕ, ◌+◌, ◌<◌, ◌≤◌, ◌⊎◌, Bool, true, false, if◌then◌else◌, List, [], ◌∷◌, ◌++◌, length, Option, Some, None, refl, sym, ap, subst, ◌∙◌, inl, inr, arith}
-use Rattle.std.specs.Prelude.{IfSome, nat_le}
-use Rattle.std.proofs.lemmas.Bool.Decides.{nat_tests}
+use Rattle.std.proofs.Common.{◌≡◌, ℕ, ◌+◌, ◌<◌, ◌≤◌, ◌⊎◌, Bool, true, false, if◌then◌else◌, List, [], ◌∷◌, ◌++◌, length, Option, Some, None, Ok, refl, sym, ap, subst, ◌∙◌, inl, inr, arith}
+use Rattle.std.specs.Prelude.{IfSome, Vec}
+use Rattle.std.specs.declared.alloc.Global.{Global}
 use Rattle.std.proofs.lemmas.Option.{same_Some}
 use Rattle.spec_core.proofs.ReplayLaws.{counted_once_lem}
-use Rattle.text_accept.specs.Accepting.{IsAcceptedAs, IsRefusedAt}
+use Rattle.text_accept.specs.Accepting.{IsRefusedAt}
 use Rattle.text_accept.proofs.Acceptance.{judged_once}
 use Rattle.text_tokens.proofs.LineLemmas.{length_le_size_of}
 use Rattle.unit_text.proofs.ReadingLaws.{long_refused}
@@ -12,168 +12,37 @@ use Rattle.unit_tree.specs.Lines.{size_of}
 use Rattle.unit_tree.specs.Texts.{text_limit}
 use Rattle.unit_tree.specs.declared.system.System.{System}
 use Rattle.unit_upgrade.specs.Upgrades.{upgraded}
-use Rattle.cosim_call.specs.Answers.{Answer, IsEndOfWork, piece_answer, refused_answer, usage_answer}
+use Rattle.cosim_call.specs.Answers.{Answer, IsEndOfWork, refused_answer, usage_answer}
+use Rattle.cosim_call.specs.Coming.{IsInLimit}
 use Rattle.cosim_call.proofs.ComingLaws.{IsAnswered}
 use Rattle.cosim_call.specs.declared.status.Status.{Status}
 use Rattle.cosim_call.specs.declared.status.Status.TheVariants as status
-use Rattle.cosim_app.specs.Answer.{Answers, AnswersBench, AnswersGen, AnswersOf, AnswersRefusal, OnAccepted, RefusedBy, ServedBy, TellsTrace}
-use Rattle.cosim_app.specs.Answer.{CanReport, TellsReplay, TellsReported, accepted_text, figures_answer, planned, printed_answer, printed_text}
-use Rattle.cosim_app.specs.Answer.{report_lines, run_answer, with_counts, with_report}
-use Rattle.cosim_app.specs.Answer.{AnswersUpgrade, RefusesUpgrade, TellsUpgrade}
-use Rattle.cosim_app.specs.Commands.{KeepsRanges, UsageClause, command_of, input_of}
-use Rattle.cosim_app.specs.Generations.{Asked, CanGive, system_asked}
+use Rattle.cosim_app.specs.Accepted.{OnAccepted, TellsTrace}
+use Rattle.cosim_app.specs.Answer.{Answers, AnswersBench, AnswersGen, AnswersOf, AnswersRefusal, RefusedBy, ServedBy}
+use Rattle.cosim_app.specs.Accepted.{planned, printed_answer, printed_text}
+use Rattle.cosim_app.specs.Answer.{CanReport, TellsReplay, TellsReported, accepted_text, figures_answer}
+use Rattle.cosim_app.specs.Accepted.{run_answer}
+use Rattle.cosim_app.specs.Answer.{report_lines, with_counts, with_report}
+use Rattle.cosim_app.specs.Answer.{IsTooLongInVersion2, TellsUpgrade}
+use Rattle.cosim_app.specs.SavedAnswers.{LacksPosition, TellsPosition}
+use Rattle.command_line.specs.Commands.{KeepsRanges, command_of, input_of, saved_limit}
+use Rattle.cosim_app.specs.Usage.{UsageClause}
+use Rattle.command_line.specs.Generations.{Asked, CanGive, system_asked}
 use Rattle.cosim_app.specs.Notes.{report_text}
 use Rattle.cosim_app.specs.Laws.{AnswersAgree, EndsAreServed, EveryCallIsAnswered, IsDetermined, IsNoted, NoCallIsAnsweredTwice, NotesAgree, RefusalsAreOfRules, RunsAgree}
-use Rattle.cosim_app.specs.declared.command_words.Command.{Command}
-use Rattle.cosim_app.specs.declared.command_words.Command.TheVariants.{Run, Check, Print, Upgrade, Replay, Gen, Bench}
-use Rattle.cosim_app.proofs.RangeLaws.{ranges_kept}
+use Rattle.command_line.specs.declared.commands.Command.{Command}
+use Rattle.command_line.specs.declared.commands.Command.TheVariants.{Run, Check, Print, Upgrade, Replay, Gen, Bench, Save, Resume}
+use Rattle.command_line.proofs.RangeLaws.{ranges_kept}
+use Rattle.cosim_app.proofs.Lawful.{Agree, AnswersOrBreaks, AnswersSystems, HasNoOther, HasOneAnswer, IsLawful, agree_as_same, at_most_or_above, determined_on_accepted, determined_piece, determined_unread, lawful_on_accepted, lawful_piece, lawful_unread, lawful_with_rule}
+use Rattle.cosim_app.proofs.SavedLaws.{resume_lawful, resumes_same, saves_answer, saves_same}
 use Rattle.cosim_app.proofs.TraceLaws.{IsWhole, is_end, one_outcome, plain_outcome, whole_asked, whole_of}
 use Rattle.cosim_app.proofs.ReplayLaws.{can_replay_of, counts_there}
-use Rattle.cosim_app.specs.declared.replaying.Replaying.{Replaying}
-use Rattle.cosim_app.specs.declared.running.Running.{Running}
+use Rattle.command_line.specs.declared.replaying.Replaying.{Replaying}
+use Rattle.command_line.specs.declared.running.Running.{Running}
 use Rattle.cosim_app.proofs.RunLaws.{alone_can, alone_report}
 use Rattle.trace_rows.specs.declared.report.Report.{Report}
 
--- ---- What a command supplies
-
--- two answers put the same and have one status
-abbrev Agree : Answer → Answer → Type 0
-Agree one other = (one.out ≡ other.out) × (one.status ≡ other.status)
-
-agree_as_same : (one other : Answer) → one ≡ other → Agree one other
-agree_as_same one other same = (ap (λ (x : Answer). x.out) same, ap (λ (x : Answer). x.status) same)
-
--- by which a text is refused, and what serves it: each text is refused or served, and never both; it has one refusal at most;
--- answers for a text that is served put the same and have one status; and this is the status of an end
-record IsLawful (Refuses : List ℕ → ℕ → ℕ → Type 0) (Serves : List ℕ → Answer → Type 0) : Type 0 where
-  judged : (text : List ℕ) → ((line : ℕ) × (rule : ℕ) × Refuses text line rule) ⊎ ((answer : Answer) × Serves text answer)
-  one_refusal : (text : List ℕ) (line by other rule : ℕ) → Refuses text line by → Refuses text other rule → (line ≡ other) × (by ≡ rule)
-  not_both : (text : List ℕ) (line rule : ℕ) (answer : Answer) → Refuses text line rule → Serves text answer → ⊥
-  agree : (text : List ℕ) (one other : Answer) → Serves text one → Serves text other → Agree one other
-  ends : (text : List ℕ) (answer : Answer) → Serves text answer → IsEndOfWork answer.status
-
--- and a command whose answer is determined, notes and all: there are no two for a text that it serves
-abbrev HasNoOther : (List ℕ → Answer → Type 0) → Type 0
-HasNoOther Serves = (text : List ℕ) (one other : Answer) → Serves text one → Serves text other → one ≡ other
-
--- ---- Commands that answer a text that keeps all rules, and refuse any other by these
-
--- of the answers for a system: there is one, any two put the same, and they have the status of an end
-record AnswersSystems (IsAnswer : System → Answer → Type 0) : Type 0 where
-  some : (system : System) → IsWhole system → (answer : Answer) × IsAnswer system answer
-  agree : (system : System) → IsWhole system → (one other : Answer) → IsAnswer system one → IsAnswer system other → Agree one other
-  ends : (system : System) (answer : Answer) → IsAnswer system answer → IsEndOfWork answer.status
-
--- two answers for a text are answers for one system
-on_one_system : (IsAnswer : System → Answer → Type 0) (text : List ℕ) (one other : Answer) (a : OnAccepted IsAnswer text one)
-    (b : OnAccepted IsAnswer text other) → IsAnswer b.system one
-on_one_system IsAnswer text one other a b =
-    subst (λ (s : System). IsAnswer s one) ((judged_once text).one_system a.system b.system a.lines b.lines a.accepted b.accepted).0 a.is
-
-lawful_on_accepted : (IsAnswer : System → Answer → Type 0) → AnswersSystems IsAnswer → IsLawful IsRefusedAt (OnAccepted IsAnswer)
-lawful_on_accepted IsAnswer answers = record {
-  judged = λ text. by text (judged_once text).judged;
-  one_refusal = λ text. (judged_once text).one_refusal;
-  not_both = λ text line rule answer refused serves. (judged_once text).not_both serves.system serves.lines line rule serves.accepted refused;
-  agree = λ text one other a b.
-      answers.agree b.system (whole_of text b.system b.lines b.accepted) one other (on_one_system IsAnswer text one other a b) b.is;
-  ends = λ text answer serves. answers.ends serves.system answer serves.is;
-}
-  where
-    by : (text : List ℕ) → ((system : System) × (lines : List ℕ) × IsAcceptedAs text system lines) ⊎ ((line : ℕ) × (rule : ℕ) × IsRefusedAt text line rule)
-        → ((line : ℕ) × (rule : ℕ) × IsRefusedAt text line rule) ⊎ ((answer : Answer) × OnAccepted IsAnswer text answer)
-    by text (inl (system, lines, accepted)) =
-        let answer = answers.some system (whole_of text system lines accepted) in
-        inr (answer.0, record { system = system; lines = lines; accepted = accepted; is = answer.1 })
-    by text (inr refused) = inl refused
-
-determined_on_accepted : (IsAnswer : System → Answer → Type 0)
-    → ((system : System) → IsWhole system → (one other : Answer) → IsAnswer system one → IsAnswer system other → one ≡ other)
-    → HasNoOther (OnAccepted IsAnswer)
-determined_on_accepted IsAnswer same text one other a b =
-    same b.system (whole_of text b.system b.lines b.accepted) one other (on_one_system IsAnswer text one other a b) b.is
-
--- and those whose answer for a system is one piece
-lawful_piece : (piece : System → List ℕ) → IsLawful IsRefusedAt (OnAccepted (λ system answer. answer ≡ piece_answer (piece system)))
-lawful_piece piece = lawful_on_accepted (λ system answer. answer ≡ piece_answer (piece system)) (record {
-  some = λ system whole. (piece_answer (piece system), refl);
-  agree = λ system whole one other a b. agree_as_same one other (a ∙ sym b);
-  ends = λ system answer is. subst (λ (a : Answer). IsEndOfWork a.status) (sym is) tt;
-})
-
-determined_piece : (piece : System → List ℕ) → HasNoOther (OnAccepted (λ system answer. answer ≡ piece_answer (piece system)))
-determined_piece piece = determined_on_accepted (λ system answer. answer ≡ piece_answer (piece system)) (λ system whole one other a b. a ∙ sym b)
-
--- a number is at most a limit or above it, and not both
-at_most_or_above : (n limit : ℕ) → (n ≤ limit) ⊎ (limit < n)
-at_most_or_above n limit = by (nat_le n limit) refl
-  where
-    by : (told : Bool) → nat_le n limit ≡ told → (n ≤ limit) ⊎ (limit < n)
-    by true is = inl (grind (arith, nat_tests))
-    by false is = inr (grind (arith, nat_tests))
-
-above_is_not : (n limit : ℕ) → n ≤ limit → limit < n → ⊥
-above_is_not n limit most above = absurd (omega (arith, most, above))
-
--- and that whose answer for a system is its upgrade, which refuses a text where this is too long
-upgrade_lawful : IsLawful RefusesUpgrade AnswersUpgrade
-upgrade_lawful = record {
-  judged = λ text. by text (judged_once text).judged;
-  one_refusal = λ text. once text;
-  not_both = λ text. never_too text;
-  agree = λ text one other a b. agree_as_same one other ((on_one_system TellsUpgrade text one other a b).is ∙ sym b.is.is);
-  ends = λ text answer serves. subst (λ (a : Answer). IsEndOfWork a.status) (sym serves.is.is) tt;
-}
-  where
-    fitting : (text : List ℕ) (system : System) (lines : List ℕ) → IsAcceptedAs text system lines → (length (printed_text (upgraded system)) ≤ text_limit)
-        ⊎ (text_limit < length (printed_text (upgraded system)))
-        → ((line : ℕ) × (rule : ℕ) × RefusesUpgrade text line rule) ⊎ ((answer : Answer) × AnswersUpgrade text answer)
-    fitting text system lines accepted (inl fits) = inr (
-      printed_answer (upgraded system),
-      record { system = system; lines = lines; accepted = accepted; is = record { fits = fits; is = refl } },
-    )
-    fitting text system lines accepted (inr long) =
-        inl (1, 37, inr (record { system = system; lines = lines; accepted = accepted; long = long; at = refl; by = refl }))
-
-    by : (text : List ℕ) → ((system : System) × (lines : List ℕ) × IsAcceptedAs text system lines) ⊎ ((line : ℕ) × (rule : ℕ) × IsRefusedAt text line rule)
-        → ((line : ℕ) × (rule : ℕ) × RefusesUpgrade text line rule) ⊎ ((answer : Answer) × AnswersUpgrade text answer)
-    by text (inl (system, lines, accepted)) =
-        fitting text system lines accepted (at_most_or_above (length (printed_text (upgraded system))) text_limit)
-    by text (inr (line, rule, refused)) = inl (line, rule, inl refused)
-
-    once : (text : List ℕ) (line rule other third : ℕ) → RefusesUpgrade text line rule → RefusesUpgrade text other third → (line ≡ other) × (rule ≡ third)
-    once text line rule other third (inl a) (inl b) = (judged_once text).one_refusal line rule other third a b
-    once text line rule other third (inl a) (inr b) = absurd ((judged_once text).not_both b.system b.lines line rule b.accepted a)
-    once text line rule other third (inr a) (inl b) = absurd ((judged_once text).not_both a.system a.lines other third a.accepted b)
-    once text line rule other third (inr a) (inr b) = (a.at ∙ sym b.at, a.by ∙ sym b.by)
-
-    never_too : (text : List ℕ) (line rule : ℕ) (answer : Answer) → RefusesUpgrade text line rule → AnswersUpgrade text answer → ⊥
-    never_too text line rule answer (inl refused) serves = (judged_once text).not_both serves.system serves.lines line rule serves.accepted refused
-    never_too text line rule answer (inr long) serves =
-        let same = ((judged_once text).one_system long.system serves.system long.lines serves.lines long.accepted serves.accepted).0 in
-        above_is_not (length (printed_text (upgraded serves.system))) text_limit serves.is.fits
-        (subst (λ (s : System). text_limit < length (printed_text (upgraded s))) same long.long)
-
 -- ---- Commands that read nothing
-
--- of the answers of one: there is exactly one, with the status of an end
-record HasOneAnswer (IsAnswer : Answer → Type 0) : Type 0 where
-  answer : Answer
-  is : IsAnswer answer
-  only : (other : Answer) → IsAnswer other → other ≡ answer
-  ends : IsEndOfWork answer.status
-
-lawful_unread : (IsAnswer : Answer → Type 0) → HasOneAnswer IsAnswer → IsLawful (λ text line rule. ⊥) (λ text. IsAnswer)
-lawful_unread IsAnswer one = record {
-  judged = λ text. inr (one.answer, one.is);
-  one_refusal = λ text line by other rule refused. absurd refused;
-  not_both = λ text line rule answer refused. absurd refused;
-  agree = λ text a b is also. agree_as_same a b (one.only a is ∙ sym (one.only b also));
-  ends = λ text answer is. subst (λ (a : Answer). IsEndOfWork a.status) (sym (one.only answer is)) one.ends;
-}
-
-determined_unread : (IsAnswer : Answer → Type 0) → HasOneAnswer IsAnswer → HasNoOther (λ text. IsAnswer)
-determined_unread IsAnswer one text a b is also = one.only a is ∙ sym (one.only b also)
 
 gen_answer : (asked : Asked) → HasOneAnswer (AnswersGen asked)
 gen_answer asked = record { answer = printed_answer (system_asked asked); is = refl; only = λ other is. is; ends = tt }
@@ -193,7 +62,7 @@ bench_answer asked can =
 -- ---- Each command, where its numbers are in their ranges
 
 -- two runs of a system answer the same
-traces_same : (system : System) → IsWhole system → (one other : Answer) → TellsTrace system one → TellsTrace system other → one ≡ other
+pub traces_same : (system : System) → IsWhole system → (one other : Answer) → TellsTrace system one → TellsTrace system other → one ≡ other
 traces_same system whole one other a b =
     let outcome = one_outcome system whole in
     let first = outcome.is_only a.rows a.last a.ending a.trace in
@@ -330,14 +199,32 @@ replays_answer asked = record {
       is_end tells.tells.ending answer.status (ap (λ (a : Answer). a.status) tells.is ∙ ap (λ (a : Answer). a.status) tells.tells.is);
 }
 
+upgrades_answer : AnswersOrBreaks TellsUpgrade IsTooLongInVersion2
+upgrades_answer = record {
+  some = λ system whole. by system (at_most_or_above (length (printed_text (upgraded system))) text_limit);
+  not_both = λ system answer tells long. above_is_not (length (printed_text (upgraded system))) tells.fits long;
+  agree = λ system whole one other a b. agree_as_same one other (a.is ∙ sym b.is);
+  ends = λ system answer tells. subst (λ (a : Answer). IsEndOfWork a.status) (sym tells.is) tt;
+}
+  where
+    above_is_not : (n : ℕ) → n ≤ text_limit → text_limit < n → ⊥
+    above_is_not n most above = absurd (omega (arith, most, above))
+
+    by : (system : System) → (length (printed_text (upgraded system)) ≤ text_limit) ⊎ IsTooLongInVersion2 system
+        → ((answer : Answer) × TellsUpgrade system answer) ⊎ IsTooLongInVersion2 system
+    by system (inl fits) = inl (printed_answer (upgraded system), record { fits = fits; is = refl })
+    by system (inr long) = inr long
+
 lawful : (command : Command) → KeepsRanges command → IsLawful (RefusedBy command) (ServedBy command)
 lawful (Run asked) keeps = lawful_on_accepted (TellsReported asked) (reported_answer asked)
 lawful Check keeps = lawful_piece (λ system. accepted_text)
 lawful Print keeps = lawful_piece printed_text
-lawful Upgrade keeps = upgrade_lawful
+lawful Upgrade keeps = lawful_with_rule TellsUpgrade IsTooLongInVersion2 37 upgrades_answer
 lawful (Replay asked) keeps = lawful_on_accepted (TellsReplay asked) (replays_answer asked)
 lawful (Gen asked) keeps = lawful_unread (AnswersGen asked) (gen_answer asked)
 lawful (Bench asked) keeps = lawful_unread (AnswersBench asked) (bench_answer asked keeps)
+lawful (Save asked) keeps = lawful_with_rule (TellsPosition asked.row) (LacksPosition asked.row) 31 (saves_answer asked.row)
+lawful Resume keeps = resume_lawful
 
 determined : (command : Command) → KeepsRanges command → IsDetermined (Some command) → HasNoOther (ServedBy command)
 determined (Run asked) keeps settled = determined_on_accepted (TellsReported asked) (reported_same asked settled)
@@ -347,6 +234,15 @@ determined Upgrade keeps settled = determined_on_accepted TellsUpgrade (λ syste
 determined (Replay asked) keeps settled = determined_on_accepted (TellsReplay asked) (replays_same asked)
 determined (Gen asked) keeps settled = determined_unread (AnswersGen asked) (gen_answer asked)
 determined (Bench asked) keeps settled = determined_unread (AnswersBench asked) (bench_answer asked keeps)
+determined (Save asked) keeps settled = determined_on_accepted (TellsPosition asked.row) (saves_same asked.row)
+determined Resume keeps settled = resumes_same
+
+-- an input that was read is no longer than a command may read
+pub in_limit : (input : Option ℕ) (read : Vec ℕ Global) (text : List ℕ) → text ≡ read.items → IsInLimit input (Ok read)
+    → IfSome input (λ limit. length text ≤ limit)
+in_limit None read text is within = tt
+in_limit (Some limit) read text is within =
+    subst (λ (bytes : List ℕ). length bytes ≤ limit) (sym is) (subst (λ n. n ≤ limit) read.ok.0 within)
 
 -- an input that is too long breaks the rule of its length
 too_long : (limit : ℕ) (text : List ℕ) → Some text_limit ≡ Some limit → limit < length text → IsRefusedAt text 1 2
@@ -363,6 +259,9 @@ long_by Upgrade limit text is long = inl (too_long limit text is long)
 long_by (Replay asked) limit text is long = too_long limit text is long
 long_by (Gen asked) limit text is long = absurd (cc)
 long_by (Bench asked) limit text is long = absurd (cc)
+long_by (Save asked) limit text is long = inl (too_long limit text is long)
+long_by Resume limit text is long =
+    inl (record { long = subst (λ most. most < length text) (sym (same_Some saved_limit limit is)) long; at = refl; by = refl })
 
 -- a command that reads nothing has the same answers for all inputs
 free_by : (command : Command) → input_of command ≡ None → (one other : List ℕ) (answer : Answer) → Answers command one answer
@@ -374,6 +273,8 @@ free_by Upgrade is one other answer answers = absurd (cc)
 free_by (Replay asked) is one other answer answers = absurd (cc)
 free_by (Gen asked) is one other answer (inl refusal) = absurd refusal.refused
 free_by (Gen asked) is one other answer (inr serves) = inr serves
+free_by (Save asked) is one other answer answers = absurd (cc)
+free_by Resume is one other answer answers = absurd (cc)
 free_by (Bench asked) is one other answer (inl refusal) = absurd refusal.refused
 free_by (Bench asked) is one other answer (inr serves) = inr serves
 

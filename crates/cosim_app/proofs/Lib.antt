@@ -1,13 +1,12 @@
 pub mod BenchLaws
 pub mod CommandLaws
+pub mod Lawful
 pub mod MakingLaws
-pub mod NumberLaws
-pub mod OptionLaws
-pub mod OptionOrders
-pub mod OptionParts
 pub mod OutputNames
-pub mod RangeLaws
 pub mod ReplayLaws
+pub mod ResumeLaws
 pub mod RunLaws
+pub mod SavedLaws
+pub mod SavedRuns
 pub mod TraceLaws
 pub mod UpgradeLaws

@@ -9,7 +9,7 @@ use Rattle.cosim_call.specs.declared.coming.Stopped.{Stopped}
 use Rattle.cosim_call.specs.declared.coming.Stopped.TheVariants as stopped
 use Rattle.cosim_app.specs.Answer.{Answers, RefusedBy}
 use Rattle.cosim_app.specs.Serving.{IsUnaccepted}
-use Rattle.cosim_app.specs.declared.command_words.Command.{Command}
+use Rattle.command_line.specs.declared.commands.Command.{Command}
 
 -- why a part of a command gives up is handed on
 pub handed_on : {T : Type 0} (Owes : Result T Stopped → Type 0) (result : Result T Stopped) (why : Stopped) → IsErrAnd result (λ found. found ≡ why)

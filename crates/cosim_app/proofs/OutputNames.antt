@@ -18,7 +18,7 @@ use Rattle.unit_tree.specs.declared.unit.EventOut.{EventOut}
 use Rattle.unit_tree.specs.declared.unit.Output.{Output}
 use Rattle.unit_tree.specs.declared.unit.Unit.{Unit}
 use Rattle.language_laws.proofs.PlainNames.{of_output, of_event}
-use Rattle.cosim_app.specs.Answer.{status_of}
+use Rattle.cosim_app.specs.Accepted.{status_of}
 use Rattle.cosim_app.specs.Notes.{name_or_none}
 use Rattle.cosim_app.specs.SourcePlaces.{source_end}
 use Rattle.cosim_app.proofs.TraceLaws.{IsWhole}

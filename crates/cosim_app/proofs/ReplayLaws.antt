@@ -21,11 +21,12 @@ use Rattle.unit_tree.specs.Compositions.{run_of}
 use Rattle.unit_tree.specs.Trace.{IsTraceOf, Row}
 use Rattle.unit_tree.specs.declared.ending.Ending.{Ending}
 use Rattle.unit_tree.specs.declared.system.System.{System}
-use Rattle.cosim_app.specs.Answer.{Answers, planned, run_answer, traced_notes, traced_text, with_counts}
+use Rattle.cosim_app.specs.Accepted.{planned, run_answer, traced_notes, traced_text}
+use Rattle.cosim_app.specs.Answer.{Answers, with_counts}
 use Rattle.cosim_app.specs.Notes.{counts_text}
 use Rattle.cosim_app.specs.Serving.{IsAccepted, IsUnaccepted, Replays, TellsReplayed}
-use Rattle.cosim_app.specs.declared.command_words.Command.TheVariants.{Replay}
-use Rattle.cosim_app.specs.declared.replaying.Replaying.{Replaying}
+use Rattle.command_line.specs.declared.commands.Command.TheVariants.{Replay}
+use Rattle.command_line.specs.declared.replaying.Replaying.{Replaying}
 use Rattle.cosim_app.proofs.OutputNames.{ends_alike, same_status}
 use Rattle.cosim_app.proofs.RunLaws.{text_is, trace_told}
 use Rattle.cosim_app.proofs.TraceLaws.{IsWhole, is_end, plain_outcome, whole_of}

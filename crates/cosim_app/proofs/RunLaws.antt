@@ -22,12 +22,13 @@ use Rattle.cosim_call.specs.Coming.{Begins, Serves}
 use Rattle.cosim_call.specs.declared.coming.Served.{Served}
 use Rattle.cosim_call.specs.declared.coming.Stopped.{Stopped}
 use Rattle.cosim_call.specs.declared.coming.Stopped.TheVariants as stopped
-use Rattle.cosim_app.specs.Answer.{Answers, CanReport, TellsReported, TellsTrace, report_lines, run_answer, traced_notes, traced_text, with_report}
+use Rattle.cosim_app.specs.Accepted.{TellsTrace, run_answer, traced_notes, traced_text}
+use Rattle.cosim_app.specs.Answer.{Answers, CanReport, TellsReported, report_lines, with_report}
 use Rattle.cosim_app.specs.Notes.{ending_notes}
 use Rattle.cosim_app.specs.Serving.{IsAccepted, IsUnaccepted, Runs, TellsEnding}
 use Rattle.cosim_app.specs.SourcePlaces.{source_end}
-use Rattle.cosim_app.specs.declared.command_words.Command.TheVariants.{Run}
-use Rattle.cosim_app.specs.declared.running.Running.{Running}
+use Rattle.command_line.specs.declared.commands.Command.TheVariants.{Run}
+use Rattle.command_line.specs.declared.running.Running.{Running}
 use Rattle.cosim_app.proofs.OutputNames.{ends_alike, same_status}
 use Rattle.cosim_app.proofs.TraceLaws.{IsWhole, is_end, plain_outcome, whole_of}
 

@@ -21,8 +21,8 @@ use Rattle.cosim_gen.proofs.Outputs.{has_no_cycle}
 use Rattle.cosim_gen.proofs.Printing.{is_printable}
 use Rattle.cosim_call.specs.Answers.{IsEndOfWork}
 use Rattle.cosim_call.specs.declared.status.Status.{Status}
-use Rattle.cosim_app.specs.Answer.{status_of}
-use Rattle.cosim_app.specs.Generations.{Asked, CanGive, system_asked}
+use Rattle.cosim_app.specs.Accepted.{status_of}
+use Rattle.command_line.specs.Generations.{Asked, CanGive, system_asked}
 
 -- a system that is in range and keeps all rules, and whose outputs have an order
 pub record IsWhole (system : System) : Type 0 where

@@ -1,6 +1,5 @@
 -- The command `upgrade`: what is asked of the system of an accepted text, and why one is refused.
-use Rattle.std.proofs.Common.{◌≡◌, ℕ, List, Err, refl, sym, subst, inl, inr}
-use Rattle.cosim_call.specs.Answers.{refused_answer}
+use Rattle.std.proofs.Common.{ℕ, List, Err, refl, inl, inr}
 use Rattle.cosim_call.specs.Coming.{Makes}
 use Rattle.cosim_call.specs.declared.coming.Stopped.{Stopped}
 use Rattle.cosim_call.specs.declared.coming.Stopped.TheVariants as stopped
@@ -10,7 +9,7 @@ use Rattle.unit_tree.specs.Printable.{IsPrintable}
 use Rattle.unit_tree.specs.declared.system.System.{System}
 use Rattle.cosim_app.specs.Answer.{Answers}
 use Rattle.cosim_app.specs.Serving.{Upgrades}
-use Rattle.cosim_app.specs.declared.command_words.Command.TheVariants.{Upgrade}
+use Rattle.command_line.specs.declared.commands.Command.TheVariants.{Upgrade}
 
 -- what a text is accepted as is printable
 pub accepted_is_printable : (text : List ℕ) (system : System) (lines : List ℕ) → IsAcceptedAs text system lines → IsPrintable system
@@ -22,7 +21,7 @@ pub not_upgraded : (text : List ℕ) (system : System) (lines : List ℕ) → Is
 not_upgraded text system lines accepted (stopped.Refused line rule) refused = inl (record {
   line = line;
   rule = rule;
-  refused = inr (record { system = system; lines = lines; accepted = accepted; long = refused.2; at = refused.0; by = refused.1 });
+  refused = inr (record { system = system; lines = lines; accepted = accepted; breaks = refused.2; at = refused.0; by = refused.1 });
   is = refl;
 })
 not_upgraded text system lines accepted stopped.NoMemory refused = tt

@@ -1,77 +1,35 @@
 -- Answers: what the program puts out and notes, and how it ends, for the words of a command line and the bytes
 -- of its input.
 use Rattle.std.specs.Prelude.{◌≡◌, ℕ, ℤ, ◌+◌, ◌<◌, ◌≤◌, if◌then◌else◌, List, [], ◌∷◌, ◌++◌, length, Option, Some, None, codes, ◌⊎◌}
-use Rattle.event_csv.specs.EventText.{event_text}
-use Rattle.event_runs.specs.EventRuns.{IsEventTraceOf}
-use Rattle.event_runs.specs.EventTrace.{EventRow}
 use Rattle.serial_run.specs.Alone.{IsAlone}
 use Rattle.spec_core.specs.Replays.{IsReplayed}
 use Rattle.spec_core.specs.declared.counts.Counts.{Counts}
 use Rattle.super_time.specs.declared.point.Point.{Point}
-use Rattle.text_accept.specs.Accepting.{IsAcceptedAs, IsRefusedAt}
+use Rattle.text_accept.specs.Accepting.{IsRefusedAt}
 use Rattle.trace_csv.specs.Columns.{columns_of}
-use Rattle.trace_plan.specs.Plans.{Planned}
 use Rattle.trace_rows.specs.Reports.{AreTicketsTold}
 use Rattle.trace_rows.specs.Sums.{sum_shown}
 use Rattle.trace_rows.specs.declared.report.Report.{Report}
-use Rattle.unit_tree.specs.Canonical.{canonical_text}
-use Rattle.unit_tree.specs.Compositions.{run_of}
 use Rattle.unit_tree.specs.Texts.{text_limit}
 use Rattle.unit_tree.specs.Trace.{HasCells, IsTraceOf, Row}
-use Rattle.unit_tree.specs.WellFormed.{resolution_of}
 use Rattle.unit_tree.specs.declared.ending.Ending.{Ending}
-use Rattle.unit_tree.specs.declared.ending.Ending.TheVariants.{Completed, RowBudget, ZeroBudget, UnitFault, StepRefused}
 use Rattle.unit_tree.specs.declared.system.System.{System}
 use Rattle.unit_upgrade.specs.Upgrades.{upgraded}
 use Rattle.cosim_call.specs.Answers.{Answer, piece_answer, refused_answer, usage_answer}
 use Rattle.cosim_call.specs.Notes.{line_end}
-use Rattle.cosim_call.specs.declared.status.Status.{Status}
 use Rattle.cosim_call.specs.declared.status.Status.TheVariants as status
-use Rattle.cosim_app.specs.Commands.{command_of}
+use Rattle.command_line.specs.Commands.{command_of}
+use Rattle.cosim_app.specs.Accepted.{OnAccepted, RefusesAlso, TellsTrace, planned, printed_answer, printed_text}
 use Rattle.cosim_app.specs.Figures.{figures_text}
-use Rattle.cosim_app.specs.Generations.{Asked, system_asked}
-use Rattle.cosim_app.specs.Notes.{counts_text, ending_notes, report_text}
-use Rattle.cosim_app.specs.declared.command_words.Command.{Command}
-use Rattle.cosim_app.specs.declared.command_words.Command.TheVariants.{Run, Check, Print, Upgrade, Replay, Gen, Bench}
-use Rattle.cosim_app.specs.declared.replaying.Replaying.{Replaying}
-use Rattle.cosim_app.specs.declared.running.Running.{Running}
-
-abbrev pub status_of : Ending → Status
-status_of Completed = status.Done
-status_of RowBudget = status.RowBudget
-status_of ZeroBudget = status.ZeroBudget
-status_of (UnitFault instance place fault) = status.UnitFault
-status_of (StepRefused instance asked accepted) = status.StepRefused
-
--- What is put for the rows of a trace: the text of the trace.
-unfoldable pub traced_text : System → List EventRow → List ℕ
-traced_text system rows = event_text system rows
-
--- What is noted of its end, by the names in the system, and with times in seconds as in the trace.
-unfoldable pub traced_notes : System → Ending → Point → List (List ℕ)
-traced_notes system ending last = ending_notes system (resolution_of system) ending last
-
--- The text of a trace, and how and where it ended.
-abbrev pub run_answer : System → List EventRow → Point → Ending → Answer
-run_answer system rows last ending =
-    record { out = traced_text system rows; notes = traced_notes system ending last; status = status_of ending }
+use Rattle.command_line.specs.Generations.{Asked, system_asked}
+use Rattle.cosim_app.specs.Notes.{counts_text, report_text}
+use Rattle.cosim_app.specs.SavedAnswers.{AnswersResume, AnswersSave, ResumeRefuses, SaveRefuses}
+use Rattle.command_line.specs.declared.commands.Command.{Command}
+use Rattle.command_line.specs.declared.commands.Command.TheVariants.{Run, Check, Print, Upgrade, Replay, Gen, Bench, Save, Resume}
+use Rattle.command_line.specs.declared.replaying.Replaying.{Replaying}
+use Rattle.command_line.specs.declared.running.Running.{Running}
 
 -- ---- What each command answers
-
--- A text that keeps all rules is answered by its system, as the command answers this.
-pub record OnAccepted (IsAnswer : System → Answer → Type 0) (text : List ℕ) (answer : Answer) : Type 0 where
-  pub system : System
-  pub lines : List ℕ
-  pub accepted : IsAcceptedAs text system lines
-  pub is : IsAnswer system answer
-
--- By the trace of the system.
-pub record TellsTrace (system : System) (answer : Answer) : Type 0 where
-  pub rows : List EventRow
-  pub last : Point
-  pub ending : Ending
-  pub trace : IsEventTraceOf system rows last ending
-  pub is : answer ≡ run_answer system rows last ending
 
 -- What a run of a system with so many workers may report, whose trace has so many rows: these, and how its cells were filled, from
 -- answers or by own steps; each ticket was posted, given back or lapsed. Without workers nothing came from others.
@@ -110,13 +68,6 @@ accepted_answer = piece_answer accepted_text
 abbrev pub AnswersCheck : List ℕ → Answer → Type 0
 AnswersCheck = OnAccepted (λ system answer. answer ≡ accepted_answer)
 
--- What is printed of a system: its canonical text.
-unfoldable pub printed_text : System → List ℕ
-printed_text system = canonical_text system
-
-abbrev pub printed_answer : System → Answer
-printed_answer system = piece_answer (printed_text system)
-
 -- By the canonical text of the system.
 abbrev pub AnswersPrint : List ℕ → Answer → Type 0
 AnswersPrint = OnAccepted (λ system answer. answer ≡ printed_answer system)
@@ -129,21 +80,12 @@ pub record TellsUpgrade (system : System) (answer : Answer) : Type 0 where
 abbrev pub AnswersUpgrade : List ℕ → Answer → Type 0
 AnswersUpgrade = OnAccepted TellsUpgrade
 
--- The text keeps all rules, and the canonical text of its system in version 2 is longer than a text may be: rule 37, at line 1.
-pub record IsTooLongInVersion2 (text : List ℕ) (line rule : ℕ) : Type 0 where
-  pub system : System
-  pub lines : List ℕ
-  pub accepted : IsAcceptedAs text system lines
-  pub long : text_limit < length (printed_text (upgraded system))
-  pub at : line ≡ 1
-  pub by : rule ≡ 37
+-- It is longer than a text may be: rule 37.
+abbrev pub IsTooLongInVersion2 : System → Type 0
+IsTooLongInVersion2 system = text_limit < length (printed_text (upgraded system))
 
 abbrev pub RefusesUpgrade : List ℕ → ℕ → ℕ → Type 0
-RefusesUpgrade text line rule = IsRefusedAt text line rule ⊎ IsTooLongInVersion2 text line rule
-
--- A system with what is run of it.
-abbrev pub planned : System → Planned
-planned system = record { system = system; run = run_of system }
+RefusesUpgrade = RefusesAlso IsTooLongInVersion2 37
 
 -- The answer of a run, with the line of a replay's counts behind its notes.
 abbrev pub with_counts : Counts → Answer → Answer
@@ -189,6 +131,8 @@ ServedBy Upgrade text answer = AnswersUpgrade text answer
 ServedBy (Replay asked) text answer = AnswersReplay asked text answer
 ServedBy (Gen asked) text answer = AnswersGen asked answer
 ServedBy (Bench asked) text answer = AnswersBench asked answer
+ServedBy (Save asked) text answer = AnswersSave asked.row text answer
+ServedBy Resume text answer = AnswersResume text answer
 
 -- The line and the rule by which a command refuses a text; one that reads nothing refuses nothing.
 abbrev pub RefusedBy : Command → List ℕ → ℕ → ℕ → Type 0
@@ -199,6 +143,8 @@ RefusedBy Upgrade text line rule = RefusesUpgrade text line rule
 RefusedBy (Replay asked) text line rule = IsRefusedAt text line rule
 RefusedBy (Gen asked) text line rule = ⊥
 RefusedBy (Bench asked) text line rule = ⊥
+RefusedBy (Save asked) text line rule = SaveRefuses asked.row text line rule
+RefusedBy Resume text line rule = ResumeRefuses text line rule
 
 -- A text that is refused is answered by its line and rule.
 pub record AnswersRefusal (command : Command) (text : List ℕ) (answer : Answer) : Type 0 where

@@ -1,15 +1,16 @@
--- Laws of answers, and of options.
-use Rattle.std.specs.Prelude.{◌≡◌, ℕ, true, ⊤, List, [], ◌∷◌, ◌++◌, ◌⊎◌, Option, Some, None, IsPermutation}
-use Rattle.std.specs.List.{All, flat_map}
+-- Laws of answers.
+use Rattle.std.specs.Prelude.{◌≡◌, ℕ, ◌≤◌, true, ⊤, List, ◌++◌, length, ◌⊎◌, Option, Some}
 use Rattle.cosim_call.specs.Answers.{Answer, IsEndOfWork}
 use Rattle.cosim_call.specs.declared.status.Status.TheVariants as status
 use Rattle.cosim_app.specs.Answer.{Answers, AnswersRefusal, IsAnswer, ServedBy, report_lines}
-use Rattle.cosim_app.specs.Commands.{command_of}
-use Rattle.cosim_app.specs.Options.{given_by, options_of}
-use Rattle.cosim_app.specs.declared.command_words.Command.{Command}
-use Rattle.cosim_app.specs.declared.command_words.Command.TheVariants.{Run}
-use Rattle.cosim_app.specs.declared.options.CommandOption.{CommandOption}
-use Rattle.cosim_app.specs.declared.running.Running.{Running}
+use Rattle.command_line.specs.Commands.{command_of, saved_limit}
+use Rattle.command_line.specs.declared.commands.Command.{Command}
+use Rattle.command_line.specs.declared.commands.Command.TheVariants.{Resume, Run}
+use Rattle.command_line.specs.declared.running.Running.{Running}
+use Rattle.cosim_app.specs.SavedAnswers.{AnswersSave}
+use Rattle.trace_rows.specs.Lines.{header_of, lines_of}
+use Rattle.unit_tree.specs.Trace.{Row}
+use Rattle.unit_tree.specs.declared.system.System.{System}
 use Rattle.trace_rows.specs.declared.report.Report.{Report}
 
 -- For each list of words and each input there is an answer.
@@ -62,28 +63,17 @@ EndsAreServed =
     (words : List (List ℕ)) (text : List ℕ) (answer : Answer) → IsAnswer words text answer → IsEndOfWork answer.status
     → (command : Command) × (Some command ≡ command_of words) × ServedBy command text answer
 
--- ---- Options in any order
+-- What `run` puts is the header, as many rows as the number of the position that was saved, and then just what `resume` puts. The status
+-- is the same, and so are the notes, but for the line of a report.
+pub record EndsRun (row : ℕ) (asked : Running) (system : System) (resumed run : Answer) : Type 0 where
+  pub before : List Row
+  pub as_many : length before ≡ row
+  pub out : run.out ≡ header_of system ++ (lines_of system before ++ resumed.out)
+  pub notes : IsNoted asked resumed.notes run
+  pub status : run.status ≡ resumed.status
 
--- The words say one option: its flag, with its value in the next word where it has one.
-abbrev pub IsOneOption : List (List ℕ) → Type 0
-IsOneOption words = (option : CommandOption) × (options_of words ≡ Some (option ∷ []))
-
-abbrev pub joined_parts : List (List (List ℕ)) → List (List ℕ)
-joined_parts parts = flat_map (λ part. part) parts
-
--- Words behind a command's, each part of which says one option, are of the same command in any order of the parts, or have no form
--- in any.
-abbrev pub PartsHaveNoOrder : Type 0
-PartsHaveNoOrder =
-    (word : List ℕ) (parts reordered : List (List (List ℕ))) → All IsOneOption parts → IsPermutation parts reordered
-    → command_of (word ∷ joined_parts parts) ≡ command_of (word ∷ joined_parts reordered)
-
--- Words give the same as other words with the same options in another order.
-abbrev pub OptionsHaveNoOrder : Type 0
-OptionsHaveNoOrder =
-    (words other : List (List ℕ)) (options reordered : List CommandOption) → options_of words ≡ Some options → options_of other ≡ Some reordered
-    → IsPermutation options reordered → given_by words ≡ given_by other
-
--- Words that are no options have no form behind any command's word.
-abbrev pub OtherWordsHaveNoForm : Type 0
-OtherWordsHaveNoForm = (word : List ℕ) (words : List (List ℕ)) → options_of words ≡ None → command_of (word ∷ words) ≡ None
+-- Where `save` serves a text, and what it puts is no longer than `resume` may read, this serves it, and ends the run of the text.
+abbrev pub SavedRunsGoOn : Type 0
+SavedRunsGoOn =
+    (row : ℕ) (asked : Running) (text : List ℕ) (saved resumed run : Answer) (of : AnswersSave row text saved) → length saved.out ≤ saved_limit
+    → Answers Resume saved.out resumed → Answers (Run asked) text run → EndsRun row asked of.system resumed run

@@ -1,12 +1,9 @@
+pub mod Accepted
 pub mod Answer
-pub mod Commands
 pub mod Figures
-pub mod Generations
 pub mod Laws
 pub mod Notes
-pub mod Options
-pub mod Ranges
+pub mod SavedAnswers
 pub mod Serving
 pub mod SourcePlaces
-pub mod Words
-pub mod WorkedWords
+pub mod Usage

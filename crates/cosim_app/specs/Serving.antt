@@ -1,11 +1,12 @@
 -- What the parts of commands do with a text and with the plan of a run.
-use Rattle.std.specs.Prelude.{◌≡◌, ℕ, ◌<◌, ◌≤◌, List, [], ◌∷◌, ◌++◌, length, Result, Ok, Err, ⊤}
+use Rattle.std.specs.Prelude.{◌≡◌, ℕ, ◌+◌, ◌<◌, ◌≤◌, List, [], ◌∷◌, ◌++◌, length, Result, Ok, Err, ⊤, Vec}
+use Rattle.std.specs.declared.alloc.Global.{Global}
 use Rattle.spec_core.specs.Replays.{IsReplayed, PutsTrace}
 use Rattle.spec_core.specs.declared.counts.Counts.{Counts}
 use Rattle.text_accept.specs.Accepting.{IsAcceptedAs, IsRefusedAt}
 use Rattle.text_accept.specs.declared.accepting.AcceptedText.{AcceptedText}
 use Rattle.trace_plan.specs.Plans.{Planned}
-use Rattle.trace_rows.specs.Reports.{PutsFront, ReportsTrace}
+use Rattle.trace_rows.specs.Reports.{PutsFront, PutsRestFront, ReportsRest, ReportsTrace}
 use Rattle.trace_rows.specs.declared.report.Report.{Report}
 use Rattle.unit_tree.specs.Compositions.{run_of}
 use Rattle.unit_tree.specs.Routes.{IsOrderOf}
@@ -16,11 +17,19 @@ use Rattle.cosim_call.specs.Calls.{Stream, Fails}
 use Rattle.cosim_call.specs.declared.coming.Served.{Served}
 use Rattle.cosim_call.specs.declared.coming.Stopped.{Stopped}
 use Rattle.cosim_call.specs.declared.coming.Stopped.TheVariants as stopped
-use Rattle.cosim_app.specs.Answer.{printed_text, report_lines, status_of, traced_notes}
+use Rattle.cosim_app.specs.Accepted.{printed_text, status_of, traced_notes}
+use Rattle.cosim_app.specs.Answer.{report_lines}
 use Rattle.cosim_app.specs.Notes.{counts_text}
+use Rattle.cosim_app.specs.SavedAnswers.{lines_before, text_behind}
 use Rattle.cosim_app.specs.SourcePlaces.{source_end}
-use Rattle.cosim_app.specs.declared.replaying.Replaying.{Replaying}
-use Rattle.cosim_app.specs.declared.running.Running.{Running}
+use Rattle.save_point.specs.SavedTexts.{BreaksAtLine, IsSaved, saved_text}
+use Rattle.save_point.specs.Saving.{FitsNone, HasNoPosition, IsOpenedBy}
+use Rattle.save_point.specs.declared.reading.Saved.{Saved}
+use Rattle.trace_core.specs.Runs.{RunState, Stands}
+use Rattle.unit_tree.specs.Successor.{Position}
+use Rattle.unit_tree.specs.Trace.{IsPositionOf}
+use Rattle.command_line.specs.declared.replaying.Replaying.{Replaying}
+use Rattle.command_line.specs.declared.running.Running.{Running}
 
 -- Why a text was not accepted: the refusal of it, or want of memory, which says nothing.
 abbrev pub IsUnaccepted : List ℕ → Stopped → Type 0
@@ -75,3 +84,47 @@ TellsReplayed system counts (Ok served) =
     (served.status ≡ status_of counts.outcome)
     × (served.notes ≡ traced_notes system (source_end system counts.outcome) counts.last ++ counts_text counts ∷ [])
 TellsReplayed system counts (Err why) = why ≡ stopped.NoMemory
+
+-- ---- Saved texts
+
+-- The saved text of the position of this number in the plan's trace was made; or there is no such position; or no memory.
+abbrev pub MakesSaved : Planned → ℕ → Result (Vec ℕ Global) Stopped → Type 0
+MakesSaved plan row (Ok bytes) = (at : Position) × IsPositionOf plan.run row at × (bytes.items ≡ saved_text plan.system at)
+MakesSaved plan row (Err (stopped.Refused line rule)) = (line ≡ 1) × (rule ≡ 31) × HasNoPosition plan.run row
+MakesSaved plan row (Err stopped.NoMemory) = ⊤
+MakesSaved plan row (Err _) = ⊥
+
+-- What a text saves was read, or at which line it breaks; or there was no memory.
+abbrev pub FindsSaved : List ℕ → Result Saved Stopped → Type 0
+FindsSaved text (Ok saved) = IsSaved text saved
+FindsSaved text (Err (stopped.Refused line rule)) = BreaksAtLine text line × (rule ≡ 32)
+FindsSaved text (Err stopped.NoMemory) = ⊤
+FindsSaved text (Err _) = ⊥
+
+-- Why the text behind what is saved was not accepted: its refusal, by a line of the whole, or want of memory.
+abbrev pub IsRefusedBehind : List ℕ → Saved → Stopped → Type 0
+IsRefusedBehind text saved (stopped.Refused line rule) =
+    (behind : ℕ) × IsRefusedAt (text_behind text saved) behind rule × (line ≡ lines_before saved + behind)
+IsRefusedBehind text saved stopped.NoMemory = ⊤
+IsRefusedBehind text saved _ = ⊥
+
+-- A run was opened at the position that is saved, or may stand at no such position; or there was no memory.
+abbrev pub OpensSaved : Planned → Saved → Result RunState Stopped → Type 0
+OpensSaved plan saved (Ok run) = IsOpenedBy plan saved run × Stands run
+OpensSaved plan saved (Err (stopped.Refused line rule)) = (line ≡ 1) × (rule ≡ 33) × FitsNone plan saved
+OpensSaved plan saved (Err stopped.NoMemory) = ⊤
+OpensSaved plan saved (Err _) = ⊥
+
+-- A run went on from a position: the lines of its rest were put, and the report is that of this rest; or it was given up, and what was
+-- put begins these lines.
+abbrev pub GoesOn : Planned → Position → Stream → Stream → Result Report Stopped → Type 0
+GoesOn plan at out out' (Ok report) = ReportsRest plan at out.bytes out'.bytes report × (out'.faults ≡ out.faults)
+GoesOn plan at out out' (Err stopped.WriteFault) = PutsRestFront plan at out.bytes out'.bytes × Fails out out'
+GoesOn plan at out out' (Err stopped.NoMemory) = PutsRestFront plan at out.bytes out'.bytes × (out'.faults ≡ out.faults)
+GoesOn plan at out out' (Err _) = ⊥
+
+-- Its end is told as that of a run.
+abbrev pub TellsResumed : System → Report → Result Served Stopped → Type 0
+TellsResumed system report (Ok served) =
+    (served.status ≡ status_of report.outcome) × (served.notes ≡ traced_notes system (source_end system report.outcome) report.last)
+TellsResumed system report (Err why) = why ≡ stopped.NoMemory

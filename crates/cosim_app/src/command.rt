@@ -3,12 +3,13 @@ ghost use Rattle.std.specs.Prelude.{◌≡◌, true};
 ghost use Rattle.cosim_call.specs.Calls.{Promises, stream, streams};
 ghost use Rattle.cosim_call.specs.Coming.{Comes, Serves};
 ghost use Rattle.cosim_app.specs.Answer.{Answers, IsAnswer};
-ghost use Rattle.cosim_app.specs.Commands.{UsageClause, command_of, has_workers, input_of, input_of_words};
-ghost use Rattle.cosim_app.specs.Laws.{AnswersAgree, EndsAreServed, EveryCallIsAnswered, NoCallIsAnsweredTwice, NotesAgree, RefusalsAreOfRules, RunsAgree};
-ghost use Rattle.cosim_app.specs.Words.{bytes_of};
+ghost use Rattle.command_line.specs.Commands.{IsReadable, command_of, has_workers, input_of, input_of_words};
+ghost use Rattle.cosim_app.specs.Usage.{UsageClause};
+ghost use Rattle.cosim_app.specs.Laws.{AnswersAgree, EndsAreServed, EveryCallIsAnswered, NoCallIsAnsweredTwice, NotesAgree, RefusalsAreOfRules, RunsAgree, SavedRunsGoOn};
+ghost use Rattle.command_line.specs.Words.{bytes_of};
 
-use crate::command_words::{Command, command_of};
-use crate::commands::{bench, check, generate, print, replay, run, upgrade};
+use crate::commands::{bench, check, generate, print, replay, resume, run, save, upgrade};
+use command_line::{Command, command_of};
 use cosim_call::{Served, Status, Stopped, finish, put_made, read_input, tell};
 use cosim_io::{Sink, Source};
 use std::alloc::Global;
@@ -24,6 +25,7 @@ fn serve<O: Sink>(
     text: &[u8],
     out: &mut O,
 ) -> Result<Served, Stopped>
+    requires { IsReadable command.now text.now }
     ensures { Serves (Answers command.now text.now) (stream (O.held out.old) (O.faults out.old)) (stream (O.held out.new) (O.faults out.new)) result }
 {
     match command {
@@ -34,6 +36,8 @@ fn serve<O: Sink>(
         Command::Replay(asked) => replay::serve(alloc, *asked, text, out),
         Command::Gen(asked) => put_made(alloc, generate::make(alloc, asked), out),
         Command::Bench(asked) => put_made(alloc, bench::make(alloc, asked), out),
+        Command::Save(asked) => put_made(alloc, save::make(alloc, *asked, text), out),
+        Command::Resume => resume::serve(alloc, text, out),
     }
 }
 
@@ -53,8 +57,13 @@ fn serve_crewed<R: Threads + Wait + Copy + Send + Drop + 'static, O: Sink, G: Ga
     match command {
         Command::Run(asked) => run::serve_crewed(rt, alloc, asked, text, out, gate),
         Command::Bench(asked) => put_made(alloc, bench::make_crewed(rt, alloc, asked, gate), out),
-        Command::Check | Command::Print | Command::Upgrade | Command::Replay(_) | Command::Gen(_) =>
-            { unreachable!() }
+        Command::Check
+        | Command::Print
+        | Command::Upgrade
+        | Command::Replay(_)
+        | Command::Gen(_)
+        | Command::Save(_)
+        | Command::Resume => unreachable!(),
     }
 }
 
@@ -190,6 +199,13 @@ pub fn workers_change_nothing()
 pub fn statuses_have_causes()
     ensures refused { RefusalsAreOfRules }
     ensures served { EndsAreServed }
+{}
+
+/// A law: what `run` puts of a text is its header, the rows before a position that `save` saves, and then just what `resume` puts of
+/// that, with the same status, and the same notes but for the line of a report. `resume` refuses nothing that `save` put and that is no
+/// longer than it may read.
+pub fn saved_runs_go_on()
+    ensures { SavedRunsGoOn }
 {}
 
 #[cfg(test)]

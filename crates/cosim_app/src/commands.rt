@@ -6,7 +6,9 @@ pub(crate) mod check;
 pub(crate) mod generate;
 pub(crate) mod print;
 pub(crate) mod replay;
+pub(crate) mod resume;
 pub(crate) mod run;
+pub(crate) mod save;
 pub(crate) mod upgrade;
 
 use cosim_call::Stopped;

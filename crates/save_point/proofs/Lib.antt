@@ -3,8 +3,10 @@ pub mod LineLaws
 pub mod NumberTexts
 pub mod PartTexts
 pub mod PositionTexts
+pub mod PositionsOnce
 pub mod PutTexts
 pub mod ReadStates
+pub mod RowsBefore
 pub mod SavedOnce
 pub mod SavedTraces
 pub mod WalkLaws

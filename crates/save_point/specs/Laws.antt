@@ -1,13 +1,15 @@
 -- Laws of saved texts.
 use Rattle.std.specs.Prelude.{◌≡◌, ◌⊎◌, ℕ, List, length, map}
 use Rattle.std.specs.List.{AllByRecursion, flat_map}
-use Rattle.save_point.specs.Saving.{FitsSaved}
+use Rattle.run_laws.specs.RunLaws.{HasOneTrace}
+use Rattle.save_point.specs.Saving.{FitsNone, FitsSaved, HasNoPosition}
 use Rattle.save_point.specs.SavedTexts.{AreNumbers, BreaksAtLine, IsSaved, IsState, ended, named_states, saved_lines, saved_text}
 use Rattle.save_point.specs.declared.reading.Saved.{Saved}
-use Rattle.unit_tree.specs.Compositions.{run_of}
+use Rattle.trace_plan.specs.Plans.{Planned}
+use Rattle.unit_tree.specs.Compositions.{Composition, run_of}
 use Rattle.unit_tree.specs.Printable.{IsRanged}
 use Rattle.unit_tree.specs.Successor.{Position}
-use Rattle.unit_tree.specs.Trace.{IsPositionOf}
+use Rattle.unit_tree.specs.Trace.{IsPositionOf, rows_of}
 use Rattle.unit_tree.specs.WellFormed.{IsWellFormed}
 use Rattle.unit_tree.specs.declared.system.System.{System}
 
@@ -48,3 +50,24 @@ pub record CanBeResumed (system : System) (at : Position) : Type 0 where
 abbrev pub TracesCanBeResumed : Type 0
 TracesCanBeResumed =
     (system : System) (number : ℕ) (at : Position) → IsRanged system → IsWellFormed system → IsPositionOf (run_of system) number at → CanBeResumed system at
+
+-- A trace has one position of a number, or none.
+pub record HasOneOrNone (run : Composition) (number : ℕ) : Type 0 where
+  pub some : ((at : Position) × IsPositionOf run number at) ⊎ HasNoPosition run number
+  pub once : (one other : Position) → IsPositionOf run number one → IsPositionOf run number other → one ≡ other
+
+-- So it is with each number, where a run has one trace.
+abbrev pub NumbersHaveOnePosition : Type 0
+NumbersHaveOnePosition = (run : Composition) (number : ℕ) → HasOneTrace run → HasOneOrNone run number
+
+-- One position fits what was saved, or none.
+pub record FitsOneOrNone (plan : Planned) (saved : Saved) : Type 0 where
+  pub some : ((at : Position) × FitsSaved plan saved at) ⊎ FitsNone plan saved
+  pub once : (one other : Position) → FitsSaved plan saved one → FitsSaved plan saved other → one ≡ other
+
+abbrev pub SavedFitOnce : Type 0
+SavedFitOnce = (plan : Planned) (saved : Saved) → FitsOneOrNone plan saved
+
+-- Before a position of a trace there are as many rows as its number says: each position before it has one.
+abbrev pub RowsAreBefore : Type 0
+RowsAreBefore = (run : Composition) (number : ℕ) (at : Position) (of : IsPositionOf run number at) → length (rows_of run of.before) ≡ number

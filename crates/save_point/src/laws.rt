@@ -1,5 +1,5 @@
 //! Laws of saved texts.
-ghost use Rattle.save_point.specs.Laws.{PositionsAreSaved, TextsSaveOrBreak, TracesCanBeResumed};
+ghost use Rattle.save_point.specs.Laws.{NumbersHaveOnePosition, PositionsAreSaved, RowsAreBefore, SavedFitOnce, TextsSaveOrBreak, TracesCanBeResumed};
 
 /// A law: each text saves one position, or breaks at one line, and not both.
 pub fn texts_save_or_break()
@@ -15,4 +15,19 @@ pub fn positions_are_saved()
 /// saved.
 pub fn traces_can_be_resumed()
     ensures { TracesCanBeResumed }
+{}
+
+/// A law: where a run has one trace, this has one position of a number, or none.
+pub fn numbers_have_one_position()
+    ensures { NumbersHaveOnePosition }
+{}
+
+/// A law: at most one position of a plan's run fits what was saved, and there is one or none.
+pub fn saved_positions_fit_once()
+    ensures { SavedFitOnce }
+{}
+
+/// A law: before the position of a number, a trace has so many rows.
+pub fn rows_are_before()
+    ensures { RowsAreBefore }
 {}

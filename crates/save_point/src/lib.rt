@@ -9,7 +9,8 @@
 //!
 //! Definitions: `specs/SavedTexts.antt` (the lines, what a text saves, and where it breaks) and `specs/Saving.antt` (what is saved of a
 //! trace, and which position of a plan is meant). `specs/Laws.antt` says that each text saves one position or breaks at one line, and
-//! that the saved text of a position of a trace saves it, and it alone fits what was saved. `specs/Reading.antt`, which need not be
+//! that the saved text of a position of a trace saves it, and it alone fits what was saved; that a trace has one position of a number or
+//! none, and so many rows before it; and that one position fits or none. `specs/Reading.antt`, which need not be
 //! believed, says how the reading goes about it.
 #![tactic(auto)]
 
@@ -23,7 +24,10 @@ mod walking;
 mod words;
 
 pub use fault::{SaveFault, SavedFault};
-pub use laws::{positions_are_saved, texts_save_or_break, traces_can_be_resumed};
+pub use laws::{
+    numbers_have_one_position, positions_are_saved, rows_are_before, saved_positions_fit_once,
+    texts_save_or_break, traces_can_be_resumed,
+};
 pub use opening::open_saved;
 pub use reading::{Saved, read_saved};
 pub use saving::save_text;

@@ -1,21 +1,9 @@
 //! A run that goes on to a row by its own steps.
 ghost use Rattle.std.specs.Prelude.{◌≡◌, ◌<◌, ◌≤◌, length, true, false};
 ghost use Rattle.trace_core.specs.Runs.{Stands, is_ended};
-ghost use Rattle.trace_rows.specs.Passing.{AreStepsThere};
 
+use serial_run::step_all;
 use trace_core::{Phase, Run};
-
-/// Makes all steps that the phase wants.
-fn make_steps(run: &mut Run, instances: u32)
-    requires { instances ≡ length run.old.cells }
-    ensures { AreStepsThere run.old run.new }
-{
-    for instance in 0..instances {
-        if run.is_wanted(instance) {
-            run.compute(instance);
-        }
-    }
-}
 
 /// Goes on until the run stands at the row of this number, or has ended before it. The answer tells whether it stands there.
 ///
@@ -34,7 +22,7 @@ pub(crate) fn go_on(run: &mut Run, instances: u32, row: u64) -> bool
         if let Phase::Ended(_) = run.phase() {
             return false;
         }
-        make_steps(run, instances);
+        step_all(run, instances);
         let _ = run.settle();
     }
     // What a run keeps is known by the clauses of this call alone.

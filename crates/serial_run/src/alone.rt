@@ -34,8 +34,8 @@ impl Alone {
     }
 }
 
-/// Makes all steps that the phase wants.
-fn step_all(run: &mut Run, instances: u32)
+/// Makes all steps that the phase of a run of so many instances wants, in the calling thread.
+pub fn step_all(run: &mut Run, instances: u32)
     requires { instances ≡ length run.old.cells }
     ensures there { AreStepsThere run.old run.new }
     ensures alone { run.new.found ≡ run.old.found }

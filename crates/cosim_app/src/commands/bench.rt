@@ -4,11 +4,11 @@ ghost use Rattle.std.specs.Prelude.{◌≡◌, ℕ, List, ◌++◌, codes, IfOk,
 ghost use Rattle.cosim_call.specs.Coming.{Makes};
 ghost use Rattle.cosim_app.specs.Answer.{Answers};
 ghost use Rattle.cosim_app.specs.Figures.{figure_line, figures_text, ticks_text};
-ghost use Rattle.cosim_app.specs.Generations.{system_asked};
-ghost use Rattle.cosim_app.specs.declared.command_words.Command.TheVariants.{Bench};
+ghost use Rattle.command_line.specs.Generations.{system_asked};
+ghost use Rattle.command_line.specs.declared.commands.Command.TheVariants.{Bench};
 
 use crate::commands::run::{Ahead, run_crewed, run_plan};
-use crate::generation::Generation;
+use command_line::Generation;
 use cosim_call::{Stopped, append_all};
 use cosim_io::NullSink;
 use itoa::Buffer;

@@ -1,7 +1,7 @@
 //! The command `check`.
 ghost use Rattle.cosim_call.specs.Coming.{Makes};
 ghost use Rattle.cosim_app.specs.Answer.{Answers};
-ghost use Rattle.cosim_app.specs.declared.command_words.Command.TheVariants.{Check};
+ghost use Rattle.command_line.specs.declared.commands.Command.TheVariants.{Check};
 
 use crate::commands::accept;
 use cosim_call::Stopped;

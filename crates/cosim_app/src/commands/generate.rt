@@ -2,10 +2,10 @@
 ghost use Rattle.std.specs.Prelude.{ℕ, List};
 ghost use Rattle.cosim_call.specs.Coming.{Makes};
 ghost use Rattle.cosim_app.specs.Answer.{Answers};
-ghost use Rattle.cosim_app.specs.declared.command_words.Command.TheVariants.{Gen};
+ghost use Rattle.command_line.specs.declared.commands.Command.TheVariants.{Gen};
 
 use crate::commands::print::canonical;
-use crate::generation::Generation;
+use command_line::Generation;
 use cosim_call::Stopped;
 use std::alloc::Global;
 

@@ -3,11 +3,11 @@ ghost use Rattle.cosim_call.specs.Calls.{stream};
 ghost use Rattle.cosim_call.specs.Coming.{Serves};
 ghost use Rattle.cosim_app.specs.Answer.{Answers};
 ghost use Rattle.cosim_app.specs.Serving.{Replays, TellsReplayed};
-ghost use Rattle.cosim_app.specs.declared.command_words.Command.TheVariants.{Replay};
+ghost use Rattle.command_line.specs.declared.commands.Command.TheVariants.{Replay};
 
 use crate::commands::run::{plan_of, status};
 use crate::note;
-use crate::replaying::Replaying;
+use command_line::Replaying;
 use cosim_call::{Served, Stopped};
 use cosim_io::Sink;
 use fixed_words::List;

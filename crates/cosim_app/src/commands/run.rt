@@ -2,14 +2,15 @@
 ghost use Rattle.std.specs.Prelude.{◌≡◌, ◌<◌, ◌≤◌, IfErr, IfOk};
 ghost use Rattle.cosim_call.specs.Calls.{stream};
 ghost use Rattle.cosim_call.specs.Coming.{Serves};
-ghost use Rattle.cosim_app.specs.Answer.{Answers, status_of};
+ghost use Rattle.cosim_app.specs.Accepted.{planned, status_of};
+ghost use Rattle.cosim_app.specs.Answer.{Answers};
 ghost use Rattle.cosim_app.specs.Serving.{IsAccepted, IsUnaccepted, Runs, TellsEnding};
-ghost use Rattle.cosim_app.specs.declared.command_words.Command.TheVariants.{Run};
+ghost use Rattle.command_line.specs.declared.commands.Command.TheVariants.{Run};
 ghost use Rattle.serial_run.specs.Alone.{IsAlone};
 
 use crate::commands::accept;
 use crate::note;
-use crate::running::Running;
+use command_line::Running;
 use cosim_call::{Served, Status, Stopped};
 use cosim_io::Sink;
 use fixed_words::List;
@@ -25,10 +26,13 @@ use work_crew::{Gate, Policy, run_crew};
 /// The plan of the system that a text says, or the text's refusal.
 pub(crate) fn plan_of(alloc: Global, text: &[u8]) -> Result<Arc<Plan>, Stopped>
     ensures planned { IfOk result (λ plan. IsAccepted text.now plan.value.system) }
+    ensures whole { IfOk result (λ plan. plan.value ≡ planned plan.value.system) }
     ensures refused { IfErr result (IsUnaccepted text.now) }
 {
     let read = accept(alloc, text)?;
     let plan = Plan::ordered(alloc, read.checked, read.order)?;
+    // That it runs what is run of its system is known by the clauses of this call alone.
+    let _ = plan.checked();
     Ok(Arc::new(alloc, plan)?)
 }
 

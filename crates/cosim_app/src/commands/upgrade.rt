@@ -2,7 +2,7 @@
 ghost use Rattle.cosim_call.specs.Coming.{Makes};
 ghost use Rattle.cosim_app.specs.Answer.{Answers};
 ghost use Rattle.cosim_app.specs.Serving.{Upgrades};
-ghost use Rattle.cosim_app.specs.declared.command_words.Command.TheVariants.{Upgrade};
+ghost use Rattle.command_line.specs.declared.commands.Command.TheVariants.{Upgrade};
 ghost use Rattle.unit_tree.specs.Printable.{IsPrintable};
 ghost use Rattle.unit_tree.specs.WellFormed.{IsWellFormed};
 

@@ -1,12 +1,18 @@
-use Rattle.std.proofs.Common.{ℕ, List, Option, Ok, Err, subst}
+use Rattle.std.proofs.Common.{ℕ, ◌≤◌, List, length, Option, Ok, Err, subst}
+use Rattle.std.specs.Prelude.{IfSome}
 use Rattle.cosim_call.specs.Calls.{TakesAtMost, stream}
 use Rattle.cosim_call.specs.Coming.{Comes, ReadsInput, Serves}
 use Rattle.cosim_call.proofs.ComingLaws.{comes_unread, comes_whole}
 use Rattle.cosim_app.specs.Answer.{Answers}
-use Rattle.cosim_app.specs.Commands.{input_of}
-use Rattle.cosim_app.proofs.CommandLaws.{is_answered}
+use Rattle.command_line.specs.Commands.{input_of}
+use Rattle.cosim_app.proofs.CommandLaws.{in_limit, is_answered}
 use Rattle.cosim_app.proofs.MakingLaws.{handed_on}
 use Rattle.cosim_app.proofs.command.come.Goals as goal
+
+pub serve-requires : goal.serve-requires
+serve-requires g c =
+    subst (λ (input : Option ℕ). IfSome input (λ limit. length c.deref.result.now ≤ limit)) c.input.ensures.input
+    (in_limit c.input.result c.in_ok-text.text c.deref.result.now c.deref.ensures.value c.in_ok-text.ensures.within)
 
 pub returns : goal.returns
 returns g c =

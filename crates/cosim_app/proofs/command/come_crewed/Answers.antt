@@ -3,7 +3,7 @@ use Rattle.cosim_call.specs.Calls.{TakesAtMost, stream}
 use Rattle.cosim_call.specs.Coming.{Comes, ReadsInput, Serves}
 use Rattle.cosim_call.proofs.ComingLaws.{comes_unread, comes_whole}
 use Rattle.cosim_app.specs.Answer.{Answers}
-use Rattle.cosim_app.specs.Commands.{input_of}
+use Rattle.command_line.specs.Commands.{input_of}
 use Rattle.cosim_app.proofs.CommandLaws.{is_answered}
 use Rattle.cosim_app.proofs.MakingLaws.{handed_on}
 use Rattle.cosim_app.proofs.command.come_crewed.Goals as goal

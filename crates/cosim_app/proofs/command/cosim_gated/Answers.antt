@@ -3,9 +3,9 @@ use Rattle.cosim_call.specs.Calls.{Promises, Streams, stream}
 use Rattle.cosim_call.proofs.CallLaws.{promises_kept}
 use Rattle.cosim_call.proofs.UsageLaws.{never_usage}
 use Rattle.cosim_app.specs.Answer.{Answers, AnswersOf}
-use Rattle.cosim_app.specs.Commands.{input_of, input_of_words}
-use Rattle.cosim_app.specs.Words.{bytes_of}
-use Rattle.cosim_app.specs.declared.command_words.Command.{Command}
+use Rattle.command_line.specs.Commands.{input_of, input_of_words}
+use Rattle.command_line.specs.Words.{bytes_of}
+use Rattle.command_line.specs.declared.commands.Command.{Command}
 use Rattle.cosim_app.proofs.CommandLaws.{has_form}
 use Rattle.cosim_app.proofs.command.cosim_gated.Goals as goal
 

@@ -3,8 +3,9 @@ use Rattle.cosim_call.specs.Calls.{stream}
 use Rattle.cosim_call.specs.Coming.{Serves}
 use Rattle.cosim_call.proofs.ComingLaws.{serves_made}
 use Rattle.cosim_app.specs.Answer.{Answers}
-use Rattle.cosim_app.specs.declared.command_words.Command.{Command}
-use Rattle.cosim_app.specs.declared.command_words.Command.TheVariants.{Gen, Bench}
+use Rattle.command_line.specs.Commands.{IsReadable}
+use Rattle.command_line.specs.declared.commands.Command.{Command}
+use Rattle.command_line.specs.declared.commands.Command.TheVariants.{Gen, Bench, Save}
 use Rattle.cosim_app.proofs.command.serve.Goals as goal
 
 pub returns-in-Gen : goal.returns-in-Gen
@@ -22,3 +23,15 @@ returns-in-Bench g c =
     subst (λ (command : Command). Serves (Answers command c.args.text.now) out out' c.put_made-in-Bench.result) (sym c.in-Bench.is)
     (serves_made (Answers (Bench c.in-Bench.asked) c.args.text.now) out out' c.make-in-Bench.result c.put_made-in-Bench.result
     (c.make-in-Bench.ensures c.args.text.now) c.put_made-in-Bench.ensures)
+
+pub returns-in-Save : goal.returns-in-Save
+returns-in-Save g c =
+    let out = stream (g.O.Sink.held c.args.out.now) (g.O.Sink.faults c.args.out.now) in
+    let out' = stream (g.O.Sink.held c.put_made-in-Save.new.out) (g.O.Sink.faults c.put_made-in-Save.new.out) in
+    subst (λ (command : Command). Serves (Answers command c.args.text.now) out out' c.put_made-in-Save.result) (sym c.in-Save.is)
+    (serves_made (Answers (Save c.in-Save.asked) c.args.text.now) out out' c.make-in-Save.result c.put_made-in-Save.result
+    c.make-in-Save.ensures c.put_made-in-Save.ensures)
+
+pub serve-requires-in-Resume : goal.serve-requires-in-Resume
+serve-requires-in-Resume g c =
+    record { within = subst (λ (command : Command). IsReadable command c.args.text.now) c.in-Resume.is c.requires }

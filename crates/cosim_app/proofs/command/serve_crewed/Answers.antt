@@ -3,8 +3,8 @@ use Rattle.cosim_call.specs.Calls.{stream}
 use Rattle.cosim_call.specs.Coming.{Serves}
 use Rattle.cosim_call.proofs.ComingLaws.{serves_made}
 use Rattle.cosim_app.specs.Answer.{Answers}
-use Rattle.cosim_app.specs.declared.command_words.Command.{Command}
-use Rattle.cosim_app.specs.declared.command_words.Command.TheVariants.{Bench}
+use Rattle.command_line.specs.declared.commands.Command.{Command}
+use Rattle.command_line.specs.declared.commands.Command.TheVariants.{Bench}
 use Rattle.cosim_app.proofs.command.serve_crewed.Goals as goal
 
 pub returns-in-Bench : goal.returns-in-Bench

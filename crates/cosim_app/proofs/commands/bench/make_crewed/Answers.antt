@@ -3,7 +3,7 @@ use Rattle.trace_plan.specs.Plans.{Planned}
 use Rattle.cosim_call.specs.Coming.{Makes}
 use Rattle.cosim_app.specs.Answer.{Answers}
 use Rattle.cosim_app.specs.Figures.{figures_text}
-use Rattle.cosim_app.specs.declared.command_words.Command.TheVariants.{Bench}
+use Rattle.command_line.specs.declared.commands.Command.TheVariants.{Bench}
 use Rattle.cosim_app.proofs.BenchLaws.{bench_given_up, bench_made}
 use Rattle.cosim_app.proofs.MakingLaws.{handed_on}
 use Rattle.cosim_app.proofs.commands.bench.make_crewed.Goals as goal

@@ -2,7 +2,7 @@ use Rattle.std.proofs.Common.{inr, refl}
 use Rattle.cosim_call.specs.Coming.{Makes}
 use Rattle.cosim_call.specs.declared.coming.Stopped.TheVariants as stopped
 use Rattle.cosim_app.specs.Answer.{Answers, accepted_text}
-use Rattle.cosim_app.specs.declared.command_words.Command.TheVariants.{Check}
+use Rattle.command_line.specs.declared.commands.Command.TheVariants.{Check}
 use Rattle.cosim_app.proofs.MakingLaws.{handed_on, made, not_accepted}
 use Rattle.cosim_app.proofs.commands.check.make.Goals as goal
 

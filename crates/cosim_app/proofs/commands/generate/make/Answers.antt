@@ -1,9 +1,10 @@
 use Rattle.std.proofs.Common.{inr, refl, ap, ◌∙◌}
 use Rattle.cosim_call.specs.Coming.{Makes}
 use Rattle.cosim_call.specs.declared.coming.Stopped.TheVariants as stopped
-use Rattle.cosim_app.specs.Answer.{Answers, printed_text}
-use Rattle.cosim_app.specs.Generations.{system_asked}
-use Rattle.cosim_app.specs.declared.command_words.Command.TheVariants.{Gen}
+use Rattle.cosim_app.specs.Accepted.{printed_text}
+use Rattle.cosim_app.specs.Answer.{Answers}
+use Rattle.command_line.specs.Generations.{system_asked}
+use Rattle.command_line.specs.declared.commands.Command.TheVariants.{Gen}
 use Rattle.cosim_app.proofs.MakingLaws.{handed_on, made}
 use Rattle.cosim_app.proofs.commands.generate.make.Goals as goal
 

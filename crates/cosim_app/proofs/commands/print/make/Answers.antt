@@ -1,8 +1,9 @@
 use Rattle.std.proofs.Common.{inr, refl, ap, ◌∙◌}
 use Rattle.cosim_call.specs.Coming.{Makes}
 use Rattle.cosim_call.specs.declared.coming.Stopped.TheVariants as stopped
-use Rattle.cosim_app.specs.Answer.{Answers, printed_text}
-use Rattle.cosim_app.specs.declared.command_words.Command.TheVariants.{Print}
+use Rattle.cosim_app.specs.Accepted.{printed_text}
+use Rattle.cosim_app.specs.Answer.{Answers}
+use Rattle.command_line.specs.declared.commands.Command.TheVariants.{Print}
 use Rattle.cosim_app.proofs.MakingLaws.{handed_on, made, not_accepted}
 use Rattle.cosim_app.proofs.commands.print.make.Goals as goal
 

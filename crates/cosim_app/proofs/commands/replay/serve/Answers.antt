@@ -4,7 +4,7 @@ use Rattle.cosim_call.specs.Calls.{stream}
 use Rattle.cosim_call.specs.Coming.{Serves}
 use Rattle.cosim_app.specs.Answer.{Answers}
 use Rattle.cosim_app.specs.Serving.{TellsReplayed}
-use Rattle.cosim_app.specs.declared.command_words.Command.TheVariants.{Replay}
+use Rattle.command_line.specs.declared.commands.Command.TheVariants.{Replay}
 use Rattle.cosim_app.proofs.MakingLaws.{handed_on}
 use Rattle.cosim_app.proofs.ReplayLaws.{replay_given_up, replay_stops, replay_told}
 use Rattle.cosim_app.proofs.commands.replay.serve.Goals as goal

@@ -4,7 +4,7 @@ use Rattle.cosim_call.specs.Calls.{stream}
 use Rattle.cosim_call.specs.Coming.{Serves}
 use Rattle.cosim_app.specs.Answer.{Answers}
 use Rattle.cosim_app.specs.Serving.{TellsEnding}
-use Rattle.cosim_app.specs.declared.command_words.Command.TheVariants.{Run}
+use Rattle.command_line.specs.declared.commands.Command.TheVariants.{Run}
 use Rattle.cosim_app.proofs.MakingLaws.{handed_on}
 use Rattle.cosim_app.proofs.RunLaws.{run_given_up, run_stops, run_told}
 use Rattle.cosim_app.proofs.commands.run.serve.Goals as goal

@@ -6,9 +6,10 @@ use Rattle.unit_tree.specs.Texts.{text_limit}
 use Rattle.unit_tree.specs.WellFormed.{IsWellFormed}
 use Rattle.unit_tree.specs.declared.system.System.{System}
 use Rattle.unit_upgrade.specs.Upgrades.{upgraded}
-use Rattle.cosim_app.specs.Answer.{Answers, printed_text}
+use Rattle.cosim_app.specs.Accepted.{printed_text}
+use Rattle.cosim_app.specs.Answer.{Answers}
 use Rattle.cosim_app.specs.Serving.{Upgrades}
-use Rattle.cosim_app.specs.declared.command_words.Command.TheVariants.{Upgrade}
+use Rattle.command_line.specs.declared.commands.Command.TheVariants.{Upgrade}
 use Rattle.cosim_app.proofs.MakingLaws.{handed_on, made, not_accepted}
 use Rattle.cosim_app.proofs.UpgradeLaws.{accepted_is_printable, not_upgraded}
 use Rattle.cosim_app.proofs.commands.upgrade.make.Goals as goal

@@ -1,0 +1,101 @@
+-- The commands of the program, by their words, and what each reads.
+use Rattle.std.specs.Prelude.{ℕ, Bool, true, false, nat_le, List, [], ◌∷◌, ◌≤◌, length, codes, IfSome, Option, Some, None, if◌then◌else◌, ⊤}
+use Rattle.std.specs.Option.{option_map, unwrap_or}
+use Rattle.std.specs.Str.{bytes_eq}
+use Rattle.guess_board.specs.declared.guesses.Policy.TheVariants.{Hold}
+use Rattle.unit_tree.specs.Texts.{text_limit}
+use Rattle.command_line.specs.Generations.{Asked, CanGive, asked_by}
+use Rattle.command_line.specs.Options.{◌>>=◌, given_by, is_given_none}
+use Rattle.command_line.specs.declared.commands.Command.{Command}
+use Rattle.command_line.specs.declared.commands.Command.TheVariants.{Run, Check, Print, Upgrade, Replay, Gen, Bench, Save, Resume}
+use Rattle.command_line.specs.Ranges.{required_within, within_or}
+use Rattle.command_line.specs.declared.options.Given.{Given}
+use Rattle.command_line.specs.declared.replaying.Replaying.{Replaying}
+use Rattle.command_line.specs.declared.running.Running.{Running}
+use Rattle.command_line.specs.declared.saving.Saving.{Saving}
+
+-- A command where no option was given. Of one that takes some: where none is left of what was given without these.
+abbrev pub without_options : {A : Type 0} → A → Given → Option A
+without_options command given = if is_given_none given then Some command else None
+
+-- What a command that generates its system asks for: a seed, components and rows, and nothing else.
+abbrev pub generation_of : Given → Option Asked
+generation_of given = asked_by given >>= λ asked. without_options asked (record given { seed = None; instances = None; rows = None })
+
+-- What a run is asked: with 0 to 16 workers, none where they are left out; over a window of 0 to 16 rows, 4 where it is left out; by
+-- which guesses, the last words once more where nothing is said; and whether for a report.
+abbrev pub running_of : Given → Option Running
+running_of given = do
+  workers ← within_or 0 16 0 given.workers
+  window ← within_or 0 16 4 given.window
+  without_options (record { workers = workers; window = window; guess = unwrap_or given.guess Hold; report = given.report })
+      (record given { workers = None; window = None; guess = None; report = false })
+
+-- What a replay is asked: a seed, and 0 to 16 workers, and nothing else.
+abbrev pub replaying_of : Given → Option Replaying
+replaying_of given = do
+  seed ← given.seed
+  workers ← required_within 0 16 given.workers
+  without_options (record { seed = seed; workers = workers }) (record given { seed = None; workers = None })
+
+-- What is saved: the position of a row from 0 to 99,999, and nothing else is asked.
+abbrev pub saving_of : Given → Option Saving
+saving_of given = do
+  row ← required_within 0 99999 given.row
+  without_options (record { row = row }) (record given { row = None })
+
+-- The command of a word with the options that were given: a row for each command, with the options that it takes.
+abbrev pub command_with : List ℕ → Given → Option Command
+command_with word given =
+    if bytes_eq word (codes "run") then option_map Run (running_of given)
+    else (if bytes_eq word (codes "check") then without_options Check given
+    else (if bytes_eq word (codes "print") then without_options Print given
+    else (if bytes_eq word (codes "upgrade") then without_options Upgrade given
+    else (if bytes_eq word (codes "replay") then option_map Replay (replaying_of given)
+    else (if bytes_eq word (codes "gen") then option_map Gen (generation_of given)
+    else (if bytes_eq word (codes "bench") then option_map Bench (generation_of given)
+    else (if bytes_eq word (codes "save") then option_map Save (saving_of given)
+    else (if bytes_eq word (codes "resume") then without_options Resume given
+    else None))))))))
+
+-- The command that words are of; words that are of none have no form.
+abbrev pub command_of : List (List ℕ) → Option Command
+command_of [] = None
+command_of (word ∷ words) = given_by words >>= command_with word
+
+-- The most bytes that `resume` reads: those of a text, and as many for the lines in front of it.
+abbrev pub saved_limit : ℕ
+saved_limit = 2097152
+
+-- How many bytes a command reads at most; none where it reads nothing.
+abbrev pub input_of : Command → Option ℕ
+input_of (Run asked) = Some text_limit
+input_of Check = Some text_limit
+input_of Print = Some text_limit
+input_of Upgrade = Some text_limit
+input_of (Replay asked) = Some text_limit
+input_of (Gen asked) = None
+input_of (Bench asked) = None
+input_of (Save asked) = Some text_limit
+input_of Resume = Some saved_limit
+
+-- Which commands are run with workers: a run that asks for some, and `bench`.
+abbrev pub has_workers : Command → Bool
+has_workers (Run asked) = nat_le 1 asked.workers
+has_workers (Bench asked) = true
+has_workers _ = false
+
+-- What `bench` asks for is in its ranges, so that there is the system which it runs. The answers of other commands ask no more of their
+-- numbers.
+abbrev pub KeepsRanges : Command → Type 0
+KeepsRanges (Bench asked) = CanGive asked
+KeepsRanges _ = ⊤
+
+-- A text is no longer than what a command reads at most.
+abbrev pub IsReadable : Command → List ℕ → Type 0
+IsReadable command text = IfSome (input_of command) (λ limit. length text ≤ limit)
+
+-- Words without a form read nothing.
+abbrev pub input_of_words : Option Command → Option ℕ
+input_of_words (Some command) = input_of command
+input_of_words None = None

@@ -1,0 +1,31 @@
+-- What is asked of the generator by the options of a command, and the system that it gives.
+use Rattle.std.specs.Prelude.{ℕ, ◌*◌, Option, Some}
+use Rattle.unit_tree.specs.declared.system.System.{System}
+use Rattle.cosim_gen.specs.Generated.{CanGenerate, generated}
+use Rattle.command_line.specs.Options.{◌>>=◌}
+use Rattle.command_line.specs.Ranges.{required_within, within}
+use Rattle.command_line.specs.declared.options.Given.{Given}
+
+-- By which seed, of how many components, and for how many rows a system is generated.
+pub record Asked : Type 0 where
+  pub seed : ℕ
+  pub instances : ℕ
+  pub rows : ℕ
+
+-- What options ask for: any seed, 1 to 64 components and 1 to 100,000 rows, whose product is at most 1,000,000. None where one of the
+-- three is left out, or not in its range.
+abbrev pub asked_by : Given → Option Asked
+asked_by given = do
+  seed ← given.seed
+  instances ← required_within 1 64 given.instances
+  rows ← required_within 1 100000 given.rows
+  cells ← within 1 1000000 (rows * instances)
+  Some (record { seed = seed; instances = instances; rows = rows })
+
+-- There is such a system.
+abbrev pub CanGive : Asked → Type 0
+CanGive asked = CanGenerate asked.instances asked.rows
+
+-- The system that is asked for.
+unfoldable pub system_asked : Asked → System
+system_asked asked = generated asked.seed asked.instances asked.rows

@@ -1,0 +1,140 @@
+//! Commands, and the words that they are asked for by.
+ghost use Rattle.std.specs.Prelude.{◌≡◌};
+ghost use Rattle.command_line.specs.Commands.{KeepsRanges, command_of, command_with, generation_of, has_workers, input_of, without_options};
+ghost use Rattle.command_line.specs.Words.{bytes_of};
+ghost use Rattle.command_line.specs.WorkedWords.{CommandsAreWorked, NumbersAreWorked, OptionsAreWorked, RangesAreWorked};
+
+use crate::generation::Generation;
+use crate::options::{Given, given_by};
+use crate::replaying::{Replaying, replaying_of};
+use crate::running::{Running, running_of};
+use crate::saving::{Saving, saving_of};
+use unit_text::LONGEST_TEXT;
+
+/// A command of the program, with its options.
+#[derive(Clone, Copy, Debug, PartialEq, Eq)]
+pub enum Command {
+    /// Puts the trace of the text's system.
+    Run(Running),
+    /// Tells that the text keeps all rules.
+    Check,
+    /// Puts the canonical text of the text's system.
+    Print,
+    /// Puts the canonical text of the text's system in version 2 of the language.
+    Upgrade,
+    /// Puts the trace of the text's system, by a world whose workers do what a seed draws.
+    Replay(Replaying),
+    /// Puts the canonical text of a generated system.
+    Gen(Generation),
+    /// Runs a generated system, and puts figures of its trace.
+    Bench(Generation),
+    /// Puts the saved text of a position of the text's trace.
+    Save(Saving),
+    /// Puts the rows of a run that goes on from the position that the text saves.
+    Resume,
+}
+
+/// The most bytes that `resume` reads.
+const LONGEST_SAVED: usize = 2_097_152;
+
+impl Command {
+    /// How many bytes it reads at most; none where it reads nothing.
+    pub fn input(&self) -> Option<usize>
+        ensures input { result ≡ input_of self.now }
+        ensures ranges { KeepsRanges self.now }
+    {
+        match self {
+            Command::Run(_)
+            | Command::Check
+            | Command::Print
+            | Command::Upgrade
+            | Command::Replay(_)
+            | Command::Save(_) => Some(LONGEST_TEXT),
+            Command::Resume => Some(LONGEST_SAVED),
+            Command::Gen(_) => None,
+            Command::Bench(asked) => {
+                // That its numbers are in their ranges is known by the clauses of this call alone.
+                let _ = asked.instances();
+                None
+            }
+        }
+    }
+
+    /// Whether it is run with workers.
+    pub fn has_workers(&self) -> bool
+        ensures { result ≡ has_workers self.now }
+    {
+        match self {
+            Command::Run(asked) => asked.workers.get() >= 1,
+            Command::Bench(_) => true,
+            _ => false,
+        }
+    }
+}
+
+/// A command where no option was given; none where one was. Of a command that takes some, `given` is what is left without these,
+/// so that its row names no other option.
+pub(crate) fn without_options<T: Copy>(command: T, given: Given) -> Option<T>
+    ensures { result ≡ without_options command given }
+{
+    if given.is_none() { Some(command) } else { None }
+}
+
+/// What a command that generates its system asks for, which takes no other options.
+fn generation_of(given: Given) -> Option<Generation>
+    ensures { result ≡ generation_of given }
+{
+    let left = Given {
+        seed: None,
+        instances: None,
+        rows: None,
+        ..given
+    };
+    without_options(Generation::asked(given)?, left)
+}
+
+/// The command of a word with the options that were given: a row for each command, with the options that it takes.
+fn command_with(word: &str, given: Given) -> Option<Command>
+    ensures { result ≡ command_with word.now given }
+{
+    if word == "run" {
+        Some(Command::Run(running_of(given)?))
+    } else if word == "check" {
+        without_options(Command::Check, given)
+    } else if word == "print" {
+        without_options(Command::Print, given)
+    } else if word == "upgrade" {
+        without_options(Command::Upgrade, given)
+    } else if word == "replay" {
+        Some(Command::Replay(replaying_of(given)?))
+    } else if word == "gen" {
+        Some(Command::Gen(generation_of(given)?))
+    } else if word == "bench" {
+        Some(Command::Bench(generation_of(given)?))
+    } else if word == "save" {
+        Some(Command::Save(saving_of(given)?))
+    } else if word == "resume" {
+        without_options(Command::Resume, given)
+    } else {
+        None
+    }
+}
+
+/// The command that words are of; none where they have no form.
+pub fn command_of(words: &[String]) -> Option<Command>
+    ensures { result ≡ command_of (bytes_of words.now) }
+{
+    match words {
+        [] => None,
+        [word, options @ ..] => command_with(word.as_str(), given_by(options)?),
+    }
+}
+
+/// A law: words that were worked out by hand are the numbers, give the options and are of the commands that they should, and a number
+/// is in a range where it was found to be.
+pub fn words_are_worked()
+    ensures numbers { NumbersAreWorked }
+    ensures ranges { RangesAreWorked }
+    ensures options { OptionsAreWorked }
+    ensures commands { CommandsAreWorked }
+{}

@@ -1,0 +1,72 @@
+//! What is asked of the generator.
+ghost use Rattle.std.specs.Prelude.{◌≡◌, IfOk};
+ghost use Rattle.command_line.specs.Generations.{CanGive, asked_by, system_asked};
+
+use crate::options::Given;
+use crate::ranges::Within;
+use cosim_gen::generate;
+use fixed_words::NoMemory;
+use std::alloc::Global;
+use std::marker::Model;
+use unit_tree::System;
+
+type Instances = Within<1, 64>;
+
+type Rows = Within<1, 100_000>;
+
+/// Rows times components.
+type Cells = Within<1, 1_000_000>;
+
+/// The system that a command asks the generator for: by a seed, of so many components, and run for so many rows. There is always
+/// one.
+#[derive(Clone, Copy, Debug, PartialEq, Eq)]
+pub struct Generation {
+    seed: u64,
+    instances: u32,
+    rows: u32,
+}
+
+impl Model for Generation {
+    ghost use Rattle.cosim_gen.specs.Generated.{CanGenerate};
+    ghost use Rattle.command_line.specs.Generations.{Asked};
+
+    ghost Value = { Asked };
+
+    ghost view = { λ g. record { seed = g.seed; instances = g.instances; rows = g.rows } };
+
+    ghost invariant = { λ g. CanGenerate g.instances g.rows };
+
+    ghost inverse = { λ a. record { seed = a.seed; instances = a.instances; rows = a.rows } };
+}
+
+impl Generation {
+    /// What options ask for; none where one of the three is left out, or not in its range.
+    pub(crate) fn asked(given: Given) -> Option<Generation>
+        ensures { result ≡ asked_by given }
+    {
+        let seed = given.seed?;
+        let instances = Instances::required(given.instances)?.get();
+        let rows = Rows::required(given.rows)?.get();
+        let _cells = Cells::product(rows, instances)?;
+        Some(Generation {
+            seed,
+            instances: instances as u32,
+            rows: rows as u32,
+        })
+    }
+
+    /// How many components the system has.
+    pub fn instances(&self) -> u32
+        ensures value { result ≡ self.now.instances }
+        ensures given { CanGive self.now }
+    {
+        self.instances
+    }
+
+    /// The system.
+    pub fn system(&self, alloc: Global) -> Result<System, NoMemory>
+        ensures { IfOk result (λ system. system ≡ system_asked self.now) }
+    {
+        generate(alloc, self.seed, self.instances, self.rows)
+    }
+}

@@ -1,0 +1,45 @@
+//! What is asked of a run.
+ghost use Rattle.std.specs.Prelude.{◌≡◌};
+ghost use Rattle.command_line.specs.Commands.{running_of};
+
+use crate::commands::without_options;
+use crate::options::Given;
+use crate::ranges::Within;
+use guess_board::Policy;
+
+/// How many workers step components ahead.
+pub type Workers = Within<0, 16>;
+
+/// For how many rows inputs are guessed.
+pub type Window = Within<0, 16>;
+
+/// How a system is run.
+#[derive(Clone, Copy, Debug, PartialEq, Eq)]
+pub struct Running {
+    pub workers: Workers,
+    pub window: Window,
+    /// How inputs are guessed.
+    pub guess: Policy,
+    /// Whether a line of counts is noted behind how the run ended.
+    pub report: bool,
+}
+
+/// What options ask of a run; none where a number is past its range, or another option is given.
+pub(crate) fn running_of(given: Given) -> Option<Running>
+    ensures { result ≡ running_of given }
+{
+    let asked = Running {
+        workers: Workers::given_or(0, given.workers)?,
+        window: Window::given_or(4, given.window)?,
+        guess: given.guess.unwrap_or(Policy::Hold),
+        report: given.report,
+    };
+    let left = Given {
+        workers: None,
+        window: None,
+        guess: None,
+        report: false,
+        ..given
+    };
+    without_options(asked, left)
+}
