@@ -1,0 +1,4 @@
+pub mod Laws
+pub mod NestLines
+pub mod Nests
+pub mod Reading

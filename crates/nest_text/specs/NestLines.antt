@@ -1,0 +1,105 @@
+-- Lines of nested texts: the kinds that they have, and where each may stand.
+--
+-- A nested text is a list of parts. A line `group G` begins each but the last, which the line `main` begins. Names may be those of
+-- the language: `group`, `main`, `in` and `out` are no reserved words.
+use Rattle.std.specs.Prelude.{◌≡◌, ◌⊎◌, ℕ, Bool, true, false, ◌&&◌, List, [], ◌∷◌, codes, IsTrue}
+use Rattle.std.specs.List.{AllZip, enumerate_from}
+use Rattle.unit_tree.specs.LineForms.{HasForm, port_tokens}
+use Rattle.unit_tree.specs.Lines.{code_of, is_blank_line, lines_of, without_return}
+use Rattle.unit_tree.specs.Phrases.{symbol}
+use Rattle.unit_tree.specs.Tokens.{Spells}
+use Rattle.unit_tree.specs.declared.line_form.LineForm.TheVariants as form
+use Rattle.unit_tree.specs.declared.system.Wire.{Wire}
+use Rattle.unit_tree.specs.declared.token.Symbol.TheVariants as sign
+use Rattle.unit_tree.specs.declared.token.Token.{Token}
+use Rattle.unit_tree.specs.declared.token.Token.TheVariants as token
+use Rattle.nest_text.specs.declared.kind.Kind.{Kind}
+use Rattle.nest_text.specs.declared.kind.Kind.TheVariants as kinds
+use Rattle.nest_text.specs.declared.nest.Bind.{Bind}
+use Rattle.nest_text.specs.declared.place.Place.{Place}
+use Rattle.nest_text.specs.declared.place.Place.TheVariants as places
+
+-- ---- Kinds
+
+-- `group G`, `main`, `in u -> a.v` and `out y = a.w`.
+abbrev pub group_tokens : List ℕ → List Token
+group_tokens name = token.Name (codes "group") ∷ token.Name name ∷ []
+
+abbrev pub main_tokens : List Token
+main_tokens = token.Name (codes "main") ∷ []
+
+abbrev pub in_tokens : Bind → List Token
+in_tokens bind = token.Name (codes "in") ∷ token.Name bind.port ∷ symbol sign.Arrow ∷ port_tokens bind.inner
+
+abbrev pub out_tokens : Bind → List Token
+out_tokens bind = token.Name (codes "out") ∷ token.Name bind.port ∷ symbol sign.Is ∷ port_tokens bind.inner
+
+-- The line, without its end, is of the kind, which says more than that it is another line.
+abbrev pub HasKind : List ℕ → Kind → Type 0
+HasKind line (kinds.Begins name) = Spells (group_tokens name) (code_of line)
+HasKind line kinds.Main = Spells main_tokens (code_of line)
+HasKind line (kinds.In bind) = Spells (in_tokens bind) (code_of line)
+HasKind line (kinds.Out bind) = Spells (out_tokens bind) (code_of line)
+HasKind line kinds.Opens = (name : List ℕ) × (unit : List ℕ) × HasForm (form.Instance name unit) line
+HasKind line kinds.Ends = HasForm form.End line
+HasKind line kinds.Connects = (wire : Wire) × HasForm (form.Connect wire) line
+HasKind line kinds.Blank = IsTrue (is_blank_line line)
+HasKind line kinds.Other = ⊥
+
+-- Each line has one kind: it is another line where it is of no kind.
+abbrev pub IsKind : List ℕ → Kind → Type 0
+IsKind line kind = HasKind line kind ⊎ ((kind ≡ kinds.Other) × ((some : Kind) → HasKind line some → ⊥))
+
+-- ---- Places
+
+-- The place behind a line.
+abbrev pub place_after : Place → Kind → Place
+place_after places.InMain kind = places.InMain
+place_after place kinds.Main = places.InMain
+place_after place (kinds.Begins name) = places.InGroup
+place_after places.BeforeParts kind = places.BeforeParts
+place_after place kinds.Opens = places.InBlock
+place_after place kinds.Ends = places.InGroup
+place_after place kind = place
+
+-- Whether a line may stand there. Before the parts all lines are blank. A group has blank lines and those of five kinds, and `in` and
+-- `out` lines in no block. What stands behind `main` is left to the reader of the language, but for a second `main`.
+abbrev pub may_stand : Place → Kind → Bool
+may_stand places.InMain kinds.Main = false
+may_stand places.InMain kind = true
+may_stand place kinds.Blank = true
+may_stand place (kinds.Begins name) = true
+may_stand place kinds.Main = true
+may_stand places.BeforeParts kind = false
+may_stand place kinds.Other = false
+may_stand places.InBlock (kinds.In bind) = false
+may_stand places.InBlock (kinds.Out bind) = false
+may_stand place kind = true
+
+-- ---- Lines of a text
+
+-- A line: its number, counted from 1, its bytes without the LF, and its kind.
+pub record SourceLine : Type 0 where
+  pub number : ℕ
+  pub bytes : List ℕ
+  pub kind : Kind
+
+-- The line has this number and these bytes, and the kind that they have. A CR belongs to the end.
+pub record IsLine (numbered : ℕ × List ℕ) (line : SourceLine) : Type 0 where
+  pub number : line.number ≡ numbered.0
+  pub bytes : line.bytes ≡ numbered.1
+  pub kind : IsKind (without_return numbered.1) line.kind
+
+-- The lines are those of a text, numbered from this number on.
+abbrev pub AreLines : ℕ → List ℕ → List SourceLine → Type 0
+AreLines first text lines = AllZip IsLine (enumerate_from first (lines_of text)) lines
+
+-- Each line may stand behind those before it.
+abbrev pub are_placed : Place → List SourceLine → Bool
+are_placed place [] = true
+are_placed place (line ∷ lines) = may_stand place line.kind && are_placed (place_after place line.kind) lines
+
+-- The place behind lines that begin at the first place.
+abbrev pub place_behind : Place → List SourceLine → Place
+place_behind place [] = place
+place_behind place (line ∷ lines) = place_behind (place_after place line.kind) lines

@@ -1,0 +1,247 @@
+//! The kinds of lines of a nested text.
+ghost use Rattle.std.specs.Prelude.{◌≡◌, ◌≤◌, ◌==◌, not, length, IfOk};
+ghost use Rattle.std.specs.List.{prefix_len};
+ghost use Rattle.unit_tree.specs.Lines.{code_of};
+ghost use Rattle.nest_text.specs.NestLines.{IsKind};
+ghost use Rattle.nest_text.specs.Nests.{is_main};
+ghost use Rattle.nest_text.specs.Reading.{begins_group, connects, group_kind, in_kind, keyword_kind, kind_of, main_kind, name_begun, named_kind, opens, out_kind};
+
+use crate::nest::Bind;
+use fixed_words::{List, NoMemory};
+use std::alloc::{AllocError, Global};
+use text_tokens::{Unread, tokens};
+use unit_tree::{Keyword, Name, PortName, Symbol, Token};
+
+/// The byte that begins a comment.
+const COMMENT: u8 = b'#';
+
+/// The names that the lines of parts begin with.
+const GROUP: &[u8] = b"group";
+
+const MAIN: &[u8] = b"main";
+
+const IN: &[u8] = b"in";
+
+const OUT: &[u8] = b"out";
+
+/// What a line of a nested text is, as far as parts are told apart by it.
+#[derive(Debug, Drop)]
+pub enum Kind {
+    /// `group G`, which begins a group.
+    Begins(Name),
+    /// `main`, which begins the last part.
+    Main,
+    /// `in u -> a.v`
+    In(Bind),
+    /// `out y = a.w`
+    Out(Bind),
+    /// `instance a : A`, which opens a block.
+    Opens,
+    /// `end`
+    Ends,
+    /// `connect a.y -> b.u`
+    Connects,
+    /// Nothing but spaces, tabs and a comment.
+    Blank,
+    /// Any other line.
+    Other,
+}
+
+impl Kind {
+    pub(crate) fn begins_group(&self) -> bool
+        ensures { result ≡ begins_group self.now }
+    {
+        matches!(self, Kind::Begins(_))
+    }
+
+    /// The name of the group that the line begins.
+    pub(crate) fn group_name(self) -> Option<Name>
+        ensures { result ≡ name_begun self }
+    {
+        match self {
+            Kind::Begins(name) => Some(name),
+            other => {
+                drop(other);
+                None
+            }
+        }
+    }
+
+    pub(crate) fn is_main(&self) -> bool
+        ensures { result ≡ is_main self.now }
+    {
+        matches!(self, Kind::Main)
+    }
+}
+
+/// How many bytes stand before the comment.
+fn code_length(line: &[u8]) -> usize
+    ensures length { result ≡ prefix_len (λ byte. not (byte == 35)) line.now }
+    ensures within { result ≤ length line.now }
+{
+    line.iter().take_while(|byte| **byte != COMMENT).count()
+}
+
+/// What stands before the comment.
+fn code(line: &[u8]) -> &[u8]
+    ensures { result.now ≡ code_of line.now }
+{
+    line.split_at(code_length(line)).0
+}
+
+fn copied(alloc: Global, name: &Name) -> Result<Name, NoMemory>
+    ensures { IfOk result (λ made. made ≡ name.now) }
+{
+    Ok(List::from_slice(alloc, name.as_slice())?)
+}
+
+fn bind(alloc: Global, port: &Name, instance: &Name, inner: &Name) -> Result<Bind, NoMemory>
+    ensures { IfOk result (λ made. made ≡ record { port = port.now; inner = record { instance = instance.now; port = inner.now } }) }
+{
+    let port = copied(alloc, port)?;
+    let instance = copied(alloc, instance)?;
+    let inner = copied(alloc, inner)?;
+    Ok(Bind {
+        port,
+        inner: PortName {
+            instance,
+            port: inner,
+        },
+    })
+}
+
+/// A line `group`, by the tokens behind its first.
+fn group_kind(alloc: Global, rest: &[Token]) -> Result<Kind, NoMemory>
+    ensures { IfOk result (λ kind. kind ≡ group_kind rest.now) }
+{
+    match rest {
+        [Token::Name(name)] => Ok(Kind::Begins(copied(alloc, name)?)),
+        _ => Ok(Kind::Other),
+    }
+}
+
+/// A line `main`, by the tokens behind its first.
+fn main_kind(rest: &[Token]) -> Kind
+    ensures { result ≡ main_kind rest.now }
+{
+    match rest {
+        [] => Kind::Main,
+        _ => Kind::Other,
+    }
+}
+
+/// A line `in`, by the tokens behind its first.
+fn in_kind(alloc: Global, rest: &[Token]) -> Result<Kind, NoMemory>
+    ensures { IfOk result (λ kind. kind ≡ in_kind rest.now) }
+{
+    match rest {
+        [
+            Token::Name(port),
+            Token::Symbol(Symbol::Arrow),
+            Token::Name(instance),
+            Token::Symbol(Symbol::Point),
+            Token::Name(inner),
+        ] => Ok(Kind::In(bind(alloc, port, instance, inner)?)),
+        _ => Ok(Kind::Other),
+    }
+}
+
+/// A line `out`, by the tokens behind its first.
+fn out_kind(alloc: Global, rest: &[Token]) -> Result<Kind, NoMemory>
+    ensures { IfOk result (λ kind. kind ≡ out_kind rest.now) }
+{
+    match rest {
+        [
+            Token::Name(port),
+            Token::Symbol(Symbol::Is),
+            Token::Name(instance),
+            Token::Symbol(Symbol::Point),
+            Token::Name(inner),
+        ] => Ok(Kind::Out(bind(alloc, port, instance, inner)?)),
+        _ => Ok(Kind::Other),
+    }
+}
+
+/// A line that begins with a name, by it and the tokens behind it.
+fn named_kind(alloc: Global, word: &[u8], rest: &[Token]) -> Result<Kind, NoMemory>
+    ensures { IfOk result (λ kind. kind ≡ named_kind word.now rest.now) }
+{
+    if word == GROUP {
+        group_kind(alloc, rest)
+    } else if word == MAIN {
+        Ok(main_kind(rest))
+    } else if word == IN {
+        in_kind(alloc, rest)
+    } else if word == OUT {
+        out_kind(alloc, rest)
+    } else {
+        Ok(Kind::Other)
+    }
+}
+
+/// Whether tokens are those behind `instance`.
+fn opens(rest: &[Token]) -> Kind
+    ensures { result ≡ opens rest.now }
+{
+    match rest {
+        [Token::Name(_), Token::Symbol(Symbol::Colon), Token::Name(_)] => Kind::Opens,
+        _ => Kind::Other,
+    }
+}
+
+/// Whether tokens are those behind `connect`.
+fn connects(rest: &[Token]) -> Kind
+    ensures { result ≡ connects rest.now }
+{
+    match rest {
+        [
+            Token::Name(_),
+            Token::Symbol(Symbol::Point),
+            Token::Name(_),
+            Token::Symbol(Symbol::Arrow),
+            Token::Name(_),
+            Token::Symbol(Symbol::Point),
+            Token::Name(_),
+        ] => Kind::Connects,
+        _ => Kind::Other,
+    }
+}
+
+/// A line that begins with a keyword, by it and the tokens behind it.
+fn keyword_kind(keyword: Keyword, rest: &[Token]) -> Kind
+    ensures { result ≡ keyword_kind keyword rest.now }
+{
+    match keyword {
+        Keyword::End => match rest {
+            [] => Kind::Ends,
+            _ => Kind::Other,
+        },
+        Keyword::Instance => opens(rest),
+        Keyword::Connect => connects(rest),
+        _ => Kind::Other,
+    }
+}
+
+/// The kind of a line with these tokens.
+fn kind_of(alloc: Global, tokens: &[Token]) -> Result<Kind, NoMemory>
+    ensures { IfOk result (λ kind. kind ≡ kind_of tokens.now) }
+{
+    match tokens {
+        [] => Ok(Kind::Blank),
+        [Token::Keyword(keyword), rest @ ..] => Ok(keyword_kind(*keyword, rest)),
+        [Token::Name(word), rest @ ..] => named_kind(alloc, word.as_slice(), rest),
+        _ => Ok(Kind::Other),
+    }
+}
+
+/// The kind of a line without its end.
+#[tactic(auto, using(crate::proofs::KindLaws::kind_spelled, crate::proofs::KindLaws::kind_unspelled))]
+pub(crate) fn kind_of_line(alloc: Global, line: &[u8]) -> Result<Kind, NoMemory>
+    ensures { IfOk result (IsKind line.now) }
+{
+    match tokens(alloc, code(line)) {
+        Ok(tokens) => kind_of(alloc, tokens.as_slice()),
+        Err(Unread::NoForm) => Ok(Kind::Other),
+        Err(Unread::NoMemory) => Err(AllocError),
+    }
+}

@@ -1,0 +1,47 @@
+//! Where lines of a nested text stand.
+ghost use Rattle.std.specs.Prelude.{◌≡◌};
+ghost use Rattle.nest_text.specs.NestLines.{place_after, may_stand};
+
+use crate::kind::Kind;
+
+/// What a line of a nested text stands behind.
+#[derive(Clone, Copy, Debug, PartialEq, Eq)]
+pub enum Place {
+    BeforeParts,
+    /// In a group, and in none of its blocks.
+    InGroup,
+    /// In a group, behind an `instance` line that has no `end` yet.
+    InBlock,
+    InMain,
+}
+
+impl Place {
+    /// Whether a line of the kind may stand here.
+    pub(crate) fn allows(self, kind: &Kind) -> bool
+        ensures { result ≡ may_stand self kind.now }
+    {
+        match (self, kind) {
+            (Place::InMain, Kind::Main) => false,
+            (Place::InMain, _) => true,
+            (_, Kind::Blank | Kind::Begins(_) | Kind::Main) => true,
+            (Place::BeforeParts, _) => false,
+            (_, Kind::Other) => false,
+            (Place::InBlock, Kind::In(_) | Kind::Out(_)) => false,
+            _ => true,
+        }
+    }
+
+    /// The place behind a line of the kind.
+    pub(crate) fn after(self, kind: &Kind) -> Place
+        ensures { result ≡ place_after self kind.now }
+    {
+        match (self, kind) {
+            (Place::InMain, _) | (_, Kind::Main) => Place::InMain,
+            (_, Kind::Begins(_)) => Place::InGroup,
+            (Place::BeforeParts, _) => Place::BeforeParts,
+            (_, Kind::Opens) => Place::InBlock,
+            (_, Kind::Ends) => Place::InGroup,
+            (place, _) => place,
+        }
+    }
+}
