@@ -1,0 +1,13 @@
+pub mod OneTable
+pub mod OutputLaws
+pub mod PlayedLaws
+pub mod PortsPlayed
+pub mod Printing
+pub mod SitesPass
+pub mod StateNames
+pub mod StepLaws
+pub mod StimulusLaws
+pub mod TableLines
+pub mod TableMeasures
+pub mod TableNames
+pub mod WellFormedTables

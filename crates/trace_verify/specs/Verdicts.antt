@@ -1,0 +1,59 @@
+-- The records of a table, and the verdict on a table that should have the records of another one.
+use Rattle.std.specs.Prelude.{◌≡◌, ◌≢◌, ℕ, suc, ◌-◌, ◌≤◌, List, [], ◌∷◌, take, slice_get, Option, Some, None, if◌then◌else◌}
+use Rattle.std.specs.Str.{bytes_eq}
+use Rattle.csv.specs.Reading.{default_config, records, strip_bom}
+use Rattle.trace_verify.specs.declared.verdict.Verdict.{Verdict}
+use Rattle.trace_verify.specs.declared.verdict.Verdict.TheVariants.{Yes, No}
+
+-- ---- Records
+
+-- A record is its fields, of which each is its bytes.
+abbrev pub Fields : Type 0
+Fields = List (List ℕ)
+
+-- The records of a table, as `csv` reads them behind a byte order mark at its beginning.
+abbrev pub records_of : List ℕ → List Fields
+records_of table = records default_config (strip_bom table)
+
+-- ---- The verdict
+
+-- The number of the field at which two records differ or only one goes on, where their first fields have this number.
+abbrev pub column_from : ℕ → Fields → Fields → Option ℕ
+column_from number [] [] = None
+column_from number (one ∷ ones) (other ∷ others) = if bytes_eq one other then column_from (suc number) ones others else Some number
+column_from number _ _ = Some number
+
+-- Where two records of this number differ, that is the verdict, and else it is the one on the later ones.
+abbrev pub verdict_by : ℕ → Option ℕ → Verdict → Verdict
+verdict_by number None later = later
+verdict_by number (Some column) later = No number column
+
+-- The verdict on records of which the first has this number. Where a record is missing, the column is 1.
+abbrev pub verdict_from : ℕ → List Fields → List Fields → Verdict
+verdict_from number [] [] = Yes
+verdict_from number (one ∷ ones) (other ∷ others) = verdict_by number (column_from 1 one other) (verdict_from (suc number) ones others)
+verdict_from number _ _ = No number 1
+
+-- The verdict on the records of a table that should be these. Records and fields are numbered from 1.
+abbrev pub verdict_of : List Fields → List Fields → Verdict
+verdict_of wanted given = verdict_from 1 wanted given
+
+-- ---- What a verdict says
+
+-- The number, from 1, is the least at which two lists differ or only one goes on.
+pub record PartAt {A : Type 0} (ones others : List A) (number : ℕ) : Type 0 where
+  pub counted : 1 ≤ number
+  pub same_before : take (number - 1) ones ≡ take (number - 1) others
+  pub apart : slice_get ones (number - 1) ≢ slice_get others (number - 1)
+
+-- The column of two records, of which one may be missing.
+abbrev pub IsColumnOf : Option Fields → Option Fields → ℕ → Type 0
+IsColumnOf (Some one) (Some other) column = PartAt one other column
+IsColumnOf _ _ column = column ≡ 1
+
+-- The verdict is right: where it is `yes`, the records are those that are wanted, and else it tells the first record and the first
+-- field in it that is another one.
+abbrev pub IsRight : List Fields → List Fields → Verdict → Type 0
+IsRight wanted given Yes = given ≡ wanted
+IsRight wanted given (No number column) =
+    PartAt wanted given number × IsColumnOf (slice_get wanted (number - 1)) (slice_get given (number - 1)) column
