@@ -1,0 +1,8 @@
+use Rattle.std.proofs.Common.{map, zip}
+use Rattle.link_core.specs.Making.{names_of}
+use Rattle.link_core.specs.Stages.{word_end}
+use Rattle.link_core.proofs.StageBodies.{ToldFrom}
+use Rattle.link_core.proofs.stage.word_fault.Given as goal
+
+abbrev pub invariant-loop-place : goal.invariant-loop-place
+invariant-loop-place l = ToldFrom (map word_end (zip (names_of l.plan.run) l.words)) l.place

@@ -1,0 +1,11 @@
+pub mod Boards
+pub mod Inner
+pub mod Keeping
+pub mod Laws
+pub mod Making
+pub mod NodeStates
+pub mod Nodes
+pub mod Noted
+pub mod Pairs
+pub mod Ready
+pub mod Stages

@@ -1,0 +1,17 @@
+-- What contracts see of a node, and of a pair.
+use Rattle.std.specs.Prelude.{◌≡◌, ℕ, List}
+use Rattle.link_core.specs.Nodes.{Progress}
+use Rattle.trace_plan.specs.Plans.{Planned}
+
+-- A plan, the owner of each instance, which node it is, and how far it is.
+pub record NodeState : Type 0 where
+  pub plan : Planned
+  pub owners : List ℕ
+  pub me : ℕ
+  pub progress : Progress
+
+-- It is the same node of the same system.
+pub record IsSameNode (old new : NodeState) : Type 0 where
+  pub plan : new.plan ≡ old.plan
+  pub owners : new.owners ≡ old.owners
+  pub me : new.me ≡ old.me

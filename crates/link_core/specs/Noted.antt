@@ -1,0 +1,197 @@
+-- Notes as they are held: the board, the facts, and room for as many more as items are not known. None of it need be believed.
+use Rattle.std.specs.Prelude.{◌≡◌, ℕ, suc, ◌+◌, ◌≤◌, ◌==◌, min, nat_lt, Bool, true, false, ◌&&◌, is_none, ℤ, List, [], ◌∷◌, ◌++◌, map, zip, length, slice_set, vec_capacity, if◌then◌else◌, Option, Some, None, Result, Ok, Err, ⊤}
+use Rattle.std.specs.Option.{option_map}
+use Rattle.fixed_words.specs.declared.types.Fault.{Fault}
+use Rattle.link_core.specs.Boards.{Agrees, Board, asked_of, board_of, entry, said_of}
+use Rattle.link_core.specs.Keeping.{IsPlace}
+use Rattle.link_core.specs.Making.{own_states, part_of, put_redo, put_reply, with_redo, with_reply}
+use Rattle.link_core.specs.Nodes.{Making}
+use Rattle.link_core.specs.declared.fact.Fact.TheVariants.{Limit}
+use Rattle.link_core.specs.declared.fact.Said.{Said}
+use Rattle.link_core.specs.declared.fact.Said.TheVariants.{Accepted, Fault as StepFault}
+use Rattle.link_core.specs.declared.fact.Seen.{Seen}
+use Rattle.link_core.specs.declared.fact.Seen.TheVariants.{Is}
+use Rattle.link_core.specs.declared.notes.Notes.{Notes}
+use Rattle.link_core.specs.declared.stage.Stage.{Stage}
+use Rattle.link_core.specs.declared.stage.Stage.TheVariants.{Limits, Trial, Redo, On}
+use Rattle.port_solve.specs.Sound.{IsWordOf}
+use Rattle.super_time.specs.LocalTime.{local_step}
+use Rattle.super_time.specs.declared.point.Point.{Point}
+use Rattle.unit_tree.specs.Compositions.{Composition}
+use Rattle.unit_tree.specs.Negotiation.{all_inputs, is_held, max_at, reply_of, state_after, step_at}
+use Rattle.unit_tree.specs.Ports.{Ports, Standing}
+use Rattle.unit_tree.specs.Routes.{routes_of}
+use Rattle.unit_tree.specs.Successor.{Position, when}
+use Rattle.unit_tree.specs.Trace.{Stand}
+use Rattle.unit_tree.specs.declared.ending.Ending.{Ending}
+use Rattle.unit_tree.specs.declared.ending.Ending.TheVariants.{UnitFault, StepRefused}
+use Rattle.unit_tree.specs.declared.ending.Place.TheVariants as place
+
+abbrev pub making_in : Notes → Making
+making_in notes = record {
+  known = record { words = notes.words.items; limits = notes.limits.items; replies = notes.replies.items; redos = notes.redos.items };
+  facts = notes.facts.items;
+}
+
+-- How many items are not known.
+abbrev pub empties : {A : Type 0} → List (Option A) → ℕ
+empties [] = 0
+empties (None ∷ entries) = suc (empties entries)
+empties (Some one ∷ entries) = empties entries
+
+abbrev pub are_nothing : {A : Type 0} → List (Option A) → List (Option A)
+are_nothing entries = map (λ one. None) entries
+
+-- Nothing is known, and the facts stay.
+abbrev pub forgotten : Making → Making
+forgotten making = record {
+  known = record { words = are_nothing making.known.words; limits = are_nothing making.known.limits; replies = are_nothing making.known.replies; redos = are_nothing making.known.redos };
+  facts = making.facts;
+}
+
+abbrev pub lacking : Notes → ℕ
+lacking notes = empties notes.words.items + (empties notes.limits.items + (empties notes.replies.items + empties notes.redos.items))
+
+abbrev pub HasRoom : Notes → Type 0
+HasRoom notes = length notes.facts.items + lacking notes ≤ vec_capacity notes.facts
+
+abbrev pub is_defined : Option Seen → Bool
+is_defined (Some (Is word)) = true
+is_defined _ = false
+
+-- There is an item for each output and each instance.
+pub record AreNotes (run : Composition) (notes : Notes) : Type 0 where
+  pub words : length notes.words.items ≡ length (routes_of run).outputs
+  pub limits : length notes.limits.items ≡ length run.members
+  pub replies : length notes.replies.items ≡ length run.members
+  pub redos : length notes.redos.items ≡ length run.members
+  pub defined : notes.defined.items ≡ map is_defined notes.words.items
+
+-- With an output that was learnt.
+abbrev pub with_seen : ℕ → Seen → Making → Making
+with_seen place seen making = record { known = record making.known { words = slice_set making.known.words place (Some seen) }; facts = making.facts }
+
+-- ---- Where a node stands
+
+-- A position without states.
+abbrev pub position_at : Point → ℕ → Position
+position_at point number = record { point = point; states = []; number = number }
+
+abbrev pub place_of : Point → Position
+place_of point = position_at point 0
+
+-- A node's part of a position, by the states that its units hold.
+abbrev pub part_at : List ℕ → ℕ → Point → ℕ → List (List ℤ) → Position
+part_at owners me point number states = record { point = point; states = own_states owners me states; number = number }
+
+-- The step of a stage passes not the stop, and one that is made is not one of length zero too many.
+abbrev pub AllowsStep : Composition → Point → Stage → Type 0
+AllowsStep run point (Trial h) = point.t + h ≤ run.stop
+AllowsStep run point (Redo h) = point.t + h ≤ run.stop
+AllowsStep run point (On h) = (point.t + h ≤ run.stop) × (((h == 0) && (point.n == run.zero_budget)) ≡ false)
+AllowsStep run point other = ⊤
+
+-- ---- Words
+
+-- What is told of an output may be its word.
+abbrev pub IsWordSeen : Composition → ℕ → Seen → Type 0
+IsWordSeen run place (Is word) = IsWordOf run place word
+IsWordSeen run place other = ⊤
+
+-- Ports with the word of an output, where it has one.
+abbrev pub with_port : Ports → ℕ → Seen → Ports
+with_port ports place (Is word) = slice_set ports place (Some word)
+with_port ports place other = ports
+
+-- ---- Steps, by what is told of them
+
+-- The reply to a step of h from t.
+abbrev pub reply_told : ℕ → ℕ → ℕ → Option Said → ℕ
+reply_told factor t h (Some (Accepted accepted)) = reply_of factor t h accepted
+reply_told factor t h other = h
+
+abbrev pub reply_in : ℕ → ℕ → ℕ → Option Said → ℕ
+reply_in factor t h said = if is_held factor t h then h else reply_told factor t h said
+
+-- How it ends the run in the trial.
+abbrev pub step_end_told : ℕ → Option Said → Option Ending
+step_end_told instance (Some (StepFault fault)) = Some (UnitFault instance place.Step fault)
+step_end_told instance other = None
+
+abbrev pub step_end_in : ℕ → ℕ → ℕ → ℕ → Option Said → Option Ending
+step_end_in instance factor t h said = if is_held factor t h then None else step_end_told instance said
+
+-- A length, and at most a limit, where there is one.
+abbrev pub least_with : ℕ → Option ℕ → ℕ
+least_with least None = least
+least_with least (Some limit) = min least limit
+
+-- How it ends the run where it was made anew.
+abbrev pub redo_end_told : ℕ → ℕ → Option Said → Option Ending
+redo_end_told instance asked (Some (Accepted accepted)) = when (nat_lt accepted asked) (StepRefused instance asked accepted)
+redo_end_told instance asked (Some (StepFault fault)) = Some (UnitFault instance place.Step fault)
+redo_end_told instance asked None = None
+
+abbrev pub redo_end_in : ℕ → ℕ → ℕ → ℕ → Option Said → Option Ending
+redo_end_in instance factor t h said = if is_held factor t h then None else redo_end_told instance (local_step factor t h) said
+
+-- ---- What an instance makes
+
+-- A position is a node's part, by the states that its units hold.
+pub record IsPartOf (owners : List ℕ) (me : ℕ) (states : List (List ℤ)) (row t : ℕ) (at : Position) : Type 0 where
+  pub states_are : at.states ≡ own_states owners me states
+  pub number : at.number ≡ row
+  pub time : at.point.t ≡ t
+
+-- With the limit of an instance, where it is one's own and isn't known.
+abbrev pub limit_if : Bool → ℕ → ℕ → Ports → Standing → ℕ → Making → Making
+limit_if own row t ports standing instance making =
+    if own && is_none (entry making.known.limits instance)
+    then record { known = record making.known { limits = slice_set making.known.limits instance (Some (asked_of (max_at t ports standing))) }; facts = making.facts ++ Limit row instance (asked_of (max_at t ports standing)) ∷ [] }
+    else making
+
+abbrev pub said_given : Result ℕ Fault → Said
+said_given (Ok accepted) = Accepted accepted
+said_given (Err fault) = StepFault fault
+
+-- What is told of a step in the trial, or of one that is made anew.
+abbrev pub said_entry : Bool → Board → ℕ → Option Said
+said_entry redo known instance = if redo then entry known.redos instance else entry known.replies instance
+
+abbrev pub put_said : Bool → ℕ → ℕ → Option Said → Making → Making
+put_said redo row instance said making = if redo then put_redo row instance said making else put_reply row instance said making
+
+abbrev pub with_said : Bool → ℕ → Position → Ports → ℕ → Making → ℕ × (ℕ × Standing) → Making
+with_said redo me at ports h making item = if redo then with_redo me at ports h making item else with_reply me at ports h making item
+
+-- With the reply of an instance, where it is one's own and isn't known.
+abbrev pub reply_if : Bool → Bool → ℕ → ℕ → ℕ → Ports → Standing → ℕ → Making → Making
+reply_if redo own row t h ports standing instance making =
+    if own && is_none (said_entry redo making.known instance) then put_said redo row instance (option_map said_of (step_at t h ports standing)) making else making
+
+-- The state of an instance after a step, where it is one's own.
+abbrev pub stepped_if : Bool → ℕ → ℕ → Ports → Standing → List ℤ
+stepped_if own t h ports (member, state) = if own then state_after (state, step_at t h ports (member, state)) else state
+
+abbrev pub stepped_one : ℕ → ℕ → ℕ → Ports → ℕ × Standing → List ℤ
+stepped_one me t h ports (owner, standing) = stepped_if (owner == me) t h ports standing
+
+abbrev pub stepped : Composition → List ℕ → ℕ → ℕ → ℕ → Ports → List (List ℤ) → List (List ℤ)
+stepped run owners me t h ports states = map (stepped_one me t h ports) (zip owners (zip run.members states))
+
+-- ---- What is known is true
+
+-- Of the place of the trace with this point and number, where own units hold the states.
+pub record IsTrue (run : Composition) (owners : List ℕ) (me : ℕ) (point : Point) (row : ℕ) (states : List (List ℤ)) (known : Board) : Type 0 where
+  pub stand : Stand
+  pub place : IsPlace run stand
+  pub part : part_at owners me point row states ≡ part_of owners me stand.at
+  pub agrees : Agrees (board_of run stand) known
+
+-- Where the words of a row are known, and it goes on, the inputs have them.
+abbrev pub AreFed : Composition → List (List ℤ) → Ports → Stage → Type 0
+AreFed run inputs ports Limits = inputs ≡ all_inputs run ports
+AreFed run inputs ports (Trial h) = inputs ≡ all_inputs run ports
+AreFed run inputs ports (Redo h) = inputs ≡ all_inputs run ports
+AreFed run inputs ports (On h) = inputs ≡ all_inputs run ports
+AreFed run inputs ports other = ⊤

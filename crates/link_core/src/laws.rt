@@ -1,0 +1,39 @@
+//! Laws of facts, stages, nodes and pairs.
+ghost use Rattle.link_core.specs.Laws.{FactsAreFunctional, StagesAreRight, PairsKeepToTheTrace, PassesAreEnough, RulesAreRight};
+ghost use Rattle.link_core.specs.Laws.{EventsKeep, HonestFactsKeep, TrueFactsAreHonest, WorkCommitsRightly};
+
+use crate::stage::Stage as _S;
+use fixed_words::Fault as _F;
+use super_time::Point as _P;
+use unit_tree::Ending as _E;
+
+/// A law: an item has one fact.
+pub fn facts_are_functional()
+    ensures { FactsAreFunctional }
+{}
+
+/// A law: where what is known agrees with the facts of a stand, the stage that it gives is the right one. The row is committed, or
+/// ends the run, exactly where no fact is lacking, and it goes where the successor leads.
+pub fn stages_are_right()
+    ensures { StagesAreRight }
+{}
+
+/// A law: what a node makes of what it knows is true, and it moves where the successor leads.
+pub fn rules_are_right()
+    ensures { RulesAreRight }
+{}
+
+/// A law: over every list of events each fact is the true one of its row, and each node stands at the place of its number. It commits
+/// or ends exactly where it lacks no fact of its row. Told of any rule that is right, and of that of a run.
+pub fn events_keep()
+    ensures keep { EventsKeep }
+    ensures commit { WorkCommitsRightly }
+    ensures pairs { PairsKeepToTheTrace }
+    ensures take { HonestFactsKeep }
+    ensures honest { TrueFactsAreHonest }
+{}
+
+/// A law: as many passes over the outputs as there are outputs make all words that can be made.
+pub fn passes_are_enough()
+    ensures { PassesAreEnough }
+{}

@@ -1,0 +1,210 @@
+//! A node.
+ghost use Rattle.std.specs.List.{AllByRecursion};
+ghost use Rattle.std.specs.Prelude.{◌≡◌, ◌≤◌, length, Some, None, IfOk, OnErr, IfSome, IfNone};
+ghost use Rattle.link_core.specs.Keeping.{KeepsTo};
+ghost use Rattle.link_core.specs.Making.{rule_of};
+ghost use Rattle.link_core.specs.NodeStates.{IsSameNode};
+ghost use Rattle.link_core.specs.Nodes.{keeping, opened, restarted, worked};
+ghost use Rattle.unit_tree.specs.Successor.{first_position};
+
+use crate::course::{Course, Kept};
+use crate::fact::Fact;
+use crate::keeping::{keep_states, restore_states};
+use crate::notes::Notes;
+use crate::opening::{course_of, notes_of, states_of, units_of};
+use crate::taken::Taken;
+use crate::working::{judged, work_on};
+use fixed_words::{List, NoMemory};
+use std::alloc::{AllocError, Global};
+use std::marker::Model;
+use std::sync::Arc;
+use super_time::Point;
+use trace_plan::Plan;
+use trace_units::Units;
+use unit_tree::Ending;
+
+/// A row of the trace: a point, and the words of all outputs there by their places.
+#[derive(Clone, Copy, Debug)]
+pub struct Row<'a> {
+    pub point: Point,
+    pub words: &'a [i64],
+}
+
+/// One of the two nodes that run a system between them: it owns some of the instances, and learns facts of the others.
+///
+/// Its units of the other's instances stand at their start and are never asked or stepped; their inputs are fed like all.
+#[derive(Drop)]
+pub struct Node {
+    plan: Arc<Plan>,
+    owners: List<u8>,
+    me: u8,
+    units: Units,
+    notes: Notes,
+    course: Course,
+    kept: Kept,
+    /// Room for the states before steps that are tried.
+    before: Vec<Vec<i64>>,
+}
+
+impl Model for Node {
+    ghost use Rattle.std.specs.Coded.{codes};
+    ghost use Rattle.link_core.specs.NodeStates.{NodeState};
+    ghost use Rattle.unit_tree.specs.contracts.expr.Expr as expr;
+    ghost use Rattle.unit_tree.specs.contracts.line.Line as line;
+
+    ghost Value = { NodeState };
+
+    ghost coded = { Prim.hlevel (codes, expr.the_row.coded, line.the_row.coded) };
+
+    ghost use Rattle.link_core.specs.Inner.{node_state, IsNode};
+
+    ghost view = { node_state };
+
+    ghost invariant = { IsNode };
+}
+
+impl Node {
+    /// Node 0 or 1 at the start of a plan. `owners` has the number of the node that owns it for each instance.
+    ///
+    /// # Errors
+    ///
+    /// [`NoMemory`], also where there are more outputs than a fact can tell of.
+    pub fn open(alloc: Global, plan: Arc<Plan>, owners: List<u8>, me: u8) -> Result<Node, NoMemory>
+        requires owners { length owners ≡ length plan.value.run.members }
+        requires one_or_other { AllByRecursion (λ owner. owner ≤ 1) owners }
+        requires me { me ≤ 1 }
+        ensures { IfOk result (λ node. node ≡ record {
+          plan = plan.value;
+          owners = owners;
+          me = me;
+          progress = opened (rule_of plan.value.run owners) me (first_position plan.value.run);
+        }) }
+    {
+        judged(&plan);
+        let places = plan.order().routes().outputs.len();
+        if places as u64 > 4_294_967_296 {
+            return Err(AllocError);
+        }
+        let instances = plan.instances() as usize;
+        let shared = Arc::clone(&plan)?;
+        let units = units_of(alloc, &plan, shared)?;
+        // How long the lists of the units are is known by the clauses of this call alone.
+        let _ = units.count();
+        let notes = notes_of(alloc, places, instances)?;
+        let course = course_of(alloc, places)?;
+        let before = states_of(alloc, &units)?;
+        let kept = Kept {
+            point: Point { t: 0, n: 0 },
+            number: 0,
+            states: states_of(alloc, &units)?,
+        };
+        Ok(Node {
+            plan,
+            owners,
+            me,
+            units,
+            notes,
+            course,
+            kept,
+            before,
+        })
+    }
+
+    /// Makes all facts of its own for the row that the known ones allow and that it hasn't made since it came there, and lists them:
+    /// words, limits, replies, and those of a step made anew. Where no fact of the row is then lacking, it goes on to the next row, or
+    /// the trace has ended there.
+    ///
+    /// # Errors
+    ///
+    /// [`NoMemory`]: nothing was done.
+    pub fn work(&mut self) -> Result<Taken, NoMemory>
+        ensures worked { IfOk result (λ answer. (self.new.progress, answer) ≡ worked (rule_of self.old.plan.run self.old.owners) self.old.me self.old.progress) }
+        ensures same { IsSameNode self.old self.new }
+        ensures refused { OnErr result (self.new ≡ self.old) }
+    {
+        if self.course.ended.is_some() {
+            return Ok(Taken::Ended);
+        }
+        self.notes.reserve()?;
+        judged(&self.plan);
+        Ok(work_on(
+            &self.plan,
+            &mut self.units,
+            &mut self.before,
+            &mut self.notes,
+            &mut self.course,
+            self.owners.as_slice(),
+            self.me,
+        ))
+    }
+
+    /// Keeps the position where it stands.
+    pub fn keep(&mut self)
+        ensures kept { self.new.progress ≡ keeping self.old.progress }
+        ensures same { IsSameNode self.old self.new }
+    {
+        // How long the lists of the units are is known by the clauses of this call alone.
+        let _ = self.units.count();
+        keep_states(&self.units, &mut self.kept.states);
+        self.kept.point = self.course.point;
+        self.kept.number = self.course.number;
+    }
+
+    /// Starts again from the position that was kept last, or from the first one: what is known of the row is forgotten, and an end that
+    /// was reached.
+    pub fn restart(&mut self)
+        ensures restarted { self.new.progress ≡ restarted (rule_of self.old.plan.run self.old.owners) self.old.progress }
+        ensures same { IsSameNode self.old self.new }
+    {
+        judged(&self.plan);
+        restore_states(&mut self.units, &self.kept.states);
+        self.notes.clear();
+        self.course.point = self.kept.point;
+        self.course.number = self.kept.number;
+        self.course.ended = None;
+        self.course.shown.there = false;
+    }
+
+    /// All facts that it ever made, in their order.
+    pub fn facts(&self) -> &[Fact]
+        ensures { result.now ≡ self.now.progress.facts }
+    {
+        &self.notes.facts
+    }
+
+    /// The number of the row where it stands, from 0.
+    pub fn number(&self) -> u64
+        ensures number { result ≡ self.now.progress.at.number }
+        ensures keeps { KeepsTo self.now.plan.run (rule_of self.now.plan.run self.now.owners) self.now.me self.now.progress }
+    {
+        self.course.number
+    }
+
+    /// The point where it stands.
+    pub fn point(&self) -> Point
+        ensures { result ≡ self.now.progress.at.point }
+    {
+        self.course.point
+    }
+
+    /// How the trace ended there, where the node has ended.
+    pub fn ended(&self) -> Option<Ending>
+        ensures { result ≡ self.now.progress.ended }
+    {
+        self.course.ended
+    }
+
+    /// The row that it came to last since it started, or at which it ended. A row with a fault of an output has none.
+    pub fn row(&self) -> Option<Row<'_>>
+        ensures some { IfSome result (λ row. self.now.progress.row ≡ Some (record { point = row.point; words = row.words.now })) }
+        ensures none { IfNone result (self.now.progress.row ≡ None) }
+    {
+        if !self.course.shown.there {
+            return None;
+        }
+        Some(Row {
+            point: self.course.shown.point,
+            words: &self.course.shown.words,
+        })
+    }
+}

@@ -1,0 +1,374 @@
+//! What a row asks for next.
+ghost use Rattle.std.specs.Prelude.{◌≡◌, ◌≤◌, ◌<◌, ◌+◌, ◌^◌, ℕ, [], true, min, map, zip, length, is_some, ◌&&◌, ◌==◌, if◌then◌else◌, Some, IfSome};
+ghost use Rattle.std.specs.List.{list_all, filter_map};
+ghost use Rattle.link_core.specs.Making.{names_of};
+ghost use Rattle.link_core.specs.Noted.{making_in, AreNotes, place_of, position_at, least_with, redo_end_in, reply_in, step_end_in, AllowsStep};
+ghost use Rattle.link_core.specs.Stages.{stage_of, stage_of_limits, stage_of_trial, stage_of_redo, stage_by, stage_on, least_in, word_end, max_by, limit_in, steps_in, step_in, are_answered, is_answered, over_or};
+ghost use Rattle.unit_tree.specs.Negotiation.{is_held, limit_told, proposal_of, least_of, reply_at};
+ghost use Rattle.unit_tree.specs.Ports.{first_some};
+ghost use Rattle.unit_tree.specs.Routes.{routes_of};
+ghost use Rattle.unit_tree.specs.Successor.{first_told, max_end_of, step_end_of, redo_end_of};
+
+use crate::fact::{Asked, Said, Seen};
+use crate::notes::Notes;
+use super_time::{Point, limit, local_step};
+use trace_plan::Plan;
+use unit_tree::{Ending, Place, Route};
+
+/// What a row asks for next, by what is known of it. All lengths are in ticks of the system.
+#[derive(Clone, Copy, Debug, PartialEq, Eq)]
+pub(crate) enum Stage {
+    /// Words of outputs are lacking.
+    Words,
+    /// Limits are lacking.
+    Limits,
+    /// Replies to a step of this length are lacking.
+    Trial(u64),
+    /// Replies to a step of this length, made anew, are lacking.
+    Redo(u64),
+    /// The row is whole, and the trace ends there.
+    Over(Ending),
+    /// The row is whole, and the trace goes on by a step of this length.
+    On(u64),
+}
+
+/// Whether all items are known.
+fn are_known<T: Copy>(entries: &[Option<T>]) -> bool
+    ensures { result ≡ list_all is_some entries.now }
+{
+    entries.iter().all(|one| one.is_some())
+}
+
+/// How what is told of an output ends the run.
+fn word_end(route: &Route, seen: Option<Seen>) -> Option<Ending>
+    ensures { result ≡ word_end ((route.now.instance, route.now.output), seen) }
+{
+    match seen {
+        Some(Seen::Fault(fault)) => Some(Ending::UnitFault {
+            instance: route.instance,
+            place: Place::Output(route.output),
+            fault,
+        }),
+        _ => None,
+    }
+}
+
+/// How a fault of an output ends the run: the first by its place.
+pub(crate) fn word_fault(plan: &Plan, words: &[Option<Seen>]) -> Option<Ending>
+    requires { length words.now ≡ length (routes_of plan.now.run).outputs }
+    ensures { result ≡ first_some (map word_end (zip (names_of plan.now.run) words.now)) }
+{
+    let routes = plan.order().routes().outputs.as_slice();
+    for place in 0..routes.len() {
+        let end = word_end(&routes[place], words[place]);
+        if end.is_some() {
+            return end;
+        }
+    }
+    None
+}
+
+/// How what is told of a `max` ends the run.
+fn max_end(instance: u32, asked: Option<Asked>) -> Option<Ending>
+    ensures { result ≡ max_end_of (instance, max_by asked) }
+{
+    match asked {
+        Some(Asked::Fault(fault)) => Some(Ending::UnitFault {
+            instance,
+            place: Place::Max,
+            fault,
+        }),
+        _ => None,
+    }
+}
+
+/// How a fault of a `max` ends the run: the first by its instance.
+fn max_fault(limits: &[Option<Asked>]) -> Option<Ending>
+    requires { length limits.now ≤ 64 }
+    ensures { result ≡ first_told max_end_of (map max_by limits.now) }
+{
+    for instance in 0..limits.len() {
+        let end = max_end(instance as u32, limits[instance]);
+        if end.is_some() {
+            return end;
+        }
+    }
+    None
+}
+
+/// The lesser of two lengths.
+fn capped(length: u64, other: u128) -> u64
+    ensures { result ≡ min length other }
+{
+    if other < u128::from(length) {
+        other as u64
+    } else {
+        length
+    }
+}
+
+/// The limit that what is told of a `max` sets at `t`, and at most `least`.
+fn capped_limit(factor: u64, t: u64, asked: Option<Asked>, least: u64) -> u64
+    requires factor { 1 ≤ factor }
+    requires coarsest { factor ≤ 10 ^ 9 }
+    requires time { t ≤ 10 ^ 15 }
+    ensures { result ≡ least_with least (limit_told factor t (max_by asked)) }
+{
+    match asked {
+        Some(Asked::Max(local)) => capped(least, limit(factor, t, local)),
+        _ => least,
+    }
+}
+
+/// The step that is proposed at `t`, where all limits are known.
+fn proposal(plan: &Plan, limits: &[Option<Asked>], t: u64) -> u64
+    requires limits { length limits.now ≡ length plan.now.run.members }
+    requires time { t ≤ plan.now.run.stop }
+    ensures proposal { result ≡ proposal_of plan.now.run.stop plan.now.run.longest t (filter_map (limit_in t) (zip plan.now.run.members limits.now)) }
+    ensures end { t + result ≤ plan.now.run.stop }
+{
+    let stop = plan.stop();
+    let mut least = (stop - t).min(plan.longest());
+    for instance in 0..plan.instances() {
+        least = capped_limit(plan.factor(instance), t, limits[instance as usize], least);
+    }
+    least
+}
+
+/// Whether an instance is held in a step of `h` from `t`.
+pub(crate) fn is_held(factor: u64, t: u64, h: u64) -> bool
+    requires factor { 1 ≤ factor }
+    requires end { t + h ≤ 10 ^ 15 }
+    ensures { result ≡ is_held factor t h }
+{
+    h > 0 && local_step(factor, t, h) == 0
+}
+
+/// Whether the reply of an instance to a step of `h` from `t` is known, or none is asked for.
+fn is_answered(factor: u64, t: u64, h: u64, said: Option<Said>) -> bool
+    requires factor { 1 ≤ factor }
+    requires end { t + h ≤ 10 ^ 15 }
+    ensures { result ≡ (if is_held factor t h then true else is_some said) }
+{
+    is_held(factor, t, h) || said.is_some()
+}
+
+/// Whether all replies to a step of `h` from `t` are known.
+fn are_answered(plan: &Plan, replies: &[Option<Said>], t: u64, h: u64) -> bool
+    requires replies { length replies.now ≡ length plan.now.run.members }
+    requires end { t + h ≤ 10 ^ 15 }
+    ensures { result ≡ are_answered t h plan.now.run.members replies.now }
+{
+    for instance in 0..plan.instances() {
+        if !is_answered(plan.factor(instance), t, h, replies[instance as usize]) {
+            return false;
+        }
+    }
+    true
+}
+
+/// How the answer of an instance to a step of `h` from `t` ends the run. That of one that is held isn't looked at.
+fn step_end(instance: u32, factor: u64, t: u64, h: u64, said: Option<Said>) -> Option<Ending>
+    requires factor { 1 ≤ factor }
+    requires end { t + h ≤ 10 ^ 15 }
+    ensures { result ≡ step_end_in instance factor t h said }
+{
+    if is_held(factor, t, h) {
+        return None;
+    }
+    match said {
+        Some(Said::Fault(fault)) => Some(Ending::UnitFault {
+            instance,
+            place: Place::Step,
+            fault,
+        }),
+        _ => None,
+    }
+}
+
+/// How a fault of a step ends the run: the first by its instance.
+fn step_fault(plan: &Plan, replies: &[Option<Said>], t: u64, h: u64) -> Option<Ending>
+    requires replies { length replies.now ≡ length plan.now.run.members }
+    requires end { t + h ≤ 10 ^ 15 }
+    ensures { result ≡ first_told step_end_of (steps_in t h plan.now.run.members replies.now) }
+{
+    for instance in 0..plan.instances() {
+        let said = replies[instance as usize];
+        let end = step_end(instance, plan.factor(instance), t, h, said);
+        if end.is_some() {
+            return end;
+        }
+    }
+    None
+}
+
+/// The reply of an instance to a step of `h` from `t`, and at most `least`.
+fn capped_reply(factor: u64, t: u64, h: u64, said: Option<Said>, least: u64) -> u64
+    requires factor { 1 ≤ factor }
+    requires coarsest { factor ≤ 10 ^ 9 }
+    requires end { t + h ≤ 10 ^ 15 }
+    requires at_most { least ≤ h }
+    ensures { result ≡ min least (reply_in factor t h said) }
+{
+    if let Some(Said::Accepted(accepted)) = said {
+        let step = local_step(factor, t, h);
+        if accepted != step && (h == 0 || step > 0) {
+            return capped(least, limit(factor, t, accepted));
+        }
+    }
+    least
+}
+
+/// The least of a step of `h` from `t` and of the replies to it, of which all are known.
+fn least_reply(plan: &Plan, replies: &[Option<Said>], t: u64, h: u64) -> u64
+    requires replies { length replies.now ≡ length plan.now.run.members }
+    requires end { t + h ≤ 10 ^ 15 }
+    ensures least { result ≡ least_of h (map (reply_at t h) (zip plan.now.run.members (steps_in t h plan.now.run.members replies.now))) }
+    ensures at_most { result ≤ h }
+{
+    let mut least = h;
+    for instance in 0..plan.instances() {
+        let said = replies[instance as usize];
+        least = capped_reply(plan.factor(instance), t, h, said, least);
+    }
+    least
+}
+
+/// How the answer of an instance to a step that was made anew ends the run: by its fault, or where it accepts less than it was asked.
+fn refusal(instance: u32, factor: u64, t: u64, h: u64, said: Option<Said>) -> Option<Ending>
+    requires factor { 1 ≤ factor }
+    requires end { t + h ≤ 10 ^ 15 }
+    ensures { result ≡ redo_end_in instance factor t h said }
+{
+    if is_held(factor, t, h) {
+        return None;
+    }
+    let asked = local_step(factor, t, h);
+    match said {
+        Some(Said::Accepted(accepted)) if accepted < asked => Some(Ending::StepRefused {
+            instance,
+            asked,
+            accepted,
+        }),
+        Some(Said::Fault(fault)) => Some(Ending::UnitFault {
+            instance,
+            place: Place::Step,
+            fault,
+        }),
+        _ => None,
+    }
+}
+
+/// How a step that was made anew ends the run: by the first instance that faults or accepts less than it was asked.
+fn redo_end(plan: &Plan, redos: &[Option<Said>], t: u64, h: u64) -> Option<Ending>
+    requires redos { length redos.now ≡ length plan.now.run.members }
+    requires end { t + h ≤ 10 ^ 15 }
+    ensures { result ≡ first_told (redo_end_of t h) (zip plan.now.run.members (steps_in t h plan.now.run.members redos.now)) }
+{
+    for instance in 0..plan.instances() {
+        let said = redos[instance as usize];
+        let end = refusal(instance, plan.factor(instance), t, h, said);
+        if end.is_some() {
+            return end;
+        }
+    }
+    None
+}
+
+/// The stage of a row that goes on by a step of `h`, unless this is one of length zero too many.
+fn stage_on(plan: &Plan, point: Point, h: u64) -> Stage
+    requires end { point.t + h ≤ plan.now.run.stop }
+    ensures stage { result ≡ stage_on plan.now.run (place_of point) h }
+    ensures step { AllowsStep plan.now.run point result }
+{
+    if h == 0 && point.n == plan.zero_budget() {
+        Stage::Over(Ending::ZeroBudget)
+    } else {
+        Stage::On(h)
+    }
+}
+
+/// The stage of a row whose step is made anew by `h`.
+fn stage_of_redo(plan: &Plan, point: Point, redos: &[Option<Said>], h: u64) -> Stage
+    requires redos { length redos.now ≡ length plan.now.run.members }
+    requires end { point.t + h ≤ plan.now.run.stop }
+    ensures stage { result ≡ stage_of_redo plan.now.run (place_of point) redos.now h }
+    ensures step { AllowsStep plan.now.run point result }
+{
+    // How large the numbers of a plan are is known by the clauses of this call alone.
+    let _ = plan.stop();
+    if !are_answered(plan, redos, point.t, h) {
+        return Stage::Redo(h);
+    }
+    if let Some(ending) = redo_end(plan, redos, point.t, h) {
+        return Stage::Over(ending);
+    }
+    stage_on(plan, point, h)
+}
+
+/// The stage of a row at which a step of `h` is tried.
+fn stage_of_trial(plan: &Plan, point: Point, notes: &Notes, h: u64) -> Stage
+    requires notes { AreNotes plan.now.run notes.now }
+    requires end { point.t + h ≤ plan.now.run.stop }
+    ensures stage { result ≡ stage_of_trial plan.now.run (place_of point) notes.now.replies.items notes.now.redos.items h }
+    ensures step { AllowsStep plan.now.run point result }
+{
+    // How large the numbers of a plan are is known by the clauses of this call alone.
+    let _ = plan.stop();
+    if !are_answered(plan, &notes.replies, point.t, h) {
+        return Stage::Trial(h);
+    }
+    if let Some(ending) = step_fault(plan, &notes.replies, point.t, h) {
+        return Stage::Over(ending);
+    }
+    let least = least_reply(plan, &notes.replies, point.t, h);
+    if least < h {
+        stage_of_redo(plan, point, &notes.redos, least)
+    } else {
+        stage_on(plan, point, least)
+    }
+}
+
+/// The stage of a row whose words are known, and where no end comes before the limits.
+fn stage_of_limits(plan: &Plan, point: Point, notes: &Notes) -> Stage
+    requires notes { AreNotes plan.now.run notes.now }
+    requires time { point.t ≤ plan.now.run.stop }
+    ensures stage { result ≡ stage_of_limits plan.now.run (place_of point) (making_in notes.now).known }
+    ensures step { AllowsStep plan.now.run point result }
+{
+    // How large the numbers of a plan are is known by the clauses of this call alone.
+    let _ = plan.instances();
+    if !are_known(&notes.limits) {
+        return Stage::Limits;
+    }
+    if let Some(ending) = max_fault(&notes.limits) {
+        return Stage::Over(ending);
+    }
+    let h = proposal(plan, &notes.limits, point.t);
+    stage_of_trial(plan, point, notes, h)
+}
+
+/// What a row at this point, of this number, asks for next.
+pub(crate) fn find_stage(plan: &Plan, point: Point, number: u64, notes: &Notes) -> Stage
+    requires notes { AreNotes plan.now.run notes.now }
+    requires time { point.t ≤ plan.now.run.stop }
+    requires rows { number < plan.now.run.row_budget }
+    ensures stage { result ≡ stage_of plan.now.run (names_of plan.now.run) (position_at point number) (making_in notes.now).known }
+    ensures step { AllowsStep plan.now.run point result }
+{
+    // How large the numbers of a plan are is known by the clauses of this call alone.
+    let _ = plan.instances();
+    if !are_known(&notes.words) {
+        return Stage::Words;
+    }
+    if let Some(ending) = word_fault(plan, &notes.words) {
+        return Stage::Over(ending);
+    }
+    if point.t == plan.stop() {
+        return Stage::Over(Ending::Completed);
+    }
+    if number + 1 == plan.row_limit() {
+        return Stage::Over(Ending::RowBudget);
+    }
+    stage_of_limits(plan, point, notes)
+}
