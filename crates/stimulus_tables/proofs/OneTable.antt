@@ -1,42 +1,12 @@
 -- Records are one table, or leave the form at one number.
-use Rattle.std.proofs.Common.{◌≡◌, ℕ, ◌^◌, ◌≤◌, ℤ, pos, negsuc, unsigned_abs, List, [], ◌∷◌, ◌++◌, map, length, inl, inr, refl, ap, ap₂, sym, subst, ◌∙◌, arith, append-nil, append_assoc}
+use Rattle.std.proofs.Common.{◌≡◌, ℕ, List, [], ◌∷◌, ◌++◌, length, inl, inr, refl, ap, sym, subst, ◌∙◌, arith, append-nil, append_assoc}
 use Rattle.std.specs.Prelude.{◌⊎◌, codes}
-use Rattle.std.specs.Fmt.{decimal, signed_decimal}
-use Rattle.std.specs.List.{AllByRecursion}
-use Rattle.std.proofs.lemmas.Fmt.{decimal_injective, signed_decimal_injective}
 use Rattle.list_laws.proofs.Lists.{same_first, same_rest}
 use Rattle.stimulus_tables.specs.Laws.{AreJudgedOnce}
-use Rattle.stimulus_tables.specs.Tables.{BeginsTable, Fields, Follow, IsMoment, IsTable, LacksHead, LacksMoment, LeavesBehind, LeavesForm, MayFollow, fields_of_moment}
+use Rattle.stimulus_tables.specs.Tables.{BeginsTable, Fields, Follow, IsTable, LacksHead, LacksMoment, LeavesBehind, LeavesForm, MayFollow}
 use Rattle.stimulus_tables.specs.declared.moment.Moment.{Moment}
-
--- ---- One moment
-
-abbrev AreSmall : List ℤ → Type 0
-AreSmall words = AllByRecursion (λ (word : ℤ). unsigned_abs word ≤ 10 ^ 15) words
-
-same_word : (one other : ℤ) → unsigned_abs one ≤ 10 ^ 15 → unsigned_abs other ≤ 10 ^ 15 → signed_decimal one ≡ signed_decimal other → one ≡ other
-same_word (pos m) (pos n) small few same = signed_decimal_injective (pos m) (pos n) (omega (arith, small)) (omega (arith, few)) same
-same_word (pos m) (negsuc n) small few same = signed_decimal_injective (pos m) (negsuc n) (omega (arith, small)) (omega (arith, few)) same
-same_word (negsuc m) (pos n) small few same = signed_decimal_injective (negsuc m) (pos n) (omega (arith, small)) (omega (arith, few)) same
-same_word (negsuc m) (negsuc n) small few same = signed_decimal_injective (negsuc m) (negsuc n) (omega (arith, small)) (omega (arith, few)) same
-
-same_words : (ones others : List ℤ) → AreSmall ones → AreSmall others → map signed_decimal ones ≡ map signed_decimal others → ones ≡ others
-same_words [] [] small few same = refl
-same_words [] (other ∷ others) small few same = absurd cc
-same_words (one ∷ ones) [] small few same = absurd cc
-same_words (one ∷ ones) (other ∷ others) small few same =
-    ap₂ (λ word words. word ∷ words)
-    (same_word one other small.0 few.0
-    (same_first (signed_decimal one) (signed_decimal other) (map signed_decimal ones) (map signed_decimal others) same))
-    (same_words ones others small.1 few.1 (same_rest (signed_decimal one) (signed_decimal other) (map signed_decimal ones) (map signed_decimal others) same))
-
-same_moment : (names others : List (List ℕ)) (one other : Moment) → IsMoment names one → IsMoment others other → fields_of_moment one ≡ fields_of_moment other → one ≡ other
-same_moment names others one other is told same =
-    ap₂ (λ (time : ℕ) (words : List ℤ). record { time = time; words = words })
-    (decimal_injective one.time other.time (omega (arith, is.writable.time)) (omega (arith, told.writable.time))
-    (same_first (decimal one.time) (decimal other.time) (map signed_decimal one.words) (map signed_decimal other.words) same))
-    (same_words one.words other.words is.writable.words told.writable.words
-    (same_rest (decimal one.time) (decimal other.time) (map signed_decimal one.words) (map signed_decimal other.words) same))
+use Rattle.stimulus_tables.proofs.OneMoment.{same_moment}
+use Rattle.stimulus_tables.proofs.SomeTable.{judged}
 
 -- ---- Two ways to read records
 
@@ -87,7 +57,7 @@ agree names before (first ∷ front) [] left rest (moment ∷ moments) (next ∷
 agree names before (first ∷ front) (fields ∷ others) left rest (moment ∷ moments) [] one other is = absurd other
 agree names before (first ∷ front) (fields ∷ others) left rest (moment ∷ moments) (next ∷ more) one other is =
     let head : first ≡ fields = same_first first fields (front ++ left) (others ++ rest) is in
-    let same : moment ≡ next = same_moment names names moment next one.0.is_moment other.0.is_moment (sym one.0.written ∙ head ∙ other.0.written) in
+    let same : moment ≡ next = same_moment moment next one.0.is_moment.writable other.0.is_moment.writable (sym one.0.written ∙ head ∙ other.0.written) in
     let by = agree names (before ++ (moment ∷ [])) front others left rest moments more one.1
     (subst (λ (m : Moment). Follow names (before ++ (m ∷ [])) others more) (sym same) other.1)
     (same_rest first fields (front ++ left) (others ++ rest) is) in
@@ -161,4 +131,4 @@ not_both records names first later number is (inr two) =
     table_leaves records names first later number two both.0 both.1
 
 pub judged_once : (records : List Fields) → AreJudgedOnce records
-judged_once records = record { one_table = one_table records; one_number = one_number records; not_both = not_both records }
+judged_once records = record { some = judged records; one_table = one_table records; one_number = one_number records; not_both = not_both records }

@@ -1,8 +1,8 @@
 -- The names and the moments of a table.
-use Rattle.std.proofs.Common.{◌≡◌, ℕ, ◌+◌, ◌<◌, ◌≤◌, List, [], ◌∷◌, ◌++◌, length, arith, length-append}
+use Rattle.std.proofs.Common.{◌≡◌, ℕ, ◌+◌, ◌<◌, ◌≤◌, List, [], ◌∷◌, ◌++◌, length, inl, inr, arith, length-append}
 use Rattle.std.specs.List.{AllByRecursion}
 use Rattle.stimulus_tables.specs.Laws.{AreRising, TablesAreStimuli}
-use Rattle.stimulus_tables.specs.Tables.{Fields, Follow, IsMoment, IsNextTime}
+use Rattle.stimulus_tables.specs.Tables.{Fields, Follow, IsMoment, IsNextTime, LeavesForm}
 use Rattle.stimulus_tables.specs.declared.moment.Moment.{Moment}
 
 next_behind : (before : List Moment) (last : Moment) (time : ℕ) → IsNextTime (before ++ (last ∷ [])) time → last.time < time
@@ -48,3 +48,9 @@ table_is_stimulus records names first later is =
       rising = start.1;
       few = omega (arith, follow_few names [] is.front (first ∷ later) is.follow (omega arith));
     }
+
+-- A table is left at one of its first records: a 22nd is one too many.
+pub leaves_early : (records : List Fields) (number : ℕ) → LeavesForm records number → number ≤ 22
+leaves_early records number (inl lacks) = omega (arith, lacks.1)
+leaves_early records number (inr leaves) =
+    omega (arith, leaves.number_is, follow_few leaves.names [] leaves.begins.front leaves.moments leaves.begins.follow (omega arith))

@@ -1,5 +1,5 @@
 -- Laws of the systems of tables.
-use Rattle.std.specs.Prelude.{◌≡◌, ℕ, ◌<◌, ⊤, List, [], ◌∷◌, map, length}
+use Rattle.std.specs.Prelude.{◌≡◌, ◌⊎◌, ℕ, ◌<◌, ⊤, List, [], ◌∷◌, map, length}
 use Rattle.std.specs.List.{AllByRecursion}
 use Rattle.unit_tree.specs.Orders.{HasNoCycle}
 use Rattle.unit_tree.specs.Printable.{IsPrintable}
@@ -44,6 +44,7 @@ TablesArePlayed = (names : List (List ℕ)) (first : Moment) (later : List Momen
 
 -- Records are one table, or leave the form at one number, and not both.
 pub record AreJudgedOnce (records : List Fields) : Type 0 where
+  pub some : ((names : List (List ℕ)) × (first : Moment) × (later : List Moment) × IsTable records names first later) ⊎ ((number : ℕ) × LeavesForm records number)
   pub one_table : (names others : List (List ℕ)) (first one : Moment) (later more : List Moment) → IsTable records names first later → IsTable records others one more
       → (others ≡ names) × (one ≡ first) × (more ≡ later)
   pub one_number : (number other : ℕ) → LeavesForm records number → LeavesForm records other → number ≡ other

@@ -2,9 +2,9 @@
 //!
 //! A table has a head, `time` and names, and records of moments: a time, and a word for each name from then on. Its system is one
 //! component with an output for each name. `specs/Tables.antt` says which records are a table, and at which one others leave the form;
-//! `specs/TableSystems.antt` has the system. `specs/Laws.antt` says that records are one table at most, and of the system of a
-//! table that it can be printed and has no cycle, and that its trace has a row at each time of the table with the words that the table
-//! holds.
+//! `specs/TableSystems.antt` has the system. `specs/Laws.antt` says that records are one table or leave the form at one number, and of
+//! the system of a table that it can be printed and has no cycle, and that its trace has a row at each time of the table with the words
+//! that the table holds.
 #![tactic(auto)]
 
 mod laws;
