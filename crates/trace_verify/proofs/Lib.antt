@@ -4,6 +4,7 @@ pub mod LineRecords
 pub mod MatchLaws
 pub mod MomentLaws
 pub mod NameLaws
+pub mod PartingLaws
 pub mod PlainTexts
 pub mod ReadingLaws
 pub mod StimulusLaws

@@ -5,6 +5,7 @@ use Rattle.csv.specs.declared.reader.Reader.{Reader}
 use Rattle.stimulus_tables.specs.TableSystems.{table_system}
 use Rattle.stimulus_tables.specs.Tables.{BeginsTable, Follow, IsHead, IsWritable, LacksHead, LacksMoment, LeavesForm, MayFollow}
 use Rattle.stimulus_tables.specs.declared.moment.Moment.{Moment}
+use Rattle.stimulus_tables.proofs.TableFronts.{table_more}
 use Rattle.trace_verify.specs.Reading.{Gives, Took}
 use Rattle.std.specs.Prelude.{IsErrAnd, Result, Ok, Err}
 use Rattle.trace_verify.specs.Stimuli.{BeganTable, IsSystemOf, MakesSystem, TellsFault}
@@ -38,17 +39,6 @@ no_records records fields found reader took is =
 
 -- ---- Moments
 
-follow_more : (names : List (List ℕ)) (before : List Moment) (front : List Fields) (moments : List Moment) (fields : Fields) (moment : Moment)
-    → Follow names before front moments → MayFollow names (before ++ moments) fields moment → Follow names before (front ++ (fields ∷ [])) (moments ++ (moment ∷ []))
-follow_more names before [] [] fields moment follow next = (subst (λ all. MayFollow names all fields moment) (append-nil before) next, tt)
-follow_more names before [] (one ∷ moments) fields moment follow next = absurd follow
-follow_more names before (first ∷ front) [] fields moment follow next = absurd follow
-follow_more names before (first ∷ front) (one ∷ moments) fields moment follow next = (
-  follow.0,
-  follow_more names (before ++ (one ∷ [])) front moments fields moment follow.1
-      (subst (λ all. MayFollow names all fields moment) (sym (append_assoc before (one ∷ []) moments)) next),
-)
-
 follow_written : (names : List (List ℕ)) (before : List Moment) (front : List Fields) (moments : List Moment) → Follow names before front moments
     → AllByRecursion IsWritable moments
 follow_written names before [] [] follow = tt
@@ -63,20 +53,8 @@ module _ (records : List Fields) (names : List (List ℕ)) (moments : List Momen
       → BeganTable records names moments old → BeganTable records names more new
   moment_read moment more is next all began =
       let read = subst (λ b. Took began.left b fields new) is (took began.left began.gives) in
-      let begins = began.begins in
-      record {
-        left = read.0;
-        begins = record {
-          head = begins.head;
-          front = begins.front ++ (fields ∷ []);
-          cut =
-              begins.cut ∙ ap (λ left. begins.head ∷ begins.front ++ left) read.1
-              ∙ ap (λ rest. begins.head ∷ rest) (sym (append_assoc begins.front (fields ∷ []) read.0));
-          is_head = begins.is_head;
-          follow = subst (Follow names [] (begins.front ++ (fields ∷ []))) (sym all) (follow_more names [] begins.front moments fields moment begins.follow next);
-        };
-        gives = read.2;
-      }
+      let begins = table_more records names moments fields read.0 moment (subst (BeginsTable records names moments) read.1 began.begins) next in
+      record { left = read.0; begins = subst (λ all. BeginsTable records names all read.0) (sym all) begins; gives = read.2 }
 
   pub moment_lacks : found ≡ true → ((moment : Moment) → MayFollow names moments fields moment → ⊥) → BeganTable records names moments old
       → LeavesForm records (length moments + 2)

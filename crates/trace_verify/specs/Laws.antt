@@ -1,7 +1,17 @@
--- Laws of verdicts.
-use Rattle.std.specs.Prelude.{List}
+-- Laws of verdicts, and of the parts of an input.
+use Rattle.std.specs.Prelude.{◌≡◌, ◌⊎◌, ℕ, List}
+use Rattle.trace_verify.specs.Parting.{IsParted, LacksTrace}
 use Rattle.trace_verify.specs.Verdicts.{Fields, IsRight, verdict_of}
 
 -- The verdict on records is right, whatever they are.
 abbrev pub VerdictsAreRight : Type 0
 VerdictsAreRight = (wanted given : List Fields) → IsRight wanted given (verdict_of wanted given)
+
+-- An input has one front and one table, or no line `trace`, and not both.
+pub record IsPartedOnce (input : List ℕ) : Type 0 where
+  pub some : ((front : List ℕ) × (table : List ℕ) × IsParted input front table) ⊎ LacksTrace input
+  pub only : (front other table also : List ℕ) → IsParted input front table → IsParted input other also → (front ≡ other) × (table ≡ also)
+  pub not_both : (front table : List ℕ) → IsParted input front table → LacksTrace input → ⊥
+
+abbrev pub TextsArePartedOnce : Type 0
+TextsArePartedOnce = (input : List ℕ) → IsPartedOnce input

@@ -10,7 +10,7 @@ pub enum TableFault {
     #[error("record {number} is not as it has to be")]
     Form {
         /// The number of the first record that leaves it, from 1, or of the one that is lacking.
-        number: u64,
+        number: u32,
     },
     #[error("no memory")]
     NoMemory,

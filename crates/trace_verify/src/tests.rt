@@ -1,5 +1,5 @@
 //! Verdicts on tables and systems of tables. The texts were worked out by hand.
-use crate::{TableFault, Verdict, stimulus, verify};
+use crate::{TableFault, Verdict, part, stimulus, verify};
 use inner_tests::plan_of;
 use std::alloc::Global;
 use std::test::Fail;
@@ -103,5 +103,28 @@ fn another_form_is_told_by_its_record(rt: HostRuntime) -> Result<(), Fail> {
             Err(TableFault::Form { number: 3 })
         )
     );
+    Ok(())
+}
+
+/// An input with what stands before its line `trace` and behind it, where it has one.
+type Cut = (&'static [u8], Option<(&'static [u8], &'static [u8])>);
+
+/// Blanks, a comment and a CR may stand on the line, which may lack its end and is the first of its kind.
+const CUTS: &[Cut] = &[
+    (b"a\nb\ntrace\nx,y\n", Some((b"a\nb\n", b"x,y\n"))),
+    (b"a\r\n\t trace # c\r\nx", Some((b"a\r\n", b"x"))),
+    (b"trace\ntrace\n", Some((b"", b"trace\n"))),
+    (b"a\ntrace", Some((b"a\n", b""))),
+    (b"a\ntrace#trace\n\n", Some((b"a\n", b"\n"))),
+    (b"a\ntraces\n trace 1\n# trace\ntr\r\n", None),
+    (b"a", None),
+    (b"", None),
+];
+
+#[test]
+fn an_input_is_cut_at_its_first_trace(rt: HostRuntime) -> Result<(), Fail> {
+    for (input, cut) in CUTS {
+        assert_eq!(rt; part(input).map(|parts| (parts.front, parts.table)), *cut);
+    }
     Ok(())
 }

@@ -1,0 +1,16 @@
+use Rattle.std.proofs.Common.{arith, subst}
+use Rattle.trace_verify.specs.Parting.{IsTraceLine}
+use Rattle.trace_verify.specs.TableFields.{Decides}
+use Rattle.trace_verify.proofs.PartingLaws.{passed_more}
+use Rattle.trace_verify.proofs.parting.part.Goals as goal
+
+pub loop-rest-preserved : goal.loop-rest-preserved
+loop-rest-preserved c =
+    passed_more c.args.input.now c.loop-rest.rest.now c.cut_line.result.0.now c.cut_line.result.1.now c.loop-rest.invariant
+    (record {
+      written = omega (arith, c.cut_line.ensures.shorter);
+      lines = c.cut_line.ensures.cut;
+      whole = c.cut_line.ensures.one_line;
+      cut = c.cut_line.ensures.behind;
+    })
+    (subst (λ told. Decides told (IsTraceLine c.cut_line.result.0.now)) c.if-is_trace_line.false c.is_trace_line.ensures)

@@ -1,0 +1,112 @@
+//! The cut of an input into a text and a table.
+ghost use Rattle.std.specs.Prelude.{◌≡◌, ◌≤◌, ◌==◌, not, ℕ, List, ◌++◌, length, drop, codes};
+ghost use Rattle.std.specs.List.{list_all, prefix_len};
+ghost use Rattle.std.specs.Option.{MatchOption};
+ghost use Rattle.trace_verify.specs.Parting.{IsParted, IsTraceLine, LacksTrace, trace_tokens};
+ghost use Rattle.trace_verify.specs.TableFields.{Decides};
+ghost use Rattle.unit_tree.specs.Lines.{code_of};
+ghost use Rattle.unit_tree.specs.Tokens.{Spells, is_blank};
+
+use text_lines::without_return;
+use text_tokens::cut_line;
+
+/// The word of the line between the parts.
+const TRACE: &[u8] = b"trace";
+
+/// The byte that begins a comment.
+const COMMENT: u8 = b'#';
+
+/// The parts of an input.
+#[derive(Clone, Copy, Debug)]
+pub struct Parted<'i> {
+    /// The lines before the line `trace`, with their ends: the text of a system.
+    pub front: &'i [u8],
+    /// The bytes behind that line.
+    pub table: &'i [u8],
+}
+
+/// How many bytes stand before the comment.
+fn code_length(line: &[u8]) -> usize
+    ensures length { result ≡ prefix_len (λ byte. not (byte == 35)) line.now }
+    ensures within { result ≤ length line.now }
+{
+    line.iter().take_while(|byte| **byte != COMMENT).count()
+}
+
+/// What stands before the comment.
+fn code(line: &[u8]) -> &[u8]
+    ensures { result.now ≡ code_of line.now }
+{
+    line.split_at(code_length(line)).0
+}
+
+fn is_blank(byte: u8) -> bool
+    ensures { result ≡ is_blank byte }
+{
+    byte == b' ' || byte == b'\t'
+}
+
+/// How many blanks come first.
+fn blanks_length(bytes: &[u8]) -> usize
+    ensures length { result ≡ prefix_len is_blank bytes.now }
+    ensures within { result ≤ length bytes.now }
+{
+    bytes.iter().take_while(|byte| is_blank(**byte)).count()
+}
+
+/// Whether there are but blanks.
+fn all_blank(bytes: &[u8]) -> bool
+    ensures { result ≡ list_all is_blank bytes.now }
+{
+    bytes.iter().all(|byte| is_blank(*byte))
+}
+
+/// What stands behind the first blanks.
+fn behind_blanks(bytes: &[u8]) -> &[u8]
+    ensures { result.now ≡ drop (prefix_len is_blank bytes.now) bytes.now }
+{
+    bytes.split_at(blanks_length(bytes)).1
+}
+
+/// What stands behind the word, where it comes first.
+fn behind_word(bytes: &[u8]) -> Option<&[u8]>
+    ensures { MatchOption result ((rest : List ℕ) → bytes.now ≡ codes "trace" ++ rest → ⊥) (λ rest. bytes.now ≡ codes "trace" ++ rest.now) }
+{
+    bytes.strip_prefix(TRACE)
+}
+
+/// Whether code is the one word.
+fn is_word(code: &[u8]) -> bool
+    ensures { Decides result (Spells trace_tokens code.now) }
+{
+    match behind_word(behind_blanks(code)) {
+        Some(rest) => all_blank(rest),
+        None => false,
+    }
+}
+
+/// Whether a line without its line feed is `trace`.
+fn is_trace_line(line: &[u8]) -> bool
+    ensures { Decides result (IsTraceLine line.now) }
+{
+    is_word(code(without_return(line)))
+}
+
+/// The parts of an input: what stands before its first line `trace`, and behind it. Only the lines up to that one are looked at, and
+/// no memory is taken.
+///
+/// `None` exactly where the input has no such line.
+pub fn part(input: &[u8]) -> Option<Parted<'_>>
+    ensures { MatchOption result (LacksTrace input.now) (λ parts. IsParted input.now parts.front.now parts.table.now) }
+{
+    let mut rest = input;
+    while !rest.is_empty() {
+        let (line, table) = cut_line(rest);
+        if is_trace_line(line) {
+            let (front, _) = input.split_at(input.len() - rest.len());
+            return Some(Parted { front, table });
+        }
+        rest = table;
+    }
+    None
+}
