@@ -162,21 +162,17 @@ impl Works<Tickets, Vec<Workplace>> for Seat {
 }
 
 impl Worker {
-    /// Works turn by turn, until the front is closed or there is no memory. Then it gives back all that it holds.
+    /// Works turn by turn, until the front is closed or there is no memory. Then it gives back all that it holds. The longer it finds
+    /// nothing, the more seldom it looks, however fast the run goes on: who looks often holds up who runs.
     fn work<R: Wait>(mut self, rt: &R) {
         let backoff = Backoff::new();
-        let mut rows = 0;
         for _ in rt.forever() {
             let front = self.seat.watch.look(rt);
             if front.closed {
                 break;
             }
-            if front.rows > rows {
-                rows = front.rows;
-                backoff.reset();
-            }
-            match self.turn(rt, rows) {
-                Ok(true) => {}
+            match self.turn(rt, front.rows) {
+                Ok(true) => backoff.reset(),
                 Ok(false) => backoff.snooze(),
                 Err(_) => break,
             }
