@@ -8,7 +8,7 @@ use Rattle.command_line.specs.Commands.{KeepsRanges, command_of, command_with, g
 use Rattle.command_line.specs.Generations.{CanGive, asked_by}
 use Rattle.command_line.specs.Options.{◌>>=◌, given_by, is_given_none}
 use Rattle.command_line.specs.Ranges.{required_within, within}
-use Rattle.command_line.specs.declared.commands.Command.TheVariants.{Run, Check, Print, Upgrade, Replay, Gen, Bench, Save, Resume}
+use Rattle.command_line.specs.declared.commands.Command.TheVariants.{Run, Check, Print, Upgrade, Replay, Gen, Bench, Save, Resume, Verify, Stimulus}
 use Rattle.command_line.specs.declared.options.Given.{Given}
 
 -- ---- What holds of a value, where there is one
@@ -87,7 +87,9 @@ row_kept word given =
     (either KeepsRanges (bytes_eq word (codes "bench")) _ _ (mapped KeepsRanges Bench (generation_of given) (generation_kept given))
     (either KeepsRanges (bytes_eq word (codes "save")) _ _ (mapped KeepsRanges Save (saving_of given) (any (saving_of given)))
     (either KeepsRanges (bytes_eq word (codes "resume")) _ _ (without_kept KeepsRanges Resume given tt)
-    tt))))))))
+    (either KeepsRanges (bytes_eq word (codes "verify")) _ _ (without_kept KeepsRanges Verify given tt)
+    (either KeepsRanges (bytes_eq word (codes "stimulus")) _ _ (without_kept KeepsRanges Stimulus given tt)
+    tt))))))))))
 
 pub ranges_kept : (words : List (List ℕ)) → IfSome (command_of words) KeepsRanges
 ranges_kept [] = tt

@@ -7,7 +7,7 @@ use Rattle.unit_tree.specs.Texts.{text_limit}
 use Rattle.command_line.specs.Generations.{Asked, CanGive, asked_by}
 use Rattle.command_line.specs.Options.{◌>>=◌, given_by, is_given_none}
 use Rattle.command_line.specs.declared.commands.Command.{Command}
-use Rattle.command_line.specs.declared.commands.Command.TheVariants.{Run, Check, Print, Upgrade, Replay, Gen, Bench, Save, Resume}
+use Rattle.command_line.specs.declared.commands.Command.TheVariants.{Run, Check, Print, Upgrade, Replay, Gen, Bench, Save, Resume, Verify, Stimulus}
 use Rattle.command_line.specs.Ranges.{required_within, within_or}
 use Rattle.command_line.specs.declared.options.Given.{Given}
 use Rattle.command_line.specs.declared.replaying.Replaying.{Replaying}
@@ -56,7 +56,9 @@ command_with word given =
     else (if bytes_eq word (codes "bench") then option_map Bench (generation_of given)
     else (if bytes_eq word (codes "save") then option_map Save (saving_of given)
     else (if bytes_eq word (codes "resume") then without_options Resume given
-    else None))))))))
+    else (if bytes_eq word (codes "verify") then without_options Verify given
+    else (if bytes_eq word (codes "stimulus") then without_options Stimulus given
+    else None))))))))))
 
 -- The command that words are of; words that are of none have no form.
 abbrev pub command_of : List (List ℕ) → Option Command
@@ -66,6 +68,14 @@ command_of (word ∷ words) = given_by words >>= command_with word
 -- The most bytes that `resume` reads: those of a text, and as many for the lines in front of it.
 abbrev pub saved_limit : ℕ
 saved_limit = 2097152
+
+-- The most bytes that `verify` reads: those of a text with a long trace behind it.
+abbrev pub verify_limit : ℕ
+verify_limit = 67108864
+
+-- The most bytes that `stimulus` reads.
+abbrev pub stimulus_limit : ℕ
+stimulus_limit = 1048576
 
 -- How many bytes a command reads at most; none where it reads nothing.
 abbrev pub input_of : Command → Option ℕ
@@ -78,6 +88,8 @@ input_of (Gen asked) = None
 input_of (Bench asked) = None
 input_of (Save asked) = Some text_limit
 input_of Resume = Some saved_limit
+input_of Verify = Some verify_limit
+input_of Stimulus = Some stimulus_limit
 
 -- Which commands are run with workers: a run that asks for some, and `bench`.
 abbrev pub has_workers : Command → Bool

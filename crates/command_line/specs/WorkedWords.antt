@@ -3,12 +3,21 @@ use Rattle.std.specs.Prelude.{◌≡◌, ℕ, true, false, List, [], ◌∷◌, 
 use Rattle.command_line.specs.Commands.{command_of}
 use Rattle.command_line.specs.Options.{given_by, no_options, number_of_word}
 use Rattle.command_line.specs.Ranges.{required_within, within, within_or}
-use Rattle.command_line.specs.declared.commands.Command.TheVariants.{Run, Check, Print, Upgrade, Replay, Gen, Bench, Save, Resume}
+use Rattle.command_line.specs.declared.commands.Command.TheVariants.{Run, Check, Print, Upgrade, Replay, Gen, Bench, Save, Resume, Verify, Stimulus}
 use Rattle.command_line.specs.declared.options.Given.{Given}
 use Rattle.guess_board.specs.declared.guesses.Policy.TheVariants.{Hold, Linear}
 
 abbrev all_options : Given
-all_options = record { workers = Some 4; window = Some 0; guess = Some Linear; seed = Some 7; instances = Some 2; rows = Some 3; row = Some 5; report = true }
+all_options = record {
+  workers = Some 4;
+  window = Some 0;
+  guess = Some Linear;
+  seed = Some 7;
+  instances = Some 2;
+  rows = Some 3;
+  row = Some 5;
+  report = true;
+}
 
 -- A number has one to nineteen digits, and nothing else.
 pub record NumbersAreWorked : Type 0 where
@@ -41,8 +50,8 @@ pub record OptionsAreWorked : Type 0 where
       (codes "--workers" ∷ codes "4" ∷ codes "--window" ∷ codes "0" ∷ codes "--guess" ∷ codes "linear" ∷ codes "--seed" ∷ codes "7"
       ∷ codes "--instances" ∷ codes "2" ∷ codes "--rows" ∷ codes "3" ∷ codes "--row" ∷ codes "5" ∷ codes "--report" ∷ []) ≡ Some all_options
   pub turned : given_by
-      (codes "--row" ∷ codes "5" ∷ codes "--rows" ∷ codes "3" ∷ codes "--instances" ∷ codes "02" ∷ codes "--seed" ∷ codes "7" ∷ codes "--report" ∷ codes "--guess" ∷ codes "linear"
-      ∷ codes "--window" ∷ codes "00" ∷ codes "--workers" ∷ codes "04" ∷ []) ≡ Some all_options
+      (codes "--row" ∷ codes "5" ∷ codes "--rows" ∷ codes "3" ∷ codes "--instances" ∷ codes "02" ∷ codes "--seed" ∷ codes "7" ∷ codes "--report"
+      ∷ codes "--guess" ∷ codes "linear" ∷ codes "--window" ∷ codes "00" ∷ codes "--workers" ∷ codes "04" ∷ []) ≡ Some all_options
   pub one : given_by (codes "--guess" ∷ codes "hold" ∷ []) ≡ Some (record no_options { guess = Some Hold })
   pub number_twice : given_by (codes "--window" ∷ codes "4" ∷ codes "--window" ∷ codes "4" ∷ []) ≡ None
   pub policy_twice : given_by (codes "--guess" ∷ codes "hold" ∷ codes "--guess" ∷ codes "hold" ∷ []) ≡ None
@@ -105,6 +114,10 @@ pub record CommandsAreWorked : Type 0 where
   pub saved_rows : command_of (codes "save" ∷ codes "--rows" ∷ codes "2" ∷ []) ≡ None
   pub resume : command_of (codes "resume" ∷ []) ≡ Some Resume
   pub resumed_row : command_of (codes "resume" ∷ codes "--row" ∷ codes "2" ∷ []) ≡ None
+  pub verify : command_of (codes "verify" ∷ []) ≡ Some Verify
+  pub verified_rows : command_of (codes "verify" ∷ codes "--rows" ∷ codes "2" ∷ []) ≡ None
+  pub stimulus : command_of (codes "stimulus" ∷ []) ≡ Some Stimulus
+  pub seeded_stimulus : command_of (codes "stimulus" ∷ codes "--seed" ∷ codes "1" ∷ []) ≡ None
   pub no_word : command_of [] ≡ None
   pub empty : command_of ([] ∷ []) ≡ None
   pub other_case : command_of (codes "Run" ∷ []) ≡ None

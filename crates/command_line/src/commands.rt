@@ -32,10 +32,20 @@ pub enum Command {
     Save(Saving),
     /// Puts the rows of a run that goes on from the position that the text saves.
     Resume,
+    /// Tells whether the table behind the text is the trace of the text's system.
+    Verify,
+    /// Puts the canonical text of a system that has the words of a table at its times.
+    Stimulus,
 }
 
 /// The most bytes that `resume` reads.
 const LONGEST_SAVED: usize = 2_097_152;
+
+/// The most bytes that `verify` reads.
+const LONGEST_VERIFIED: usize = 67_108_864;
+
+/// The most bytes that `stimulus` reads.
+const LONGEST_STIMULUS: usize = 1_048_576;
 
 impl Command {
     /// How many bytes it reads at most; none where it reads nothing.
@@ -51,6 +61,8 @@ impl Command {
             | Command::Replay(_)
             | Command::Save(_) => Some(LONGEST_TEXT),
             Command::Resume => Some(LONGEST_SAVED),
+            Command::Verify => Some(LONGEST_VERIFIED),
+            Command::Stimulus => Some(LONGEST_STIMULUS),
             Command::Gen(_) => None,
             Command::Bench(asked) => {
                 // That its numbers are in their ranges is known by the clauses of this call alone.
@@ -115,6 +127,10 @@ fn command_with(word: &str, given: Given) -> Option<Command>
         Some(Command::Save(saving_of(given)?))
     } else if word == "resume" {
         without_options(Command::Resume, given)
+    } else if word == "verify" {
+        without_options(Command::Verify, given)
+    } else if word == "stimulus" {
+        without_options(Command::Stimulus, given)
     } else {
         None
     }
