@@ -1,5 +1,6 @@
 -- What each command's answers keep: there is one for each text, and there are no two.
-use Rattle.std.proofs.Common.{◌≡◌, ℕ, ◌+◌, ◌<◌, ◌≤◌, ◌⊎◌, Bool, true, false, if◌then◌else◌, List, [], ◌∷◌, ◌++◌, length, Option, Some, None, Ok, refl, sym, ap, subst, ◌∙◌, inl, inr, arith}
+use Rattle.std.proofs.Common.{◌≡◌, ℕ, ◌+◌, ◌<◌, ◌≤◌, ◌⊎◌, Bool, true, false, if◌then◌else◌, List, [], ◌∷◌, ◌++◌, length, Option, Some, None, Ok, refl, sym, ap}
+use Rattle.std.proofs.Common.{subst, ◌∙◌, inl, inr, arith}
 use Rattle.std.specs.Prelude.{IfSome, Vec}
 use Rattle.std.specs.declared.alloc.Global.{Global}
 use Rattle.std.proofs.lemmas.Option.{same_Some}
@@ -25,15 +26,20 @@ use Rattle.cosim_app.specs.Accepted.{run_answer}
 use Rattle.cosim_app.specs.Answer.{report_lines, with_counts, with_report}
 use Rattle.cosim_app.specs.Answer.{IsTooLongInVersion2, TellsUpgrade}
 use Rattle.cosim_app.specs.SavedAnswers.{LacksPosition, TellsPosition}
-use Rattle.command_line.specs.Commands.{KeepsRanges, command_of, input_of, saved_limit}
+use Rattle.cosim_app.specs.TableAnswers.{AnswersTable, LeavesTable, PlaysTable, RefusesTable}
+use Rattle.command_line.specs.Commands.{KeepsRanges, command_of, input_of, saved_limit, stimulus_limit, verify_limit}
 use Rattle.cosim_app.specs.Usage.{UsageClause}
 use Rattle.command_line.specs.Generations.{Asked, CanGive, system_asked}
 use Rattle.cosim_app.specs.Notes.{report_text}
-use Rattle.cosim_app.specs.Laws.{AnswersAgree, EndsAreServed, EveryCallIsAnswered, IsDetermined, IsNoted, NoCallIsAnsweredTwice, NotesAgree, RefusalsAreOfRules, RunsAgree}
+use Rattle.cosim_app.specs.Laws.{AnswersAgree, EndsAreServed, EveryCallIsAnswered, IsDetermined, IsNoted, NoCallIsAnsweredTwice, NotesAgree, RefusalsAreOfRules}
+use Rattle.cosim_app.specs.Laws.{RunsAgree}
 use Rattle.command_line.specs.declared.commands.Command.{Command}
-use Rattle.command_line.specs.declared.commands.Command.TheVariants.{Run, Check, Print, Upgrade, Replay, Gen, Bench, Save, Resume}
+use Rattle.command_line.specs.declared.commands.Command.TheVariants.{Run, Check, Print, Upgrade, Replay, Gen, Bench, Save, Resume, Verify, Stimulus}
 use Rattle.command_line.proofs.RangeLaws.{ranges_kept}
-use Rattle.cosim_app.proofs.Lawful.{Agree, AnswersOrBreaks, AnswersSystems, HasNoOther, HasOneAnswer, IsLawful, agree_as_same, at_most_or_above, determined_on_accepted, determined_piece, determined_unread, lawful_on_accepted, lawful_piece, lawful_unread, lawful_with_rule}
+use Rattle.cosim_app.proofs.Lawful.{Agree, AnswersOrBreaks, AnswersSystems, HasNoOther, HasOneAnswer, IsLawful, agree_as_same, at_most_or_above}
+use Rattle.cosim_app.proofs.Lawful.{determined_on_accepted, determined_piece, determined_unread, determined_within, lawful_on_accepted, lawful_piece}
+use Rattle.cosim_app.proofs.Lawful.{lawful_unread, lawful_with_rule, lawful_within, longer}
+use Rattle.cosim_app.proofs.TableLaws.{plays_once, stimulus_lawful, verdicts_once, verify_lawful}
 use Rattle.cosim_app.proofs.SavedLaws.{resume_lawful, resumes_same, saves_answer, saves_same}
 use Rattle.cosim_app.proofs.TraceLaws.{IsWhole, is_end, one_outcome, plain_outcome, whole_asked, whole_of}
 use Rattle.cosim_app.proofs.ReplayLaws.{can_replay_of, counts_there}
@@ -225,6 +231,8 @@ lawful (Gen asked) keeps = lawful_unread (AnswersGen asked) (gen_answer asked)
 lawful (Bench asked) keeps = lawful_unread (AnswersBench asked) (bench_answer asked keeps)
 lawful (Save asked) keeps = lawful_with_rule (TellsPosition asked.row) (LacksPosition asked.row) 31 (saves_answer asked.row)
 lawful Resume keeps = resume_lawful
+lawful Verify keeps = lawful_within verify_limit RefusesTable AnswersTable verify_lawful
+lawful Stimulus keeps = lawful_within stimulus_limit LeavesTable PlaysTable stimulus_lawful
 
 determined : (command : Command) → KeepsRanges command → IsDetermined (Some command) → HasNoOther (ServedBy command)
 determined (Run asked) keeps settled = determined_on_accepted (TellsReported asked) (reported_same asked settled)
@@ -236,6 +244,8 @@ determined (Gen asked) keeps settled = determined_unread (AnswersGen asked) (gen
 determined (Bench asked) keeps settled = determined_unread (AnswersBench asked) (bench_answer asked keeps)
 determined (Save asked) keeps settled = determined_on_accepted (TellsPosition asked.row) (saves_same asked.row)
 determined Resume keeps settled = resumes_same
+determined Verify keeps settled = determined_within verify_limit AnswersTable verdicts_once
+determined Stimulus keeps settled = determined_within stimulus_limit PlaysTable plays_once
 
 -- an input that was read is no longer than a command may read
 pub in_limit : (input : Option ℕ) (read : Vec ℕ Global) (text : List ℕ) → text ≡ read.items → IsInLimit input (Ok read)
@@ -262,6 +272,8 @@ long_by (Bench asked) limit text is long = absurd (cc)
 long_by (Save asked) limit text is long = inl (too_long limit text is long)
 long_by Resume limit text is long =
     inl (record { long = subst (λ most. most < length text) (sym (same_Some saved_limit limit is)) long; at = refl; by = refl })
+long_by Verify limit text is long = longer verify_limit limit RefusesTable text is long
+long_by Stimulus limit text is long = longer stimulus_limit limit LeavesTable text is long
 
 -- a command that reads nothing has the same answers for all inputs
 free_by : (command : Command) → input_of command ≡ None → (one other : List ℕ) (answer : Answer) → Answers command one answer
@@ -275,6 +287,8 @@ free_by (Gen asked) is one other answer (inl refusal) = absurd refusal.refused
 free_by (Gen asked) is one other answer (inr serves) = inr serves
 free_by (Save asked) is one other answer answers = absurd (cc)
 free_by Resume is one other answer answers = absurd (cc)
+free_by Verify is one other answer answers = absurd (cc)
+free_by Stimulus is one other answer answers = absurd (cc)
 free_by (Bench asked) is one other answer (inl refusal) = absurd refusal.refused
 free_by (Bench asked) is one other answer (inr serves) = inr serves
 

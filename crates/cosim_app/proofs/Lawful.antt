@@ -1,11 +1,13 @@
 -- What the answers of a command keep: there is one for each text, and answers of a text put the same.
-use Rattle.std.proofs.Common.{◌≡◌, ℕ, leb, ◌<◌, ◌≤◌, ◌⊎◌, true, false, List, refl, sym, ap, subst, ◌∙◌, inl, inr}
+use Rattle.std.proofs.Common.{◌≡◌, ℕ, leb, ◌<◌, ◌≤◌, ◌⊎◌, true, false, List, length, Some, refl, sym, ap, subst, ◌∙◌, inl, inr, arith}
 use Rattle.std.proofs.lemmas.Bool.Decides.{leb_tells}
+use Rattle.std.proofs.lemmas.Option.{same_Some}
 use Rattle.text_accept.specs.Accepting.{IsAcceptedAs, IsRefusedAt}
 use Rattle.text_accept.proofs.Acceptance.{judged_once}
 use Rattle.unit_tree.specs.declared.system.System.{System}
 use Rattle.cosim_call.specs.Answers.{Answer, IsEndOfWork, piece_answer}
 use Rattle.cosim_app.specs.Accepted.{OnAccepted, RefusesAlso}
+use Rattle.cosim_app.specs.Limits.{AnswersWithin, RefusesWithin}
 use Rattle.cosim_app.proofs.TraceLaws.{IsWhole, whole_of}
 
 -- a number is at most a limit or above it, and not both
@@ -153,3 +155,49 @@ lawful_unread IsAnswer one = record {
 
 pub determined_unread : (IsAnswer : Answer → Type 0) → HasOneAnswer IsAnswer → HasNoOther (λ text. IsAnswer)
 determined_unread IsAnswer one text a b is also = one.only a is ∙ sym (one.only b also)
+
+-- ---- Commands whose input has a limit of their own
+
+-- of the answers for inputs of any length: those longer than the limit break the rule of their length
+pub lawful_within : (limit : ℕ) (Refuses : List ℕ → ℕ → ℕ → Type 0) (Serves : List ℕ → Answer → Type 0) → IsLawful Refuses Serves
+    → IsLawful (RefusesWithin limit Refuses) (AnswersWithin limit Serves)
+lawful_within limit Refuses Serves law = record {
+  judged = λ text. by text (at_most_or_above (length text) limit);
+  one_refusal = λ text. once text;
+  not_both = λ text. never_both text;
+  agree = λ text one other a b. law.agree text one other a.serves b.serves;
+  ends = λ text answer answers. law.ends text answer answers.serves;
+}
+  where
+    never_long : {A : Type 0} (text : List ℕ) → length text ≤ limit → limit < length text → A
+    never_long text within long = absurd (omega (arith, within, long))
+
+    short : (text : List ℕ) → length text ≤ limit → ((line : ℕ) × (rule : ℕ) × Refuses text line rule) ⊎ ((answer : Answer) × Serves text answer)
+        → ((line : ℕ) × (rule : ℕ) × RefusesWithin limit Refuses text line rule) ⊎ ((answer : Answer) × AnswersWithin limit Serves text answer)
+    short text within (inl (line, rule, refused)) = inl (line, rule, inr (record { within = within; refused = refused }))
+    short text within (inr (answer, serves)) = inr (answer, record { within = within; serves = serves })
+
+    by : (text : List ℕ) → (length text ≤ limit) ⊎ (limit < length text)
+        → ((line : ℕ) × (rule : ℕ) × RefusesWithin limit Refuses text line rule) ⊎ ((answer : Answer) × AnswersWithin limit Serves text answer)
+    by text (inl within) = short text within (law.judged text)
+    by text (inr long) = inl (1, 2, inl (record { long = long; at = refl; by = refl }))
+
+    once : (text : List ℕ) (line rule other third : ℕ) → RefusesWithin limit Refuses text line rule → RefusesWithin limit Refuses text other third
+        → (line ≡ other) × (rule ≡ third)
+    once text line rule other third (inl a) (inl b) = (a.at ∙ sym b.at, a.by ∙ sym b.by)
+    once text line rule other third (inl a) (inr b) = never_long text b.within a.long
+    once text line rule other third (inr a) (inl b) = never_long text a.within b.long
+    once text line rule other third (inr a) (inr b) = law.one_refusal text line rule other third a.refused b.refused
+
+    never_both : (text : List ℕ) (line rule : ℕ) (answer : Answer) → RefusesWithin limit Refuses text line rule → AnswersWithin limit Serves text answer → ⊥
+    never_both text line rule answer (inl longer) answers = never_long text answers.within longer.long
+    never_both text line rule answer (inr short) answers = law.not_both text line rule answer short.refused answers.serves
+
+pub determined_within : (limit : ℕ) (Serves : List ℕ → Answer → Type 0) → HasNoOther Serves → HasNoOther (AnswersWithin limit Serves)
+determined_within limit Serves same text one other a b = same text one other a.serves b.serves
+
+-- an input that is longer than the limit
+pub longer : (limit most : ℕ) (Refuses : List ℕ → ℕ → ℕ → Type 0) (text : List ℕ) → Some limit ≡ Some most → most < length text
+    → RefusesWithin limit Refuses text 1 2
+longer limit most Refuses text is long =
+    inl (record { long = subst (λ n. n < length text) (sym (same_Some limit most is)) long; at = refl; by = refl })

@@ -8,5 +8,6 @@ pub mod ResumeLaws
 pub mod RunLaws
 pub mod SavedLaws
 pub mod SavedRuns
+pub mod TableLaws
 pub mod TraceLaws
 pub mod UpgradeLaws

@@ -49,7 +49,7 @@ unfolding traced_text
 text_is system whole rows last ending trace = text_read system whole.ranged whole.well_formed whole.ordered rows last ending trace
 
 -- and its trace, which is told of the system
-told : (system : System) → IsWhole system → (rows : List Row) (last : Point) (ending : Ending) → IsTraceOf system rows last ending
+pub told : (system : System) → IsWhole system → (rows : List Row) (last : Point) (ending : Ending) → IsTraceOf system rows last ending
     → IsEventTraceOf system (read_rows system rows) last (read_end system ending)
 told system whole rows last ending trace = tells system whole.ranged whole.well_formed whole.ordered rows last ending trace
 

@@ -20,7 +20,8 @@ use Rattle.unit_tree.specs.declared.system.System.{System}
 use Rattle.cosim_call.specs.Answers.{Answer, IsEndOfWork, piece_answer}
 use Rattle.command_line.specs.Commands.{saved_limit}
 use Rattle.cosim_app.specs.Accepted.{planned}
-use Rattle.cosim_app.specs.SavedAnswers.{AnswersResume, LacksMatch, LacksPosition, RefusesBehind, ResumeRefuses, SavesIn, SavesNone, TellsPosition, TellsRest, lines_before, resumed_answer, text_behind}
+use Rattle.cosim_app.specs.SavedAnswers.{AnswersResume, LacksMatch, LacksPosition, RefusesBehind, ResumeRefuses, SavesIn, SavesNone, TellsPosition, TellsRest}
+use Rattle.cosim_app.specs.SavedAnswers.{lines_before, resumed_answer, text_behind}
 use Rattle.cosim_app.proofs.Lawful.{AnswersOrBreaks, HasNoOther, IsLawful, agree_as_same, at_most_or_above}
 use Rattle.cosim_app.proofs.TraceLaws.{IsWhole, is_end, whole_of}
 

@@ -2,8 +2,10 @@ pub mod Accepted
 pub mod Answer
 pub mod Figures
 pub mod Laws
+pub mod Limits
 pub mod Notes
 pub mod SavedAnswers
 pub mod Serving
 pub mod SourcePlaces
+pub mod TableAnswers
 pub mod Usage

@@ -3,9 +3,10 @@
 --   rule 31   the trace has no position of the number that is asked for
 --   rule 32   the text saves no position
 --   rule 33   a run of the system may stand at no such position
-use Rattle.std.specs.Prelude.{◌≡◌, ◌⊎◌, ℕ, ◌+◌, ◌<◌, ◌≤◌, List, drop, length}
+use Rattle.std.specs.Prelude.{◌≡◌, ◌⊎◌, ℕ, ◌+◌, ◌≤◌, List, drop, length}
 use Rattle.command_line.specs.Commands.{saved_limit}
 use Rattle.cosim_app.specs.Accepted.{OnAccepted, RefusesAlso, planned, status_of, traced_notes}
+use Rattle.cosim_app.specs.Limits.{IsLongerThan}
 use Rattle.cosim_app.specs.SourcePlaces.{source_end}
 use Rattle.cosim_call.specs.Answers.{Answer, piece_answer}
 use Rattle.save_point.specs.SavedTexts.{BreaksAtLine, IsSaved, saved_text}
@@ -79,12 +80,6 @@ pub record AnswersResume (text : List ℕ) (answer : Answer) : Type 0 where
   pub fits : FitsSaved (planned system) saved at
   pub tells : TellsRest system at answer
 
--- A text is too long: rule 2, at line 1.
-pub record IsTooLongSaved (text : List ℕ) (line rule : ℕ) : Type 0 where
-  pub long : saved_limit < length text
-  pub at : line ≡ 1
-  pub by : rule ≡ 2
-
 -- It saves no position: rule 32, at the first line that is lacking or has another form.
 pub record SavesNone (text : List ℕ) (line rule : ℕ) : Type 0 where
   pub within : length text ≤ saved_limit
@@ -111,4 +106,4 @@ pub record LacksMatch (text : List ℕ) (line rule : ℕ) : Type 0 where
 
 abbrev pub ResumeRefuses : List ℕ → ℕ → ℕ → Type 0
 ResumeRefuses text line rule =
-    IsTooLongSaved text line rule ⊎ SavesNone text line rule ⊎ RefusesBehind text line rule ⊎ LacksMatch text line rule
+    IsLongerThan saved_limit text line rule ⊎ SavesNone text line rule ⊎ RefusesBehind text line rule ⊎ LacksMatch text line rule

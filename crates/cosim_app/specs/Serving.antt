@@ -22,6 +22,11 @@ use Rattle.cosim_app.specs.Answer.{report_lines}
 use Rattle.cosim_app.specs.Notes.{counts_text}
 use Rattle.cosim_app.specs.SavedAnswers.{lines_before, text_behind}
 use Rattle.cosim_app.specs.SourcePlaces.{source_end}
+use Rattle.cosim_app.specs.TableAnswers.{LacksTable, LeavesTable}
+use Rattle.trace_verify.specs.Parting.{IsParted}
+use Rattle.trace_verify.specs.declared.parting.Parted.{Parted}
+use Rattle.trace_verify.specs.Stimuli.{IsSystemOf}
+use Rattle.trace_verify.specs.Verdicts.{records_of}
 use Rattle.save_point.specs.SavedTexts.{BreaksAtLine, IsSaved, saved_text}
 use Rattle.save_point.specs.Saving.{FitsNone, HasNoPosition, IsOpenedBy}
 use Rattle.save_point.specs.declared.reading.Saved.{Saved}
@@ -128,3 +133,18 @@ abbrev pub TellsResumed : System → Report → Result Served Stopped → Type 0
 TellsResumed system report (Ok served) =
     (served.status ≡ status_of report.outcome) × (served.notes ≡ traced_notes system (source_end system report.outcome) report.last)
 TellsResumed system report (Err why) = why ≡ stopped.NoMemory
+
+-- ---- Tables
+
+-- The input was parted into a text and the table behind it, or no line parts it.
+abbrev pub FindsParts : List ℕ → Result Parted Stopped → Type 0
+FindsParts input (Ok parts) = IsParted input parts.front.now parts.table.now
+FindsParts input (Err (stopped.Refused line rule)) = LacksTable input line rule
+FindsParts input (Err _) = ⊥
+
+-- The system that plays a table was made, or the table leaves the form; or there was no memory.
+abbrev pub FindsTable : List ℕ → Result System Stopped → Type 0
+FindsTable table (Ok system) = IsSystemOf (records_of table) system
+FindsTable table (Err (stopped.Refused line rule)) = LeavesTable table line rule
+FindsTable table (Err stopped.NoMemory) = ⊤
+FindsTable table (Err _) = ⊥

@@ -8,7 +8,9 @@ ghost use Rattle.cosim_app.specs.Usage.{UsageClause};
 ghost use Rattle.cosim_app.specs.Laws.{AnswersAgree, EndsAreServed, EveryCallIsAnswered, NoCallIsAnsweredTwice, NotesAgree, RefusalsAreOfRules, RunsAgree, SavedRunsGoOn};
 ghost use Rattle.command_line.specs.Words.{bytes_of};
 
-use crate::commands::{bench, check, generate, print, replay, resume, run, save, upgrade};
+use crate::commands::{
+    bench, check, generate, print, replay, resume, run, save, stimulus, upgrade, verify,
+};
 use command_line::{Command, command_of};
 use cosim_call::{Served, Status, Stopped, finish, put_made, read_input, tell};
 use cosim_io::{Sink, Source};
@@ -38,6 +40,8 @@ fn serve<O: Sink>(
         Command::Bench(asked) => put_made(alloc, bench::make(alloc, asked), out),
         Command::Save(asked) => put_made(alloc, save::make(alloc, *asked, text), out),
         Command::Resume => resume::serve(alloc, text, out),
+        Command::Verify => put_made(alloc, verify::make(alloc, text), out),
+        Command::Stimulus => put_made(alloc, stimulus::make(alloc, text), out),
     }
 }
 
@@ -63,7 +67,9 @@ fn serve_crewed<R: Threads + Wait + Copy + Send + Drop + 'static, O: Sink, G: Ga
         | Command::Replay(_)
         | Command::Gen(_)
         | Command::Save(_)
-        | Command::Resume => unreachable!(),
+        | Command::Resume
+        | Command::Verify
+        | Command::Stimulus => unreachable!(),
     }
 }
 

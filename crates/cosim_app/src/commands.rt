@@ -9,7 +9,9 @@ pub(crate) mod replay;
 pub(crate) mod resume;
 pub(crate) mod run;
 pub(crate) mod save;
+pub(crate) mod stimulus;
 pub(crate) mod upgrade;
+pub(crate) mod verify;
 
 use cosim_call::Stopped;
 use std::alloc::Global;

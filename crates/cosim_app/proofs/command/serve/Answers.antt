@@ -35,3 +35,11 @@ returns-in-Save g c =
 pub serve-requires-in-Resume : goal.serve-requires-in-Resume
 serve-requires-in-Resume g c =
     record { within = subst (λ (command : Command). IsReadable command c.args.text.now) c.in-Resume.is c.requires }
+
+pub make-requires-in-Verify : goal.make-requires-in-Verify
+make-requires-in-Verify g c =
+    record { within = subst (λ (command : Command). IsReadable command c.args.text.now) c.in-Verify.is c.requires }
+
+pub make-requires-in-Stimulus : goal.make-requires-in-Stimulus
+make-requires-in-Stimulus g c =
+    record { within = subst (λ (command : Command). IsReadable command c.args.text.now) c.in-Stimulus.is c.requires }

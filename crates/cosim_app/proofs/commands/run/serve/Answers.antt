@@ -21,7 +21,8 @@ returns-in_err-report g c =
     let out' = stream (g.O.Sink.held c.run_plan.new.out) (g.O.Sink.faults c.run_plan.new.out) in
     handed_on (Serves (Answers (Run c.args.asked.now) c.args.text.now) out out') c.from_residual-in_err-report.result c.in_err-report.field-0.0
     c.from_residual-in_err-report.ensures.1
-    (run_given_up c.args.asked.now c.args.text.now c.in_ok-plan.plan.value.system c.in_ok-plan.ensures.planned out out' c.in_err-report.field-0.0 c.in_err-report.ensures.runs)
+    (run_given_up c.args.asked.now c.args.text.now c.in_ok-plan.plan.value.system c.in_ok-plan.ensures.planned out out'
+    c.in_err-report.field-0.0 c.in_err-report.ensures.runs)
 
 pub returns : goal.returns
 returns g c =

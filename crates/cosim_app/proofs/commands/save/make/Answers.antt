@@ -13,5 +13,5 @@ returns-in_err-plan c =
 
 pub returns : goal.returns
 returns c =
-    saved_made c.get.result c.args.text.now c.in_ok-plan.plan.value c.in_ok-plan.ensures.planned c.in_ok-plan.ensures.whole c.args.asked (sym c.get.ensures.value)
-    c.saved_text.result c.saved_text.ensures
+    saved_made c.get.result c.args.text.now c.in_ok-plan.plan.value c.in_ok-plan.ensures.planned c.in_ok-plan.ensures.whole c.args.asked
+    (sym c.get.ensures.value) c.saved_text.result c.saved_text.ensures
