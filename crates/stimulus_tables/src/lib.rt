@@ -3,8 +3,8 @@
 //! A table has a head, `time` and names, and records of moments: a time, and a word for each name from then on. Its system is one
 //! component with an output for each name. `specs/Tables.antt` says which records are a table, and at which one others leave the form;
 //! `specs/TableSystems.antt` has the system. `specs/Laws.antt` says that records are one table or leave the form at one number, and of
-//! the system of a table that it can be printed and has no cycle, and that its trace has a row at each time of the table with the words
-//! that the table holds.
+//! the system of a table that it is well-formed, can be printed and has no cycle, and that its trace has a row at each time of the
+//! table with the words that the table holds.
 #![tactic(auto)]
 
 mod laws;
@@ -12,6 +12,6 @@ mod moment;
 
 pub use laws::{
     records_are_judged_once, tables_are_played, tables_are_printable, tables_are_stimuli,
-    tables_have_no_cycle,
+    tables_are_well_formed, tables_have_no_cycle,
 };
 pub use moment::Moment;
