@@ -14,7 +14,7 @@ use Rattle.text_tokens.proofs.FrontLemmas.{front_passes, prefix_len-front}
 use Rattle.text_tokens.proofs.LineLemmas.{behind_suc, line_length, line_of_cut, lines_of_cut_suc}
 use Rattle.text_tokens.proofs.TableLemmas.{keyword_of_none}
 use Rattle.trace_verify.specs.Laws.{IsPartedOnce}
-use Rattle.trace_verify.specs.Parting.{IsCutBehind, IsOtherLine, IsParted, IsTraceLine, IsWhole, LacksTrace, ended, trace_tokens}
+use Rattle.trace_verify.specs.Parting.{IsCutBehind, IsOtherLine, IsParted, IsPartingLine, IsWhole, LacksTrace, ended, trace_tokens}
 use Rattle.trace_verify.specs.TableFields.{Decides}
 use Rattle.unit_tree.specs.Lines.{code_of, lines_of, without_return}
 use Rattle.unit_tree.specs.Tokens.{IsName, Spells, begins_with, is_blank, is_word_byte}
@@ -101,7 +101,7 @@ word_decided code = by (same_decided (take 5 (behind_blanks code)) word) (is_dec
     by (inl is) (inr never) = inr (λ spelled. let has = word_behind code spelled in
         never (subst (λ left. list_all is_blank left ≡ true) (append_cancel_left word has.0 (drop 5 (behind_blanks code)) (sym has.1 ∙ cut is)) has.2))
 
-trace_decided : (line : List ℕ) → Decided (IsTraceLine line)
+trace_decided : (line : List ℕ) → Decided (IsPartingLine line)
 trace_decided line = word_decided (code_of (without_return line))
 
 -- ---- Lines
@@ -133,8 +133,8 @@ ended_more (one ∷ before) line =
     ap (λ rest. (one ++ 10 ∷ []) ++ rest) (ended_more before line) ∙ sym (append_assoc (one ++ 10 ∷ []) (ended before) (line ++ 10 ∷ []))
 
 -- A line that is `trace` has bytes.
-trace_written : (line : List ℕ) → IsTraceLine line → line ≡ [] → ⊥
-trace_written line is none = no (word_behind [] (subst IsTraceLine none is))
+trace_written : (line : List ℕ) → IsPartingLine line → line ≡ [] → ⊥
+trace_written line is none = no (word_behind [] (subst IsPartingLine none is))
   where
     no : HasWord [] → ⊥
     no (rest, cut, blank) = cc cut
@@ -153,7 +153,7 @@ lines_parted input front table is =
 
 -- ---- Not both, and only one
 
-no_trace : (before : List (List ℕ)) (line : List ℕ) (rest : List (List ℕ)) → AllByRecursion IsOtherLine (before ++ (line ∷ rest)) → IsTraceLine line → ⊥
+no_trace : (before : List (List ℕ)) (line : List ℕ) (rest : List (List ℕ)) → AllByRecursion IsOtherLine (before ++ (line ∷ rest)) → IsPartingLine line → ⊥
 no_trace [] line rest others is = others.0 is
 no_trace (one ∷ before) line rest others is = no_trace before line rest others.1 is
 
@@ -162,12 +162,12 @@ not_both input front table is lacks =
     no_trace is.before is.line (lines_of table) (subst (AllByRecursion IsOtherLine) (lines_parted input front table is) lacks) is.is_trace
 
 same_before : (before others : List (List ℕ)) (line one : List ℕ) (rest more : List (List ℕ)) → before ++ (line ∷ rest) ≡ others ++ (one ∷ more)
-    → AllByRecursion IsOtherLine before → AllByRecursion IsOtherLine others → IsTraceLine line → IsTraceLine one → (before ≡ others) × (line ≡ one)
+    → AllByRecursion IsOtherLine before → AllByRecursion IsOtherLine others → IsPartingLine line → IsPartingLine one → (before ≡ others) × (line ≡ one)
 same_before [] [] line one rest more is first also trace too = (refl, same_first line one rest more is)
 same_before [] (other ∷ others) line one rest more is first also trace too =
-    absurd (also.0 (subst IsTraceLine (same_first line other rest (others ++ (one ∷ more)) is) trace))
+    absurd (also.0 (subst IsPartingLine (same_first line other rest (others ++ (one ∷ more)) is) trace))
 same_before (other ∷ before) [] line one rest more is first also trace too =
-    absurd (first.0 (subst IsTraceLine (sym (same_first other one (before ++ (line ∷ rest)) more is)) too))
+    absurd (first.0 (subst IsPartingLine (sym (same_first other one (before ++ (line ∷ rest)) more is)) too))
 same_before (head ∷ before) (other ∷ others) line one rest more is first also trace too =
     let later = same_before before others line one rest more (same_rest head other (before ++ (line ∷ rest)) (others ++ (one ∷ more)) is) first.1 also.1 trace too in
     (ap₂ (λ bytes lines. bytes ∷ lines) (same_first head other (before ++ (line ∷ rest)) (others ++ (one ∷ more)) is) later.0, later.1)
@@ -213,7 +213,7 @@ all_left : (input rest : List ℕ) (before : List (List ℕ)) → 0 < length res
 all_left input rest before written (inl none) = absurd (omega (arith, ap length none))
 all_left input rest before written (inr cut) = cut
 
-pub passed_more : (input rest line behind : List ℕ) → IsPassed input rest → IsNextLine rest line behind → (IsTraceLine line → ⊥) → IsPassed input behind
+pub passed_more : (input rest line behind : List ℕ) → IsPassed input rest → IsNextLine rest line behind → (IsPartingLine line → ⊥) → IsPassed input behind
 passed_more input rest line behind passed next other = record {
   before = passed.before ++ (line ∷ []);
   lines = passed.lines ∙ ap (λ lines. passed.before ++ lines) next.lines ∙ sym (append_assoc passed.before (line ∷ []) (lines_of behind));
@@ -233,7 +233,7 @@ passed_more input rest line behind passed next other = record {
         ∙ ap (λ front. front ++ behind) (sym (ended_more passed.before line)))
 
 -- The front and the table, where the next line is `trace`.
-pub parted_here : (input rest line behind : List ℕ) (passed : IsPassed input rest) → IsNextLine rest line behind → IsTraceLine line
+pub parted_here : (input rest line behind : List ℕ) (passed : IsPassed input rest) → IsNextLine rest line behind → IsPartingLine line
     → IsParted input (ended passed.before) behind
 parted_here input rest line behind passed next is = record {
   before = passed.before;
@@ -247,7 +247,7 @@ parted_here input rest line behind passed next is = record {
   is_first = passed.others;
 }
 
-pub front_taken : (input rest line behind : List ℕ) → IsPassed input rest → IsNextLine rest line behind → IsTraceLine line
+pub front_taken : (input rest line behind : List ℕ) → IsPassed input rest → IsNextLine rest line behind → IsPartingLine line
     → IsParted input (take (length input - length rest) input) behind
 front_taken input rest line behind passed next is =
     let whole = all_left input rest passed.before next.written passed.cut in
@@ -295,7 +295,7 @@ shorter rest line behind next = by next.cut
     by (inr last) = omega (arith, next.written, ap length last.1)
 
 -- with what the next line is, and the lines behind it
-next_answered : (input rest line behind : List ℕ) (passed : IsPassed input rest) → IsNextLine rest line behind → Decided (IsTraceLine line)
+next_answered : (input rest line behind : List ℕ) (passed : IsPassed input rest) → IsNextLine rest line behind → Decided (IsPartingLine line)
     → (IsPassed input behind → Answer input) → Answer input
 next_answered input rest line behind passed next (inl is) later = inl (ended passed.before, behind, parted_here input rest line behind passed next is)
 next_answered input rest line behind passed next (inr other) later = later (passed_more input rest line behind passed next other)

@@ -11,11 +11,11 @@ abbrev pub trace_tokens : List Token
 trace_tokens = token.Name (codes "trace") ∷ []
 
 -- The line, without its LF, holds this one word. Blanks, a comment and a CR at its end are as on any line of a text.
-abbrev pub IsTraceLine : List ℕ → Type 0
-IsTraceLine line = Spells trace_tokens (code_of (without_return line))
+abbrev pub IsPartingLine : List ℕ → Type 0
+IsPartingLine line = Spells trace_tokens (code_of (without_return line))
 
 abbrev pub IsOtherLine : List ℕ → Type 0
-IsOtherLine line = IsTraceLine line → ⊥
+IsOtherLine line = IsPartingLine line → ⊥
 
 -- No end stands in the line.
 abbrev pub IsWhole : List ℕ → Type 0
@@ -38,7 +38,7 @@ pub record IsParted (input front table : List ℕ) : Type 0 where
   pub cut : input ≡ front ++ behind
   pub cut_behind : IsCutBehind behind line table
   pub whole : AllByRecursion IsWhole before × IsWhole line
-  pub is_trace : IsTraceLine line
+  pub is_trace : IsPartingLine line
   pub is_first : AllByRecursion IsOtherLine before
 
 -- No line of the input is `trace`.

@@ -2,7 +2,7 @@
 ghost use Rattle.std.specs.Prelude.{◌≡◌, ◌≤◌, ◌==◌, not, ℕ, List, ◌++◌, length, drop, codes};
 ghost use Rattle.std.specs.List.{list_all, prefix_len};
 ghost use Rattle.std.specs.Option.{MatchOption};
-ghost use Rattle.trace_verify.specs.Parting.{IsParted, IsTraceLine, LacksTrace, trace_tokens};
+ghost use Rattle.trace_verify.specs.Parting.{IsParted, IsPartingLine, LacksTrace, trace_tokens};
 ghost use Rattle.trace_verify.specs.TableFields.{Decides};
 ghost use Rattle.unit_tree.specs.Lines.{code_of};
 ghost use Rattle.unit_tree.specs.Tokens.{Spells, is_blank};
@@ -86,8 +86,8 @@ fn is_word(code: &[u8]) -> bool
 }
 
 /// Whether a line without its line feed is `trace`.
-fn is_trace_line(line: &[u8]) -> bool
-    ensures { Decides result (IsTraceLine line.now) }
+fn is_parting_line(line: &[u8]) -> bool
+    ensures { Decides result (IsPartingLine line.now) }
 {
     is_word(code(without_return(line)))
 }
@@ -102,7 +102,7 @@ pub fn part(input: &[u8]) -> Option<Parted<'_>>
     let mut rest = input;
     while !rest.is_empty() {
         let (line, table) = cut_line(rest);
-        if is_trace_line(line) {
+        if is_parting_line(line) {
             let (front, _) = input.split_at(input.len() - rest.len());
             return Some(Parted { front, table });
         }

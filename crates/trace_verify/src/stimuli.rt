@@ -72,6 +72,8 @@ fn system_of(alloc: Global, names: &[Name], moments: &[Moment]) -> Result<System
 /// # Errors
 ///
 /// [`TableFault::Form`] exactly where the table is not of this form. Want of memory is a free answer.
+// It stands by itself, since a caller that prints the system needs no room for a reader of records then.
+#[inline(never)]
 pub fn stimulus(alloc: Global, table: &[u8]) -> Result<System, TableFault>
     ensures { MakesSystem (records_of table.now) result }
 {

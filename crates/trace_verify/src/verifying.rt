@@ -15,6 +15,8 @@ use trace_core::Plan;
 /// The plan is run in the calling thread, row by row, up to the first difference. One row and one record are kept.
 ///
 /// The one error is want of memory.
+// It stands by itself, so that the room for a reader of records is not on the stack of a caller that reads a text before.
+#[inline(never)]
 pub fn verify(alloc: Global, plan: Arc<Plan>, table: &[u8]) -> Result<Verdict, NoMemory>
     ensures { IfOk result (IsVerdictOn plan.value.system table.now) }
 {

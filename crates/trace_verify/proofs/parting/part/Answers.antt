@@ -1,5 +1,5 @@
 use Rattle.std.proofs.Common.{arith, subst}
-use Rattle.trace_verify.specs.Parting.{IsTraceLine}
+use Rattle.trace_verify.specs.Parting.{IsPartingLine}
 use Rattle.trace_verify.specs.TableFields.{Decides}
 use Rattle.trace_verify.proofs.PartingLaws.{passed_more}
 use Rattle.trace_verify.proofs.parting.part.Goals as goal
@@ -13,4 +13,4 @@ loop-rest-preserved c =
       whole = c.cut_line.ensures.one_line;
       cut = c.cut_line.ensures.behind;
     })
-    (subst (λ told. Decides told (IsTraceLine c.cut_line.result.0.now)) c.if-is_trace_line.false c.is_trace_line.ensures)
+    (subst (λ told. Decides told (IsPartingLine c.cut_line.result.0.now)) c.if-is_parting_line.false c.is_parting_line.ensures)

@@ -3,7 +3,7 @@ use Rattle.trace_verify.specs.Parting.{trace_tokens}
 use Rattle.trace_verify.specs.TableFields.{Decides}
 use Rattle.unit_tree.specs.Lines.{code_of}
 use Rattle.unit_tree.specs.Tokens.{Spells}
-use Rattle.trace_verify.proofs.parting.is_trace_line.Goals as goal
+use Rattle.trace_verify.proofs.parting.is_parting_line.Goals as goal
 
 pub returns : goal.returns
 returns c =
