@@ -1,0 +1,7 @@
+pub mod FlatLaws
+pub mod JudgeLaws
+pub mod JudgedOnce
+pub mod NestingLaws
+pub mod PutLaws
+pub mod SearchLaws
+pub mod TableLaws

@@ -1,0 +1,6 @@
+use Rattle.std.proofs.Common.{◌≡◌, ◌++◌, drop, map}
+use Rattle.sub_flat.specs.Flattening.{flat_sample, top}
+use Rattle.sub_flat.proofs.flat.flat_samples.Given as goal
+
+abbrev pub invariant-loop-sample : goal.invariant-loop-sample
+invariant-loop-sample l = l.made ++ map (flat_sample l.names) (drop l.sample-index l.samples) ≡ map (flat_sample l.names) l.samples

@@ -1,0 +1,4 @@
+use Rattle.sub_flat.proofs.scope.+reach.Given as goal
+
+abbrev pub decreases-reach : goal.decreases-reach
+decreases-reach l = l.depth

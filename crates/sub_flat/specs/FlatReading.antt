@@ -1,0 +1,111 @@
+-- How flattening goes about it: early ends, and answers.
+use Rattle.std.specs.Prelude.{◌≡◌, ◌⊎◌, ◌≤◌, ◌<◌, ℕ, zero, suc, ◌+◌, Bool, true, nat_lt, IsTrue, List, [], ◌∷◌, ◌++◌, length, Option, Some, None, Result, Ok, Err, ⊤}
+use Rattle.std.specs.Option.{option_map, unwrap_or}
+use Rattle.unit_tree.specs.Printable.{IsPrintable}
+use Rattle.unit_tree.specs.declared.system.Instance.{Instance}
+use Rattle.unit_tree.specs.declared.system.System.{System}
+use Rattle.unit_tree.specs.declared.system.Wire.{Wire}
+use Rattle.sub_flat.specs.Flattening.{flat_of, flat_port, flat_wires, leaves, named_in, scope_of}
+use Rattle.sub_flat.specs.GroupTests.{main_misses_port}
+use Rattle.sub_flat.specs.NestRules.{AtGroup, BreaksNest, IsRefusedNest, IsTooLarge}
+use Rattle.nest_text.specs.declared.fault.NestFault.{NestFault}
+use Rattle.nest_text.specs.declared.fault.NestFault.TheVariants as fault
+use Rattle.sub_flat.specs.declared.fault.Unflat.{Unflat}
+use Rattle.sub_flat.specs.declared.fault.Unflat.TheVariants as unflat
+use Rattle.sub_flat.specs.declared.scope.Scope.{Scope}
+use Rattle.sub_flat.specs.declared.scope.Spot.{Spot}
+use Rattle.sub_flat.specs.declared.judge.GroupRule.{GroupRule}
+use Rattle.sub_flat.specs.declared.judge.GroupRule.TheVariants as rules
+use Rattle.nest_text.specs.declared.nest.Nest.{Nest}
+
+-- More are put behind what was there, which stay within a limit; or there are too many.
+abbrev pub PutsOver : {A : Type 0} → ℕ → List A → List A → Unflat → Type 0
+PutsOver limit old more unflat.TooLarge = limit < length old + length more
+PutsOver limit old more unflat.NoMemory = ⊤
+
+abbrev pub PutsWithin : {A X : Type 0} → ℕ → List A → List A → List A → Result X Unflat → Type 0
+PutsWithin limit old new more (Ok done) = (new ≡ old ++ more) × (length new ≤ limit)
+PutsWithin limit old new more (Err why) = PutsOver limit old more why
+
+-- A list that stays within a limit, or that it is longer.
+abbrev pub MadeOver : {A : Type 0} → ℕ → List A → Unflat → Type 0
+MadeOver limit all unflat.TooLarge = limit < length all
+MadeOver limit all unflat.NoMemory = ⊤
+
+abbrev pub MadeWithin : {A : Type 0} → ℕ → List A → Result (List A) Unflat → Type 0
+MadeWithin limit all (Ok made) = (made ≡ all) × (length made ≤ limit)
+MadeWithin limit all (Err why) = MadeOver limit all why
+
+-- The system, or that it isn't printable.
+abbrev pub IsKeptPrintable : System → Result System Unflat → Type 0
+IsKeptPrintable system (Ok kept) = (kept ≡ system) × IsPrintable system
+IsKeptPrintable system (Err unflat.TooLarge) = IsPrintable system → ⊥
+IsKeptPrintable system (Err unflat.NoMemory) = ⊤
+
+-- The components that an instance of a scope stands for.
+abbrev pub leaves_inside : Nest → ℕ → Scope → Instance → List Instance
+leaves_inside nest zero scope instance = named_in scope instance ∷ []
+leaves_inside nest (suc depth) scope instance =
+    unwrap_or (option_map (leaves nest depth) (scope_of nest scope instance)) (named_in scope instance ∷ [])
+
+-- The connections inside an instance of a scope.
+abbrev pub wires_inside : Nest → ℕ → Scope → Instance → List Wire
+wires_inside nest zero scope instance = []
+wires_inside nest (suc depth) scope instance = unwrap_or (option_map (flat_wires nest depth) (scope_of nest scope instance)) []
+
+abbrev pub wire_between : Spot → Spot → Wire
+wire_between from to = record { from = flat_port from; to = flat_port to }
+
+-- The flat system, or that it is too large.
+abbrev pub FlatAnswers : Nest → Result System Unflat → Type 0
+FlatAnswers nest (Ok flat) = (flat ≡ flat_of nest) × (IsTooLarge nest → ⊥)
+FlatAnswers nest (Err unflat.TooLarge) = IsTooLarge nest
+FlatAnswers nest (Err unflat.NoMemory) = ⊤
+
+-- The least line at which something holds, or that it holds at none.
+abbrev pub IsLeast : (ℕ → Type 0) → Option ℕ → Type 0
+IsLeast HoldsAt None = (line : ℕ) → HoldsAt line → ⊥
+IsLeast HoldsAt (Some line) = HoldsAt line × ((other : ℕ) → HoldsAt other → line ≤ other)
+
+abbrev pub is_less : ℕ → Option ℕ → Bool
+is_less line None = true
+is_less line (Some least) = nat_lt line least
+
+abbrev pub rule_number : GroupRule → ℕ
+rule_number rules.Names = 27
+rule_number rules.Nesting = 28
+rule_number rules.Ports = 29
+
+-- What breaks a rule holds at no line, or the least is told with the rule.
+abbrev pub RefusesLeast : (ℕ → Type 0) → ℕ → NestFault → Type 0
+RefusesLeast BreaksAt number (fault.Line line rule) = (rule ≡ number) × IsLeast BreaksAt (Some line)
+RefusesLeast BreaksAt number fault.NoMemory = ⊤
+
+abbrev pub JudgesLeast : {X : Type 0} → (ℕ → Type 0) → ℕ → Result X NestFault → Type 0
+JudgesLeast BreaksAt number (Ok kept) = IsLeast BreaksAt None
+JudgesLeast BreaksAt number (Err why) = RefusesLeast BreaksAt number why
+
+-- The refusal at a line, where there is one.
+abbrev pub Refuses : {X : Type 0} → ℕ → Option ℕ → Result X NestFault → Type 0
+Refuses number least (Ok kept) = least ≡ None
+Refuses number least (Err (fault.Line line rule)) = (rule ≡ number) × (least ≡ Some line)
+Refuses number least (Err fault.NoMemory) = ⊥
+
+-- The line of a group, or of `main`, at which a port isn't there.
+abbrev pub MissesAt : Nest → ℕ → Type 0
+MissesAt nest line = AtGroup nest rules.Ports line ⊎ (IsTrue (main_misses_port nest) × (line ≡ nest.main_line))
+
+-- The nest breaks no rule of groups, or is refused by the least.
+abbrev pub IsRefusedBy : Nest → NestFault → Type 0
+IsRefusedBy nest (fault.Line line rule) = IsRefusedNest nest line rule
+IsRefusedBy nest fault.NoMemory = ⊤
+
+abbrev pub JudgesNest : {X : Type 0} → Nest → Result X NestFault → Type 0
+JudgesNest nest (Ok kept) = (line rule : ℕ) → BreaksNest nest line rule → rule ≡ 30
+JudgesNest nest (Err why) = IsRefusedBy nest why
+
+-- The answer of flattening: the flat system of a nest that breaks no rule, or the least rule that it breaks, at the least line. Want of
+-- memory says nothing.
+abbrev pub AnswersFlat : Nest → Result System NestFault → Type 0
+AnswersFlat nest (Ok flat) = (flat ≡ flat_of nest) × ((line rule : ℕ) → BreaksNest nest line rule → ⊥)
+AnswersFlat nest (Err why) = IsRefusedBy nest why

@@ -1,0 +1,85 @@
+-- What the rules ask of groups: names, and which ports units and groups have.
+use Rattle.std.specs.Prelude.{ℕ, Bool, false, not, ◌&&◌, ◌||◌, nat_lt, List, [], ◌∷◌, map, is_none}
+use Rattle.std.specs.List.{count_by, list_any}
+use Rattle.std.specs.Option.{option_map, unwrap_or}
+use Rattle.std.specs.Str.{bytes_eq}
+use Rattle.unit_tree.specs.Names.{input_names, is_among, is_empty, output_names, unit_named}
+use Rattle.unit_tree.specs.declared.system.Instance.{Instance}
+use Rattle.unit_tree.specs.declared.system.PortName.{PortName}
+use Rattle.unit_tree.specs.declared.system.Wire.{Wire}
+use Rattle.unit_tree.specs.declared.unit.Unit.{Unit}
+use Rattle.nest_text.specs.declared.nest.Bind.{Bind}
+use Rattle.nest_text.specs.declared.nest.Group.{Group}
+use Rattle.nest_text.specs.declared.nest.Nest.{Nest}
+use Rattle.sub_flat.specs.Flattening.{group_place, instance_among, of_group}
+use Rattle.sub_flat.specs.declared.asks.Side.{Side}
+use Rattle.sub_flat.specs.declared.asks.Side.TheVariants as sides
+
+-- ---- Names
+
+-- The name stands more than once.
+abbrev pub stands_again : List (List ℕ) → List ℕ → Bool
+stands_again names name = nat_lt 1 (count_by (bytes_eq name) names)
+
+abbrev pub has_wrong_name : Nest → Group → Bool
+has_wrong_name nest group =
+    stands_again (map (λ other. other.name) nest.groups) group.name || is_among (map (λ unit. unit.name) nest.main.units) group.name
+
+abbrev pub is_misnamed : Nest → Group → Bool
+is_misnamed nest group = has_wrong_name nest group || is_empty group.instances
+
+-- ---- Ports
+
+-- Whether this unit or group has the port: of a group what its `in`, or `out`, lines name, and of a unit its inputs, or outputs,
+-- events too.
+abbrev pub has_port : Nest → (Unit → List (List ℕ)) → (Group → List Bind) → List ℕ → List ℕ → Bool
+has_port nest of_unit binds unit port =
+    unwrap_or (option_map (λ place. is_among (map (λ bind. bind.port) (of_group nest binds place)) port) (group_place nest unit))
+    (unwrap_or (option_map (λ found. is_among (of_unit found) port) (unit_named nest.main.units unit)) false)
+
+abbrev pub has_input : Nest → List ℕ → List ℕ → Bool
+has_input nest unit port = has_port nest input_names (λ group. group.ins) unit port
+
+abbrev pub has_output : Nest → List ℕ → List ℕ → Bool
+has_output nest unit port = has_port nest output_names (λ group. group.outs) unit port
+
+-- Whether the port of an instance is there, by whether its unit has it.
+abbrev pub is_there : (List ℕ → List ℕ → Bool) → List Instance → PortName → Bool
+is_there has instances port = unwrap_or (option_map (λ instance. has instance.unit port.port) (instance_among instances port.instance)) false
+
+-- An end at a group isn't there. Ends at components, and at instances that aren't there, are left to the rules of the flat system.
+abbrev pub misses_group : Nest → (List ℕ → List ℕ → Bool) → PortName → Instance → Bool
+misses_group nest has port instance = not (is_none (group_place nest instance.unit)) && not (has instance.unit port.port)
+
+abbrev pub misses : Nest → (List ℕ → List ℕ → Bool) → List Instance → PortName → Bool
+misses nest has instances port = unwrap_or (option_map (misses_group nest has port) (instance_among instances port.instance)) false
+
+abbrev pub wire_misses : Nest → List Instance → Wire → Bool
+wire_misses nest instances wire = misses nest (has_output nest) instances wire.from || misses nest (has_input nest) instances wire.to
+
+abbrev pub says_out_twice : List Bind → Bool
+says_out_twice binds = list_any (λ bind. stands_again (map (λ other. other.port) binds) bind.port) binds
+
+abbrev pub misbinds : (List ℕ → List ℕ → Bool) → List Instance → Bind → Bool
+misbinds has instances bind = not (is_there has instances bind.inner)
+
+abbrev pub misses_port : Nest → Group → Bool
+misses_port nest group =
+    list_any (misbinds (has_input nest) group.instances) group.ins
+    || (list_any (misbinds (has_output nest) group.instances) group.outs
+    || (list_any (wire_misses nest group.instances) group.wires || says_out_twice group.outs))
+
+abbrev pub sets_group : Nest → Instance → Bool
+sets_group nest instance = not (is_none (group_place nest instance.unit)) && not (is_empty instance.settings)
+
+abbrev pub main_misses_port : Nest → Bool
+main_misses_port nest =
+    list_any (wire_misses nest nest.main.instances) nest.main.wires
+    || (list_any (misses nest (has_output nest) nest.main.instances) nest.main.samples || list_any (sets_group nest) nest.main.instances)
+
+-- ---- How it is asked
+
+-- Inputs or outputs that a unit or group has.
+abbrev pub has_side : Nest → Side → List ℕ → List ℕ → Bool
+has_side nest sides.Input = has_input nest
+has_side nest sides.Output = has_output nest

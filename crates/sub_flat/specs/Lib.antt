@@ -1,0 +1,8 @@
+pub mod Cycles
+pub mod FlatReading
+pub mod Flattening
+pub mod GroupTests
+pub mod Laws
+pub mod NestRules
+pub mod Searching
+pub mod Tables

@@ -1,0 +1,316 @@
+//! The flat system of a nest, up to what it may have.
+ghost use Rattle.std.specs.Prelude.{◌≡◌, ◌∷◌, ◌++◌, [], ◌≤◌, length, map, IfOk, OnOk};
+ghost use Rattle.std.specs.List.{flat_map};
+ghost use Rattle.sub_flat.specs.FlatReading.{FlatAnswers, IsKeptPrintable, MadeWithin, PutsWithin, leaves_inside, wire_between, wires_inside};
+ghost use Rattle.sub_flat.specs.Flattening.{flat_port, flat_sample, flat_wire, flat_wires, follow, leaves, levels, named_in, reach, top, wires_of};
+
+use crate::fault::Unflat;
+use crate::names::NestNames;
+use crate::scope::{Scope, Spot, flat_name, flat_port, follow, inside, reach, spot_of};
+use fixed_words::{List, NoMemory};
+use std::alloc::Global;
+use std::mem::replace;
+use unit_plain::copy_system;
+use unit_print::is_printable;
+use unit_tree::{Instance, Name, PortName, Setting, System, Wire};
+
+/// How many scopes stand in each other at most.
+const LEVELS: usize = 33;
+
+/// The most instances of a system.
+const MOST_INSTANCES: usize = 64;
+
+/// The most connections of a system.
+const MOST_WIRES: usize = 2048;
+
+fn copied(alloc: Global, name: &Name) -> Result<Name, NoMemory>
+    ensures { IfOk result (λ made. made ≡ name.now) }
+{
+    Ok(List::from_slice(alloc, name.as_slice())?)
+}
+
+fn copied_settings(alloc: Global, settings: &[Setting]) -> Result<List<Setting>, NoMemory>
+    ensures { IfOk result (λ made. made ≡ settings.now) }
+{
+    let mut made = List::new(alloc);
+    for setting in settings {
+        made.push(Setting {
+            name: copied(alloc, &setting.name)?,
+            value: setting.value,
+        })?;
+    }
+    Ok(made)
+}
+
+/// An instance of a scope, as one of the flat system.
+fn named_in(alloc: Global, scope: &Scope, instance: &Instance) -> Result<Instance, NoMemory>
+    ensures { IfOk result (λ made. made ≡ named_in scope.now instance.now) }
+{
+    let name = flat_name(alloc, scope, &instance.name)?;
+    let unit = copied(alloc, &instance.unit)?;
+    let settings = copied_settings(alloc, instance.settings.as_slice())?;
+    Ok(Instance {
+        name,
+        unit,
+        settings,
+    })
+}
+
+/// Puts one instance more, where there is room.
+fn put_instance(
+    alloc: Global,
+    scope: &Scope,
+    instance: &Instance,
+    instances: &mut List<Instance>,
+) -> Result<(), Unflat>
+    requires { length instances.old ≤ 64 }
+    ensures { PutsWithin 64 instances.old instances.new (named_in scope.now instance.now ∷ []) result }
+{
+    if instances.len() >= MOST_INSTANCES {
+        return Err(Unflat::TooLarge);
+    }
+    instances.push(named_in(alloc, scope, instance)?)?;
+    Ok(())
+}
+
+/// Puts the components that an instance of a scope stands for behind others.
+#[cycle(leaves)]
+fn put_inside(
+    alloc: Global,
+    names: &NestNames<'_>,
+    depth: usize,
+    scope: &Scope,
+    instance: &Instance,
+    instances: &mut List<Instance>,
+) -> Result<(), Unflat>
+    requires { length instances.old ≤ 64 }
+    ensures { PutsWithin 64 instances.old instances.new (leaves_inside names.now depth scope.now instance.now) result }
+{
+    if depth == 0 {
+        return put_instance(alloc, scope, instance, instances);
+    }
+    let Some(place) = names.group_place(instance.unit.as_slice()) else {
+        return put_instance(alloc, scope, instance, instances);
+    };
+    let scope = inside(alloc, scope, &instance.name, place)?;
+    put_leaves(alloc, names, depth - 1, &scope, instances)
+}
+
+/// Puts the components in a scope behind others.
+#[cycle(leaves)]
+fn put_leaves(
+    alloc: Global,
+    names: &NestNames<'_>,
+    depth: usize,
+    scope: &Scope,
+    instances: &mut List<Instance>,
+) -> Result<(), Unflat>
+    requires { length instances.old ≤ 64 }
+    ensures { PutsWithin 64 instances.old instances.new (leaves names.now depth scope.now) result }
+{
+    for instance in names.instances(scope.group) {
+        put_inside(alloc, names, depth, scope, instance, instances)?;
+    }
+    Ok(())
+}
+
+/// Puts connections from one port to others behind those that are there.
+fn put_to(alloc: Global, from: &Spot, to: &[Spot], wires: &mut List<Wire>) -> Result<(), Unflat>
+    requires { length wires.old ≤ 2048 }
+    ensures { PutsWithin 2048 wires.old wires.new (map (wire_between from.now) to.now) result }
+{
+    for one in to {
+        if wires.len() >= MOST_WIRES {
+            return Err(Unflat::TooLarge);
+        }
+        let from = flat_port(alloc, from)?;
+        let to = flat_port(alloc, one)?;
+        wires.push(Wire { from, to })?;
+    }
+    Ok(())
+}
+
+/// The inputs of components that an input of a scope reaches.
+fn reached(
+    alloc: Global,
+    names: &NestNames<'_>,
+    scope: &Scope,
+    to: &PortName,
+) -> Result<List<Spot>, NoMemory>
+    ensures { IfOk result (λ made. made ≡ reach names.now levels (record { scope = scope.now; port = to.now } ∷ [])) }
+{
+    let mut spots = List::new(alloc);
+    spots.push(spot_of(alloc, scope, to)?)?;
+    reach(alloc, names, LEVELS, spots)
+}
+
+/// Puts what a connection of a scope becomes behind others.
+fn put_flat_wire(
+    alloc: Global,
+    names: &NestNames<'_>,
+    scope: &Scope,
+    wire: &Wire,
+    wires: &mut List<Wire>,
+) -> Result<(), Unflat>
+    requires { length wires.old ≤ 2048 }
+    ensures { PutsWithin 2048 wires.old wires.new (flat_wire names.now scope.now wire.now) result }
+{
+    let from = spot_of(alloc, scope, &wire.from)?;
+    let from = follow(alloc, names, LEVELS, from)?;
+    let to = reached(alloc, names, scope, &wire.to)?;
+    put_to(alloc, &from, to.as_slice(), wires)
+}
+
+/// Puts what the connections of a scope become behind others.
+fn put_own_wires(
+    alloc: Global,
+    names: &NestNames<'_>,
+    scope: &Scope,
+    wires: &mut List<Wire>,
+) -> Result<(), Unflat>
+    requires { length wires.old ≤ 2048 }
+    ensures { PutsWithin 2048 wires.old wires.new (flat_map (flat_wire names.now scope.now) (wires_of names.now scope.now.group)) result }
+{
+    for wire in names.wires(scope.group) {
+        put_flat_wire(alloc, names, scope, wire, wires)?;
+    }
+    Ok(())
+}
+
+/// Puts the connections inside an instance of a scope behind others.
+#[cycle(wires)]
+fn put_wires_inside(
+    alloc: Global,
+    names: &NestNames<'_>,
+    depth: usize,
+    scope: &Scope,
+    instance: &Instance,
+    wires: &mut List<Wire>,
+) -> Result<(), Unflat>
+    requires { length wires.old ≤ 2048 }
+    ensures { PutsWithin 2048 wires.old wires.new (wires_inside names.now depth scope.now instance.now) result }
+{
+    if depth == 0 {
+        return Ok(());
+    }
+    let Some(place) = names.group_place(instance.unit.as_slice()) else {
+        return Ok(());
+    };
+    let scope = inside(alloc, scope, &instance.name, place)?;
+    put_wires(alloc, names, depth - 1, &scope, wires)
+}
+
+/// Puts the connections in a scope behind others.
+#[cycle(wires)]
+fn put_wires(
+    alloc: Global,
+    names: &NestNames<'_>,
+    depth: usize,
+    scope: &Scope,
+    wires: &mut List<Wire>,
+) -> Result<(), Unflat>
+    requires { length wires.old ≤ 2048 }
+    ensures { PutsWithin 2048 wires.old wires.new (flat_wires names.now depth scope.now) result }
+{
+    put_own_wires(alloc, names, scope, wires)?;
+    for instance in names.instances(scope.group) {
+        put_wires_inside(alloc, names, depth, scope, instance, wires)?;
+    }
+    Ok(())
+}
+
+/// A sample of `main`, as a port of a component.
+fn flat_sample(
+    alloc: Global,
+    names: &NestNames<'_>,
+    scope: &Scope,
+    sample: &PortName,
+) -> Result<PortName, NoMemory>
+    ensures { IfOk result (λ made. made ≡ flat_port (follow names.now levels (record { scope = scope.now; port = sample.now }))) }
+{
+    let spot = spot_of(alloc, scope, sample)?;
+    let spot = follow(alloc, names, LEVELS, spot)?;
+    flat_port(alloc, &spot)
+}
+
+/// The samples of `main`, as ports of components.
+fn flat_samples(
+    alloc: Global,
+    names: &NestNames<'_>,
+    samples: &[PortName],
+) -> Result<List<PortName>, NoMemory>
+    ensures { IfOk result (λ made. made ≡ map (flat_sample names.now) samples.now) }
+{
+    let scope = top(alloc);
+    let mut made = List::new(alloc);
+    for sample in samples {
+        made.push(flat_sample(alloc, names, &scope, sample)?)?;
+    }
+    Ok(made)
+}
+
+/// The scope of `main`.
+fn top(alloc: Global) -> Scope
+    ensures { result ≡ top }
+{
+    Scope {
+        prefix: List::new(alloc),
+        group: None,
+    }
+}
+
+fn flat_instances(alloc: Global, names: &NestNames<'_>) -> Result<List<Instance>, Unflat>
+    ensures { MadeWithin 64 (leaves names.now levels top) result }
+{
+    let mut instances = List::new(alloc);
+    put_leaves(alloc, names, LEVELS, &top(alloc), &mut instances)?;
+    Ok(instances)
+}
+
+fn all_flat_wires(alloc: Global, names: &NestNames<'_>) -> Result<List<Wire>, Unflat>
+    ensures { MadeWithin 2048 (flat_wires names.now levels top) result }
+{
+    let mut wires = List::new(alloc);
+    put_wires(alloc, names, LEVELS, &top(alloc), &mut wires)?;
+    Ok(wires)
+}
+
+/// A system with other instances, connections and samples.
+fn with_parts(
+    alloc: Global,
+    main: &System,
+    instances: List<Instance>,
+    wires: List<Wire>,
+    samples: List<PortName>,
+) -> Result<System, NoMemory>
+    ensures { IfOk result (λ made. made ≡ record main.now { instances = instances; wires = wires; samples = samples }) }
+{
+    let mut made = copy_system(alloc, main)?;
+    drop(replace(&mut made.instances, instances));
+    drop(replace(&mut made.wires, wires));
+    drop(replace(&mut made.samples, samples));
+    Ok(made)
+}
+
+/// The system, where it is printable.
+fn if_printable(alloc: Global, system: System) -> Result<System, Unflat>
+    ensures { IsKeptPrintable system result }
+{
+    if is_printable(alloc, &system)? {
+        return Ok(system);
+    }
+    drop(system);
+    Err(Unflat::TooLarge)
+}
+
+/// The flat system of a nest.
+pub(crate) fn flat_system(alloc: Global, names: &NestNames<'_>) -> Result<System, Unflat>
+    ensures { FlatAnswers names.now result }
+{
+    let instances = flat_instances(alloc, names)?;
+    let wires = all_flat_wires(alloc, names)?;
+    let main = &names.nest().main;
+    let samples = flat_samples(alloc, names, main.samples.as_slice())?;
+    let flat = with_parts(alloc, main, instances, wires, samples)?;
+    if_printable(alloc, flat)
+}

@@ -1,0 +1,247 @@
+//! Scopes of a nest, and ports that are followed from scope to scope.
+ghost use Rattle.std.specs.Prelude.{◌≡◌, ◌∷◌, [], ◌++◌, IfOk, OnOk, bytes_eq, find};
+ghost use Rattle.std.specs.Option.{option_map};
+ghost use Rattle.std.specs.List.{flat_map, list_all, list_any};
+ghost use Rattle.sub_flat.specs.Flattening.{distinct, expand, flat_port, follow, inside, is_component, reach, same_group, same_spot, spot_in, step_down};
+ghost use Rattle.unit_tree.specs.Names.{same_port};
+
+use crate::names::NestNames;
+use fixed_words::{List, NoMemory};
+use nest_text::Bind;
+use std::alloc::Global;
+use unit_tree::{Name, PortName};
+
+/// Where an instance stands: in `main`, or in an instance of a group.
+#[derive(Debug, Drop)]
+pub struct Scope {
+    /// The names of the instances around it, each with a `_` behind it.
+    pub prefix: Name,
+    /// The place of the group; none in `main`.
+    pub group: Option<usize>,
+}
+
+/// A port of an instance that stands in a scope.
+#[derive(Debug, Drop)]
+pub struct Spot {
+    pub scope: Scope,
+    pub port: PortName,
+}
+
+/// Bytes behind others.
+fn joined(alloc: Global, front: &[u8], behind: &[u8]) -> Result<Name, NoMemory>
+    ensures { IfOk result (λ made. made ≡ front.now ++ behind.now) }
+{
+    let mut bytes = Vec::from_slice(alloc, front)?;
+    bytes.extend_from_slice(behind)?;
+    Ok(List::from_vec(bytes))
+}
+
+/// A name in a scope, as a name of the flat system.
+pub(crate) fn flat_name(alloc: Global, scope: &Scope, name: &Name) -> Result<Name, NoMemory>
+    ensures { IfOk result (λ made. made ≡ scope.now.prefix ++ name.now) }
+{
+    joined(alloc, scope.prefix.as_slice(), name.as_slice())
+}
+
+fn copied_name(alloc: Global, name: &Name) -> Result<Name, NoMemory>
+    ensures { IfOk result (λ made. made ≡ name.now) }
+{
+    Ok(List::from_slice(alloc, name.as_slice())?)
+}
+
+fn copied_port(alloc: Global, port: &PortName) -> Result<PortName, NoMemory>
+    ensures { IfOk result (λ made. made ≡ port.now) }
+{
+    let instance = copied_name(alloc, &port.instance)?;
+    let port = copied_name(alloc, &port.port)?;
+    Ok(PortName { instance, port })
+}
+
+fn copied_scope(alloc: Global, scope: &Scope) -> Result<Scope, NoMemory>
+    ensures { IfOk result (λ made. made ≡ scope.now) }
+{
+    Ok(Scope {
+        prefix: copied_name(alloc, &scope.prefix)?,
+        group: scope.group,
+    })
+}
+
+/// A port in a scope.
+pub(crate) fn spot_of(alloc: Global, scope: &Scope, port: &PortName) -> Result<Spot, NoMemory>
+    ensures { IfOk result (λ made. made ≡ record { scope = scope.now; port = port.now }) }
+{
+    let scope = copied_scope(alloc, scope)?;
+    let port = copied_port(alloc, port)?;
+    Ok(Spot { scope, port })
+}
+
+/// The scope inside an instance of the group at a place.
+pub(crate) fn inside(
+    alloc: Global,
+    scope: &Scope,
+    name: &Name,
+    place: usize,
+) -> Result<Scope, NoMemory>
+    ensures { IfOk result (λ made. made ≡ inside scope.now name.now place) }
+{
+    let mut bytes = Vec::from_slice(alloc, scope.prefix.as_slice())?;
+    bytes.extend_from_slice(name.as_slice())?;
+    bytes.push(b'_')?;
+    Ok(Scope {
+        prefix: List::from_vec(bytes),
+        group: Some(place),
+    })
+}
+
+/// A port in a scope, as a port of the flat system.
+pub(crate) fn flat_port(alloc: Global, spot: &Spot) -> Result<PortName, NoMemory>
+    ensures { IfOk result (λ made. made ≡ flat_port spot.now) }
+{
+    let instance = flat_name(alloc, &spot.scope, &spot.port.instance)?;
+    let port = copied_name(alloc, &spot.port.port)?;
+    Ok(PortName { instance, port })
+}
+
+/// An output of a group, one level down.
+fn step_down(alloc: Global, names: &NestNames<'_>, from: &Spot) -> Result<Option<Spot>, NoMemory>
+    ensures { IfOk result (λ made. made ≡ step_down names.now from.now) }
+{
+    let Some(place) = names.place_at(from.scope.group, from.port.instance.as_slice()) else {
+        return Ok(None);
+    };
+    let Some(bind) = names.out_named(place, from.port.port.as_slice()) else {
+        return Ok(None);
+    };
+    let scope = inside(alloc, &from.scope, &from.port.instance, place)?;
+    let port = copied_port(alloc, &bind.inner)?;
+    Ok(Some(Spot { scope, port }))
+}
+
+/// An output, followed down the `out` lines to a component's, by so many levels at most.
+pub(crate) fn follow(
+    alloc: Global,
+    names: &NestNames<'_>,
+    depth: usize,
+    from: Spot,
+) -> Result<Spot, NoMemory>
+    ensures { IfOk result (λ made. made ≡ follow names.now depth from) }
+{
+    if depth == 0 {
+        return Ok(from);
+    }
+    match step_down(alloc, names, &from)? {
+        Some(next) => {
+            drop(from);
+            follow(alloc, names, depth - 1, next)
+        }
+        None => Ok(from),
+    }
+}
+
+fn is_component(names: &NestNames<'_>, spot: &Spot) -> bool
+    ensures { result ≡ is_component names.now spot.now }
+{
+    names
+        .place_at(spot.scope.group, spot.port.instance.as_slice())
+        .is_none()
+}
+
+fn are_components(names: &NestNames<'_>, spots: &[Spot]) -> bool
+    ensures { result ≡ list_all (is_component names.now) spots.now }
+{
+    spots.iter().all(|spot| is_component(names, spot))
+}
+
+/// Puts what an input leads to behind others.
+fn put_expanded(
+    alloc: Global,
+    names: &NestNames<'_>,
+    from: &Spot,
+    spots: &mut List<Spot>,
+) -> Result<(), NoMemory>
+    ensures { OnOk result (spots.new ≡ spots.old ++ expand names.now from.now) }
+{
+    let Some(place) = names.place_at(from.scope.group, from.port.instance.as_slice()) else {
+        spots.push(spot_of(alloc, &from.scope, &from.port)?)?;
+        return Ok(());
+    };
+    let scope = inside(alloc, &from.scope, &from.port.instance, place)?;
+    for bind in names.ins(place) {
+        if bind.port.as_slice() == from.port.port.as_slice() {
+            spots.push(spot_of(alloc, &scope, &bind.inner)?)?;
+        }
+    }
+    Ok(())
+}
+
+fn same_group(one: Option<usize>, other: Option<usize>) -> bool
+    ensures { result ≡ same_group one other }
+{
+    match (one, other) {
+        (None, None) => true,
+        (Some(one), Some(other)) => one == other,
+        _ => false,
+    }
+}
+
+fn same_port(one: &PortName, other: &PortName) -> bool
+    ensures { result ≡ same_port one.now other.now }
+{
+    one.instance.as_slice() == other.instance.as_slice()
+        && one.port.as_slice() == other.port.as_slice()
+}
+
+fn same_spot(one: &Spot, other: &Spot) -> bool
+    ensures { result ≡ same_spot one.now other.now }
+{
+    one.scope.prefix.as_slice() == other.scope.prefix.as_slice()
+        && same_group(one.scope.group, other.scope.group)
+        && same_port(&one.port, &other.port)
+}
+
+fn is_kept(spot: &Spot, kept: &[Spot]) -> bool
+    ensures { result ≡ list_any (same_spot spot.now) kept.now }
+{
+    kept.iter().any(|other| same_spot(spot, other))
+}
+
+/// Each port once, at its first place.
+fn distinct(alloc: Global, spots: &[Spot]) -> Result<List<Spot>, NoMemory>
+    ensures { IfOk result (λ kept. kept ≡ distinct [] spots.now) }
+{
+    let mut kept = List::new(alloc);
+    for one in spots {
+        if !is_kept(one, kept.as_slice()) {
+            kept.push(spot_of(alloc, &one.scope, &one.port)?)?;
+        }
+    }
+    Ok(kept)
+}
+
+/// What inputs lead to, each port once.
+fn one_level(alloc: Global, names: &NestNames<'_>, spots: &[Spot]) -> Result<List<Spot>, NoMemory>
+    ensures { IfOk result (λ made. made ≡ distinct [] (flat_map (expand names.now) spots.now)) }
+{
+    let mut expanded = List::new(alloc);
+    for spot in spots {
+        put_expanded(alloc, names, spot, &mut expanded)?;
+    }
+    distinct(alloc, expanded.as_slice())
+}
+
+/// The inputs of components that inputs reach, by so many levels at most.
+pub(crate) fn reach(
+    alloc: Global,
+    names: &NestNames<'_>,
+    depth: usize,
+    spots: List<Spot>,
+) -> Result<List<Spot>, NoMemory>
+    ensures { IfOk result (λ made. made ≡ reach names.now depth spots) }
+{
+    if depth == 0 || are_components(names, spots.as_slice()) {
+        return Ok(spots);
+    }
+    let next = one_level(alloc, names, spots.as_slice())?;
+    drop(spots);
+    reach(alloc, names, depth - 1, next)
+}
