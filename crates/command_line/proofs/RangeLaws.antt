@@ -8,7 +8,7 @@ use Rattle.command_line.specs.Commands.{KeepsRanges, command_of, command_with, g
 use Rattle.command_line.specs.Generations.{CanGive, asked_by}
 use Rattle.command_line.specs.Options.{◌>>=◌, given_by, is_given_none}
 use Rattle.command_line.specs.Ranges.{required_within, within}
-use Rattle.command_line.specs.declared.commands.Command.TheVariants.{Run, Check, Print, Upgrade, Replay, Gen, Bench, Save, Resume, Verify, Stimulus}
+use Rattle.command_line.specs.declared.commands.Command.TheVariants.{Run, Check, Print, Upgrade, Replay, Gen, Bench, Save, Resume, Verify, Stimulus, Flatten}
 use Rattle.command_line.specs.declared.options.Given.{Given}
 
 -- ---- What holds of a value, where there is one
@@ -89,7 +89,8 @@ row_kept word given =
     (either KeepsRanges (bytes_eq word (codes "resume")) _ _ (without_kept KeepsRanges Resume given tt)
     (either KeepsRanges (bytes_eq word (codes "verify")) _ _ (without_kept KeepsRanges Verify given tt)
     (either KeepsRanges (bytes_eq word (codes "stimulus")) _ _ (without_kept KeepsRanges Stimulus given tt)
-    tt))))))))))
+    (either KeepsRanges (bytes_eq word (codes "flatten")) _ _ (without_kept KeepsRanges Flatten given tt)
+    tt)))))))))))
 
 pub ranges_kept : (words : List (List ℕ)) → IfSome (command_of words) KeepsRanges
 ranges_kept [] = tt

@@ -7,7 +7,7 @@ use Rattle.unit_tree.specs.Texts.{text_limit}
 use Rattle.command_line.specs.Generations.{Asked, CanGive, asked_by}
 use Rattle.command_line.specs.Options.{◌>>=◌, given_by, is_given_none}
 use Rattle.command_line.specs.declared.commands.Command.{Command}
-use Rattle.command_line.specs.declared.commands.Command.TheVariants.{Run, Check, Print, Upgrade, Replay, Gen, Bench, Save, Resume, Verify, Stimulus}
+use Rattle.command_line.specs.declared.commands.Command.TheVariants.{Run, Check, Print, Upgrade, Replay, Gen, Bench, Save, Resume, Verify, Stimulus, Flatten}
 use Rattle.command_line.specs.Ranges.{required_within, within_or}
 use Rattle.command_line.specs.declared.options.Given.{Given}
 use Rattle.command_line.specs.declared.replaying.Replaying.{Replaying}
@@ -58,7 +58,8 @@ command_with word given =
     else (if bytes_eq word (codes "resume") then without_options Resume given
     else (if bytes_eq word (codes "verify") then without_options Verify given
     else (if bytes_eq word (codes "stimulus") then without_options Stimulus given
-    else None))))))))))
+    else (if bytes_eq word (codes "flatten") then without_options Flatten given
+    else None)))))))))))
 
 -- The command that words are of; words that are of none have no form.
 abbrev pub command_of : List (List ℕ) → Option Command
@@ -90,6 +91,7 @@ input_of (Save asked) = Some text_limit
 input_of Resume = Some saved_limit
 input_of Verify = Some verify_limit
 input_of Stimulus = Some stimulus_limit
+input_of Flatten = Some text_limit
 
 -- Which commands are run with workers: a run that asks for some, and `bench`.
 abbrev pub has_workers : Command → Bool

@@ -3,7 +3,7 @@ use Rattle.std.specs.Prelude.{◌≡◌, ℕ, true, false, List, [], ◌∷◌, 
 use Rattle.command_line.specs.Commands.{command_of}
 use Rattle.command_line.specs.Options.{given_by, no_options, number_of_word}
 use Rattle.command_line.specs.Ranges.{required_within, within, within_or}
-use Rattle.command_line.specs.declared.commands.Command.TheVariants.{Run, Check, Print, Upgrade, Replay, Gen, Bench, Save, Resume, Verify, Stimulus}
+use Rattle.command_line.specs.declared.commands.Command.TheVariants.{Run, Check, Print, Upgrade, Replay, Gen, Bench, Save, Resume, Verify, Stimulus, Flatten}
 use Rattle.command_line.specs.declared.options.Given.{Given}
 use Rattle.guess_board.specs.declared.guesses.Policy.TheVariants.{Hold, Linear}
 
@@ -118,6 +118,8 @@ pub record CommandsAreWorked : Type 0 where
   pub verified_rows : command_of (codes "verify" ∷ codes "--rows" ∷ codes "2" ∷ []) ≡ None
   pub stimulus : command_of (codes "stimulus" ∷ []) ≡ Some Stimulus
   pub seeded_stimulus : command_of (codes "stimulus" ∷ codes "--seed" ∷ codes "1" ∷ []) ≡ None
+  pub flatten : command_of (codes "flatten" ∷ []) ≡ Some Flatten
+  pub flattened_rows : command_of (codes "flatten" ∷ codes "--rows" ∷ codes "2" ∷ []) ≡ None
   pub no_word : command_of [] ≡ None
   pub empty : command_of ([] ∷ []) ≡ None
   pub other_case : command_of (codes "Run" ∷ []) ≡ None

@@ -36,6 +36,8 @@ pub enum Command {
     Verify,
     /// Puts the canonical text of a system that has the words of a table at its times.
     Stimulus,
+    /// Puts the canonical text of the system that a nested text becomes, whose groups are made flat.
+    Flatten,
 }
 
 /// The most bytes that `resume` reads.
@@ -59,7 +61,8 @@ impl Command {
             | Command::Print
             | Command::Upgrade
             | Command::Replay(_)
-            | Command::Save(_) => Some(LONGEST_TEXT),
+            | Command::Save(_)
+            | Command::Flatten => Some(LONGEST_TEXT),
             Command::Resume => Some(LONGEST_SAVED),
             Command::Verify => Some(LONGEST_VERIFIED),
             Command::Stimulus => Some(LONGEST_STIMULUS),
@@ -131,6 +134,8 @@ fn command_with(word: &str, given: Given) -> Option<Command>
         without_options(Command::Verify, given)
     } else if word == "stimulus" {
         without_options(Command::Stimulus, given)
+    } else if word == "flatten" {
+        without_options(Command::Flatten, given)
     } else {
         None
     }
