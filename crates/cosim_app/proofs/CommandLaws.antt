@@ -34,11 +34,12 @@ use Rattle.cosim_app.specs.Notes.{report_text}
 use Rattle.cosim_app.specs.Laws.{AnswersAgree, EndsAreServed, EveryCallIsAnswered, IsDetermined, IsNoted, NoCallIsAnsweredTwice, NotesAgree, RefusalsAreOfRules}
 use Rattle.cosim_app.specs.Laws.{RunsAgree}
 use Rattle.command_line.specs.declared.commands.Command.{Command}
-use Rattle.command_line.specs.declared.commands.Command.TheVariants.{Run, Check, Print, Upgrade, Replay, Gen, Bench, Save, Resume, Verify, Stimulus}
+use Rattle.command_line.specs.declared.commands.Command.TheVariants.{Run, Check, Print, Upgrade, Replay, Gen, Bench, Save, Resume, Verify, Stimulus, Flatten}
 use Rattle.command_line.proofs.RangeLaws.{ranges_kept}
 use Rattle.cosim_app.proofs.Lawful.{Agree, AnswersOrBreaks, AnswersSystems, HasNoOther, HasOneAnswer, IsLawful, agree_as_same, at_most_or_above}
 use Rattle.cosim_app.proofs.Lawful.{determined_on_accepted, determined_piece, determined_unread, determined_within, lawful_on_accepted, lawful_piece}
 use Rattle.cosim_app.proofs.Lawful.{lawful_unread, lawful_with_rule, lawful_within, longer}
+use Rattle.cosim_app.proofs.FlatLaws.{flat_once, flatten_lawful, too_long_nest}
 use Rattle.cosim_app.proofs.TableLaws.{plays_once, stimulus_lawful, verdicts_once, verify_lawful}
 use Rattle.cosim_app.proofs.SavedLaws.{resume_lawful, resumes_same, saves_answer, saves_same}
 use Rattle.cosim_app.proofs.TraceLaws.{IsWhole, is_end, one_outcome, plain_outcome, whole_asked, whole_of}
@@ -233,6 +234,7 @@ lawful (Save asked) keeps = lawful_with_rule (TellsPosition asked.row) (LacksPos
 lawful Resume keeps = resume_lawful
 lawful Verify keeps = lawful_within verify_limit RefusesTable AnswersTable verify_lawful
 lawful Stimulus keeps = lawful_within stimulus_limit LeavesTable PlaysTable stimulus_lawful
+lawful Flatten keeps = flatten_lawful
 
 determined : (command : Command) → KeepsRanges command → IsDetermined (Some command) → HasNoOther (ServedBy command)
 determined (Run asked) keeps settled = determined_on_accepted (TellsReported asked) (reported_same asked settled)
@@ -246,6 +248,7 @@ determined (Save asked) keeps settled = determined_on_accepted (TellsPosition as
 determined Resume keeps settled = resumes_same
 determined Verify keeps settled = determined_within verify_limit AnswersTable verdicts_once
 determined Stimulus keeps settled = determined_within stimulus_limit PlaysTable plays_once
+determined Flatten keeps settled = flat_once
 
 -- an input that was read is no longer than a command may read
 pub in_limit : (input : Option ℕ) (read : Vec ℕ Global) (text : List ℕ) → text ≡ read.items → IsInLimit input (Ok read)
@@ -274,6 +277,7 @@ long_by Resume limit text is long =
     inl (record { long = subst (λ most. most < length text) (sym (same_Some saved_limit limit is)) long; at = refl; by = refl })
 long_by Verify limit text is long = longer verify_limit limit RefusesTable text is long
 long_by Stimulus limit text is long = longer stimulus_limit limit LeavesTable text is long
+long_by Flatten limit text is long = inl (too_long_nest limit text is long)
 
 -- a command that reads nothing has the same answers for all inputs
 free_by : (command : Command) → input_of command ≡ None → (one other : List ℕ) (answer : Answer) → Answers command one answer
@@ -289,6 +293,7 @@ free_by (Save asked) is one other answer answers = absurd (cc)
 free_by Resume is one other answer answers = absurd (cc)
 free_by Verify is one other answer answers = absurd (cc)
 free_by Stimulus is one other answer answers = absurd (cc)
+free_by Flatten is one other answer answers = absurd (cc)
 free_by (Bench asked) is one other answer (inl refusal) = absurd refusal.refused
 free_by (Bench asked) is one other answer (inr serves) = inr serves
 

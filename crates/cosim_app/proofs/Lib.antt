@@ -1,5 +1,6 @@
 pub mod BenchLaws
 pub mod CommandLaws
+pub mod FlatLaws
 pub mod Lawful
 pub mod MakingLaws
 pub mod OutputNames

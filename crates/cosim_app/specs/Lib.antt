@@ -1,6 +1,7 @@
 pub mod Accepted
 pub mod Answer
 pub mod Figures
+pub mod FlatAnswers
 pub mod Laws
 pub mod Limits
 pub mod Notes

@@ -23,6 +23,10 @@ use Rattle.cosim_app.specs.Notes.{counts_text}
 use Rattle.cosim_app.specs.SavedAnswers.{lines_before, text_behind}
 use Rattle.cosim_app.specs.SourcePlaces.{source_end}
 use Rattle.cosim_app.specs.TableAnswers.{LacksTable, LeavesTable}
+use Rattle.nest_text.specs.Nests.{IsNestOf, RefusesNest}
+use Rattle.nest_text.specs.declared.nest.Nest.{Nest}
+use Rattle.sub_flat.specs.Flattening.{flat_of}
+use Rattle.sub_flat.specs.NestRules.{BreaksNest, IsRefusedNest}
 use Rattle.trace_verify.specs.Parting.{IsParted}
 use Rattle.trace_verify.specs.declared.parting.Parted.{Parted}
 use Rattle.trace_verify.specs.Stimuli.{IsSystemOf}
@@ -148,3 +152,19 @@ FindsTable table (Ok system) = IsSystemOf (records_of table) system
 FindsTable table (Err (stopped.Refused line rule)) = LeavesTable table line rule
 FindsTable table (Err stopped.NoMemory) = ⊤
 FindsTable table (Err _) = ⊥
+
+-- ---- Nested texts
+
+-- The nest that a text says was read, or the text is refused; or there was no memory.
+abbrev pub FindsNest : List ℕ → Result Nest Stopped → Type 0
+FindsNest text (Ok nest) = IsNestOf text nest
+FindsNest text (Err (stopped.Refused line rule)) = RefusesNest text line rule
+FindsNest text (Err stopped.NoMemory) = ⊤
+FindsNest text (Err _) = ⊥
+
+-- The canonical text of the flat system of a nest was made, or the nest breaks a rule of groups; or there was no memory.
+abbrev pub FindsFlat : Nest → Result (Vec ℕ Global) Stopped → Type 0
+FindsFlat nest (Ok flat) = (flat.items ≡ printed_text (flat_of nest)) × ((line rule : ℕ) → BreaksNest nest line rule → ⊥)
+FindsFlat nest (Err (stopped.Refused line rule)) = IsRefusedNest nest line rule
+FindsFlat nest (Err stopped.NoMemory) = ⊤
+FindsFlat nest (Err _) = ⊥

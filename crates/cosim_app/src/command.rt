@@ -9,7 +9,7 @@ ghost use Rattle.cosim_app.specs.Laws.{AnswersAgree, EndsAreServed, EveryCallIsA
 ghost use Rattle.command_line.specs.Words.{bytes_of};
 
 use crate::commands::{
-    bench, check, generate, print, replay, resume, run, save, stimulus, upgrade, verify,
+    bench, check, flatten, generate, print, replay, resume, run, save, stimulus, upgrade, verify,
 };
 use command_line::{Command, command_of};
 use cosim_call::{Served, Status, Stopped, finish, put_made, read_input, tell};
@@ -42,6 +42,7 @@ fn serve<O: Sink>(
         Command::Resume => resume::serve(alloc, text, out),
         Command::Verify => put_made(alloc, verify::make(alloc, text), out),
         Command::Stimulus => put_made(alloc, stimulus::make(alloc, text), out),
+        Command::Flatten => put_made(alloc, flatten::make(alloc, text), out),
     }
 }
 
@@ -69,7 +70,8 @@ fn serve_crewed<R: Threads + Wait + Copy + Send + Drop + 'static, O: Sink, G: Ga
         | Command::Save(_)
         | Command::Resume
         | Command::Verify
-        | Command::Stimulus => unreachable!(),
+        | Command::Stimulus
+        | Command::Flatten => unreachable!(),
     }
 }
 

@@ -3,6 +3,7 @@ ghost use Rattle.cosim_app.specs.Serving.{Accepts};
 
 pub(crate) mod bench;
 pub(crate) mod check;
+pub(crate) mod flatten;
 pub(crate) mod generate;
 pub(crate) mod print;
 pub(crate) mod replay;

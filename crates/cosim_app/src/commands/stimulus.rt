@@ -30,6 +30,7 @@ fn system_of(alloc: Global, table: &[u8]) -> Result<System, Stopped>
 }
 
 /// What is put of a table: the canonical text of the system that plays it.
+#[inline(never)]
 pub(crate) fn make(alloc: Global, table: &[u8]) -> Result<Vec<u8>, Stopped>
     requires within { length table.now ≤ stimulus_limit }
     ensures { Makes (Answers Stimulus table.now) result }

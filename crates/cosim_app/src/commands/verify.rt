@@ -55,6 +55,7 @@ fn line_of(alloc: Global, verdict: Verdict) -> Result<Vec<u8>, NoMemory>
 }
 
 /// What is put of an input: the verdict on the table, which should be the trace of the text before it.
+#[inline(never)]
 pub(crate) fn make(alloc: Global, input: &[u8]) -> Result<Vec<u8>, Stopped>
     requires within { length input.now ≤ verify_limit }
     ensures { Makes (Answers Verify input.now) result }
