@@ -1,4 +1,5 @@
-# Completes the words of cosim in bash: its commands, and behind one its options that aren't given yet, with their values.
+# Completes the words of cosim in bash: its commands, and behind one its options that aren't given yet, with their values. Behind
+# `<` and `>` it completes the names of files.
 #   source tools/completion.bash
 
 # The commands, each with the options that it takes.
@@ -11,6 +12,7 @@ declare -gA _cosim_options=(
   [resume]=''
   [verify]=''
   [stimulus]=''
+  [flatten]=''
   [replay]='--seed --workers'
   [gen]='--seed --instances --rows'
   [bench]='--seed --instances --rows'
@@ -27,7 +29,9 @@ _cosim_left() {
 
 _cosim() {
   local word=$2 before=$3 choices=
-  if ((COMP_CWORD == 1)); then
+  if [[ "$before" = *[\<\>] ]]; then
+    compopt -o default 2>/dev/null
+  elif ((COMP_CWORD == 1)); then
     choices=${!_cosim_options[*]}
   elif [ "$before" = --guess ]; then
     choices='hold linear'
