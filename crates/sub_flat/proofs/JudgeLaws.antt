@@ -1,6 +1,6 @@
 -- The rules of groups, judged one after the other.
 use Rattle.std.proofs.Common.{◌≡◌, ◌≤◌, ◌<◌, ℕ, ◌+◌, Bool, true, false, List, length, inl, inr, Option, Some, None, Result, Ok, Err, IsTrue, refl, sym, ap, subst, ◌∙◌, arith, get_or}
-use Rattle.std.specs.Prelude.{◌⊎◌, ◌↔◌, if◌then◌else◌, nat_lt, slice_get}
+use Rattle.std.specs.Prelude.{◌⊎◌, ◌↔◌, if◌then◌else◌, slice_get}
 use Rattle.std.proofs.lemmas.Bool.Decides.{nat_tests}
 use Rattle.std.proofs.lemmas.Option.{slice_get-get_or, slice_get_within}
 use Rattle.list_laws.proofs.Members.{read_at}
@@ -9,7 +9,6 @@ use Rattle.nest_text.specs.declared.fault.NestFault.{NestFault}
 use Rattle.nest_text.specs.declared.fault.NestFault.TheVariants as fault
 use Rattle.nest_text.specs.declared.nest.Group.{Group}
 use Rattle.nest_text.specs.declared.nest.Nest.{Nest}
-use Rattle.sub_flat.specs.Flattening.{flat_of}
 use Rattle.sub_flat.specs.FlatReading.{AnswersFlat, FlatAnswers, IsLeast, IsRefusedBy, JudgesLeast, JudgesNest, MissesAt, Refuses, RefusesLeast, is_less}
 use Rattle.sub_flat.specs.GroupTests.{main_misses_port}
 use Rattle.sub_flat.specs.NestRules.{AtGroup, BreaksGroup, BreaksNest, IsRefusedNest, IsTooLarge}

@@ -1,6 +1,7 @@
 pub mod FlatLaws
 pub mod JudgeLaws
 pub mod JudgedOnce
+pub mod NamedLists
 pub mod NestingLaws
 pub mod PutLaws
 pub mod SearchLaws

@@ -1,6 +1,6 @@
 -- Groups inside groups by lists, and levels of groups.
-use Rattle.std.proofs.Common.{◌≡◌, ℕ, zero, suc, ◌+◌, ◌≤◌, ◌<◌, Bool, true, false, List, [], ◌∷◌, ◌++◌, length, map, inl, inr, Option, Some, None, refl, sym, ap, subst, ◌∙◌, arith, get_or, length-append}
-use Rattle.std.specs.Prelude.{◌⊎◌, ◌==◌, ◌||◌, ◌&&◌, nat_le, cond, slice_get}
+use Rattle.std.proofs.Common.{◌≡◌, ℕ, zero, suc, ◌+◌, ◌≤◌, ◌<◌, Bool, true, false, List, [], ◌∷◌, ◌++◌, length, inl, inr, Option, Some, None, refl, sym, ap, subst, ◌∙◌, arith, get_or, length-append}
+use Rattle.std.specs.Prelude.{◌⊎◌, ◌==◌, ◌||◌, ◌&&◌, nat_le}
 use Rattle.std.specs.List.{cons_option, filter_map, list_all, list_any}
 use Rattle.std.specs.Option.{option_map, unwrap_or}
 use Rattle.std.proofs.lemmas.Bool.Decides.{nat_tests}
@@ -10,7 +10,7 @@ use Rattle.unit_tree.specs.declared.system.Instance.{Instance}
 use Rattle.nest_text.specs.declared.nest.Group.{Group}
 use Rattle.nest_text.specs.declared.nest.Nest.{Nest}
 use Rattle.sub_flat.specs.Cycles.{Leads, LeadsBack, inner_places}
-use Rattle.sub_flat.specs.Flattening.{group_place, instances_of, of_group}
+use Rattle.sub_flat.specs.Flattening.{group_place, instances_of}
 use Rattle.sub_flat.specs.Searching.{AreFalling, AreSure, AreWithin, inside_of, level_at}
 use Rattle.sub_flat.proofs.SearchLaws.{place_within}
 
@@ -26,12 +26,12 @@ less_or_more (suc m) (suc n) = more (less_or_more m n)
     more (inl less) = inl (omega (arith, less))
     more (inr not) = inr (omega (arith, not))
 
-inside_front : (lists : List (List ℕ)) (one : List ℕ) (place : ℕ) → place < length lists → inside_of (lists ++ one ∷ []) place ≡ inside_of lists place
+pub inside_front : (lists : List (List ℕ)) (one : List ℕ) (place : ℕ) → place < length lists → inside_of (lists ++ one ∷ []) place ≡ inside_of lists place
 inside_front [] one place within = absurd (omega (arith, within))
 inside_front (first ∷ lists) one zero within = refl
 inside_front (first ∷ lists) one (suc place) within = inside_front lists one place (omega (arith, within))
 
-inside_last : (lists : List (List ℕ)) (one : List ℕ) → inside_of (lists ++ one ∷ []) (length lists) ≡ one
+pub inside_last : (lists : List (List ℕ)) (one : List ℕ) → inside_of (lists ++ one ∷ []) (length lists) ≡ one
 inside_last [] one = refl
 inside_last (first ∷ lists) one = inside_last lists one
 

@@ -1,5 +1,5 @@
 -- Searching for a group that contains itself.
-use Rattle.std.proofs.Common.{◌≡◌, ℕ, zero, suc, ◌+◌, ◌≤◌, ◌<◌, Bool, true, false, List, [], ◌∷◌, ◌++◌, length, map, inl, inr, Option, Some, refl, sym, ap, subst, ◌∙◌, arith, length-append, append_assoc, append-nil, get_or, drop, take}
+use Rattle.std.proofs.Common.{◌≡◌, ℕ, zero, suc, ◌+◌, ◌<◌, Bool, true, false, List, [], ◌∷◌, ◌++◌, length, map, inl, inr, Some, refl, sym, ap, subst, ◌∙◌, arith, length-append, append_assoc, append-nil, get_or, drop, take}
 use Rattle.std.specs.List.{count_by}
 use Rattle.std.proofs.Math.ListN.{set}
 use Rattle.std.proofs.lemmas.List.{drop_all, take_all, get_or-set_other, get_or-set_same, length-map, length-set}
@@ -12,7 +12,7 @@ use Rattle.nest_text.specs.declared.nest.Nest.{Nest}
 use Rattle.unit_tree.specs.Ports.{IsAmong}
 use Rattle.sub_flat.specs.Cycles.{Leads, LeadsBack}
 use Rattle.sub_flat.specs.Flattening.{group_place}
-use Rattle.sub_flat.specs.Searching.{Finds, IsSeen, Spreads, work_left}
+use Rattle.sub_flat.specs.Searching.{Finds, IsSeen, Spreads}
 
 -- ---- Members
 

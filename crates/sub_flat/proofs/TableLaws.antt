@@ -1,5 +1,5 @@
 -- Tables of names, filled name by name.
-use Rattle.std.proofs.Common.{◌≡◌, ℕ, zero, suc, ◌+◌, ◌<◌, ◌≤◌, Bool, true, false, List, [], ◌∷◌, ◌++◌, length, map, take, drop, Option, Some, None, refl, sym, ap, subst, ◌∙◌, arith, get_or, bytes_eq}
+use Rattle.std.proofs.Common.{◌≡◌, ℕ, zero, suc, ◌+◌, ◌<◌, ◌≤◌, Bool, true, false, List, [], ◌∷◌, length, map, take, drop, Option, Some, None, refl, sym, ap, ◌∙◌, arith, get_or, bytes_eq}
 use Rattle.std.specs.Prelude.{◌||◌, ◌&&◌, nat_lt, cond, if◌then◌else◌, is_some, slice_get}
 use Rattle.std.specs.List.{count_by, find, position_from}
 use Rattle.std.specs.Option.{option_and_then, option_or}
@@ -14,7 +14,6 @@ use Rattle.unit_names.proofs.FirstPlaces.{at_first}
 use Rattle.unit_tree.specs.Names.{is_among}
 use Rattle.unit_tree.specs.declared.unit.Unit.{Unit}
 use Rattle.nest_text.specs.declared.nest.Bind.{Bind}
-use Rattle.sub_flat.specs.GroupTests.{stands_again}
 use Rattle.sub_flat.specs.Tables.{FindsNames}
 use Rattle.sub_flat.specs.declared.tables.Names.{Names}
 

@@ -1,5 +1,5 @@
 -- Groups that contain themselves.
-use Rattle.std.specs.Prelude.{◌≡◌, ℕ, zero, suc, List, [], ◌∷◌, Some}
+use Rattle.std.specs.Prelude.{ℕ, zero, suc, List, Some}
 use Rattle.std.specs.List.{filter_map}
 use Rattle.unit_tree.specs.Ports.{IsAmong}
 use Rattle.nest_text.specs.declared.nest.Nest.{Nest}

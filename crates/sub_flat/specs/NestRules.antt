@@ -4,22 +4,13 @@
 --   rule 28   a group contains itself
 --   rule 29   a port of a group isn't there, an `out` name stands twice, or a group has settings
 --   rule 30   the flat system is too large
-use Rattle.std.specs.Prelude.{◌≡◌, ◌⊎◌, ◌≤◌, ◌<◌, ℕ, zero, suc, Bool, false, not, ◌&&◌, ◌||◌, nat_lt, List, [], ◌∷◌, map, length, Some, is_none, IsTrue, slice_get}
-use Rattle.std.specs.List.{count_by, filter_map, list_any}
-use Rattle.std.specs.Option.{option_and_then, option_map, unwrap_or}
-use Rattle.std.specs.Str.{bytes_eq}
-use Rattle.unit_tree.specs.Names.{input_names, is_among, is_empty, output_names, unit_named}
+use Rattle.std.specs.Prelude.{◌≡◌, ◌⊎◌, ◌≤◌, ◌<◌, ℕ, length, Some, IsTrue, slice_get}
 use Rattle.unit_tree.specs.Printable.{IsPrintable}
-use Rattle.unit_tree.specs.declared.system.Instance.{Instance}
-use Rattle.unit_tree.specs.declared.system.PortName.{PortName}
-use Rattle.unit_tree.specs.declared.system.Wire.{Wire}
-use Rattle.unit_tree.specs.declared.unit.Unit.{Unit}
 use Rattle.sub_flat.specs.Flattening.{flat_of}
 use Rattle.sub_flat.specs.Cycles.{ContainsItself}
 use Rattle.sub_flat.specs.GroupTests.{is_misnamed, main_misses_port, misses_port}
 use Rattle.sub_flat.specs.declared.judge.GroupRule.{GroupRule}
 use Rattle.sub_flat.specs.declared.judge.GroupRule.TheVariants as rules
-use Rattle.nest_text.specs.declared.nest.Bind.{Bind}
 use Rattle.nest_text.specs.declared.nest.Group.{Group}
 use Rattle.nest_text.specs.declared.nest.Nest.{Nest}
 

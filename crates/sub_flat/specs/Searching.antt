@@ -1,5 +1,5 @@
 -- How groups are searched: what was found, and what is still to be looked at.
-use Rattle.std.specs.Prelude.{◌≡◌, ◌⊎◌, ◌≤◌, ◌<◌, ℕ, ◌+◌, Bool, true, false, not, List, ◌∷◌, [], ◌++◌, length, map, get_or, slice_get}
+use Rattle.std.specs.Prelude.{◌≡◌, ◌⊎◌, ◌≤◌, ◌<◌, ℕ, ◌+◌, Bool, true, false, not, List, [], length, map, get_or, slice_get}
 use Rattle.std.specs.List.{count_by}
 use Rattle.std.specs.Option.{unwrap_or}
 use Rattle.unit_tree.specs.Ports.{IsAmong}

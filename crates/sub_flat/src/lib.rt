@@ -15,6 +15,7 @@ mod flattening;
 mod judge;
 mod laws;
 mod levels;
+mod lists;
 mod names;
 mod scope;
 mod tables;

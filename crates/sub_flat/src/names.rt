@@ -1,11 +1,14 @@
 //! A nest with tables of its names.
 ghost use Rattle.std.specs.Prelude.{◌≡◌, IfOk, Some, bytes_eq, find, map, slice_get};
+ghost use Rattle.std.specs.List.{filter};
 ghost use Rattle.std.specs.Option.{option_copied, option_map};
+ghost use Rattle.sub_flat.specs.Tables.{ListsNamed, items_at};
 ghost use Rattle.unit_tree.specs.Names.{is_among};
 ghost use Rattle.sub_flat.specs.Flattening.{binds_of, group_place, instance_among, instances_of, of_group, place_at, wires_of};
 ghost use Rattle.sub_flat.specs.GroupTests.{has_input, has_output, stands_again};
 ghost use Rattle.nest_text.specs.declared.nest.Group.{Group as Groups};
 
+use crate::lists::PlacesByName;
 use crate::tables::{BindNames, GroupPlaces, InstanceNames};
 use fixed_words::NoMemory;
 use nest_text::{Bind, Group, Nest};
@@ -21,12 +24,15 @@ pub struct GroupNames<'n> {
     instances: InstanceNames<'n>,
     ins: BindNames<'n>,
     outs: BindNames<'n>,
+    /// The places of the `in` lines by their ports.
+    lines: PlacesByName<'n>,
 }
 
 impl<'n> Model for GroupNames<'n> {
     ghost use Rattle.std.specs.Prelude.{◌≡◌};
     ghost use Rattle.std.specs.Coded.{codes};
     ghost use Rattle.nest_text.specs.declared.nest.Group.{Group};
+    ghost use Rattle.sub_flat.specs.Tables.{ListsNamed};
 
     ghost Value = { Group };
 
@@ -35,7 +41,18 @@ impl<'n> Model for GroupNames<'n> {
     ghost view = { λ named. named.group.now };
 
     ghost invariant = { λ named.
-        (named.instances ≡ named.group.now.instances) × (named.ins ≡ named.group.now.ins) × (named.outs ≡ named.group.now.outs) };
+        (named.instances ≡ named.group.now.instances) × (named.ins ≡ named.group.now.ins) × (named.outs ≡ named.group.now.outs)
+        × ListsNamed (λ bind. bind.port) named.group.now.ins named.lines };
+}
+
+fn lines_by_port<'n>(alloc: Global, binds: &'n [Bind]) -> Result<PlacesByName<'n>, NoMemory>
+    ensures { IfOk result (ListsNamed (λ bind. bind.port) binds.now) }
+{
+    let mut lines = PlacesByName::new(alloc);
+    for (place, bind) in binds.iter().enumerate() {
+        lines.add(alloc, bind.port.as_slice(), place)?;
+    }
+    Ok(lines)
 }
 
 impl<'n> GroupNames<'n> {
@@ -45,11 +62,13 @@ impl<'n> GroupNames<'n> {
         let instances = InstanceNames::new(alloc, group.instances.as_slice())?;
         let ins = BindNames::new(alloc, group.ins.as_slice())?;
         let outs = BindNames::new(alloc, group.outs.as_slice())?;
+        let lines = lines_by_port(alloc, group.ins.as_slice())?;
         Ok(GroupNames {
             group,
             instances,
             ins,
             outs,
+            lines,
         })
     }
 
@@ -70,6 +89,13 @@ impl<'n> GroupNames<'n> {
         ensures { result.now ≡ self.now.ins }
     {
         &self.ins
+    }
+
+    /// The places of the `in` lines with a port.
+    fn ins_named(&self, port: &[u8]) -> &[usize]
+        ensures { items_at self.now.ins result.now ≡ filter (λ bind. bytes_eq bind.port port.now) self.now.ins }
+    {
+        self.lines.named(port)
     }
 
     pub(crate) fn outs(&self) -> &BindNames<'n>
@@ -217,6 +243,17 @@ impl<'n> NestNames<'n> {
     {
         match self.group(place) {
             Some(group) => group.ins().all(),
+            None => &[],
+        }
+    }
+
+    /// The places of the `in` lines with a port, of the group at a place.
+    pub(crate) fn ins_named(&self, place: usize, port: &[u8]) -> &[usize]
+        ensures { items_at (binds_of self.now (λ (group : Groups). group.ins) (Some place)) result.now
+            ≡ filter (λ bind. bytes_eq bind.port port.now) (binds_of self.now (λ (group : Groups). group.ins) (Some place)) }
+    {
+        match self.group(place) {
+            Some(group) => group.ins_named(port),
             None => &[],
         }
     }

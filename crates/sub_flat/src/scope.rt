@@ -1,11 +1,15 @@
 //! Scopes of a nest, and ports that are followed from scope to scope.
-ghost use Rattle.std.specs.Prelude.{◌≡◌, ◌∷◌, [], ◌++◌, IfOk, OnOk, bytes_eq, find};
-ghost use Rattle.std.specs.Option.{option_map};
+ghost use Rattle.std.specs.Prelude.{◌≡◌, ◌∷◌, [], ◌++◌, IfOk, OnOk, bytes_eq, find, map, slice_get, false};
+ghost use Rattle.std.specs.Borrow.{Bor};
+ghost use Rattle.std.specs.Option.{option_map, option_to_list, unwrap_or};
+ghost use Rattle.nest_text.specs.declared.nest.Bind.{Bind as Binds};
 ghost use Rattle.std.specs.List.{flat_map, list_all, list_any};
 ghost use Rattle.sub_flat.specs.Flattening.{distinct, expand, flat_port, follow, inside, is_component, reach, same_group, same_spot, spot_in, step_down};
 ghost use Rattle.unit_tree.specs.Names.{same_port};
 
+use crate::lists::PlacesByName;
 use crate::names::NestNames;
+use crate::tables::at;
 use fixed_words::{List, NoMemory};
 use nest_text::Bind;
 use std::alloc::Global;
@@ -152,6 +156,22 @@ fn are_components(names: &NestNames<'_>, spots: &[Spot]) -> bool
     spots.iter().all(|spot| is_component(names, spot))
 }
 
+/// Puts the inner port of a line behind others, where there is a line.
+fn put_bind(
+    alloc: Global,
+    scope: &Scope,
+    bind: Option<&Bind>,
+    spots: &mut List<Spot>,
+) -> Result<(), NoMemory>
+    ensures { OnOk result (spots.new
+        ≡ spots.old ++ map (spot_in scope.now) (option_to_list (option_map (λ (found : Bor Binds). found.now) bind.entry))) }
+{
+    if let Some(bind) = bind {
+        spots.push(spot_of(alloc, scope, &bind.inner)?)?;
+    }
+    Ok(())
+}
+
 /// Puts what an input leads to behind others.
 fn put_expanded(
     alloc: Global,
@@ -166,10 +186,9 @@ fn put_expanded(
         return Ok(());
     };
     let scope = inside(alloc, &from.scope, &from.port.instance, place)?;
-    for bind in names.ins(place) {
-        if bind.port.as_slice() == from.port.port.as_slice() {
-            spots.push(spot_of(alloc, &scope, &bind.inner)?)?;
-        }
+    let ins = names.ins(place);
+    for line in names.ins_named(place, from.port.port.as_slice()) {
+        put_bind(alloc, &scope, at(ins, *line), spots)?;
     }
     Ok(())
 }
@@ -199,21 +218,37 @@ fn same_spot(one: &Spot, other: &Spot) -> bool
         && same_port(&one.port, &other.port)
 }
 
-fn is_kept(spot: &Spot, kept: &[Spot]) -> bool
-    ensures { result ≡ list_any (same_spot spot.now) kept.now }
+/// Whether the port at a place is this one.
+fn is_at(spot: &Spot, spots: &[Spot], place: usize) -> bool
+    ensures { result ≡ unwrap_or (option_map (same_spot spot.now) (slice_get spots.now place)) false }
 {
-    kept.iter().any(|other| same_spot(spot, other))
+    match at(spots, place) {
+        Some(other) => same_spot(spot, other),
+        None => false,
+    }
 }
 
-/// Each port once, at its first place.
+/// Whether a port is at one of the places.
+fn is_kept(spot: &Spot, spots: &[Spot], places: &[usize]) -> bool
+    ensures { result ≡ list_any (λ place. unwrap_or (option_map (same_spot spot.now) (slice_get spots.now place)) false) places.now }
+{
+    places.iter().any(|place| is_at(spot, spots, *place))
+}
+
+/// Each port once, at its first place. Those that are kept are found by their own names, so that few are compared.
 fn distinct(alloc: Global, spots: &[Spot]) -> Result<List<Spot>, NoMemory>
     ensures { IfOk result (λ kept. kept ≡ distinct [] spots.now) }
 {
     let mut kept = List::new(alloc);
-    for one in spots {
-        if !is_kept(one, kept.as_slice()) {
-            kept.push(spot_of(alloc, &one.scope, &one.port)?)?;
+    let mut places = PlacesByName::new(alloc);
+    for (place, one) in spots.iter().enumerate() {
+        let port = one.port.port.as_slice();
+        if is_kept(one, spots, places.named(port)) {
+            continue;
         }
+        places.add(alloc, port, place)?;
+        let copy = spot_of(alloc, &one.scope, &one.port)?;
+        kept.push(copy)?;
     }
     Ok(kept)
 }

@@ -16,7 +16,7 @@ use std::marker::Model;
 use unit_tree::Instance;
 
 /// Places by name.
-type Places<'n> = BTreeMap<&'n [u8], usize>;
+pub(crate) type Places<'n> = BTreeMap<&'n [u8], usize>;
 
 /// Where each of some names stands first, and where a name that stands more than once stands again.
 #[derive(Drop)]
@@ -26,14 +26,18 @@ pub struct Names<'n> {
 }
 
 /// What is noted under a name.
-fn noted(places: &Places<'_>, name: &[u8]) -> Option<usize>
+pub(crate) fn noted(places: &Places<'_>, name: &[u8]) -> Option<usize>
     ensures { result ≡ found_in places.now name.now }
 {
     places.get(name).copied()
 }
 
 /// Notes a name, where it was not noted before.
-fn note<'n>(places: &mut Places<'n>, name: &'n [u8], place: usize) -> Result<(), NoMemory>
+pub(crate) fn note<'n>(
+    places: &mut Places<'n>,
+    name: &'n [u8],
+    place: usize,
+) -> Result<(), NoMemory>
     ensures { OnOk result ((q : List ℕ) →
         found_in places.new q ≡ option_or (found_in places.old q) (if bytes_eq q name.now then Some place else None)) }
 {
@@ -88,7 +92,7 @@ impl<'n> Names<'n> {
 }
 
 /// What stands at a place.
-fn at<T>(items: &[T], place: usize) -> Option<&T>
+pub(crate) fn at<T>(items: &[T], place: usize) -> Option<&T>
     ensures { option_map (λ found. found.now) result ≡ slice_get items.now place }
 {
     items.get(place)

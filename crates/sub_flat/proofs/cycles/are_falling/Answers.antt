@@ -1,4 +1,4 @@
-use Rattle.std.proofs.Common.{◌≤◌, arith, length, map}
+use Rattle.std.proofs.Common.{arith, map}
 use Rattle.std.proofs.lemmas.List.{length-map}
 use Rattle.sub_flat.proofs.NestingLaws.{falling_end, falling_next}
 use Rattle.sub_flat.proofs.cycles.are_falling.Goals as goal

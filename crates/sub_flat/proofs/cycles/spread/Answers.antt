@@ -1,4 +1,4 @@
-use Rattle.std.proofs.Common.{◌≡◌, ◌∙◌, ◌+◌, ◌∷◌, ap, arith, drop, get_or}
+use Rattle.std.proofs.Common.{◌∙◌, ◌+◌, ◌∷◌, ap, arith, drop, get_or}
 use Rattle.std.proofs.lemmas.List.{at_drop_more}
 use Rattle.sub_flat.proofs.SearchLaws.{among_at, spread_found, spread_next}
 use Rattle.sub_flat.proofs.cycles.spread.Goals as goal

@@ -1,4 +1,4 @@
-use Rattle.std.proofs.Common.{◌≡◌, ◌∙◌, ◌++◌, ap, append_assoc, subst, sym}
+use Rattle.std.proofs.Common.{◌∙◌, ◌++◌, ap, append_assoc, subst, sym}
 use Rattle.std.specs.List.{flat_map}
 use Rattle.nest_text.proofs.NestAnswers.{handed_on}
 use Rattle.sub_flat.specs.Flattening.{flat_wire, flat_wires, instances_of, wires_of}

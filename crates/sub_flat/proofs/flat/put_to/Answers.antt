@@ -1,4 +1,4 @@
-use Rattle.std.proofs.Common.{◌<◌, ◌≤◌, ◌+◌, ◌∷◌, [], arith, length, subst, sym}
+use Rattle.std.proofs.Common.{◌<◌, ◌+◌, ◌∷◌, [], arith, length, subst, sym}
 use Rattle.std.specs.List.{flat_map}
 use Rattle.sub_flat.specs.FlatReading.{wire_between}
 use Rattle.sub_flat.specs.declared.fault.Unflat.TheVariants.{TooLarge}

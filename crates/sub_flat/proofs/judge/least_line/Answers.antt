@@ -1,4 +1,4 @@
-use Rattle.std.proofs.Common.{◌≡◌, ◌≤◌, ◌∙◌, ap, arith, get_or, length, sym}
+use Rattle.std.proofs.Common.{◌∙◌, ap, arith, get_or, length, sym}
 use Rattle.nest_text.specs.declared.nest.Nest.{Nest}
 use Rattle.sub_flat.proofs.JudgeLaws.{group_there, least_asked, least_end, least_not_less, line_there}
 use Rattle.sub_flat.proofs.judge.least_line.Goals as goal

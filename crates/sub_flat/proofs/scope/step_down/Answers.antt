@@ -3,7 +3,7 @@ use Rattle.std.specs.List.{find}
 use Rattle.std.specs.Option.{option_map}
 use Rattle.nest_text.specs.declared.nest.Bind.{Bind}
 use Rattle.nest_text.specs.declared.nest.Group.{Group}
-use Rattle.sub_flat.specs.Flattening.{binds_of, inside, out_in, place_at}
+use Rattle.sub_flat.specs.Flattening.{binds_of, place_at}
 use Rattle.sub_flat.proofs.FlatLaws.{step_some}
 use Rattle.sub_flat.proofs.scope.step_down.Goals as goal
 
