@@ -3,7 +3,8 @@ use Rattle.std.proofs.Common.{◌≡◌, ◌∙◌, ℕ, ◌==◌, Bool, true, f
 use Rattle.std.specs.Prelude.{if◌then◌else◌}
 use Rattle.std.specs.Option.{option_map}
 use Rattle.link_core.specs.Boards.{Board, entry, said_of}
-use Rattle.link_core.specs.Making.{each, held_standings, limits_by, limits_made, names_of, ports_in, put_redo, put_reply, redos_by, redos_made, replies_by, replies_made, with_limit, with_redo, with_reply, words_made}
+use Rattle.link_core.specs.Making.{each, held_standings, limits_by, limits_made, names_of, ports_in, put_redo, put_reply, redos_by, redos_made, replies_by}
+use Rattle.link_core.specs.Making.{replies_made, with_limit, with_redo, with_reply, words_made}
 use Rattle.link_core.specs.Nodes.{Making}
 use Rattle.link_core.specs.Noted.{AreFed, IsTrue, part_at, position_at}
 use Rattle.link_core.specs.Ready.{IsJudged, all_made}
@@ -23,11 +24,13 @@ use Rattle.unit_tree.specs.Successor.{Position}
 
 -- ---- Words stay
 
-by_if : (test : Bool) (one other : Making) (words : List (Option Seen)) → one.known.words ≡ words → other.known.words ≡ words → (if test then one else other).known.words ≡ words
+by_if : (test : Bool) (one other : Making) (words : List (Option Seen)) → one.known.words ≡ words → other.known.words ≡ words
+    → (if test then one else other).known.words ≡ words
 by_if true one other words first second = first
 by_if false one other words first second = second
 
-each_words : {X : Type 0} (make : Making → X → Making) (items : List X) (making : Making) → ((one : Making) (x : X) → (make one x).known.words ≡ one.known.words) → (each make making items).known.words ≡ making.known.words
+each_words : {X : Type 0} (make : Making → X → Making) (items : List X) (making : Making)
+    → ((one : Making) (x : X) → (make one x).known.words ≡ one.known.words) → (each make making items).known.words ≡ making.known.words
 each_words make [] making step = refl
 each_words make (item ∷ items) making step = each_words make items (make making item) step ∙ step making item
 
@@ -56,7 +59,8 @@ module _ (run : Composition) (owners : List ℕ) (me : ℕ) (at : Position) wher
     where
       one : (now : Making) (item : ℕ × (ℕ × Standing)) → (with_reply me at (ports_in making.known.words) h now item).known.words ≡ now.known.words
       one now (instance, (owner, standing)) =
-          by_if ((owner == me) && is_none (entry now.known.replies instance)) (put_reply at.number instance (option_map said_of (step_at at.point.t h (ports_in making.known.words) standing)) now) now now.known.words
+          by_if ((owner == me) && is_none (entry now.known.replies instance))
+          (put_reply at.number instance (option_map said_of (step_at at.point.t h (ports_in making.known.words) standing)) now) now now.known.words
           (reply_words at.number instance (option_map said_of (step_at at.point.t h (ports_in making.known.words) standing)) now) refl
   replies_words Limits making = refl
   replies_words Words making = refl
@@ -69,7 +73,8 @@ module _ (run : Composition) (owners : List ℕ) (me : ℕ) (at : Position) wher
     where
       one : (now : Making) (item : ℕ × (ℕ × Standing)) → (with_redo me at (ports_in making.known.words) h now item).known.words ≡ now.known.words
       one now (instance, (owner, standing)) =
-          by_if ((owner == me) && is_none (entry now.known.redos instance)) (put_redo at.number instance (option_map said_of (step_at at.point.t h (ports_in making.known.words) standing)) now) now now.known.words
+          by_if ((owner == me) && is_none (entry now.known.redos instance))
+          (put_redo at.number instance (option_map said_of (step_at at.point.t h (ports_in making.known.words) standing)) now) now now.known.words
           (redo_words at.number instance (option_map said_of (step_at at.point.t h (ports_in making.known.words) standing)) now) refl
   redos_words Limits making = refl
   redos_words Words making = refl
@@ -79,7 +84,8 @@ module _ (run : Composition) (owners : List ℕ) (me : ℕ) (at : Position) wher
 
 -- ---- One after the other
 
-module _ (run : Composition) (judged : IsJudged run) (owners : List ℕ) (me : ℕ) (owns : length owners ≡ length run.members) (point : Point) (row : ℕ) (states : List (List ℤ)) where
+module _ (run : Composition) (judged : IsJudged run) (owners : List ℕ) (me : ℕ) (owns : length owners ≡ length run.members) (point : Point) (row : ℕ)
+    (states : List (List ℤ)) where
   abbrev here : Position
   here = part_at owners me point row states
 
@@ -88,7 +94,8 @@ module _ (run : Composition) (judged : IsJudged run) (owners : List ℕ) (me : �
 
   module _ (start one two three four : Making) (wanted_limits wanted_replies wanted_redos : Stage) (so : True start.known)
       (one_is : one ≡ words_made run owners me here start)
-      (limits_is : wanted_limits ≡ stage_of run (names_of run) (position_at point row) one.known) (two_is : two ≡ limits_by run owners me here wanted_limits one) where
+      (limits_is : wanted_limits ≡ stage_of run (names_of run) (position_at point row) one.known)
+      (two_is : two ≡ limits_by run owners me here wanted_limits one) where
     pub true_one : True one.known
     true_one = words_true run judged.order judged.is_order judged.members owners me owns point row states start one so one_is
 
@@ -101,7 +108,8 @@ module _ (run : Composition) (judged : IsJudged run) (owners : List ℕ) (me : �
     pub words_two : two.known.words ≡ one.known.words
     words_two = ap (λ (making : Making). making.known.words) two_is ∙ limits_words run owners me here wanted_limits one
 
-    module _ (replies_is : wanted_replies ≡ stage_of run (names_of run) (position_at point row) two.known) (three_is : three ≡ replies_by run owners me here wanted_replies two) where
+    module _ (replies_is : wanted_replies ≡ stage_of run (names_of run) (position_at point row) two.known)
+        (three_is : three ≡ replies_by run owners me here wanted_replies two) where
       made_three : three ≡ replies_made run owners me here two
       made_three = three_is ∙ ap (λ stage. replies_by run owners me here stage two) replies_is
 
@@ -111,7 +119,8 @@ module _ (run : Composition) (judged : IsJudged run) (owners : List ℕ) (me : �
       pub words_three : three.known.words ≡ two.known.words
       words_three = ap (λ (making : Making). making.known.words) three_is ∙ replies_words run owners me here wanted_replies two
 
-      module _ (redos_is : wanted_redos ≡ stage_of run (names_of run) (position_at point row) three.known) (four_is : four ≡ redos_by run owners me here wanted_redos three) where
+      module _ (redos_is : wanted_redos ≡ stage_of run (names_of run) (position_at point row) three.known)
+          (four_is : four ≡ redos_by run owners me here wanted_redos three) where
         made_four : four ≡ redos_made run owners me here three
         made_four = four_is ∙ ap (λ stage. redos_by run owners me here stage three) redos_is
 
@@ -127,7 +136,8 @@ module _ (run : Composition) (judged : IsJudged run) (owners : List ℕ) (me : �
             ∙ ap (redos_made run owners me here) (made_three ∙ ap (replies_made run owners me here) (made_two ∙ ap (limits_made run owners me here) one_is))
 
   -- Inputs have the words, where the row goes on.
-  pub fed_here : (known : Board) (stage : Stage) (inputs : List (List ℤ)) → True known → stage ≡ stage_of run (names_of run) (position_at point row) known → HaveStates run states → HaveInputs run inputs
+  pub fed_here : (known : Board) (stage : Stage) (inputs : List (List ℤ)) → True known → stage ≡ stage_of run (names_of run) (position_at point row) known
+      → HaveStates run states → HaveInputs run inputs
       → HaveTheirWords run (ports_in known.words) inputs → length known.words ≡ length (routes_of run).outputs → AreFed run inputs (ports_in known.words) stage
   fed_here known stage inputs so is have shape their count =
       subst (AreFed run inputs (ports_in known.words)) (sym is)

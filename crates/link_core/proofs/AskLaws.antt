@@ -19,7 +19,8 @@ use Rattle.unit_tree.specs.Ports.{Outlet, given_at, outlets, places_needed}
 use Rattle.unit_tree.specs.Routes.{routes_of}
 use Rattle.unit_tree.specs.declared.order.Route.{Route}
 
-module _ (run : Composition) (states : List (List ℤ)) (have : HaveStates run states) (place : ℕ) (route : Route) (is_route : slice_get (routes_of run).outputs place ≡ Some route)
+module _ (run : Composition) (states : List (List ℤ)) (have : HaveStates run states) (place : ℕ) (route : Route)
+    (is_route : slice_get (routes_of run).outputs place ≡ Some route)
     (words found : List (Option Seen)) (found_is : found ≡ words) (needs : List ℕ) (needs_are : needs ≡ route.needs) (undefined : Bool)
     (undefined_so : undefined ≡ list_any (λ one. is_undefined (entry found one)) needs) where
   long : length states ≡ length run.members
@@ -40,20 +41,24 @@ module _ (run : Composition) (states : List (List ℤ)) (have : HaveStates run s
   pub undefined_there : undefined ≡ true → (outlet : Outlet) → slice_get (outlets run states) place ≡ Some outlet → Some Undefined ≡ determined words outlet
   undefined_there is outlet there = undefined_is words outlet route.needs (needs_there outlet there) (sym test_is ∙ is)
 
-  module _ (inputs : List (List ℤ)) (checked_run : Composition) (same_run : run ≡ checked_run) (known defined : List Bool) (known_are : known ≡ defined) (defined_are : defined ≡ map is_defined words)
+  module _ (inputs : List (List ℤ)) (checked_run : Composition) (same_run : run ≡ checked_run) (known defined : List Bool) (known_are : known ≡ defined)
+      (defined_are : defined ≡ map is_defined words)
       (their : HaveTheirWords run (ports_in words) inputs) (given : Option Outcome) (told : Option Seen) (told_so : told ≡ seen_given given)
-      (given_so : (held : List ℤ) → length held ≡ length known → HaveTheirWords checked_run (ports_told known held) inputs → given ≡ given_there checked_run states (ports_told known held) place) where
+      (given_so : (held : List ℤ) → length held ≡ length known → HaveTheirWords checked_run (ports_told known held) inputs
+      → given ≡ given_there checked_run states (ports_told known held) place) where
     ports_are : ports_told known (map held_word words) ≡ ports_in words
     ports_are = ap (λ all. ports_told all (map held_word words)) (known_are ∙ defined_are) ∙ told_is words
 
     given_is : given ≡ given_there run states (ports_in words) place
     given_is =
         given_so (map held_word words) (as_many words known (known_are ∙ defined_are))
-        (subst (λ one. HaveTheirWords one (ports_told known (map held_word words)) inputs) same_run (subst (λ ports. HaveTheirWords run ports inputs) (sym ports_are) their))
+        (subst (λ one. HaveTheirWords one (ports_told known (map held_word words)) inputs) same_run
+        (subst (λ ports. HaveTheirWords run ports inputs) (sym ports_are) their))
         ∙ ap₂ (λ one ports. given_there one states ports place) (sym same_run) ports_are
 
     pub asked_there : undefined ≡ false → (outlet : Outlet) → slice_get (outlets run states) place ≡ Some outlet → told ≡ determined words outlet
-    asked_there is outlet there = told_so ∙ asked_is words outlet route.needs (needs_there outlet there) run states place given there (sym test_is ∙ is) given_is
+    asked_there is outlet there = told_so ∙ asked_is words outlet route.needs (needs_there outlet there) run states place given there
+        (sym test_is ∙ is) given_is
 
     pub word_fits : IfSome told (IsWordSeen run place)
     word_fits =

@@ -1,5 +1,6 @@
 -- How many items are not known.
-use Rattle.std.proofs.Common.{◌≡◌, ℕ, zero, suc, ◌+◌, ◌<◌, ◌≤◌, true, false, is_none, List, [], ◌∷◌, length, map, Option, Some, None, refl, sym, ap, arith, ◌∙◌}
+use Rattle.std.proofs.Common.{◌≡◌, ℕ, zero, suc, ◌+◌, ◌<◌, ◌≤◌, true, false, is_none, is_some, List, [], ◌∷◌, length, map, Option, Some, None, refl, sym, ap}
+use Rattle.std.proofs.Common.{arith, ◌∙◌}
 use Rattle.std.specs.Prelude.{slice_set}
 use Rattle.link_core.specs.Boards.{entry}
 use Rattle.link_core.specs.Noted.{AreNotes, are_nothing, empties, is_defined}
@@ -32,7 +33,8 @@ pub none_defined : (words : List (Option Seen)) → map (λ one. false) words �
 none_defined [] = refl
 none_defined (one ∷ words) = ap (λ rest. false ∷ rest) (none_defined words)
 
-pub cleared : (run : Composition) (old new : Notes) → new.words.items ≡ are_nothing old.words.items → new.limits.items ≡ are_nothing old.limits.items → new.replies.items ≡ are_nothing old.replies.items → new.redos.items ≡ are_nothing old.redos.items
+pub cleared : (run : Composition) (old new : Notes) → new.words.items ≡ are_nothing old.words.items → new.limits.items ≡ are_nothing old.limits.items
+    → new.replies.items ≡ are_nothing old.replies.items → new.redos.items ≡ are_nothing old.redos.items
     → new.defined.items ≡ map (λ one. false) old.defined.items → AreNotes run old → AreNotes run new
 cleared run old new words limits replies redos defined are = record {
   words = ap length words ∙ as_many old.words.items ∙ are.words;
@@ -49,3 +51,12 @@ cleared run old new words limits replies redos defined are = record {
     false_twice : (words : List (Option Seen)) → map (λ one. false) (map is_defined words) ≡ map (λ one. false) words
     false_twice [] = refl
     false_twice (one ∷ words) = ap (λ rest. false ∷ rest) (false_twice words)
+
+-- One item more is known.
+pub fewer_told : {A : Type 0} (entries : List (Option A)) (place : ℕ) (told : A) → place < length entries → is_some (entry entries place) ≡ false
+    → empties (slice_set entries place (Some told)) + 1 ≡ empties entries
+fewer_told entries place told within none = fewer entries place told within (none_there (entry entries place) none)
+  where
+    none_there : {A : Type 0} (found : Option A) → is_some found ≡ false → is_none found ≡ true
+    none_there None is = refl
+    none_there (Some one) is = absurd (cc)

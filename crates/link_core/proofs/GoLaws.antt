@@ -25,20 +25,25 @@ use Rattle.unit_tree.specs.Successor.{Position, point_after}
 use Rattle.unit_tree.specs.Trace.{Row as TraceRow}
 
 -- Own states after a step are those after a step from them.
-own_from : (me t h : ℕ) (ports : Ports) (owners : List ℕ) (members : List Member) (states : List (List ℤ)) → length owners ≡ length members → length states ≡ length members
-    → own_states owners me (map state_after (zip (own_states owners me states) (map (step_at t h ports) (zip members (own_states owners me states))))) ≡ own_states owners me (map state_after (zip states (map (step_at t h ports) (zip members states))))
+own_from : (me t h : ℕ) (ports : Ports) (owners : List ℕ) (members : List Member) (states : List (List ℤ)) → length owners ≡ length members
+    → length states ≡ length members
+    → own_states owners me (map state_after (zip (own_states owners me states)
+    (map (step_at t h ports) (zip members (own_states owners me states))))) ≡ own_states owners me
+    (map state_after (zip states (map (step_at t h ports) (zip members states))))
 own_from me t h ports [] members states owns long = refl
 own_from me t h ports (owner ∷ owners) [] states owns long = absurd (omega (arith, owns))
 own_from me t h ports (owner ∷ owners) (member ∷ members) [] owns long = absurd (omega (arith, long))
 own_from me t h ports (owner ∷ owners) (member ∷ members) (state ∷ states) owns long =
     ap₂ (λ first rest. first ∷ rest) (by_test (owner == me)) (own_from me t h ports owners members states (omega (arith, owns)) (omega (arith, long)))
   where
-    by_test : (test : Bool) → (if test then state_after (if test then state else [], step_at t h ports (member, if test then state else [])) else []) ≡ (if test then state_after (state, step_at t h ports (member, state)) else [])
+    by_test : (test : Bool) → (if test then state_after (if test then state else [], step_at t h ports (member, if test then state else [])) else []) ≡
+        (if test then state_after (state, step_at t h ports (member, state)) else [])
     by_test true = refl
     by_test false = refl
 
 -- Notes that are cleared know nothing.
-pub known_is : (run : Composition) (notes cleared : Notes) → AreNotes run notes → making_in cleared ≡ forgotten (making_in notes) → (making_in cleared).known ≡ nothing_known run
+pub known_is : (run : Composition) (notes cleared : Notes) → AreNotes run notes → making_in cleared ≡ forgotten (making_in notes)
+    → (making_in cleared).known ≡ nothing_known run
 known_is run notes cleared noted notes_are =
     let words = nothing_same notes.words.items (names_of run) (noted.words ∙ sym (names_count run)) in
     let limits = nothing_same notes.limits.items run.members noted.limits in
@@ -48,7 +53,8 @@ known_is run notes cleared noted notes_are =
     ∙ ap₂ (λ w l. record { words = w; limits = l; replies = are_nothing notes.replies.items; redos = are_nothing notes.redos.items }) words limits
     ∙ ap₂ (λ r d. record { words = map (λ name. None) (names_of run); limits = map (λ member. None) run.members; replies = r; redos = d }) replies redos
 
-module _ (run : Composition) (owners : List ℕ) (me : ℕ) (owns : length owners ≡ length run.members) (states after : List (List ℤ)) (notes cleared : Notes) (course : Course) (kept : Kept) (point : Point) (shown : Shown) (h : ℕ)
+module _ (run : Composition) (owners : List ℕ) (me : ℕ) (owns : length owners ≡ length run.members) (states after : List (List ℤ)) (notes cleared : Notes)
+    (course : Course) (kept : Kept) (point : Point) (shown : Shown) (h : ℕ)
     (long : length states ≡ length run.members) (noted : AreNotes run notes) where
   abbrev known : Board
   known = (making_in notes).known
@@ -62,13 +68,15 @@ module _ (run : Composition) (owners : List ℕ) (me : ℕ) (owns : length owner
   abbrev mk : Position → Board → List Fact → Option TraceRow → Progress × Taken
   mk at board facts row = (record { at = at; known = board; ended = course.ended; kept = kept_in owners me kept; facts = facts; row = row }, Row)
 
-  module _ (stage_is : stage_at run here known ≡ On h) (states_are : after ≡ stepped run owners me course.point.t h ports states) (notes_are : making_in cleared ≡ forgotten (making_in notes))
+  module _ (stage_is : stage_at run here known ≡ On h) (states_are : after ≡ stepped run owners me course.point.t h ports states)
+      (notes_are : making_in cleared ≡ forgotten (making_in notes))
       (point_is : point ≡ point_after course.point h) (shown_is : shown_in shown ≡ row_shown run (place_of course.point) known) where
     at_is : part_at owners me point (course.number + 1) after ≡ own_after run owners me here ports h
     at_is =
         let more : course.number + 1 ≡ suc course.number = omega arith in
         let own : own_states owners me after ≡ (own_after run owners me here ports h).states =
-        ap (own_states owners me) states_are ∙ own_stepped me course.point.t h ports owners run.members states owns long ∙ sym (own_from me course.point.t h ports owners run.members states owns long) in
+        ap (own_states owners me) states_are ∙ own_stepped me course.point.t h ports owners run.members states owns long
+        ∙ sym (own_from me course.point.t h ports owners run.members states owns long) in
         ap₂ (λ p n. record { point = p; states = own_states owners me after; number = n }) point_is more
         ∙ ap (λ all. record { point = point_after course.point h; states = all; number = suc course.number }) own
 

@@ -28,7 +28,8 @@ none_kept run made states have had = none_made made states (AllZip-long _ run.me
 
 -- ---- Keeping
 
-module _ (run : Composition) (room : List (Vec ℤ Global)) (k : ℕ) (one : Vec ℤ Global) (within : k < length run.members) (many : k < length room) (have : HaveStates run (map words_in room)) (read : one ≡ get_or room k one)
+module _ (run : Composition) (room : List (Vec ℤ Global)) (k : ℕ) (one : Vec ℤ Global) (within : k < length run.members) (many : k < length room)
+    (have : HaveStates run (map words_in room)) (read : one ≡ get_or room k one)
     (states : List (List ℤ)) (had : HaveStates run states) (state : List ℤ) (is : slice_get states k ≡ Some state) where
   pub as_long : length one.items ≡ length state
   as_long = room_for run room k one within many have read states had ∙ ap length (get_or_from_slice_get states k state [] is)
@@ -41,7 +42,8 @@ module _ (run : Composition) (room : List (Vec ℤ Global)) (k : ℕ) (one : Vec
   kept_next new same so =
       let long : length new ≡ length one.items = ap length same ∙ sym as_long in
       let put : (with_items one new).items ≡ state = items_put one new long ∙ same in
-      let there : get_or states k (with_items one new).items ≡ (with_items one new).items = get_or_from_slice_get states k state (with_items one new).items is ∙ sym put in
+      let there : get_or states k (with_items one new).items ≡ (with_items one new).items = get_or_from_slice_get states k state (with_items one new).items is
+      ∙ sym put in
       let below : k < length states = omega (arith, within, AllZip-long _ run.members states had) in
       record {
         long = room_set run room k one within many have read new long;
@@ -51,7 +53,8 @@ module _ (run : Composition) (room : List (Vec ℤ Global)) (k : ℕ) (one : Vec
 
 -- ---- Giving back
 
-module _ (run : Composition) (kept : List (Vec ℤ Global)) (k : ℕ) (one : Vec ℤ Global) (within : k < length run.members) (have : HaveStates run (map words_in kept)) (read : one ≡ get_or kept k one)
+module _ (run : Composition) (kept : List (Vec ℤ Global)) (k : ℕ) (one : Vec ℤ Global) (within : k < length run.members)
+    (have : HaveStates run (map words_in kept)) (read : one ≡ get_or kept k one)
     (now : Fleet) (had : HaveStates run now.states) (state : List ℤ) (is : state ≡ one.items) where
   many : k < length kept
   many = let long = AllZip-long _ run.members (map words_in kept) have in let same = as_many_mapped words_in kept in omega (arith, within, long, same)
@@ -73,18 +76,42 @@ module _ (run : Composition) (kept : List (Vec ℤ Global)) (k : ℕ) (one : Vec
       record {
         made = subst (λ (f : Fleet). Made f.states (k + 1) (map words_in kept)) (sym made) (one_made now.states (map words_in kept) k state below there so);
         long = subst (λ (f : Fleet). HaveStates run f.states) (sym made)
-            (zip_set (λ (member : Member) words. length words ≡ length member.component.unit.states) run.members now.states k [] state had (λ member same. fits ∙ same));
+            (zip_set (λ (member : Member) words. length words ≡ length member.component.unit.states) run.members now.states k [] state had
+            (λ member same. fits ∙ same));
         plan = ap (λ (f : Fleet). f.plan) made;
         inputs = ap (λ (f : Fleet). f.inputs) made;
       }
 
 -- ---- A node that starts again
 
-pub restarted_is : (run : Composition) (owners : List ℕ) (me : ℕ) (old new : List (List ℤ)) (notes cleared : Notes) (course again : Course) (kept : Kept) → AreNotes run notes → making_in cleared ≡ forgotten (making_in notes)
+pub restarted_is : (run : Composition) (owners : List ℕ) (me : ℕ) (old new : List (List ℤ)) (notes cleared : Notes) (course again : Course) (kept : Kept)
+    → AreNotes run notes → making_in cleared ≡ forgotten (making_in notes)
     → new ≡ map words_in kept.states.items → again.point ≡ kept.point → again.number ≡ kept.number → again.ended ≡ None → shown_in again.shown ≡ None
     → progress_in owners me new cleared again kept ≡ restarted (rule_of run owners) (progress_in owners me old notes course kept)
 restarted_is run owners me old new notes cleared course again kept noted notes_are states point number ended shown =
-    ap₂ (λ p n. record { at = part_at owners me p n new; known = (making_in cleared).known; ended = again.ended; kept = kept_in owners me kept; facts = cleared.facts.items; row = shown_in again.shown }) point number
-    ∙ ap₂ (λ e r. record { at = part_at owners me kept.point kept.number new; known = (making_in cleared).known; ended = e; kept = kept_in owners me kept; facts = cleared.facts.items; row = r }) ended shown
-    ∙ ap₂ (λ all board. record { at = part_at owners me kept.point kept.number all; known = board; ended = None; kept = kept_in owners me kept; facts = cleared.facts.items; row = None }) states (known_is run notes cleared noted notes_are)
-    ∙ ap (λ facts. record { at = kept_in owners me kept; known = nothing_known run; ended = None; kept = kept_in owners me kept; facts = facts; row = None }) (ap (λ (making : Making). making.facts) notes_are)
+    ap₂ (λ p n. record {
+      at = part_at owners me p n new;
+      known = (making_in cleared).known;
+      ended = again.ended;
+      kept = kept_in owners me kept;
+      facts = cleared.facts.items;
+      row = shown_in again.shown;
+    }) point number
+    ∙ ap₂ (λ e r. record {
+      at = part_at owners me kept.point kept.number new;
+      known = (making_in cleared).known;
+      ended = e;
+      kept = kept_in owners me kept;
+      facts = cleared.facts.items;
+      row = r;
+    }) ended shown
+    ∙ ap₂ (λ all board. record {
+      at = part_at owners me kept.point kept.number all;
+      known = board;
+      ended = None;
+      kept = kept_in owners me kept;
+      facts = cleared.facts.items;
+      row = None;
+    }) states (known_is run notes cleared noted notes_are)
+    ∙ ap (λ facts. record { at = kept_in owners me kept; known = nothing_known run; ended = None; kept = kept_in owners me kept; facts = facts; row = None })
+    (ap (λ (making : Making). making.facts) notes_are)

@@ -6,8 +6,10 @@ pub mod GoLaws
 pub mod KeepLaws
 pub mod LoopLaws
 pub mod MakeLaws
+pub mod MoveLaws
 pub mod NodeLaws
 pub mod OpenLaws
+pub mod OwnerLaws
 pub mod PairLaws
 pub mod PassBodies
 pub mod PlaceLaws
@@ -19,6 +21,7 @@ pub mod StageBodies
 pub mod StageItems
 pub mod StageLaws
 pub mod StepBodies
+pub mod TakeLaws
 pub mod TruthLaws
 pub mod TryLaws
 pub mod WordLaws

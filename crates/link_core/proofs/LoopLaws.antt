@@ -1,5 +1,6 @@
 -- Loops over lists.
-use Rattle.std.proofs.Common.{◌≡◌, ◌∙◌, ℕ, zero, suc, ◌+◌, ◌<◌, ◌≤◌, List, [], ◌∷◌, ◌++◌, length, map, take, drop, get_or, set, refl, ap, sym, arith, append_assoc, append-nil}
+use Rattle.std.proofs.Common.{◌≡◌, ◌∙◌, ℕ, zero, suc, ◌+◌, ◌<◌, ◌≤◌, List, [], ◌∷◌, ◌++◌, length, map, take, drop, get_or, set, refl, ap, sym, arith}
+use Rattle.std.proofs.Common.{append_assoc, append-nil}
 use Rattle.std.proofs.lemmas.List.{drop_more, drop_all, take_all, take_more_set}
 use Rattle.std.proofs.Common.{length-set}
 
@@ -13,7 +14,8 @@ pub record Made {A : Type 0} (made : List A) (count : ℕ) (whole : List A) : Ty
 pub none_made : {A : Type 0} (made whole : List A) → length made ≡ length whole → Made made 0 whole
 none_made made whole long = record { long = long; so_far = refl }
 
-pub one_made : {A : Type 0} (made whole : List A) (count : ℕ) (x : A) → count < length whole → get_or whole count x ≡ x → Made made count whole → Made (set made count x) (count + 1) whole
+pub one_made : {A : Type 0} (made whole : List A) (count : ℕ) (x : A) → count < length whole → get_or whole count x ≡ x → Made made count whole
+    → Made (set made count x) (count + 1) whole
 one_made made whole count x within is so =
     let more : take (count + 1) (set made count x) ≡ take count made ++ (x ∷ []) = take_more_set made count x (omega (arith, within, so.long)) in
     let left : drop count whole ≡ x ∷ drop (count + 1) whole = drop_more whole count x within ∙ ap (λ one. one ∷ drop (count + 1) whole) is in

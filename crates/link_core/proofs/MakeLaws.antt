@@ -47,13 +47,15 @@ lacks_by (Some (Ok word)) (Some (Faulted fault)) so is = absurd (cc)
 abbrev pub all_seen : Ports → List Outlet → List (Option Seen)
 all_seen ports outs = map (λ outlet. Some (seen_of (given_at ports outlet))) outs
 
-pub ports_below : (ports : Ports) (outs : List Outlet) (known : List (Option Seen)) → AllZip IsSo (all_seen ports outs) known → AllZip Below (ports_in known) (map (word_at ports) outs)
+pub ports_below : (ports : Ports) (outs : List Outlet) (known : List (Option Seen)) → AllZip IsSo (all_seen ports outs) known
+    → AllZip Below (ports_in known) (map (word_at ports) outs)
 ports_below ports [] [] so = tt
 ports_below ports [] (one ∷ known) so = absurd so
 ports_below ports (outlet ∷ outs) [] so = absurd so
 ports_below ports (outlet ∷ outs) (one ∷ known) so = (below_by (given_at ports outlet) one so.0, ports_below ports outs known so.1)
 
-pub ports_lack : (ports : Ports) (outs : List Outlet) (known : List (Option Seen)) → AllZip IsSo (all_seen ports outs) known → AllZip Lacks known (map (word_at ports) outs)
+pub ports_lack : (ports : Ports) (outs : List Outlet) (known : List (Option Seen)) → AllZip IsSo (all_seen ports outs) known
+    → AllZip Lacks known (map (word_at ports) outs)
 ports_lack ports [] [] so = tt
 ports_lack ports [] (one ∷ known) so = absurd so
 ports_lack ports (outlet ∷ outs) [] so = absurd so
@@ -79,23 +81,28 @@ module _ (small great : Ports) (are : AllZip Below small great) where
   source_below (Start word) = refl
   source_below (AtPlace place) = entry_below small great place are
 
-  seen_below : (needed : Bool) (start : ℤ) (source : InputSource) → Below (if needed then input_word small source else Some start) (if needed then input_word great source else Some start)
+  seen_below : (needed : Bool) (start : ℤ) (source : InputSource)
+      → Below (if needed then input_word small source else Some start) (if needed then input_word great source else Some start)
   seen_below true start source = source_below source
   seen_below false start source = refl
 
-  front_below : (first : ℤ) (small_rest great_rest : Option (List ℤ)) → Below small_rest great_rest → Below (in_front first small_rest) (in_front first great_rest)
+  front_below : (first : ℤ) (small_rest great_rest : Option (List ℤ)) → Below small_rest great_rest
+      → Below (in_front first small_rest) (in_front first great_rest)
   front_below first None great_rest is = tt
   front_below first (Some rest) great_rest is = ap (in_front first) is
 
-  all_below : (one other : Option ℤ) (rest last : List (Option ℤ)) → Below one other → Below (all_there rest) (all_there last) → Below (all_there (one ∷ rest)) (all_there (other ∷ last))
+  all_below : (one other : Option ℤ) (rest last : List (Option ℤ)) → Below one other → Below (all_there rest) (all_there last)
+      → Below (all_there (one ∷ rest)) (all_there (other ∷ last))
   all_below None other rest last first later = tt
   all_below (Some word) other rest last first later =
       subst (λ found. Below (in_front word (all_there rest)) (all_there (found ∷ last))) (sym first) (front_below word (all_there rest) (all_there last) later)
 
-  inputs_below : (output : Output) (pairs : List (Input × InputSource)) → Below (all_there (map (seen_by small output) pairs)) (all_there (map (seen_by great output) pairs))
+  inputs_below : (output : Output) (pairs : List (Input × InputSource))
+      → Below (all_there (map (seen_by small output) pairs)) (all_there (map (seen_by great output) pairs))
   inputs_below output [] = refl
   inputs_below output ((input, source) ∷ pairs) =
-      all_below (seen_by small output (input, source)) (seen_by great output (input, source)) (map (seen_by small output) pairs) (map (seen_by great output) pairs)
+      all_below (seen_by small output (input, source)) (seen_by great output (input, source)) (map (seen_by small output) pairs)
+      (map (seen_by great output) pairs)
       (seen_below (is_among output.needs input.name) (start_word input.ty input.start) source) (inputs_below output pairs)
 
   given_by_inputs : {A : Type 0} (get : List ℤ → A) (one other : Option (List ℤ)) → Below one other → Below (option_map get one) (option_map get other)
@@ -124,7 +131,9 @@ module _ (known : List (Option Seen)) (ports : Ports) (are : AllZip Lacks known 
   either true other P is first second = first refl
   either false other P is first second = second is
 
-  lacks_needed : (needed : Bool) (start : ℤ) (source : InputSource) (rest : List ℕ) (seen : List (Option ℤ)) → (list_any test rest ≡ true → all_there seen ≡ None) → list_any test (cons_option (if needed then place_in source else None) rest) ≡ true → all_there ((if needed then input_word ports source else Some start) ∷ seen) ≡ None
+  lacks_needed : (needed : Bool) (start : ℤ) (source : InputSource) (rest : List ℕ) (seen : List (Option ℤ))
+      → (list_any test rest ≡ true → all_there seen ≡ None) → list_any test (cons_option (if needed then place_in source else None) rest) ≡ true
+      → all_there ((if needed then input_word ports source else Some start) ∷ seen) ≡ None
   lacks_needed false start source rest seen later is = none_later (Some start) seen (later is)
   lacks_needed true start (Start word) rest seen later is = none_later (Some word) seen (later is)
   lacks_needed true start (AtPlace place) rest seen later is =
@@ -132,10 +141,12 @@ module _ (known : List (Option Seen)) (ports : Ports) (are : AllZip Lacks known 
       (λ undefined. none_first (entry ports place) seen (entry_lacks known ports place are undefined))
       (λ others. none_later (entry ports place) seen (later others))
 
-  lacks_inputs : (output : Output) (pairs : List (Input × InputSource)) → list_any test (filter_map (place_needed output) pairs) ≡ true → all_there (map (seen_by ports output) pairs) ≡ None
+  lacks_inputs : (output : Output) (pairs : List (Input × InputSource)) → list_any test (filter_map (place_needed output) pairs) ≡ true
+      → all_there (map (seen_by ports output) pairs) ≡ None
   lacks_inputs output [] is = absurd (cc)
   lacks_inputs output ((input, source) ∷ pairs) is =
-      lacks_needed (is_among output.needs input.name) (start_word input.ty input.start) source (filter_map (place_needed output) pairs) (map (seen_by ports output) pairs) (lacks_inputs output pairs) is
+      lacks_needed (is_among output.needs input.name) (start_word input.ty input.start) source (filter_map (place_needed output) pairs)
+      (map (seen_by ports output) pairs) (lacks_inputs output pairs) is
 
   pub given_lacks : (outlet : Outlet) → list_any test (places_needed outlet.standing.0 outlet.output) ≡ true → given_at ports outlet ≡ None
   given_lacks outlet is =
@@ -144,16 +155,21 @@ module _ (known : List (Option Seen)) (ports : Ports) (are : AllZip Lacks known 
 
 -- ---- What is determined is so
 
-pub determined_is : (known : List (Option Seen)) (ports : Ports) (outlet : Outlet) (seen : Seen) → AllZip Below (ports_in known) ports → AllZip Lacks known ports → determined known outlet ≡ Some seen → seen ≡ seen_of (given_at ports outlet)
-determined_is known ports outlet seen below lacks is = by_test (list_any (λ place. is_undefined (entry known place)) (places_needed outlet.standing.0 outlet.output)) refl is
+pub determined_is : (known : List (Option Seen)) (ports : Ports) (outlet : Outlet) (seen : Seen) → AllZip Below (ports_in known) ports
+    → AllZip Lacks known ports → determined known outlet ≡ Some seen → seen ≡ seen_of (given_at ports outlet)
+determined_is known ports outlet seen below lacks is =
+    by_test (list_any (λ place. is_undefined (entry known place)) (places_needed outlet.standing.0 outlet.output)) refl is
   where
     some_is : {A : Type 0} (one other : A) → ◌≡◌ {A = Option A} (Some one) (Some other) → one ≡ other
     some_is one other e = cc
 
-    given_is : (given : Option Outcome) → Below given (given_at ports outlet) → option_map (λ one. seen_of (Some one)) given ≡ Some seen → seen ≡ seen_of (given_at ports outlet)
+    given_is : (given : Option Outcome) → Below given (given_at ports outlet) → option_map (λ one. seen_of (Some one)) given ≡ Some seen
+        → seen ≡ seen_of (given_at ports outlet)
     given_is None under told = absurd (cc)
     given_is (Some one) under told = sym (some_is (seen_of (Some one)) seen told) ∙ ap seen_of (sym under)
 
-    by_test : (undefined : Bool) → list_any (λ place. is_undefined (entry known place)) (places_needed outlet.standing.0 outlet.output) ≡ undefined → (if undefined then Some Undefined else option_map (λ given. seen_of (Some given)) (given_at (ports_in known) outlet)) ≡ Some seen → seen ≡ seen_of (given_at ports outlet)
+    by_test : (undefined : Bool) → list_any (λ place. is_undefined (entry known place)) (places_needed outlet.standing.0 outlet.output) ≡ undefined
+        → (if undefined then Some Undefined else option_map (λ given. seen_of (Some given)) (given_at (ports_in known) outlet)) ≡ Some seen
+        → seen ≡ seen_of (given_at ports outlet)
     by_test true there told = sym (some_is Undefined seen told) ∙ ap seen_of (sym (given_lacks known ports lacks outlet there))
     by_test false none told = given_is (given_at (ports_in known) outlet) (given_below (ports_in known) ports below outlet) told

@@ -68,17 +68,56 @@ module _ (run : Composition) (places instances : ℕ) (many : places ≡ length 
 
   blank_known : (blank places instances).known ≡ nothing_known run
   blank_known =
-      ap₂ (λ w l. record { words = w; limits = l; replies = replicate instances None; redos = replicate instances None }) (each_value places (names_of run) None (many ∙ sym (names_count run))) (each_value instances run.members None members)
-      ∙ ap (λ all. record { words = (nothing_known run).words; limits = (nothing_known run).limits; replies = all; redos = all }) (each_value instances run.members None members)
+      ap₂ (λ w l. record { words = w; limits = l; replies = replicate instances None; redos = replicate instances None })
+      (each_value places (names_of run) None (many ∙ sym (names_count run))) (each_value instances run.members None members)
+      ∙ ap (λ all. record { words = (nothing_known run).words; limits = (nothing_known run).limits; replies = all; redos = all })
+      (each_value instances run.members None members)
 
   pub opened_is : (owners : List ℕ) (me : ℕ) (states : List (List ℤ)) (course : Course) (kept : Vec (Vec ℤ Global) Global)
       → states ≡ (first_position run).states → map words_in kept.items ≡ (first_position run).states
       → course.point ≡ record { t = 0; n = 0 } → course.number ≡ 0 → course.ended ≡ None → shown_in course.shown ≡ None
-      → progress_in owners me states notes course (record { point = record { t = 0; n = 0 }; number = 0; states = kept }) ≡ opened (rule_of run owners) me (first_position run)
+      → progress_in owners me states notes course (record { point = record { t = 0; n = 0 }; number = 0; states = kept }) ≡ opened (rule_of run owners) me
+      (first_position run)
   opened_is owners me states course kept states_are kept_are point number ended shown =
       let start : Point = record { t = 0; n = 0 } in
-      ap₂ (λ p n. record { at = part_at owners me p n states; known = (making_in notes).known; ended = course.ended; kept = part_at owners me start 0 (map words_in kept.items); facts = notes.facts.items; row = shown_in course.shown }) point number
-      ∙ ap₂ (λ e r. record { at = part_at owners me start 0 states; known = (making_in notes).known; ended = e; kept = part_at owners me start 0 (map words_in kept.items); facts = notes.facts.items; row = r }) ended shown
-      ∙ ap (λ (m : Making). record { at = part_at owners me start 0 states; known = m.known; ended = None; kept = part_at owners me start 0 (map words_in kept.items); facts = m.facts; row = None }) made
-      ∙ ap₂ (λ all other. record { at = part_at owners me start 0 all; known = (blank places instances).known; ended = None; kept = part_at owners me start 0 other; facts = []; row = None }) states_are kept_are
-      ∙ ap (λ board. record { at = part_of owners me (first_position run); known = board; ended = None; kept = part_of owners me (first_position run); facts = []; row = None }) blank_known
+      ap₂ (λ p n. record {
+        at = part_at owners me p n states;
+        known = (making_in notes).known;
+        ended = course.ended;
+        kept = part_at owners me start 0 (map words_in kept.items);
+        facts = notes.facts.items;
+        row = shown_in course.shown;
+      }) point number
+      ∙ ap₂ (λ e r. record {
+        at = part_at owners me start 0 states;
+        known = (making_in notes).known;
+        ended = e;
+        kept = part_at owners me start 0 (map words_in kept.items);
+        facts = notes.facts.items;
+        row = r;
+      }) ended shown
+      ∙ ap (λ (m : Making). record {
+        at = part_at owners me start 0 states;
+        known = m.known;
+        ended = None;
+        kept = part_at owners me start 0
+            (map words_in kept.items);
+        facts = m.facts;
+        row = None;
+      }) made
+      ∙ ap₂ (λ all other. record {
+        at = part_at owners me start 0 all;
+        known = (blank places instances).known;
+        ended = None;
+        kept = part_at owners me start 0 other;
+        facts = [];
+        row = None;
+      }) states_are kept_are
+      ∙ ap (λ board. record {
+        at = part_of owners me (first_position run);
+        known = board;
+        ended = None;
+        kept = part_of owners me (first_position run);
+        facts = [];
+        row = None;
+      }) blank_known

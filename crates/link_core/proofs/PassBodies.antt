@@ -1,5 +1,6 @@
 -- Loops that make facts, item by item.
-use Rattle.std.proofs.Common.{◌≡◌, ◌∙◌, ℕ, zero, suc, ◌+◌, ◌-◌, ◌<◌, ◌≤◌, ◌==◌, Bool, true, false, ◌&&◌, is_none, ℤ, List, [], ◌∷◌, ◌++◌, length, map, drop, Some, refl, sym, ap, ap₂, subst, arith, append_assoc}
+use Rattle.std.proofs.Common.{◌≡◌, ◌∙◌, ℕ, zero, suc, ◌+◌, ◌-◌, ◌<◌, ◌≤◌, ◌==◌, Bool, true, false, ◌&&◌, is_none, ℤ, List, [], ◌∷◌, ◌++◌, length, map, drop}
+use Rattle.std.proofs.Common.{Some, refl, sym, ap, ap₂, subst, arith, append_assoc}
 use Rattle.std.proofs.lemmas.Option.{same_Some, slice_get_within}
 use Rattle.std.proofs.lemmas.Slice.Zip.{AllZip-long}
 use Rattle.std.specs.Prelude.{zip, if◌then◌else◌, slice_get, IfSome}
@@ -21,7 +22,8 @@ use Rattle.unit_tree.specs.declared.unit.Output.{Output}
 
 -- ---- Numbered items
 
-pub numbered_next : {X : Type 0} (xs : List X) (from k : ℕ) (x : X) → slice_get xs k ≡ Some x → drop k (enumerate_from from xs) ≡ (from + k, x) ∷ drop (suc k) (enumerate_from from xs)
+pub numbered_next : {X : Type 0} (xs : List X) (from k : ℕ) (x : X) → slice_get xs k ≡ Some x
+    → drop k (enumerate_from from xs) ≡ (from + k, x) ∷ drop (suc k) (enumerate_from from xs)
 numbered_next [] from k x is = absurd (cc)
 numbered_next (first ∷ xs) from zero x is =
     let same : first ≡ x = cc in
@@ -44,7 +46,8 @@ pub record Going {X : Type 0} (make : Making → ℕ × X → Making) (xs : List
 pub going : {X : Type 0} (make : Making → ℕ × X → Making) (xs : List X) (start : Making) → Going make xs start start 0
 going make xs start = record { rest = refl }
 
-pub goes_on : {X : Type 0} (make : Making → ℕ × X → Making) (xs : List X) (start now next : Making) (k : ℕ) (x : X) → slice_get xs k ≡ Some x → next ≡ make now (k, x) → Going make xs start now k → Going make xs start next (k + 1)
+pub goes_on : {X : Type 0} (make : Making → ℕ × X → Making) (xs : List X) (start now next : Making) (k : ℕ) (x : X) → slice_get xs k ≡ Some x
+    → next ≡ make now (k, x) → Going make xs start now k → Going make xs start next (k + 1)
 goes_on make xs start now next k x is made so = record {
   rest =
       ap₂ (λ one count. each make one (drop count (enumerate_from 0 xs))) made (more k)
@@ -58,7 +61,8 @@ goes_on make xs start now next k x is made so = record {
     none_before : (k : ℕ) → 0 + k ≡ k
     none_before k = omega arith
 
-pub gone : {X : Type 0} (make : Making → ℕ × X → Making) (xs : List X) (start now : Making) (k : ℕ) → length xs ≤ k → Going make xs start now k → now ≡ each make start (enumerate_from 0 xs)
+pub gone : {X : Type 0} (make : Making → ℕ × X → Making) (xs : List X) (start now : Making) (k : ℕ) → length xs ≤ k → Going make xs start now k
+    → now ≡ each make start (enumerate_from 0 xs)
 gone make xs start now k past so = sym (ap (each make now) (numbered_end xs 0 k past)) ∙ so.rest
 
 -- ---- Outputs and their owners
@@ -74,23 +78,30 @@ outlets_owned : (owners : List ℕ) (owner instance : ℕ) (one other : Standing
 outlets_owned owners owner instance one other [] is = tt
 outlets_owned owners owner instance one other (first ∷ counted) is = (is, outlets_owned owners owner instance one other counted is)
 
-held_owned : (me from : ℕ) (front owners : List ℕ) (members : List Member) (states : List (List ℤ)) → from ≡ length front → length owners ≡ length members → length states ≡ length members
-    → AllZip (IsOwned (front ++ owners)) (flat_map held_outlets (zip owners (enumerate_from from (zip members (own_states owners me states))))) (flat_map outlets_of (enumerate_from from (zip members states)))
+held_owned : (me from : ℕ) (front owners : List ℕ) (members : List Member) (states : List (List ℤ)) → from ≡ length front → length owners ≡ length members
+    → length states ≡ length members
+    → AllZip (IsOwned (front ++ owners)) (flat_map held_outlets (zip owners (enumerate_from from (zip members (own_states owners me states)))))
+    (flat_map outlets_of (enumerate_from from (zip members states)))
 held_owned me from front [] [] states at owns long = tt
 held_owned me from front (owner ∷ owners) [] states at owns long = absurd (omega arith)
 held_owned me from front [] (member ∷ members) states at owns long = absurd (omega arith)
 held_owned me from front (owner ∷ owners) (member ∷ members) [] at owns long = absurd (omega arith)
 held_owned me from front (owner ∷ owners) (member ∷ members) (state ∷ states) at owns long =
-    zip_append (IsOwned (front ++ owner ∷ owners)) (held_outlets (owner, (from, (member, own_state me (owner, state))))) (flat_map held_outlets (zip owners (enumerate_from (from + 1) (zip members (own_states owners me states))))) (outlets_of (from, (member, state))) (flat_map outlets_of (enumerate_from (from + 1) (zip members states)))
-    (outlets_owned (front ++ owner ∷ owners) owner from (member, own_state me (owner, state)) (member, state) (enumerate_from 0 member.component.unit.outputs) (ap (slice_get (front ++ owner ∷ owners)) at ∙ at_seam front owner owners))
-    (subst (λ all. AllZip (IsOwned all) (flat_map held_outlets (zip owners (enumerate_from (from + 1) (zip members (own_states owners me states))))) (flat_map outlets_of (enumerate_from (from + 1) (zip members states)))) (append_assoc front (owner ∷ []) owners)
+    zip_append (IsOwned (front ++ owner ∷ owners)) (held_outlets (owner, (from, (member, own_state me (owner, state)))))
+    (flat_map held_outlets (zip owners (enumerate_from (from + 1) (zip members (own_states owners me states))))) (outlets_of (from, (member, state)))
+    (flat_map outlets_of (enumerate_from (from + 1) (zip members states)))
+    (outlets_owned (front ++ owner ∷ owners) owner from (member, own_state me (owner, state)) (member, state) (enumerate_from 0 member.component.unit.outputs)
+    (ap (slice_get (front ++ owner ∷ owners)) at ∙ at_seam front owner owners))
+    (subst (λ all. AllZip (IsOwned all) (flat_map held_outlets (zip owners (enumerate_from (from + 1) (zip members (own_states owners me states)))))
+    (flat_map outlets_of (enumerate_from (from + 1) (zip members states)))) (append_assoc front (owner ∷ []) owners)
     (held_owned me (from + 1) (front ++ owner ∷ []) owners members states (longer front owner from at) (omega arith) (omega arith)))
   where
     longer : (front : List ℕ) (y from : ℕ) → from ≡ length front → from + 1 ≡ length (front ++ y ∷ [])
     longer [] y from is = omega (arith, is)
     longer (one ∷ front) y from is = let rest = longer front y (length front) refl in omega (arith, is, rest)
 
-module _ (run : Composition) (owners : List ℕ) (me : ℕ) (states : List (List ℤ)) (owns : length owners ≡ length run.members) (long : length states ≡ length run.members) where
+module _ (run : Composition) (owners : List ℕ) (me : ℕ) (states : List (List ℤ)) (owns : length owners ≡ length run.members)
+    (long : length states ≡ length run.members) where
   abbrev pub items : List (ℕ × Outlet)
   items = held run owners (own_states owners me states)
 
@@ -134,10 +145,12 @@ module _ (run : Composition) (owners : List ℕ) (me : ℕ) (states : List (List
           → (if test && is_none (entry now.known.words place) then put_word row place (determined now.known.words outlet) now else now)
           ≡ (if test && is_none (entry now.known.words place) then put_word row place (determined now.known.words at.one) now else now)
       by_test false there = refl
-      by_test true there = ap (λ one. if is_none (entry now.known.words place) then put_word row place (determined now.known.words one) now else now) (sym (there refl))
+      by_test true there = ap (λ one. if is_none (entry now.known.words place) then put_word row place (determined now.known.words one) now else now)
+          (sym (there refl))
 
   -- One output more.
-  pub pass_step : (row place number found : ℕ) (now_states : List (List ℤ)) (start now next : Making) → number ≡ place → now_states ≡ states → place < length (routes_of run).outputs
+  pub pass_step : (row place number found : ℕ) (now_states : List (List ℤ)) (start now next : Making) → number ≡ place → now_states ≡ states
+      → place < length (routes_of run).outputs
       → IfSome (slice_get (routes_of run).outputs place) (λ route. slice_get owners route.instance ≡ Some found)
       → ((outlet : Outlet) → slice_get (outlets run now_states) number ≡ Some outlet
       → next ≡ (if (found == me) && is_none (entry now.known.words number) then put_word row number (determined now.known.words outlet) now else now))
@@ -146,12 +159,16 @@ module _ (run : Composition) (owners : List ℕ) (me : ℕ) (states : List (List
       let route = at_place (routes_of run).outputs place within in
       let out = outlet_of run states place route.0 long route.1 in
       let at = held_at place out.outlet out.is in
-      let owned : slice_get owners route.0.instance ≡ Some found = subst (λ one. IfSome one (λ (r : Route). slice_get owners r.instance ≡ Some found)) route.1 owner_is in
+      let owned : slice_get owners route.0.instance ≡ Some found =
+      subst (λ one. IfSome one (λ (r : Route). slice_get owners r.instance ≡ Some found)) route.1 owner_is in
       let same_owner : found ≡ at.owner = same_Some found at.owner (sym owned ∙ sym (ap (slice_get owners) out.instance) ∙ at.owned) in
       let there : slice_get (outlets run now_states) number ≡ Some out.outlet = ap₂ (λ all p. slice_get (outlets run all) p) states_are number_is ∙ out.is in
-      let made_at : next ≡ (if (found == me) && is_none (entry now.known.words place) then put_word row place (determined now.known.words out.outlet) now else now) =
-      made out.outlet there ∙ ap (λ p. if (found == me) && is_none (entry now.known.words p) then put_word row p (determined now.known.words out.outlet) now else now) number_is in
-      goes_on (with_word me row) items start now next place (at.owner, at.one) at.is (word_is row place out.outlet at (found == me) now next (ap (λ o. o == me) same_owner) made_at) so
+      let made_at : next ≡ (if (found == me) && is_none (entry now.known.words place) then put_word row place (determined now.known.words out.outlet) now
+      else now) =
+      made out.outlet there ∙ ap (λ p. if (found == me) && is_none (entry now.known.words p) then put_word row p (determined now.known.words out.outlet) now
+      else now) number_is in
+      goes_on (with_word me row) items start now next place (at.owner, at.one) at.is
+      (word_is row place out.outlet at (found == me) now next (ap (λ o. o == me) same_owner) made_at) so
 
   pub items_count : length items ≡ length (routes_of run).outputs
   items_count = as_many_held ∙ outlets_count run states long ∙ sym (count_is run)
@@ -169,15 +186,18 @@ pub turns_on : (me row : ℕ) (outs : List (ℕ × (ℕ × Outlet))) (count : �
     → Turning me row outs count start now turn → Turning me row outs count start next (turn + 1)
 turns_on me row outs count start now next turn is so = record { rest = λ left sum. ap (passes me row outs left) is ∙ so.rest (suc left) (omega (arith, sum)) }
 
-stays : (me row : ℕ) (outs : List (ℕ × (ℕ × Outlet))) (more : ℕ) (making : Making) → each (with_word me row) making outs ≡ making → passes me row outs more making ≡ making
+stays : (me row : ℕ) (outs : List (ℕ × (ℕ × Outlet))) (more : ℕ) (making : Making) → each (with_word me row) making outs ≡ making
+    → passes me row outs more making ≡ making
 stays me row outs zero making is = refl
 stays me row outs (suc more) making is = ap (passes me row outs more) is ∙ stays me row outs more making is
 
-pub turned : (me row : ℕ) (outs : List (ℕ × (ℕ × Outlet))) (count : ℕ) (start now : Making) (turn : ℕ) → count ≤ turn → turn ≤ count → Turning me row outs count start now turn
+pub turned : (me row : ℕ) (outs : List (ℕ × (ℕ × Outlet))) (count : ℕ) (start now : Making) (turn : ℕ) → count ≤ turn → turn ≤ count
+    → Turning me row outs count start now turn
     → now ≡ passes me row outs count start
 turned me row outs count start now turn past within so = so.rest 0 (omega (arith, past, within))
 
-pub stopped : (me row : ℕ) (outs : List (ℕ × (ℕ × Outlet))) (count : ℕ) (start now next : Making) (turn : ℕ) → turn ≤ count → next ≡ each (with_word me row) now outs → next ≡ now
+pub stopped : (me row : ℕ) (outs : List (ℕ × (ℕ × Outlet))) (count : ℕ) (start now next : Making) (turn : ℕ) → turn ≤ count
+    → next ≡ each (with_word me row) now outs → next ≡ now
     → Turning me row outs count start now turn → next ≡ passes me row outs count start
 stopped me row outs count start now next turn within is same so =
     same ∙ sym (stays me row outs (count - turn) now (sym is ∙ same)) ∙ so.rest (count - turn) (omega (arith, within))

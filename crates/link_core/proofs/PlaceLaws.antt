@@ -36,7 +36,8 @@ module _ (run : Composition) (order : List ℕ) (are : AreMembers run) (is_order
         bounds = subst (IsInBounds run) (sym place.opening) (record { stop = omega arith; zeros = omega arith });
         rows = subst (IsInRows run) (sym place.opening) (omega (arith, some));
       } in
-      let so = reach_within stand.at.number place.last place.from stand (subst (HasWords run) (sym place.opening) (positions_keep run are).first) first place.reached in
+      let so = reach_within stand.at.number place.last place.from stand
+      (subst (HasWords run) (sym place.opening) (positions_keep run are).first) first place.reached in
       (so.bounds, so.rows)
 
 -- ---- Inputs where nothing is known
@@ -46,14 +47,16 @@ nothing_at [] place = refl
 nothing_at (one ∷ words) zero = refl
 nothing_at (one ∷ words) (suc place) = nothing_at words place
 
-pub nothing_fed : (run : Composition) (ports : Ports) (words : List (Option Seen)) (inputs : List (List ℤ)) → HaveTheirWords run ports inputs → HaveTheirWords run (ports_in (are_nothing words)) inputs
+pub nothing_fed : (run : Composition) (ports : Ports) (words : List (Option Seen)) (inputs : List (List ℤ)) → HaveTheirWords run ports inputs
+    → HaveTheirWords run (ports_in (are_nothing words)) inputs
 nothing_fed run ports words inputs have = each_so (HasItsWord ports inputs) (HasItsWord (ports_in (are_nothing words)) inputs) its (inputs_of run) have
   where
     its : (pair : InputAt × InputSource) → HasItsWord ports inputs pair → HasItsWord (ports_in (are_nothing words)) inputs pair
     its (at, Start word) has = has
     its (at, AtPlace place) has = subst (λ found. IfSome found (λ word. word_in inputs at ≡ word)) (sym (nothing_at words place)) tt
 
-pub nothing_same : {A B C : Type 0} (xs : List A) (ys : List B) → length xs ≡ length ys → ◌≡◌ {A = List (Option C)} (map (λ one. None) xs) (map (λ one. None) ys)
+pub nothing_same : {A B C : Type 0} (xs : List A) (ys : List B) → length xs ≡ length ys
+    → ◌≡◌ {A = List (Option C)} (map (λ one. None) xs) (map (λ one. None) ys)
 nothing_same [] [] same = refl
 nothing_same [] (y ∷ ys) same = absurd (omega (arith, same))
 nothing_same (x ∷ xs) [] same = absurd (omega (arith, same))

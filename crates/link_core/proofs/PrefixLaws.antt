@@ -1,10 +1,12 @@
 -- Facts that were there before stay in front of those that are made.
-use Rattle.std.proofs.Common.{◌≡◌, ◌∙◌, ℕ, zero, suc, ◌==◌, Bool, true, false, ◌&&◌, is_none, List, [], ◌∷◌, ◌++◌, length, Option, Some, None, refl, sym, ap, append_assoc, append-nil}
+use Rattle.std.proofs.Common.{◌≡◌, ◌∙◌, ℕ, zero, suc, ◌==◌, Bool, true, false, ◌&&◌, is_none, List, [], ◌∷◌, ◌++◌, length, Option, Some, None, refl, sym, ap}
+use Rattle.std.proofs.Common.{append_assoc, append-nil}
 use Rattle.std.specs.Prelude.{if◌then◌else◌, slice_set}
 use Rattle.std.specs.List.{enumerate_from}
 use Rattle.std.specs.Option.{option_map}
 use Rattle.link_core.specs.Boards.{Board, asked_of, entry, said_of}
-use Rattle.link_core.specs.Making.{determined, each, held, held_standings, limits_by, limits_made, made, passes, ports_in, put_redo, put_reply, put_word, redos_by, redos_made, replies_by, replies_made, stage_at, with_limit, with_redo, with_reply, with_word, words_made}
+use Rattle.link_core.specs.Making.{determined, each, held, held_standings, limits_by, limits_made, made, passes, ports_in, put_redo, put_reply, put_word}
+use Rattle.link_core.specs.Making.{redos_by, redos_made, replies_by, replies_made, stage_at, with_limit, with_redo, with_reply, with_word, words_made}
 use Rattle.link_core.specs.Nodes.{Making}
 use Rattle.link_core.specs.declared.fact.Fact.{Fact}
 use Rattle.link_core.specs.declared.fact.Fact.TheVariants.{Word, Limit, Reply}
@@ -26,68 +28,94 @@ module _ (before : List Fact) where
   abbrev Keeps : {X : Type 0} → (Making → X → Making) → Type 0
   Keeps {X} make = (making : Making) (x : X) → make (behind making) x ≡ behind (make making x)
 
-  one_more : (known : Board) (facts : List Fact) (fact : Fact) → ◌≡◌ {A = Making} (record { known = known; facts = (before ++ facts) ++ fact ∷ [] }) (record { known = known; facts = before ++ (facts ++ fact ∷ []) })
+  one_more : (known : Board) (facts : List Fact) (fact : Fact)
+      → ◌≡◌ {A = Making} (record { known = known; facts = (before ++ facts) ++ fact ∷ [] }) (record { known = known; facts = before ++ (facts ++ fact ∷ []) })
   one_more known facts fact = ap (λ all. record { known = known; facts = all }) (append_assoc before facts (fact ∷ []))
 
-  each_behind : {X : Type 0} (make : Making → X → Making) (items : List X) (making : Making) → Keeps make → each make (behind making) items ≡ behind (each make making items)
+  each_behind : {X : Type 0} (make : Making → X → Making) (items : List X) (making : Making) → Keeps make
+      → each make (behind making) items ≡ behind (each make making items)
   each_behind make [] making keeps = refl
   each_behind make (item ∷ items) making keeps = ap (λ one. each make one items) (keeps making item) ∙ each_behind make items (make making item) keeps
 
-  if_behind : (test : Bool) (one other : Making) (next : Making) → next ≡ behind one → (if test then next else behind other) ≡ behind (if test then one else other)
+  if_behind : (test : Bool) (one other : Making) (next : Making) → next ≡ behind one
+      → (if test then next else behind other) ≡ behind (if test then one else other)
   if_behind true one other next is = is
   if_behind false one other next is = refl
 
-  put_word_behind : (row place : ℕ) (found : Option Seen) (making : Making) → put_word row place found (behind making) ≡ behind (put_word row place found making)
+  put_word_behind : (row place : ℕ) (found : Option Seen) (making : Making)
+      → put_word row place found (behind making) ≡ behind (put_word row place found making)
   put_word_behind row place None making = refl
-  put_word_behind row place (Some seen) making = one_more (record making.known { words = slice_set making.known.words place (Some seen) }) making.facts (Word row place seen)
+  put_word_behind row place (Some seen) making = one_more (record making.known { words = slice_set making.known.words place (Some seen) }) making.facts
+      (Word row place seen)
 
   word_behind : (me row : ℕ) → Keeps (with_word me row)
   word_behind me row making (place, (owner, outlet)) =
-      if_behind ((owner == me) && is_none (entry making.known.words place)) (put_word row place (determined making.known.words outlet) making) making (put_word row place (determined making.known.words outlet) (behind making)) (put_word_behind row place (determined making.known.words outlet) making)
+      if_behind ((owner == me) && is_none (entry making.known.words place)) (put_word row place (determined making.known.words outlet) making) making
+      (put_word row place (determined making.known.words outlet) (behind making)) (put_word_behind row place (determined making.known.words outlet) making)
 
-  passes_behind : (me row : ℕ) (items : List (ℕ × (ℕ × Outlet))) (more : ℕ) (making : Making) → passes me row items more (behind making) ≡ behind (passes me row items more making)
+  passes_behind : (me row : ℕ) (items : List (ℕ × (ℕ × Outlet))) (more : ℕ) (making : Making)
+      → passes me row items more (behind making) ≡ behind (passes me row items more making)
   passes_behind me row items zero making = refl
-  passes_behind me row items (suc more) making = ap (passes me row items more) (each_behind (with_word me row) items making (word_behind me row)) ∙ passes_behind me row items more (each (with_word me row) making items)
+  passes_behind me row items (suc more) making = ap (passes me row items more) (each_behind (with_word me row) items making (word_behind me row))
+      ∙ passes_behind me row items more (each (with_word me row) making items)
 
   limit_behind : (me : ℕ) (at : Position) (ports : Ports) → Keeps (with_limit me at ports)
   limit_behind me at ports making (instance, (owner, standing)) =
       if_behind ((owner == me) && is_none (entry making.known.limits instance))
-      (record { known = record making.known { limits = slice_set making.known.limits instance (Some (asked_of (max_at at.point.t ports standing))) }; facts = making.facts ++ Limit at.number instance (asked_of (max_at at.point.t ports standing)) ∷ [] }) making
-      (record { known = record making.known { limits = slice_set making.known.limits instance (Some (asked_of (max_at at.point.t ports standing))) }; facts = (before ++ making.facts) ++ Limit at.number instance (asked_of (max_at at.point.t ports standing)) ∷ [] })
-      (one_more (record making.known { limits = slice_set making.known.limits instance (Some (asked_of (max_at at.point.t ports standing))) }) making.facts (Limit at.number instance (asked_of (max_at at.point.t ports standing))))
+      (record {
+        known = record making.known { limits = slice_set making.known.limits instance (Some (asked_of (max_at at.point.t ports standing))) };
+        facts = making.facts ++ Limit at.number instance (asked_of (max_at at.point.t ports standing)) ∷ [];
+      }) making
+      (record {
+        known = record making.known { limits = slice_set making.known.limits instance (Some (asked_of (max_at at.point.t ports standing))) };
+        facts = (before ++ making.facts) ++ Limit at.number instance (asked_of (max_at at.point.t ports standing)) ∷ [];
+      })
+      (one_more (record making.known { limits = slice_set making.known.limits instance (Some (asked_of (max_at at.point.t ports standing))) }) making.facts
+      (Limit at.number instance (asked_of (max_at at.point.t ports standing))))
 
-  put_reply_behind : (row instance : ℕ) (found : Option Said) (making : Making) → put_reply row instance found (behind making) ≡ behind (put_reply row instance found making)
+  put_reply_behind : (row instance : ℕ) (found : Option Said) (making : Making)
+      → put_reply row instance found (behind making) ≡ behind (put_reply row instance found making)
   put_reply_behind row instance None making = refl
-  put_reply_behind row instance (Some said) making = one_more (record making.known { replies = slice_set making.known.replies instance (Some said) }) making.facts (Reply row instance false said)
+  put_reply_behind row instance (Some said) making =
+      one_more (record making.known { replies = slice_set making.known.replies instance (Some said) }) making.facts (Reply row instance false said)
 
-  put_redo_behind : (row instance : ℕ) (found : Option Said) (making : Making) → put_redo row instance found (behind making) ≡ behind (put_redo row instance found making)
+  put_redo_behind : (row instance : ℕ) (found : Option Said) (making : Making)
+      → put_redo row instance found (behind making) ≡ behind (put_redo row instance found making)
   put_redo_behind row instance None making = refl
-  put_redo_behind row instance (Some said) making = one_more (record making.known { redos = slice_set making.known.redos instance (Some said) }) making.facts (Reply row instance true said)
+  put_redo_behind row instance (Some said) making =
+      one_more (record making.known { redos = slice_set making.known.redos instance (Some said) }) making.facts (Reply row instance true said)
 
   reply_behind : (me : ℕ) (at : Position) (ports : Ports) (h : ℕ) → Keeps (with_reply me at ports h)
   reply_behind me at ports h making (instance, (owner, standing)) =
-      if_behind ((owner == me) && is_none (entry making.known.replies instance)) (put_reply at.number instance (option_map said_of (step_at at.point.t h ports standing)) making) making
-      (put_reply at.number instance (option_map said_of (step_at at.point.t h ports standing)) (behind making)) (put_reply_behind at.number instance (option_map said_of (step_at at.point.t h ports standing)) making)
+      if_behind ((owner == me) && is_none (entry making.known.replies instance))
+      (put_reply at.number instance (option_map said_of (step_at at.point.t h ports standing)) making) making
+      (put_reply at.number instance (option_map said_of (step_at at.point.t h ports standing)) (behind making))
+      (put_reply_behind at.number instance (option_map said_of (step_at at.point.t h ports standing)) making)
 
   redo_behind : (me : ℕ) (at : Position) (ports : Ports) (h : ℕ) → Keeps (with_redo me at ports h)
   redo_behind me at ports h making (instance, (owner, standing)) =
-      if_behind ((owner == me) && is_none (entry making.known.redos instance)) (put_redo at.number instance (option_map said_of (step_at at.point.t h ports standing)) making) making
-      (put_redo at.number instance (option_map said_of (step_at at.point.t h ports standing)) (behind making)) (put_redo_behind at.number instance (option_map said_of (step_at at.point.t h ports standing)) making)
+      if_behind ((owner == me) && is_none (entry making.known.redos instance))
+      (put_redo at.number instance (option_map said_of (step_at at.point.t h ports standing)) making) making
+      (put_redo at.number instance (option_map said_of (step_at at.point.t h ports standing)) (behind making))
+      (put_redo_behind at.number instance (option_map said_of (step_at at.point.t h ports standing)) making)
 
   module _ (run : Composition) (owners : List ℕ) (me : ℕ) (at : Position) where
     pub words_behind : (making : Making) → words_made run owners me at (behind making) ≡ behind (words_made run owners me at making)
     words_behind making = passes_behind me at.number (enumerate_from 0 (held run owners at.states)) (length (held run owners at.states)) making
 
     pub limits_behind : (stage : Stage) (making : Making) → limits_by run owners me at stage (behind making) ≡ behind (limits_by run owners me at stage making)
-    limits_behind Limits making = each_behind (with_limit me at (ports_in making.known.words)) (held_standings run owners at) making (limit_behind me at (ports_in making.known.words))
+    limits_behind Limits making = each_behind (with_limit me at (ports_in making.known.words)) (held_standings run owners at) making
+        (limit_behind me at (ports_in making.known.words))
     limits_behind Words making = refl
     limits_behind (Trial h) making = refl
     limits_behind (Redo h) making = refl
     limits_behind (Over ending) making = refl
     limits_behind (On h) making = refl
 
-    pub replies_behind : (stage : Stage) (making : Making) → replies_by run owners me at stage (behind making) ≡ behind (replies_by run owners me at stage making)
-    replies_behind (Trial h) making = each_behind (with_reply me at (ports_in making.known.words) h) (held_standings run owners at) making (reply_behind me at (ports_in making.known.words) h)
+    pub replies_behind : (stage : Stage) (making : Making)
+        → replies_by run owners me at stage (behind making) ≡ behind (replies_by run owners me at stage making)
+    replies_behind (Trial h) making = each_behind (with_reply me at (ports_in making.known.words) h) (held_standings run owners at) making
+        (reply_behind me at (ports_in making.known.words) h)
     replies_behind Words making = refl
     replies_behind Limits making = refl
     replies_behind (Redo h) making = refl
@@ -95,7 +123,8 @@ module _ (before : List Fact) where
     replies_behind (On h) making = refl
 
     pub redos_behind : (stage : Stage) (making : Making) → redos_by run owners me at stage (behind making) ≡ behind (redos_by run owners me at stage making)
-    redos_behind (Redo h) making = each_behind (with_redo me at (ports_in making.known.words) h) (held_standings run owners at) making (redo_behind me at (ports_in making.known.words) h)
+    redos_behind (Redo h) making = each_behind (with_redo me at (ports_in making.known.words) h) (held_standings run owners at) making
+        (redo_behind me at (ports_in making.known.words) h)
     redos_behind Words making = refl
     redos_behind Limits making = refl
     redos_behind (Trial h) making = refl
@@ -104,14 +133,16 @@ module _ (before : List Fact) where
 
     -- All that is made of what is known, behind the facts that were there before.
     pub made_behind : (known : Board)
-        → redos_made run owners me at (replies_made run owners me at (limits_made run owners me at (words_made run owners me at (record { known = known; facts = before }))))
+        → redos_made run owners me at (replies_made run owners me at
+        (limits_made run owners me at (words_made run owners me at (record { known = known; facts = before }))))
         ≡ behind (made run owners me at known)
     made_behind known =
         let start : Making = record { known = known; facts = [] } in
         let one = words_made run owners me at start in
         let two = limits_made run owners me at one in
         let three = replies_made run owners me at two in
-        ap (λ making. redos_made run owners me at (replies_made run owners me at (limits_made run owners me at (words_made run owners me at making)))) (ap (λ facts. record { known = known; facts = facts }) (sym (append-nil before)))
+        ap (λ making. redos_made run owners me at (replies_made run owners me at (limits_made run owners me at (words_made run owners me at making))))
+        (ap (λ facts. record { known = known; facts = facts }) (sym (append-nil before)))
         ∙ ap (λ making. redos_made run owners me at (replies_made run owners me at (limits_made run owners me at making))) (words_behind start)
         ∙ ap (λ making. redos_made run owners me at (replies_made run owners me at making)) (limits_behind (stage_at run at one.known) one)
         ∙ ap (redos_made run owners me at) (replies_behind (stage_at run at two.known) two)

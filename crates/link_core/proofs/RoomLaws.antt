@@ -20,7 +20,8 @@ items_put v items long =
 abbrev pub words_in : Vec ℤ Global → List ℤ
 words_in one = one.items
 
-module _ (run : Composition) (room : List (Vec ℤ Global)) (k : ℕ) (one : Vec ℤ Global) (within : k < length run.members) (many : k < length room) (have : HaveStates run (map words_in room)) (read : one ≡ get_or room k one) where
+module _ (run : Composition) (room : List (Vec ℤ Global)) (k : ℕ) (one : Vec ℤ Global) (within : k < length run.members) (many : k < length room)
+    (have : HaveStates run (map words_in room)) (read : one ≡ get_or room k one) where
   there : slice_get (map words_in room) k ≡ Some one.items
   there = mapped_at words_in room k one (read_at room k one many read)
 
@@ -38,5 +39,6 @@ module _ (run : Composition) (room : List (Vec ℤ Global)) (k : ℕ) (one : Vec
   pub room_set : (new : List ℤ) → length new ≡ length one.items → HaveStates run (map words_in (set room k (with_items one new)))
   room_set new long =
       subst (HaveStates run) (sym (map-set words_in room k (with_items one new)))
-      (zip_set (λ (member : Member) words. length words ≡ length member.component.unit.states) run.members (map words_in room) k one.items (with_items one new).items have
+      (zip_set (λ (member : Member) words. length words ≡ length member.component.unit.states) run.members (map words_in room) k one.items
+      (with_items one new).items have
       (λ member is. ap length (items_put one new long) ∙ long ∙ ap length (sym (get_or_from_slice_get (map words_in room) k one.items one.items there)) ∙ is))

@@ -1,5 +1,6 @@
 -- Loops that look for the stage of a row.
-use Rattle.std.proofs.Common.{◌≡◌, ◌∙◌, ℕ, zero, suc, ◌+◌, ◌-◌, ◌≤◌, min, Bool, true, false, ◌&&◌, is_some, List, [], ◌∷◌, length, map, drop, Option, Some, None, refl, sym, ap, ap₂, arith}
+use Rattle.std.proofs.Common.{◌≡◌, ◌∙◌, ℕ, zero, suc, ◌+◌, ◌-◌, ◌≤◌, min, Bool, true, false, ◌&&◌, is_some, List, [], ◌∷◌, length, map, drop, Option, Some}
+use Rattle.std.proofs.Common.{None, refl, sym, ap, ap₂, arith}
 use Rattle.std.proofs.lemmas.Option.{slice_get-map}
 use Rattle.std.specs.Prelude.{if◌then◌else◌, zip, slice_get}
 use Rattle.std.specs.List.{cons_option, enumerate_from, filter_map, list_all}
@@ -44,10 +45,12 @@ pub record Along {X Y : Type 0} (tell : List X → Y) (xs : List X) (k : ℕ) : 
 pub begun : {X Y : Type 0} (tell : List X → Y) (xs : List X) → Along tell xs 0
 begun tell xs = record { is = refl }
 
-pub along_next : {X Y : Type 0} (tell : List X → Y) (xs : List X) (k : ℕ) (x : X) → slice_get xs k ≡ Some x → tell (x ∷ drop (k + 1) xs) ≡ tell (drop (k + 1) xs) → Along tell xs k → Along tell xs (k + 1)
+pub along_next : {X Y : Type 0} (tell : List X → Y) (xs : List X) (k : ℕ) (x : X) → slice_get xs k ≡ Some x
+    → tell (x ∷ drop (k + 1) xs) ≡ tell (drop (k + 1) xs) → Along tell xs k → Along tell xs (k + 1)
 along_next tell xs k x is same so = record { is = sym same ∙ sym (ap tell (left_is xs k x is)) ∙ so.is }
 
-pub along_here : {X Y : Type 0} (tell : List X → Y) (xs : List X) (k : ℕ) (x : X) (y : Y) → slice_get xs k ≡ Some x → tell (x ∷ drop (k + 1) xs) ≡ y → Along tell xs k → y ≡ tell xs
+pub along_here : {X Y : Type 0} (tell : List X → Y) (xs : List X) (k : ℕ) (x : X) (y : Y) → slice_get xs k ≡ Some x → tell (x ∷ drop (k + 1) xs) ≡ y
+    → Along tell xs k → y ≡ tell xs
 along_here tell xs k x y is told so = sym told ∙ sym (ap tell (left_is xs k x is)) ∙ so.is
 
 pub along_end : {X Y : Type 0} (tell : List X → Y) (xs : List X) (k : ℕ) (y : Y) → length xs ≤ k → tell [] ≡ y → Along tell xs k → y ≡ tell xs
@@ -89,14 +92,18 @@ as_many_zipped (x ∷ xs) (y ∷ ys) long = let rest = as_many_zipped xs ys (ome
 
 -- ---- Steps by replies
 
-pub step_at_place : (t h : ℕ) (members : List Member) (replies : List (Option Said)) (k : ℕ) (member : Member) (said : Option Said) → slice_get members k ≡ Some member → slice_get replies k ≡ Some said
+pub step_at_place : (t h : ℕ) (members : List Member) (replies : List (Option Said)) (k : ℕ) (member : Member) (said : Option Said)
+    → slice_get members k ≡ Some member → slice_get replies k ≡ Some said
     → slice_get (steps_in t h members replies) k ≡ Some (step_in t h (member, said))
-step_at_place t h members replies k member said is told = mapped_at (step_in t h) (zip members replies) k (member, said) (zip_there members replies k member said is told)
+step_at_place t h members replies k member said is told =
+    mapped_at (step_in t h) (zip members replies) k (member, said) (zip_there members replies k member said is told)
 
-pub step_is : (t h instance : ℕ) (member : Member) (said : Option Said) → step_end_of (instance, step_in t h (member, said)) ≡ step_end_in instance member.factor t h said
+pub step_is : (t h instance : ℕ) (member : Member) (said : Option Said)
+    → step_end_of (instance, step_in t h (member, said)) ≡ step_end_in instance member.factor t h said
 step_is t h instance member said = by_test (is_held member.factor t h) said
   where
-    by_test : (test : Bool) (said : Option Said) → step_end_of (instance, if test then None else option_map moved_by said) ≡ (if test then None else step_end_told instance said)
+    by_test : (test : Bool) (said : Option Said) → step_end_of (instance, if test then None else option_map moved_by said) ≡
+        (if test then None else step_end_told instance said)
     by_test true said = refl
     by_test false None = refl
     by_test false (Some (Accepted accepted)) = refl
@@ -105,16 +112,19 @@ step_is t h instance member said = by_test (is_held member.factor t h) said
 pub reply_is : (t h : ℕ) (member : Member) (said : Option Said) → reply_at t h (member, step_in t h (member, said)) ≡ reply_in member.factor t h said
 reply_is t h member said = by_test (is_held member.factor t h) said
   where
-    by_test : (test : Bool) (said : Option Said) → reply_at t h (member, if test then None else option_map moved_by said) ≡ (if test then h else reply_told member.factor t h said)
+    by_test : (test : Bool) (said : Option Said) → reply_at t h (member, if test then None else option_map moved_by said) ≡
+        (if test then h else reply_told member.factor t h said)
     by_test true said = refl
     by_test false None = refl
     by_test false (Some (Accepted accepted)) = refl
     by_test false (Some (StepFault fault)) = refl
 
-pub redo_is : (t h instance : ℕ) (member : Member) (said : Option Said) → redo_end_of t h (instance, (member, step_in t h (member, said))) ≡ redo_end_in instance member.factor t h said
+pub redo_is : (t h instance : ℕ) (member : Member) (said : Option Said)
+    → redo_end_of t h (instance, (member, step_in t h (member, said))) ≡ redo_end_in instance member.factor t h said
 redo_is t h instance member said = by_test (is_held member.factor t h) said
   where
-    by_test : (test : Bool) (said : Option Said) → redo_end_of t h (instance, (member, if test then None else option_map moved_by said)) ≡ (if test then None else redo_end_told instance (local_step member.factor t h) said)
+    by_test : (test : Bool) (said : Option Said) → redo_end_of t h (instance, (member, if test then None else option_map moved_by said)) ≡
+        (if test then None else redo_end_told instance (local_step member.factor t h) said)
     by_test true said = refl
     by_test false None = refl
     by_test false (Some (Accepted accepted)) = refl
@@ -130,7 +140,8 @@ least_next least first (next ∷ numbers) = omega arith
 pub record Least (first : ℕ) (numbers : List ℕ) (k least : ℕ) : Type 0 where
   pub is : least_of least (drop k numbers) ≡ least_of first numbers
 
-pub one_lesser : (first : ℕ) (numbers : List ℕ) (k least number : ℕ) → slice_get numbers k ≡ Some number → Least first numbers k least → Least first numbers (k + 1) (min least number)
+pub one_lesser : (first : ℕ) (numbers : List ℕ) (k least number : ℕ) → slice_get numbers k ≡ Some number → Least first numbers k least
+    → Least first numbers (k + 1) (min least number)
 one_lesser first numbers k least number is so = record {
   is = sym (least_next least number (drop (k + 1) numbers)) ∙ sym (ap (least_of least) (left_is numbers k number is)) ∙ so.is;
 }
@@ -143,16 +154,19 @@ least_is first numbers k least past so = sym (ap (least_of least) (none_left num
 pub record Proposes {X : Type 0} (limit : X → Option ℕ) (xs : List X) (first k least : ℕ) : Type 0 where
   pub is : least_of least (filter_map limit (drop k xs)) ≡ least_of first (filter_map limit xs)
 
-pub proposes_next : {X : Type 0} (limit : X → Option ℕ) (xs : List X) (first k least : ℕ) (x : X) → slice_get xs k ≡ Some x → Proposes limit xs first k least → Proposes limit xs first (k + 1) (least_with least (limit x))
+pub proposes_next : {X : Type 0} (limit : X → Option ℕ) (xs : List X) (first k least : ℕ) (x : X) → slice_get xs k ≡ Some x → Proposes limit xs first k least
+    → Proposes limit xs first (k + 1) (least_with least (limit x))
 proposes_next limit xs first k least x is so = record {
   is = by_limit (limit x) ∙ sym (ap (λ left. least_of least (filter_map limit left)) (left_is xs k x is)) ∙ so.is;
 }
   where
-    by_limit : (found : Option ℕ) → least_of (least_with least found) (filter_map limit (drop (k + 1) xs)) ≡ least_of least (cons_option found (filter_map limit (drop (k + 1) xs)))
+    by_limit : (found : Option ℕ) → least_of (least_with least found) (filter_map limit (drop (k + 1) xs)) ≡ least_of least
+        (cons_option found (filter_map limit (drop (k + 1) xs)))
     by_limit None = refl
     by_limit (Some number) = sym (least_next least number (filter_map limit (drop (k + 1) xs)))
 
-pub proposed_is : {X : Type 0} (limit : X → Option ℕ) (xs : List X) (stop longest t k least : ℕ) → length xs ≤ k → Proposes limit xs (min (stop - t) longest) k least
+pub proposed_is : {X : Type 0} (limit : X → Option ℕ) (xs : List X) (stop longest t k least : ℕ) → length xs ≤ k
+    → Proposes limit xs (min (stop - t) longest) k least
     → least ≡ proposal_of stop longest t (filter_map limit xs)
 proposed_is limit xs stop longest t k least past so =
     sym (ap (λ left. least_of least (filter_map limit left)) (none_left xs k past)) ∙ so.is ∙ sym (least_next (stop - t) longest (filter_map limit xs))
@@ -163,11 +177,13 @@ proposed_is limit xs stop longest t k least past so =
 abbrev pub ToldFrom : List (Option Ending) → ℕ → Type 0
 ToldFrom ends k = Along first_some ends k
 
-pub told_next : (ends : List (Option Ending)) (k : ℕ) (end : Option Ending) → slice_get ends k ≡ Some end → is_some end ≡ false → ToldFrom ends k → ToldFrom ends (k + 1)
+pub told_next : (ends : List (Option Ending)) (k : ℕ) (end : Option Ending) → slice_get ends k ≡ Some end → is_some end ≡ false → ToldFrom ends k
+    → ToldFrom ends (k + 1)
 told_next ends k None is none so = along_next first_some ends k None is refl so
 told_next ends k (Some ending) is none so = absurd (cc)
 
-pub told_here : (ends : List (Option Ending)) (k : ℕ) (end : Option Ending) → slice_get ends k ≡ Some end → is_some end ≡ true → ToldFrom ends k → end ≡ first_some ends
+pub told_here : (ends : List (Option Ending)) (k : ℕ) (end : Option Ending) → slice_get ends k ≡ Some end → is_some end ≡ true → ToldFrom ends k
+    → end ≡ first_some ends
 told_here ends k None is some so = absurd (cc)
 told_here ends k (Some ending) is some so = along_here first_some ends k (Some ending) (Some ending) is refl so
 
@@ -179,10 +195,12 @@ told_none ends k past so = along_end first_some ends k None past refl so
 abbrev pub AllFrom : {X : Type 0} → (X → Bool) → List X → ℕ → Type 0
 AllFrom test xs k = Along (list_all test) xs k
 
-pub all_next : {X : Type 0} (test : X → Bool) (xs : List X) (k : ℕ) (x : X) → slice_get xs k ≡ Some x → test x ≡ true → AllFrom test xs k → AllFrom test xs (k + 1)
+pub all_next : {X : Type 0} (test : X → Bool) (xs : List X) (k : ℕ) (x : X) → slice_get xs k ≡ Some x → test x ≡ true → AllFrom test xs k
+    → AllFrom test xs (k + 1)
 all_next test xs k x is so_test so = along_next (list_all test) xs k x is (ap (λ one. one && list_all test (drop (k + 1) xs)) so_test) so
 
-pub all_fails : {X : Type 0} (test : X → Bool) (xs : List X) (k : ℕ) (x : X) → slice_get xs k ≡ Some x → test x ≡ false → AllFrom test xs k → false ≡ list_all test xs
+pub all_fails : {X : Type 0} (test : X → Bool) (xs : List X) (k : ℕ) (x : X) → slice_get xs k ≡ Some x → test x ≡ false → AllFrom test xs k
+    → false ≡ list_all test xs
 all_fails test xs k x is fails so = along_here (list_all test) xs k x false is (ap (λ one. one && list_all test (drop (k + 1) xs)) fails) so
 
 pub all_hold : {X : Type 0} (test : X → Bool) (xs : List X) (k : ℕ) → length xs ≤ k → AllFrom test xs k → true ≡ list_all test xs

@@ -1,5 +1,6 @@
 -- What own instances make, and how they are stepped.
-use Rattle.std.proofs.Common.{◌≡◌, ◌∙◌, ℕ, zero, suc, ◌+◌, ◌<◌, ◌==◌, Bool, true, false, ◌&&◌, is_none, ℤ, List, [], ◌∷◌, ◌++◌, length, map, get_or, Option, Some, refl, sym, ap, ap₂, arith}
+use Rattle.std.proofs.Common.{◌≡◌, ◌∙◌, ℕ, zero, suc, ◌+◌, ◌<◌, ◌==◌, Bool, true, false, ◌&&◌, is_none, ℤ, List, [], ◌∷◌, ◌++◌, length, map, get_or, Option}
+use Rattle.std.proofs.Common.{Some, refl, sym, ap, ap₂, arith}
 use Rattle.std.proofs.lemmas.Option.{same_Some, slice_get-get_or}
 use Rattle.std.specs.Prelude.{if◌then◌else◌, zip, slice_get, slice_set}
 use Rattle.std.specs.Option.{option_map}
@@ -23,7 +24,8 @@ use Rattle.unit_tree.specs.Negotiation.{all_inputs, inputs_at, max_at, state_aft
 use Rattle.unit_tree.specs.Ports.{Ports, Standing}
 use Rattle.unit_tree.specs.Successor.{Position, standings}
 
-pub inputs_there : (run : Composition) (ports : Ports) (inputs : List (List ℤ)) (instance : ℕ) (member : Member) → inputs ≡ all_inputs run ports → slice_get run.members instance ≡ Some member
+pub inputs_there : (run : Composition) (ports : Ports) (inputs : List (List ℤ)) (instance : ℕ) (member : Member) → inputs ≡ all_inputs run ports
+    → slice_get run.members instance ≡ Some member
     → slice_get inputs instance ≡ Some (inputs_at ports member)
 inputs_there run ports inputs instance member are there = ap (λ all. slice_get all instance) are ∙ mapped_at (inputs_at ports) run.members instance member there
 
@@ -38,7 +40,8 @@ pub record At (run : Composition) (owners : List ℕ) (states : List (List ℤ))
   pub state : List ℤ
   pub state_is : slice_get states instance ≡ Some state
 
-pub at_instance : (run : Composition) (owners : List ℕ) (states : List (List ℤ)) (instance : ℕ) → length owners ≡ length run.members → length states ≡ length run.members → instance < length run.members
+pub at_instance : (run : Composition) (owners : List ℕ) (states : List (List ℤ)) (instance : ℕ) → length owners ≡ length run.members
+    → length states ≡ length run.members → instance < length run.members
     → At run owners states instance
 at_instance run owners states instance owns long within =
     let owner = at_place owners instance (omega (arith, owns, within)) in
@@ -59,8 +62,10 @@ module _ (run : Composition) (owners : List ℕ) (me : ℕ) (states : List (List
   pub item_is : (at : Position) → at.states ≡ own_states owners me states → slice_get (zip owners (standings run at)) instance ≡ Some (one.owner, own_standing)
   item_is at are =
       let own : slice_get at.states instance ≡ Some (own_state me (one.owner, one.state)) =
-      ap (λ all. slice_get all instance) are ∙ mapped_at (own_state me) (zip owners states) instance (one.owner, one.state) (zip_there owners states instance one.owner one.state one.owned one.state_is) in
-      zip_there owners (standings run at) instance one.owner own_standing one.owned (zip_there run.members at.states instance one.member (own_state me (one.owner, one.state)) one.member_is own)
+      ap (λ all. slice_get all instance) are ∙ mapped_at (own_state me) (zip owners states) instance (one.owner, one.state)
+      (zip_there owners states instance one.owner one.state one.owned one.state_is) in
+      zip_there owners (standings run at) instance one.owner own_standing one.owned
+      (zip_there run.members at.states instance one.member (own_state me (one.owner, one.state)) one.member_is own)
 
   -- Where the instance is one's own, its state is that of its unit.
   own_same : (one.owner == me) ≡ true → own_standing ≡ (one.member, one.state)
@@ -77,68 +82,92 @@ module _ (run : Composition) (owners : List ℕ) (me : ℕ) (states : List (List
   limit_is at ports row t own now next part own_is is =
       is
       ∙ ap (λ test. limit_if test row t ports (one.member, one.state) instance now) own_is
-      ∙ by_owner (one.owner == me) (λ standing. record { known = record now.known { limits = slice_set now.known.limits instance (Some (asked_of (max_at t ports standing))) }; facts = now.facts ++ Limit row instance (asked_of (max_at t ports standing)) ∷ [] }) now
+      ∙ by_owner (one.owner == me) (λ standing. record {
+        known = record now.known {
+          limits = slice_set now.known.limits instance
+              (Some (asked_of (max_at t ports standing)));
+        };
+        facts = now.facts ++ Limit row instance (asked_of (max_at t ports standing)) ∷ [];
+      }) now
       (is_none (entry now.known.limits instance)) own_same
       ∙ ap₂ (λ time number. limit_if (one.owner == me) number time ports own_standing instance now) (sym part.time) (sym part.number)
 
-  pub reply_is_made : (at : Position) (ports : Ports) (redo : Bool) (row t h : ℕ) (own : Bool) (now next : Making) → IsPartOf owners me states row t at → own ≡ (one.owner == me)
-      → next ≡ reply_if redo own row t h ports (one.member, one.state) instance now → next ≡ with_said redo me at ports h now (instance, (one.owner, own_standing))
+  pub reply_is_made : (at : Position) (ports : Ports) (redo : Bool) (row t h : ℕ) (own : Bool) (now next : Making) → IsPartOf owners me states row t at
+      → own ≡ (one.owner == me)
+      → next ≡ reply_if redo own row t h ports (one.member, one.state) instance now
+      → next ≡ with_said redo me at ports h now (instance, (one.owner, own_standing))
   reply_is_made at ports redo row t h own now next part own_is is =
       is
       ∙ ap (λ test. reply_if redo test row t h ports (one.member, one.state) instance now) own_is
-      ∙ by_owner (one.owner == me) (λ standing. put_said redo row instance (option_map said_of (step_at t h ports standing)) now) now (is_none (said_entry redo now.known instance)) own_same
+      ∙ by_owner (one.owner == me) (λ standing. put_said redo row instance (option_map said_of (step_at t h ports standing)) now) now
+      (is_none (said_entry redo now.known instance)) own_same
       ∙ ap₂ (λ time number. reply_if redo (one.owner == me) number time h ports own_standing instance now) (sym part.time) (sym part.number)
       ∙ by_redo redo
     where
-      by_redo : (redo : Bool) → reply_if redo (one.owner == me) at.number at.point.t h ports own_standing instance now ≡ with_said redo me at ports h now (instance, (one.owner, own_standing))
+      by_redo : (redo : Bool) → reply_if redo (one.owner == me) at.number at.point.t h ports own_standing instance now ≡ with_said redo me at ports h now
+          (instance, (one.owner, own_standing))
       by_redo true = refl
       by_redo false = refl
 
-  pub stepped_at : (t h : ℕ) (ports : Ports) → slice_get (stepped run owners me t h ports states) instance ≡ Some (stepped_if (one.owner == me) t h ports (one.member, one.state))
+  pub stepped_at : (t h : ℕ) (ports : Ports) → slice_get (stepped run owners me t h ports states) instance ≡ Some
+      (stepped_if (one.owner == me) t h ports (one.member, one.state))
   stepped_at t h ports =
       mapped_at (stepped_one me t h ports) (zip owners (zip run.members states)) instance (one.owner, (one.member, one.state))
-      (zip_there owners (zip run.members states) instance one.owner (one.member, one.state) one.owned (zip_there run.members states instance one.member one.state one.member_is one.state_is))
+      (zip_there owners (zip run.members states) instance one.owner (one.member, one.state) one.owned
+      (zip_there run.members states instance one.member one.state one.member_is one.state_is))
 
 -- ---- Own states after a step
 
-pub own_stepped : (me t h : ℕ) (ports : Ports) (owners : List ℕ) (members : List Member) (states : List (List ℤ)) → length owners ≡ length members → length states ≡ length members
-    → own_states owners me (map (stepped_one me t h ports) (zip owners (zip members states))) ≡ own_states owners me (map state_after (zip states (map (step_at t h ports) (zip members states))))
+pub own_stepped : (me t h : ℕ) (ports : Ports) (owners : List ℕ) (members : List Member) (states : List (List ℤ)) → length owners ≡ length members
+    → length states ≡ length members
+    → own_states owners me (map (stepped_one me t h ports) (zip owners (zip members states))) ≡ own_states owners me
+    (map state_after (zip states (map (step_at t h ports) (zip members states))))
 own_stepped me t h ports [] members states owns long = refl
 own_stepped me t h ports (owner ∷ owners) [] states owns long = absurd (omega (arith, owns))
 own_stepped me t h ports (owner ∷ owners) (member ∷ members) [] owns long = absurd (omega (arith, long))
 own_stepped me t h ports (owner ∷ owners) (member ∷ members) (state ∷ states) owns long =
     ap₂ (λ first rest. first ∷ rest) (by_test (owner == me)) (own_stepped me t h ports owners members states (omega (arith, owns)) (omega (arith, long)))
   where
-    by_test : (test : Bool) → (if test then (if test then state_after (state, step_at t h ports (member, state)) else state) else []) ≡ (if test then state_after (state, step_at t h ports (member, state)) else [])
+    by_test : (test : Bool) → (if test then (if test then state_after (state, step_at t h ports (member, state)) else state) else []) ≡
+        (if test then state_after (state, step_at t h ports (member, state)) else [])
     by_test true = refl
     by_test false = refl
 
 -- ---- What one call makes
 
-pub limit_made : (own : Bool) (row t instance : ℕ) (ports : Ports) (standing : Standing) (now : Making) (asked : Asked) (limits : List (Option Asked)) (facts : List Fact) → own ≡ true
-    → is_none (entry now.known.limits instance) ≡ true → asked ≡ asked_of (max_at t ports standing) → limits ≡ slice_set now.known.limits instance (Some asked) → facts ≡ now.facts ++ Limit row instance asked ∷ []
+pub limit_made : (own : Bool) (row t instance : ℕ) (ports : Ports) (standing : Standing) (now : Making) (asked : Asked) (limits : List (Option Asked))
+    (facts : List Fact) → own ≡ true
+    → is_none (entry now.known.limits instance) ≡ true → asked ≡ asked_of (max_at t ports standing) → limits ≡ slice_set now.known.limits instance (Some asked)
+    → facts ≡ now.facts ++ Limit row instance asked ∷ []
     → record { known = record now.known { limits = limits }; facts = facts } ≡ limit_if own row t ports standing instance now
 limit_made own row t instance ports standing now asked limits facts own_is none asked_is limits_are facts_are =
-    let made : Asked → Making = λ one. record { known = record now.known { limits = slice_set now.known.limits instance (Some one) }; facts = now.facts ++ Limit row instance one ∷ [] } in
+    let made : Asked → Making = λ one. record {
+      known = record now.known { limits = slice_set now.known.limits instance (Some one) };
+      facts = now.facts ++ Limit row instance one ∷ [];
+    } in
     ap₂ (λ l f. record { known = record now.known { limits = l }; facts = f }) limits_are facts_are
     ∙ ap made asked_is
     ∙ sym (ap₂ (λ o n. if o && n then made (asked_of (max_at t ports standing)) else now) own_is none)
 
-pub reply_made : (redo own : Bool) (row t h instance : ℕ) (ports : Ports) (standing : Standing) (now next : Making) (said : Option Said) → own ≡ true → is_none (said_entry redo now.known instance) ≡ true
-    → said ≡ option_map said_of (step_at t h ports standing) → next ≡ put_said redo row instance said now → next ≡ reply_if redo own row t h ports standing instance now
+pub reply_made : (redo own : Bool) (row t h instance : ℕ) (ports : Ports) (standing : Standing) (now next : Making) (said : Option Said) → own ≡ true
+    → is_none (said_entry redo now.known instance) ≡ true
+    → said ≡ option_map said_of (step_at t h ports standing) → next ≡ put_said redo row instance said now
+    → next ≡ reply_if redo own row t h ports standing instance now
 reply_made redo own row t h instance ports standing now next said own_is none said_is is =
     is ∙ ap (λ one. put_said redo row instance one now) said_is
     ∙ sym (ap₂ (λ o n. if o && n then put_said redo row instance (option_map said_of (step_at t h ports standing)) now else now) own_is none)
 
 -- ---- One instance more
 
-module _ (run : Composition) (owners : List ℕ) (me : ℕ) (states now_states : List (List ℤ)) (owns : length owners ≡ length run.members) (long : length states ≡ length run.members) (states_are : now_states ≡ states)
+module _ (run : Composition) (owners : List ℕ) (me : ℕ) (states now_states : List (List ℤ)) (owns : length owners ≡ length run.members)
+    (long : length states ≡ length run.members) (states_are : now_states ≡ states)
     (instance : ℕ) (within : instance < length run.members) (d : ℕ) where
   abbrev one : At run owners states instance
   one = at_instance run owners states instance owns long within
 
   own_is : (get_or owners instance d == me) ≡ (one.owner == me)
-  own_is = ap (λ o. o == me) (same_Some (get_or owners instance d) one.owner (sym (slice_get-get_or owners instance d (omega (arith, within, owns))) ∙ one.owned))
+  own_is = ap (λ o. o == me) (same_Some (get_or owners instance d) one.owner
+      (sym (slice_get-get_or owners instance d (omega (arith, within, owns))) ∙ one.owned))
 
   state_there : slice_get now_states instance ≡ Some one.state
   state_there = ap (λ all. slice_get all instance) states_are ∙ one.state_is
@@ -147,31 +176,41 @@ module _ (run : Composition) (owners : List ℕ) (me : ℕ) (states now_states :
       → ((member : Member) (state : List ℤ) → slice_get run.members instance ≡ Some member → slice_get now_states instance ≡ Some state
       → next ≡ limit_if (get_or owners instance d == me) row point.t ports (member, state) instance now)
       → Going (with_limit me (part_at owners me point row states) ports) (zip owners (standings run (part_at owners me point row states))) start now instance
-      → Going (with_limit me (part_at owners me point row states) ports) (zip owners (standings run (part_at owners me point row states))) start next (instance + 1)
+      → Going (with_limit me (part_at owners me point row states) ports) (zip owners (standings run (part_at owners me point row states))) start next
+      (instance + 1)
   limit_step point row ports start now next made so =
       let at = part_at owners me point row states in
-      goes_on (with_limit me at ports) (zip owners (standings run at)) start now next instance (one.owner, own_standing run owners me states instance one) (item_is run owners me states instance one at refl)
-      (limit_is run owners me states instance one at ports row point.t (get_or owners instance d == me) now next (record { states_are = refl; number = refl; time = refl }) own_is (made one.member one.state one.member_is state_there)) so
+      goes_on (with_limit me at ports) (zip owners (standings run at)) start now next instance (one.owner, own_standing run owners me states instance one)
+      (item_is run owners me states instance one at refl)
+      (limit_is run owners me states instance one at ports row point.t (get_or owners instance d == me) now next
+      (record { states_are = refl; number = refl; time = refl }) own_is (made one.member one.state one.member_is state_there)) so
 
   pub reply_step : (redo : Bool) (point : Point) (row h : ℕ) (ports : Ports) (start now next : Making)
       → ((member : Member) (state : List ℤ) → slice_get run.members instance ≡ Some member → slice_get now_states instance ≡ Some state
       → next ≡ reply_if redo (get_or owners instance d == me) row point.t h ports (member, state) instance now)
-      → Going (with_said redo me (part_at owners me point row states) ports h) (zip owners (standings run (part_at owners me point row states))) start now instance
-      → Going (with_said redo me (part_at owners me point row states) ports h) (zip owners (standings run (part_at owners me point row states))) start next (instance + 1)
+      → Going (with_said redo me (part_at owners me point row states) ports h)
+      (zip owners (standings run (part_at owners me point row states))) start now instance
+      → Going (with_said redo me (part_at owners me point row states) ports h) (zip owners (standings run (part_at owners me point row states))) start next
+      (instance + 1)
   reply_step redo point row h ports start now next made so =
       let at = part_at owners me point row states in
-      goes_on (with_said redo me at ports h) (zip owners (standings run at)) start now next instance (one.owner, own_standing run owners me states instance one) (item_is run owners me states instance one at refl)
-      (reply_is_made run owners me states instance one at ports redo row point.t h (get_or owners instance d == me) now next (record { states_are = refl; number = refl; time = refl }) own_is (made one.member one.state one.member_is state_there)) so
+      goes_on (with_said redo me at ports h) (zip owners (standings run at)) start now next instance
+      (one.owner, own_standing run owners me states instance one) (item_is run owners me states instance one at refl)
+      (reply_is_made run owners me states instance one at ports redo row point.t h (get_or owners instance d == me) now next
+      (record { states_are = refl; number = refl; time = refl }) own_is (made one.member one.state one.member_is state_there)) so
 
-pub items_long : (run : Composition) (owners : List ℕ) (me : ℕ) (point : Point) (row : ℕ) (states : List (List ℤ)) → length owners ≡ length run.members → length states ≡ length run.members
+pub items_long : (run : Composition) (owners : List ℕ) (me : ℕ) (point : Point) (row : ℕ) (states : List (List ℤ)) → length owners ≡ length run.members
+    → length states ≡ length run.members
     → length (zip owners (standings run (part_at owners me point row states))) ≡ length run.members
 items_long run owners me point row states owns long =
     let own = as_many_mapped (own_state me) (zip owners states) ∙ as_many_zipped owners states (long ∙ sym owns) in
-    as_many_zipped owners (standings run (part_at owners me point row states)) (as_many_zipped run.members (own_states owners me states) (own ∙ owns) ∙ sym owns) ∙ owns
+    as_many_zipped owners (standings run (part_at owners me point row states))
+    (as_many_zipped run.members (own_states owners me states) (own ∙ owns) ∙ sym owns) ∙ owns
 
 -- ---- What isn't wanted isn't made
 
-pub limits_stay : (run : Composition) (owners : List ℕ) (me : ℕ) (at : Position) (stage : Stage) (making : Making) → (stage ≡ Limits → ⊥) → making ≡ limits_by run owners me at stage making
+pub limits_stay : (run : Composition) (owners : List ℕ) (me : ℕ) (at : Position) (stage : Stage) (making : Making) → (stage ≡ Limits → ⊥)
+    → making ≡ limits_by run owners me at stage making
 limits_stay run owners me at Limits making other = absurd (other refl)
 limits_stay run owners me at Words making other = refl
 limits_stay run owners me at (Trial h) making other = refl
@@ -179,7 +218,8 @@ limits_stay run owners me at (Redo h) making other = refl
 limits_stay run owners me at (Over ending) making other = refl
 limits_stay run owners me at (On h) making other = refl
 
-pub replies_stay : (run : Composition) (owners : List ℕ) (me : ℕ) (at : Position) (stage : Stage) (making : Making) → ((h : ℕ) → stage ≡ Trial h → ⊥) → making ≡ replies_by run owners me at stage making
+pub replies_stay : (run : Composition) (owners : List ℕ) (me : ℕ) (at : Position) (stage : Stage) (making : Making) → ((h : ℕ) → stage ≡ Trial h → ⊥)
+    → making ≡ replies_by run owners me at stage making
 replies_stay run owners me at (Trial h) making other = absurd (other h refl)
 replies_stay run owners me at Limits making other = refl
 replies_stay run owners me at Words making other = refl
@@ -187,7 +227,8 @@ replies_stay run owners me at (Redo h) making other = refl
 replies_stay run owners me at (Over ending) making other = refl
 replies_stay run owners me at (On h) making other = refl
 
-pub redos_stay : (run : Composition) (owners : List ℕ) (me : ℕ) (at : Position) (stage : Stage) (making : Making) → ((h : ℕ) → stage ≡ Redo h → ⊥) → making ≡ redos_by run owners me at stage making
+pub redos_stay : (run : Composition) (owners : List ℕ) (me : ℕ) (at : Position) (stage : Stage) (making : Making) → ((h : ℕ) → stage ≡ Redo h → ⊥)
+    → making ≡ redos_by run owners me at stage making
 redos_stay run owners me at (Redo h) making other = absurd (other h refl)
 redos_stay run owners me at Limits making other = refl
 redos_stay run owners me at Words making other = refl

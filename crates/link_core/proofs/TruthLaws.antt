@@ -56,11 +56,13 @@ module _ (run : Composition) (stand : Stand) where
   no_fault_redo is = no_fault_trial (and_parts (before_trial run stand) _ is).0
 
   no_fault_on : successor run stand.at stand.ports ≡ goes (after run stand.at stand.ports) → fault ≡ None
-  no_fault_on is = first_none fault _ (goes_none (first_some (ends_at run stand.at stand.ports)) (after run stand.at stand.ports) (after run stand.at stand.ports) is)
+  no_fault_on is = first_none fault _ (goes_none (first_some (ends_at run stand.at stand.ports)) (after run stand.at stand.ports)
+      (after run stand.at stand.ports) is)
 
 -- ---- By the truth of what is known
 
-module _ (run : Composition) (order : List ℕ) (is_order : IsPlaceOrder run order) (are : AreMembers run) (owners : List ℕ) (me : ℕ) (owns : length owners ≡ length run.members)
+module _ (run : Composition) (order : List ℕ) (is_order : IsPlaceOrder run order) (are : AreMembers run) (owners : List ℕ) (me : ℕ)
+    (owns : length owners ≡ length run.members)
     (point : Point) (row : ℕ) (states : List (List ℤ)) where
   abbrev at : Position
   at = part_at owners me point row states
@@ -69,12 +71,14 @@ module _ (run : Composition) (order : List ℕ) (is_order : IsPlaceOrder run ord
   stage_right : (known : Board) (so : IsTrue run owners me point row states known) → IsRightStage run so.stand known (stage_at run at known)
   stage_right known so =
       subst (λ (one : Position). IsRightStage run so.stand known (stage_at run one known)) (sym so.part)
-      (right_stage run owners me so.stand (place_stands run order are is_order so.stand so.place) (place_long run order are is_order so.stand so.place) (place_at_most run order are is_order so.stand so.place) owns known so.agrees)
+      (right_stage run owners me so.stand (place_stands run order are is_order so.stand so.place) (place_long run order are is_order so.stand so.place)
+      (place_at_most run order are is_order so.stand so.place) owns known so.agrees)
 
   -- What is made is true.
   made_true : (known : Board) (so : IsTrue run owners me point row states known) (make : Position → Making → Making) (before : List Fact)
       → (make at (behind before (record { known = known; facts = [] })) ≡ behind before (make at (record { known = known; facts = [] })))
-      → (IsMade run so.stand (record { known = known; facts = [] }) → IsMade run so.stand (make (part_of owners me so.stand.at) (record { known = known; facts = [] })))
+      → (IsMade run so.stand (record { known = known; facts = [] })
+      → IsMade run so.stand (make (part_of owners me so.stand.at) (record { known = known; facts = [] })))
       → (now next : Making) → now ≡ behind before (record { known = known; facts = [] }) → next ≡ make at now
       → IsTrue run owners me point row states next.known
   made_true known so make before stays keeps now next now_is next_is =
@@ -92,36 +96,55 @@ module _ (run : Composition) (order : List ℕ) (is_order : IsPlaceOrder run ord
   no_facts : (now : Making) → now ≡ behind now.facts (record { known = now.known; facts = [] })
   no_facts now = ap (λ facts. record { known = now.known; facts = facts }) (sym (append-nil now.facts))
 
-  pub words_true : (now next : Making) → IsTrue run owners me point row states now.known → next ≡ words_made run owners me at now → IsTrue run owners me point row states next.known
+  pub words_true : (now next : Making) → IsTrue run owners me point row states now.known → next ≡ words_made run owners me at now
+      → IsTrue run owners me point row states next.known
   words_true now next so is =
       made_true now.known so (words_made run owners me) now.facts (words_behind now.facts run owners me at (record { known = now.known; facts = [] }))
-      (passes_keep run owners me so.stand (place_stands run order are is_order so.stand so.place) (place_long run order are is_order so.stand so.place) (place_at_most run order are is_order so.stand so.place) owns (length (held run owners (part_of owners me so.stand.at).states)) (record { known = now.known; facts = [] }))
+      (passes_keep run owners me so.stand (place_stands run order are is_order so.stand so.place) (place_long run order are is_order so.stand so.place)
+      (place_at_most run order are is_order so.stand so.place) owns (length (held run owners (part_of owners me so.stand.at).states))
+      (record { known = now.known; facts = [] }))
       now next (no_facts now) is
 
-  pub limits_true : (now next : Making) → IsTrue run owners me point row states now.known → next ≡ limits_made run owners me at now → IsTrue run owners me point row states next.known
+  pub limits_true : (now next : Making) → IsTrue run owners me point row states now.known → next ≡ limits_made run owners me at now
+      → IsTrue run owners me point row states next.known
   limits_true now next so is =
-      made_true now.known so (limits_made run owners me) now.facts (limits_behind now.facts run owners me at (stage_at run at now.known) (record { known = now.known; facts = [] }))
-      (λ made. limits_keep run owners me so.stand (place_stands run order are is_order so.stand so.place) (place_long run order are is_order so.stand so.place) (place_at_most run order are is_order so.stand so.place) owns (record { known = now.known; facts = [] }) (stage_at run (part_of owners me so.stand.at) now.known) made
-      (right_stage run owners me so.stand (place_stands run order are is_order so.stand so.place) (place_long run order are is_order so.stand so.place) (place_at_most run order are is_order so.stand so.place) owns now.known so.agrees))
+      made_true now.known so (limits_made run owners me) now.facts
+      (limits_behind now.facts run owners me at (stage_at run at now.known) (record { known = now.known; facts = [] }))
+      (λ made. limits_keep run owners me so.stand (place_stands run order are is_order so.stand so.place) (place_long run order are is_order so.stand so.place)
+      (place_at_most run order are is_order so.stand so.place) owns (record { known = now.known; facts = [] })
+      (stage_at run (part_of owners me so.stand.at) now.known) made
+      (right_stage run owners me so.stand (place_stands run order are is_order so.stand so.place) (place_long run order are is_order so.stand so.place)
+      (place_at_most run order are is_order so.stand so.place) owns now.known so.agrees))
       now next (no_facts now) is
 
-  pub replies_true : (now next : Making) → IsTrue run owners me point row states now.known → next ≡ replies_made run owners me at now → IsTrue run owners me point row states next.known
+  pub replies_true : (now next : Making) → IsTrue run owners me point row states now.known → next ≡ replies_made run owners me at now
+      → IsTrue run owners me point row states next.known
   replies_true now next so is =
-      made_true now.known so (replies_made run owners me) now.facts (replies_behind now.facts run owners me at (stage_at run at now.known) (record { known = now.known; facts = [] }))
-      (λ made. replies_keep run owners me so.stand (place_stands run order are is_order so.stand so.place) (place_long run order are is_order so.stand so.place) (place_at_most run order are is_order so.stand so.place) owns (record { known = now.known; facts = [] }) (stage_at run (part_of owners me so.stand.at) now.known) made
-      (right_stage run owners me so.stand (place_stands run order are is_order so.stand so.place) (place_long run order are is_order so.stand so.place) (place_at_most run order are is_order so.stand so.place) owns now.known so.agrees))
+      made_true now.known so (replies_made run owners me) now.facts
+      (replies_behind now.facts run owners me at (stage_at run at now.known) (record { known = now.known; facts = [] }))
+      (λ made. replies_keep run owners me so.stand (place_stands run order are is_order so.stand so.place)
+      (place_long run order are is_order so.stand so.place) (place_at_most run order are is_order so.stand so.place) owns
+      (record { known = now.known; facts = [] }) (stage_at run (part_of owners me so.stand.at) now.known) made
+      (right_stage run owners me so.stand (place_stands run order are is_order so.stand so.place) (place_long run order are is_order so.stand so.place)
+      (place_at_most run order are is_order so.stand so.place) owns now.known so.agrees))
       now next (no_facts now) is
 
-  pub redos_true : (now next : Making) → IsTrue run owners me point row states now.known → next ≡ redos_made run owners me at now → IsTrue run owners me point row states next.known
+  pub redos_true : (now next : Making) → IsTrue run owners me point row states now.known → next ≡ redos_made run owners me at now
+      → IsTrue run owners me point row states next.known
   redos_true now next so is =
-      made_true now.known so (redos_made run owners me) now.facts (redos_behind now.facts run owners me at (stage_at run at now.known) (record { known = now.known; facts = [] }))
-      (λ made. redos_keep run owners me so.stand (place_stands run order are is_order so.stand so.place) (place_long run order are is_order so.stand so.place) (place_at_most run order are is_order so.stand so.place) owns (record { known = now.known; facts = [] }) (stage_at run (part_of owners me so.stand.at) now.known) made
-      (right_stage run owners me so.stand (place_stands run order are is_order so.stand so.place) (place_long run order are is_order so.stand so.place) (place_at_most run order are is_order so.stand so.place) owns now.known so.agrees))
+      made_true now.known so (redos_made run owners me) now.facts
+      (redos_behind now.facts run owners me at (stage_at run at now.known) (record { known = now.known; facts = [] }))
+      (λ made. redos_keep run owners me so.stand (place_stands run order are is_order so.stand so.place) (place_long run order are is_order so.stand so.place)
+      (place_at_most run order are is_order so.stand so.place) owns (record { known = now.known; facts = [] })
+      (stage_at run (part_of owners me so.stand.at) now.known) made
+      (right_stage run owners me so.stand (place_stands run order are is_order so.stand so.place) (place_long run order are is_order so.stand so.place)
+      (place_at_most run order are is_order so.stand so.place) owns now.known so.agrees))
       now next (no_facts now) is
 
   -- ---- Inputs
 
-  module _ (sound : IsSound run) (known : Board) (so : IsTrue run owners me point row states known) (have : HaveStates run states) (inputs : List (List ℤ)) (shape : HaveInputs run inputs)
+  module _ (sound : IsSound run) (known : Board) (so : IsTrue run owners me point row states known) (have : HaveStates run states) (inputs : List (List ℤ))
+      (shape : HaveInputs run inputs)
       (their : HaveTheirWords run (ports_in known.words) inputs) (count : length known.words ≡ length (routes_of run).outputs) where
     fed_by : AreWordsKnown run so.stand known → port_fault run so.stand.at.states so.stand.ports ≡ None → inputs ≡ all_inputs run (ports_in known.words)
     fed_by words none =
@@ -129,7 +152,8 @@ module _ (run : Composition) (order : List ℕ) (is_order : IsPlaceOrder run ord
         let long = place_long run order are is_order so.stand so.place in
         let ports = ports_are run owners me so.stand stands long (place_at_most run order are is_order so.stand so.place) owns known words in
         let all = (undefined_faults run order so.stand.at.states so.stand.ports is_order long stands).0 none in
-        all_right run states sound have (ports_in known.words) inputs (ports_count known.words ∙ count ∙ count_is run) (subst (λ told. list_all is_some told ≡ true) (sym ports) all) their shape
+        all_right run states sound have (ports_in known.words) inputs (ports_count known.words ∙ count ∙ count_is run)
+        (subst (λ told. list_all is_some told ≡ true) (sym ports) all) their shape
       where
         ports_count : (words : List (Option Seen)) → length (ports_in words) ≡ length words
         ports_count [] = refl

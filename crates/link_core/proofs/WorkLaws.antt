@@ -38,10 +38,12 @@ module _ (run : Composition) (owners : List ℕ) (me : ℕ) (states : List (List
       (record { at = here; known = all.known; ended = course.ended; kept = kept_in owners me kept; facts = all.facts; row = shown_in course.shown })
       (move_by run owners me here all.known (stage_at run here all.known))
 
-  pub work_is : (did : Progress × Taken) → course.ended ≡ None → making_in made_notes ≡ all_made run owners me here (making_in notes) → did ≡ moves (making_in made_notes) → did ≡ worked (rule_of run owners) me node
+  pub work_is : (did : Progress × Taken) → course.ended ≡ None → making_in made_notes ≡ all_made run owners me here (making_in notes)
+      → did ≡ moves (making_in made_notes) → did ≡ worked (rule_of run owners) me node
   work_is did going all is = is ∙ ap moves (made_is all) ∙ sym (by_end course.ended going)
     where
-      by_end : (ended : Option Ending) → ended ≡ None → (if is_some ended then (node, Ended) else moves (behind notes.facts.items making)) ≡ moves (behind notes.facts.items making)
+      by_end : (ended : Option Ending) → ended ≡ None → (if is_some ended then (node, Ended) else moves (behind notes.facts.items making)) ≡ moves
+          (behind notes.facts.items making)
       by_end None going = refl
       by_end (Some ending) going = absurd (cc)
 
@@ -51,7 +53,8 @@ module _ (run : Composition) (judged : IsJudged run) (owners : List ℕ) (me : �
   pub right : IsRightRule run (rule_of run owners)
   right = rule_is_right run judged.order owners judged.is_order judged.members owns
 
-  module _ (states : List (List ℤ)) (notes : Notes) (course : Course) (kept : Kept) (keeps : KeepsTo run (rule_of run owners) me (progress_in owners me states notes course kept)) where
+  module _ (states : List (List ℤ)) (notes : Notes) (course : Course) (kept : Kept)
+      (keeps : KeepsTo run (rule_of run owners) me (progress_in owners me states notes course kept)) where
     pub is_true : IsTrue run owners me course.point course.number states (making_in notes).known
     is_true = record { stand = keeps.stand; place = keeps.stands.place; part = keeps.stands.part; agrees = keeps.agrees }
 
@@ -71,7 +74,8 @@ module _ (run : Composition) (judged : IsJudged run) (owners : List ℕ) (me : �
           rows = subst (λ n. n < run.row_budget) (sym number) within.1;
         }
 
-    pub keeps_working : (did : Progress × Taken) → did ≡ worked (rule_of run owners) me (progress_in owners me states notes course kept) → KeepsTo run (rule_of run owners) me did.0
+    pub keeps_working : (did : Progress × Taken) → did ≡ worked (rule_of run owners) me (progress_in owners me states notes course kept)
+        → KeepsTo run (rule_of run owners) me did.0
     keeps_working did is =
         subst (λ (one : Progress × Taken). KeepsTo run (rule_of run owners) me one.0) (sym is)
         (work_keeps run (rule_of run owners) right me (progress_in owners me states notes course kept) keeps)

@@ -11,7 +11,8 @@ use Rattle.link_core.specs.declared.fact.Seen.{Seen}
 use Rattle.link_core.specs.declared.fact.Seen.TheVariants.{Fault as Faulted, Is, Undefined}
 use Rattle.std.specs.List.{AllZip}
 use Rattle.std.specs.Option.{option_and_then, option_map}
-use Rattle.std.specs.Prelude.{Bool, Err, IfSome, List, None, Ok, Option, Result, Some, [], false, if◌then◌else◌, is_none, map, slice_get, true, ℕ, ◌&&◌, ◌∷◌, ◌≡◌}
+use Rattle.std.specs.Prelude.{Bool, Err, IfSome, List, None, Ok, Option, Result, Some, [], false, if◌then◌else◌, is_none, map, slice_get, true, ℕ, ◌&&◌, ◌∷◌}
+use Rattle.std.specs.Prelude.{◌≡◌}
 use Rattle.unit_tree.specs.Components.{Moved}
 use Rattle.unit_tree.specs.Compositions.{Composition}
 use Rattle.unit_tree.specs.Negotiation.{max_at}

@@ -25,7 +25,8 @@ node_state node = record {
 
 -- Its units are those of its plan, and inputs have the words that are known. There is room for the states of all instances, twice, and
 -- for the words of a row.
-pub record IsSet (plan : Planned) (owners : List ℕ) (me : ℕ) (units : Fleet) (notes : Notes) (course : Course) (kept : Kept) (before : List (List ℤ)) : Type 0 where
+pub record IsSet (plan : Planned) (owners : List ℕ) (me : ℕ) (units : Fleet) (notes : Notes) (course : Course) (kept : Kept)
+    (before : List (List ℤ)) : Type 0 where
   pub tied : units.plan ≡ plan
   pub owned : length owners ≡ length plan.run.members
   pub one_or_other : AllByRecursion (λ owner. owner ≤ 1) owners

@@ -86,6 +86,9 @@ pub record IsRightRule (run : Composition) (rule : Rule) : Type 0 where
   pub first_stands : IsStand run first
   pub nothing : (stand : Stand) → IsPlace run stand → Agrees (board_of run stand) rule.nothing
   pub one : (stand other : Stand) → IsPlace run stand → IsPlace run other → stand.at.number ≡ other.at.number → stand ≡ other
-  pub makes : (me : ℕ) (stand : Stand) (known : Board) → IsPlace run stand → Agrees (board_of run stand) known → IsMade run stand (rule.make me (rule.part me stand.at) known)
-  pub moves : (me : ℕ) (stand : Stand) (known : Board) → IsPlace run stand → Agrees (board_of run stand) known → IsRightMove run rule me stand known (rule.move me (rule.part me stand.at) known)
-  pub shows : (me : ℕ) (stand : Stand) (known : Board) → IsPlace run stand → Agrees (board_of run stand) known → LacksNone (board_of run stand) known → rule.shown (rule.part me stand.at) known ≡ row_at run stand
+  pub makes : (me : ℕ) (stand : Stand) (known : Board) → IsPlace run stand → Agrees (board_of run stand) known
+      → IsMade run stand (rule.make me (rule.part me stand.at) known)
+  pub moves : (me : ℕ) (stand : Stand) (known : Board) → IsPlace run stand → Agrees (board_of run stand) known
+      → IsRightMove run rule me stand known (rule.move me (rule.part me stand.at) known)
+  pub shows : (me : ℕ) (stand : Stand) (known : Board) → IsPlace run stand → Agrees (board_of run stand) known → LacksNone (board_of run stand) known
+      → rule.shown (rule.part me stand.at) known ≡ row_at run stand

@@ -30,14 +30,17 @@ AreWordsKnown run stand known = AllZip IsKnown (board_of run stand).words known.
 -- What a stage says of the stand: a fact is lacking, and which facts there are before; or none is, and where the successor leads.
 abbrev pub IsRightStage : Composition → Stand → Board → Stage → Type 0
 IsRightStage run stand known (Over ending) = LacksNone (board_of run stand) known × (successor run stand.at stand.ports ≡ ends ending)
-IsRightStage run stand known (On h) = LacksNone (board_of run stand) known × (h ≡ agreed run stand.at stand.ports) × (successor run stand.at stand.ports ≡ goes (after run stand.at stand.ports))
+IsRightStage run stand known (On h) = LacksNone (board_of run stand) known × (h ≡ agreed run stand.at stand.ports) ×
+    (successor run stand.at stand.ports ≡ goes (after run stand.at stand.ports))
 IsRightStage run stand known Words = LacksNone (board_of run stand) known → ⊥
 IsRightStage run stand known Limits = (LacksNone (board_of run stand) known → ⊥) × AreWordsKnown run stand known × (before_limits run stand ≡ true)
-IsRightStage run stand known (Trial h) = (LacksNone (board_of run stand) known → ⊥) × AreWordsKnown run stand known × (before_trial run stand ≡ true) × (h ≡ proposed run stand.at stand.ports)
-IsRightStage run stand known (Redo h) = (LacksNone (board_of run stand) known → ⊥) × AreWordsKnown run stand known × (before_redo run stand ≡ true) × (h ≡ agreed run stand.at stand.ports)
+IsRightStage run stand known (Trial h) = (LacksNone (board_of run stand) known → ⊥) × AreWordsKnown run stand known × (before_trial run stand ≡ true) ×
+    (h ≡ proposed run stand.at stand.ports)
+IsRightStage run stand known (Redo h) = (LacksNone (board_of run stand) known → ⊥) × AreWordsKnown run stand known × (before_redo run stand ≡ true) ×
+    (h ≡ agreed run stand.at stand.ports)
 
--- Where what is known agrees with the facts of the stand, whose agreed step is at most the proposal, its stage is the right one: it goes on, or ends, exactly where no
--- fact is lacking, and where the successor leads.
+-- Where what is known agrees with the facts of the stand, whose agreed step is at most the proposal, its stage is the right one: it
+-- goes on, or ends, exactly where no fact is lacking, and where the successor leads.
 abbrev pub StagesAreRight : Type 0
 StagesAreRight =
     (run : Composition) (stand : Stand) (known : Board) → length stand.at.states ≡ length run.members
@@ -49,7 +52,8 @@ StagesAreRight =
 -- Over every list of events each fact is the true one of its row, and each node stands at the place of its number.
 abbrev pub EventsKeep : Type 0
 EventsKeep =
-    (run : Composition) (rule : Rule) → IsRightRule run rule → (events : List PairEvent) → PairKeepsTo run rule (after_events rule (opened_pair rule run) events)
+    (run : Composition) (rule : Rule) → IsRightRule run rule → (events : List PairEvent)
+    → PairKeepsTo run rule (after_events rule (opened_pair rule run) events)
 
 -- What a node answers to work: a row or the end exactly where it then lacks no fact of its row.
 abbrev pub AnswersRightly : Composition → Stand → Board → Taken → Type 0
@@ -77,7 +81,8 @@ WorkCommitsRightly =
 -- A node may take any honest fact.
 abbrev pub HonestFactsKeep : Type 0
 HonestFactsKeep =
-    (run : Composition) (rule : Rule) → IsRightRule run rule → (me : ℕ) (node : Progress) (fact : Fact) → KeepsTo run rule me node → IsHonest run fact → KeepsTo run rule me (taken rule me node fact).0
+    (run : Composition) (rule : Rule) → IsRightRule run rule → (me : ℕ) (node : Progress) (fact : Fact) → KeepsTo run rule me node → IsHonest run fact
+    → KeepsTo run rule me (taken rule me node fact).0
 
 -- A true fact is honest.
 abbrev pub TrueFactsAreHonest : Type 0
@@ -85,7 +90,8 @@ TrueFactsAreHonest = (run : Composition) (rule : Rule) → IsRightRule run rule 
 
 -- The rule is right, for every ordered run and every split of its instances.
 abbrev pub RulesAreRight : Type 0
-RulesAreRight = (run : Composition) (order owners : List ℕ) → IsPlaceOrder run order → AreMembers run → length owners ≡ length run.members → IsRightRule run (rule_of run owners)
+RulesAreRight = (run : Composition) (order owners : List ℕ) → IsPlaceOrder run order → AreMembers run → length owners ≡ length run.members
+    → IsRightRule run (rule_of run owners)
 
 -- Over every list of events, for every ordered run and every split of its instances, each fact is the true one of its row, and
 -- each node stands at the place of its number.

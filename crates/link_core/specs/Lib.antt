@@ -1,5 +1,6 @@
 pub mod Boards
 pub mod Inner
+pub mod Joined
 pub mod Keeping
 pub mod Laws
 pub mod Making

@@ -11,7 +11,8 @@ use Rattle.link_core.specs.declared.stage.Stage.{Stage}
 use Rattle.link_core.specs.declared.stage.Stage.TheVariants.{Limits, On, Over, Redo, Trial}
 use Rattle.std.specs.List.{enumerate_from, flat_map, list_any}
 use Rattle.std.specs.Option.{option_map}
-use Rattle.std.specs.Prelude.{Bool, List, None, Option, Some, [], false, if◌then◌else◌, is_none, length, map, slice_get, slice_set, suc, true, zero, zip, ℕ, ℤ, ◌&&◌, ◌++◌, ◌==◌, ◌∷◌}
+use Rattle.std.specs.Prelude.{Bool, List, None, Option, Some, [], false, if◌then◌else◌, is_none, length, map, slice_get, slice_set, suc, true, zero, zip, ℕ, ℤ}
+use Rattle.std.specs.Prelude.{◌&&◌, ◌++◌, ◌==◌, ◌∷◌}
 use Rattle.unit_tree.specs.Compositions.{Composition}
 use Rattle.unit_tree.specs.Negotiation.{max_at, state_after, step_at}
 use Rattle.unit_tree.specs.Ports.{Outlet, Ports, Standing, first_some, given_at, outlets, outlets_of, places_needed}
@@ -72,7 +73,10 @@ determined words outlet =
 
 abbrev pub put_word : ℕ → ℕ → Option Seen → Making → Making
 put_word number place None making = making
-put_word number place (Some seen) making = record { known = record making.known { words = slice_set making.known.words place (Some seen) }; facts = making.facts ++ Word number place seen ∷ [] }
+put_word number place (Some seen) making = record {
+  known = record making.known { words = slice_set making.known.words place (Some seen) };
+  facts = making.facts ++ Word number place seen ∷ [];
+}
 
 abbrev pub with_word : ℕ → ℕ → Making → ℕ × (ℕ × Outlet) → Making
 with_word me number making (place, (owner, outlet)) =
@@ -94,24 +98,35 @@ words_made run owners me at making =
 abbrev pub with_limit : ℕ → Position → Ports → Making → ℕ × (ℕ × Standing) → Making
 with_limit me at ports making (instance, (owner, standing)) =
     if (owner == me) && is_none (entry making.known.limits instance)
-    then record { known = record making.known { limits = slice_set making.known.limits instance (Some (asked_of (max_at at.point.t ports standing))) }; facts = making.facts ++ Limit at.number instance (asked_of (max_at at.point.t ports standing)) ∷ [] }
+    then record {
+      known = record making.known { limits = slice_set making.known.limits instance (Some (asked_of (max_at at.point.t ports standing))) };
+      facts = making.facts ++ Limit at.number instance (asked_of (max_at at.point.t ports standing)) ∷ [];
+    }
     else making
 
 abbrev pub put_reply : ℕ → ℕ → Option Said → Making → Making
 put_reply number instance None making = making
-put_reply number instance (Some said) making = record { known = record making.known { replies = slice_set making.known.replies instance (Some said) }; facts = making.facts ++ Reply number instance false said ∷ [] }
+put_reply number instance (Some said) making = record {
+  known = record making.known { replies = slice_set making.known.replies instance (Some said) };
+  facts = making.facts ++ Reply number instance false said ∷ [];
+}
 
 abbrev pub put_redo : ℕ → ℕ → Option Said → Making → Making
 put_redo number instance None making = making
-put_redo number instance (Some said) making = record { known = record making.known { redos = slice_set making.known.redos instance (Some said) }; facts = making.facts ++ Reply number instance true said ∷ [] }
+put_redo number instance (Some said) making = record {
+  known = record making.known { redos = slice_set making.known.redos instance (Some said) };
+  facts = making.facts ++ Reply number instance true said ∷ [];
+}
 
 abbrev pub with_reply : ℕ → Position → Ports → ℕ → Making → ℕ × (ℕ × Standing) → Making
 with_reply me at ports h making (instance, (owner, standing)) =
-    if (owner == me) && is_none (entry making.known.replies instance) then put_reply at.number instance (option_map said_of (step_at at.point.t h ports standing)) making else making
+    if (owner == me) && is_none (entry making.known.replies instance) then put_reply at.number instance
+    (option_map said_of (step_at at.point.t h ports standing)) making else making
 
 abbrev pub with_redo : ℕ → Position → Ports → ℕ → Making → ℕ × (ℕ × Standing) → Making
 with_redo me at ports h making (instance, (owner, standing)) =
-    if (owner == me) && is_none (entry making.known.redos instance) then put_redo at.number instance (option_map said_of (step_at at.point.t h ports standing)) making else making
+    if (owner == me) && is_none (entry making.known.redos instance) then put_redo at.number instance
+    (option_map said_of (step_at at.point.t h ports standing)) making else making
 
 abbrev pub held_standings : Composition → List ℕ → Position → List (ℕ × (ℕ × Standing))
 held_standings run owners at = enumerate_from 0 (zip owners (standings run at))
@@ -143,7 +158,8 @@ redos_made run owners me at making = redos_by run owners me at (stage_at run at 
 -- All that a node makes of what it knows: the words, then the limits, the replies, and those of a step made anew.
 abbrev pub made : Composition → List ℕ → ℕ → Position → Board → Making
 made run owners me at known =
-    redos_made run owners me at (replies_made run owners me at (limits_made run owners me at (words_made run owners me at (record { known = known; facts = [] }))))
+    redos_made run owners me at (replies_made run owners me at
+    (limits_made run owners me at (words_made run owners me at (record { known = known; facts = [] }))))
 
 -- ---- Moving
 

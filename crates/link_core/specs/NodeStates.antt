@@ -1,6 +1,7 @@
 -- What contracts see of a node, and of a pair.
 use Rattle.std.specs.Prelude.{◌≡◌, ℕ, List}
 use Rattle.link_core.specs.Nodes.{Progress}
+use Rattle.link_core.specs.Pairs.{Pair}
 use Rattle.trace_plan.specs.Plans.{Planned}
 
 -- A plan, the owner of each instance, which node it is, and how far it is.
@@ -15,3 +16,14 @@ pub record IsSameNode (old new : NodeState) : Type 0 where
   pub plan : new.plan ≡ old.plan
   pub owners : new.owners ≡ old.owners
   pub me : new.me ≡ old.me
+
+-- A plan, the owner of each instance, and how far both nodes are.
+pub record PairState : Type 0 where
+  pub plan : Planned
+  pub owners : List ℕ
+  pub both : Pair
+
+-- It is a pair of the same system.
+pub record IsSamePair (old new : PairState) : Type 0 where
+  pub plan : new.plan ≡ old.plan
+  pub owners : new.owners ≡ old.owners

@@ -4,7 +4,8 @@ use Rattle.link_core.specs.declared.fact.Fact.{Fact}
 use Rattle.link_core.specs.declared.fact.Fact.TheVariants.{Limit, Reply, Word}
 use Rattle.link_core.specs.declared.taken.Taken.{Taken}
 use Rattle.link_core.specs.declared.taken.Taken.TheVariants.{Dropped, Ended, Kept, Row}
-use Rattle.std.specs.Prelude.{Bool, List, None, Option, Some, [], false, if◌then◌else◌, is_some, not, slice_set, true, ℕ, ◌++◌, ◌-◌, ◌==◌, ◌||◌}
+use Rattle.std.specs.List.{range_with_len}
+use Rattle.std.specs.Prelude.{Bool, List, None, Option, Some, [], false, if◌then◌else◌, is_some, map, not, slice_set, true, ℕ, ◌++◌, ◌-◌, ◌%◌, ◌==◌, ◌||◌}
 use Rattle.unit_tree.specs.Successor.{Position}
 use Rattle.unit_tree.specs.Trace.{Row as TraceRow}
 use Rattle.unit_tree.specs.declared.ending.Ending.{Ending}
@@ -89,3 +90,9 @@ keeping node = record node { kept = node.at }
 
 abbrev pub restarted : Rule → Progress → Progress
 restarted rule node = record node { at = node.kept; known = rule.nothing; ended = None; row = None }
+
+-- ---- Owners
+
+-- The owner of each of so many instances, by turns.
+abbrev pub by_turns : ℕ → List ℕ
+by_turns instances = map (λ instance. instance % 2) (range_with_len 0 instances)

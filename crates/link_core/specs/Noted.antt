@@ -1,12 +1,14 @@
 -- Notes as they are held: the board, the facts, and room for as many more as items are not known. None of it need be believed.
-use Rattle.std.specs.Prelude.{◌≡◌, ℕ, suc, ◌+◌, ◌≤◌, ◌==◌, min, nat_lt, Bool, true, false, ◌&&◌, is_none, ℤ, List, [], ◌∷◌, ◌++◌, map, zip, length, slice_set, vec_capacity, if◌then◌else◌, Option, Some, None, Result, Ok, Err, ⊤}
+use Rattle.std.specs.Prelude.{◌≡◌, ℕ, suc, ◌+◌, ◌≤◌, ◌<◌, ◌==◌, min, nat_lt, Bool, true, false, ◌&&◌, is_none, ℤ, List, [], ◌∷◌, ◌++◌, map, zip, length}
+use Rattle.std.specs.Prelude.{slice_set, vec_capacity, if◌then◌else◌, Option, Some, None, Result, Ok, Err, ⊤}
 use Rattle.std.specs.Option.{option_map}
 use Rattle.fixed_words.specs.declared.types.Fault.{Fault}
 use Rattle.link_core.specs.Boards.{Agrees, Board, asked_of, board_of, entry, said_of}
 use Rattle.link_core.specs.Keeping.{IsPlace}
 use Rattle.link_core.specs.Making.{own_states, part_of, put_redo, put_reply, with_redo, with_reply}
-use Rattle.link_core.specs.Nodes.{Making}
-use Rattle.link_core.specs.declared.fact.Fact.TheVariants.{Limit}
+use Rattle.link_core.specs.Nodes.{Making, with_fact}
+use Rattle.link_core.specs.declared.fact.Fact.{Fact}
+use Rattle.link_core.specs.declared.fact.Fact.TheVariants.{Limit, Reply, Word}
 use Rattle.link_core.specs.declared.fact.Said.{Said}
 use Rattle.link_core.specs.declared.fact.Said.TheVariants.{Accepted, Fault as StepFault}
 use Rattle.link_core.specs.declared.fact.Seen.{Seen}
@@ -45,7 +47,12 @@ are_nothing entries = map (λ one. None) entries
 -- Nothing is known, and the facts stay.
 abbrev pub forgotten : Making → Making
 forgotten making = record {
-  known = record { words = are_nothing making.known.words; limits = are_nothing making.known.limits; replies = are_nothing making.known.replies; redos = are_nothing making.known.redos };
+  known = record {
+    words = are_nothing making.known.words;
+    limits = are_nothing making.known.limits;
+    replies = are_nothing making.known.replies;
+    redos = are_nothing making.known.redos;
+  };
   facts = making.facts;
 }
 
@@ -147,7 +154,10 @@ pub record IsPartOf (owners : List ℕ) (me : ℕ) (states : List (List ℤ)) (r
 abbrev pub limit_if : Bool → ℕ → ℕ → Ports → Standing → ℕ → Making → Making
 limit_if own row t ports standing instance making =
     if own && is_none (entry making.known.limits instance)
-    then record { known = record making.known { limits = slice_set making.known.limits instance (Some (asked_of (max_at t ports standing))) }; facts = making.facts ++ Limit row instance (asked_of (max_at t ports standing)) ∷ [] }
+    then record {
+      known = record making.known { limits = slice_set making.known.limits instance (Some (asked_of (max_at t ports standing))) };
+      facts = making.facts ++ Limit row instance (asked_of (max_at t ports standing)) ∷ [];
+    }
     else making
 
 abbrev pub said_given : Result ℕ Fault → Said
@@ -167,7 +177,8 @@ with_said redo me at ports h making item = if redo then with_redo me at ports h 
 -- With the reply of an instance, where it is one's own and isn't known.
 abbrev pub reply_if : Bool → Bool → ℕ → ℕ → ℕ → Ports → Standing → ℕ → Making → Making
 reply_if redo own row t h ports standing instance making =
-    if own && is_none (said_entry redo making.known instance) then put_said redo row instance (option_map said_of (step_at t h ports standing)) making else making
+    if own && is_none (said_entry redo making.known instance) then put_said redo row instance (option_map said_of (step_at t h ports standing)) making
+    else making
 
 -- The state of an instance after a step, where it is one's own.
 abbrev pub stepped_if : Bool → ℕ → ℕ → Ports → Standing → List ℤ
@@ -195,3 +206,15 @@ AreFed run inputs ports (Trial h) = inputs ≡ all_inputs run ports
 AreFed run inputs ports (Redo h) = inputs ≡ all_inputs run ports
 AreFed run inputs ports (On h) = inputs ≡ all_inputs run ports
 AreFed run inputs ports other = ⊤
+
+-- ---- Facts that arrive
+
+-- What is known with a fact.
+abbrev pub knowing_fact : Fact → Making → Making
+knowing_fact fact making = record { known = with_fact making.known fact; facts = making.facts }
+
+-- There is such an item, and an output may have this word.
+abbrev pub IsItemOf : Composition → Fact → Type 0
+IsItemOf run (Word row place seen) = (place < length (routes_of run).outputs) × IsWordSeen run place seen
+IsItemOf run (Limit row instance asked) = instance < length run.members
+IsItemOf run (Reply row instance redo said) = instance < length run.members

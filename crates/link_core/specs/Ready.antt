@@ -1,11 +1,13 @@
 -- What a node is about to work with. None of it need be believed.
-use Rattle.std.specs.Prelude.{◌≡◌, ◌≤◌, ◌^◌, ℕ, ℤ, List, map, length, if◌then◌else◌, Option, Some, None}
-use Rattle.link_core.specs.Making.{limits_made, ports_in, redos_made, replies_made, words_made}
-use Rattle.link_core.specs.Nodes.{Making, Progress}
+use Rattle.std.specs.Prelude.{◌≡◌, ◌≤◌, ◌^◌, ◌-◌, ◌==◌, ◌||◌, Bool, not, is_some, ℕ, ℤ, List, map, length, if◌then◌else◌, Option, Some, None}
+use Rattle.link_core.specs.Boards.{Board, row_of}
+use Rattle.link_core.specs.Making.{is_own, limits_made, ports_in, redos_made, replies_made, words_made}
+use Rattle.link_core.specs.Nodes.{Making, Progress, has}
 use Rattle.link_core.specs.Noted.{AreNotes, IsTrue, making_in, part_at}
 use Rattle.link_core.specs.declared.course.Course.{Course}
 use Rattle.link_core.specs.declared.course.Kept.{Kept}
 use Rattle.link_core.specs.declared.course.Shown.{Shown}
+use Rattle.link_core.specs.declared.fact.Fact.{Fact}
 use Rattle.link_core.specs.declared.notes.Notes.{Notes}
 use Rattle.port_solve.specs.Solved.{HaveTheirWords}
 use Rattle.port_solve.specs.Sound.{IsSound}
@@ -57,4 +59,12 @@ pub record IsReady (plan : Planned) (owners : List ℕ) (me : ℕ) (point : Poin
 
 -- All that a node makes, behind what was there.
 abbrev pub all_made : Composition → List ℕ → ℕ → Position → Making → Making
-all_made run owners me at making = redos_made run owners me at (replies_made run owners me at (limits_made run owners me at (words_made run owners me at making)))
+all_made run owners me at making = redos_made run owners me at
+    (replies_made run owners me at (limits_made run owners me at (words_made run owners me at making)))
+
+-- ---- Facts that arrive
+
+-- A node drops the fact.
+abbrev pub is_dropped : Composition → List ℕ → ℕ → Course → Board → Fact → Bool
+is_dropped run owners me course known fact =
+    is_some course.ended || (not (row_of fact == course.number) || (not (is_own run owners (1 - me) fact) || has known fact))

@@ -86,7 +86,8 @@ abbrev pub stage_of_limits : Composition → Position → Board → Stage
 stage_of_limits run at board =
     if list_all is_some board.limits
     then over_or (first_told max_end_of (map max_by board.limits))
-    (stage_of_trial run at board.replies board.redos (proposal_of run.stop run.longest at.point.t (filter_map (limit_in at.point.t) (zip run.members board.limits))))
+    (stage_of_trial run at board.replies board.redos (proposal_of run.stop run.longest at.point.t
+    (filter_map (limit_in at.point.t) (zip run.members board.limits))))
     else Limits
 
 -- The names are the instance of each output and its number there, by places.

@@ -1,3 +1,6 @@
+ghost use Rattle.std.specs.Prelude.{◌≡◌};
+ghost use Rattle.link_core.specs.Boards.{row_of};
+
 use fixed_words::Fault;
 
 /// What is told of an output.
@@ -54,4 +57,15 @@ pub enum Fact {
         redo: bool,
         said: Said,
     },
+}
+
+impl Fact {
+    /// The number of the row that it is of.
+    pub fn row(&self) -> u64
+        ensures { result ≡ row_of self.now }
+    {
+        match *self {
+            Fact::Word { row, .. } | Fact::Limit { row, .. } | Fact::Reply { row, .. } => row,
+        }
+    }
 }

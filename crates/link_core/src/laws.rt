@@ -2,11 +2,6 @@
 ghost use Rattle.link_core.specs.Laws.{FactsAreFunctional, StagesAreRight, PairsKeepToTheTrace, PassesAreEnough, RulesAreRight};
 ghost use Rattle.link_core.specs.Laws.{EventsKeep, HonestFactsKeep, TrueFactsAreHonest, WorkCommitsRightly};
 
-use crate::stage::Stage as _S;
-use fixed_words::Fault as _F;
-use super_time::Point as _P;
-use unit_tree::Ending as _E;
-
 /// A law: an item has one fact.
 pub fn facts_are_functional()
     ensures { FactsAreFunctional }

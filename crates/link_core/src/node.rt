@@ -1,10 +1,10 @@
 //! A node.
 ghost use Rattle.std.specs.List.{AllByRecursion};
 ghost use Rattle.std.specs.Prelude.{◌≡◌, ◌≤◌, length, Some, None, IfOk, OnErr, IfSome, IfNone};
-ghost use Rattle.link_core.specs.Keeping.{KeepsTo};
+ghost use Rattle.link_core.specs.Keeping.{IsHonest, KeepsTo};
 ghost use Rattle.link_core.specs.Making.{rule_of};
 ghost use Rattle.link_core.specs.NodeStates.{IsSameNode};
-ghost use Rattle.link_core.specs.Nodes.{keeping, opened, restarted, worked};
+ghost use Rattle.link_core.specs.Nodes.{keeping, opened, restarted, taken, worked};
 ghost use Rattle.unit_tree.specs.Successor.{first_position};
 
 use crate::course::{Course, Kept};
@@ -13,6 +13,7 @@ use crate::keeping::{keep_states, restore_states};
 use crate::notes::Notes;
 use crate::opening::{course_of, notes_of, states_of, units_of};
 use crate::taken::Taken;
+use crate::taking::{drops, learn_fact};
 use crate::working::{judged, work_on};
 use fixed_words::{List, NoMemory};
 use std::alloc::{AllocError, Global};
@@ -138,6 +139,43 @@ impl Node {
         ))
     }
 
+    /// Takes a fact. It is dropped where the node has ended, the fact is of another row, its item isn't one of an instance that the
+    /// other node owns, or the item is known; else it is known from now on, and the node works.
+    ///
+    /// # Errors
+    ///
+    /// [`NoMemory`]: nothing was done.
+    pub fn take(&mut self, fact: &Fact) -> Result<Taken, NoMemory>
+        requires honest { IsHonest self.old.plan.run fact.now }
+        ensures taken { IfOk result (λ answer. (self.new.progress, answer) ≡ taken (rule_of self.old.plan.run self.old.owners) self.old.me self.old.progress fact.now) }
+        ensures same { IsSameNode self.old self.new }
+        ensures refused { OnErr result (self.new ≡ self.old) }
+    {
+        let owners = self.owners.as_slice();
+        if drops(
+            &self.plan,
+            &self.notes,
+            &self.course,
+            owners,
+            self.me,
+            *fact,
+        ) {
+            return Ok(Taken::Dropped);
+        }
+        self.notes.reserve()?;
+        judged(&self.plan);
+        learn_fact(&self.plan, &mut self.units, &mut self.notes, *fact);
+        Ok(work_on(
+            &self.plan,
+            &mut self.units,
+            &mut self.before,
+            &mut self.notes,
+            &mut self.course,
+            self.owners.as_slice(),
+            self.me,
+        ))
+    }
+
     /// Keeps the position where it stands.
     pub fn keep(&mut self)
         ensures kept { self.new.progress ≡ keeping self.old.progress }
@@ -167,8 +205,10 @@ impl Node {
 
     /// All facts that it ever made, in their order.
     pub fn facts(&self) -> &[Fact]
-        ensures { result.now ≡ self.now.progress.facts }
+        ensures facts { result.now ≡ self.now.progress.facts }
+        ensures honest { AllByRecursion (IsHonest self.now.plan.run) result.now }
     {
+        judged(&self.plan);
         &self.notes.facts
     }
 

@@ -150,7 +150,7 @@ fn make_word(
 }
 
 /// The owner of the instance whose output is at a place.
-fn owner_at(plan: &Plan, owners: &[u8], place: usize) -> u8
+pub(crate) fn owner_at(plan: &Plan, owners: &[u8], place: usize) -> u8
     requires place { place < length (routes_of plan.now.run).outputs }
     requires owners { length owners.now ≡ length plan.now.run.members }
     ensures { IfSome (slice_get (routes_of plan.now.run).outputs place) (λ route. slice_get owners.now route.instance ≡ Some result) }

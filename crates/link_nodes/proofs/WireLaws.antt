@@ -20,12 +20,26 @@ use Rattle.link_nodes.specs.Decoding.{fault_tagged, fact_told, read, told_if, is
 use Rattle.link_nodes.specs.Wire.{tag_of, fields_of, written, encoding, is_short, HasTypes}
 use Rattle.link_nodes.specs.declared.fields.Fields.{Fields}
 
-read_written : (kind row place tag : ℕ) (number : ℤ) → row < 2 ^ 64 → place < 2 ^ 32 → cast_unsigned w64 number < 2 ^ 64 → cast_signed w64 (cast_unsigned w64 number) ≡ number
-    → read (written (record { kind = kind; row = row; place = place; tag = tag; number = number })) ≡ record { kind = kind; row = row; place = place; tag = tag; number = number }
+read_written : (kind row place tag : ℕ) (number : ℤ) → row < 2 ^ 64 → place < 2 ^ 32 → cast_unsigned w64 number < 2 ^ 64
+    → cast_signed w64 (cast_unsigned w64 number) ≡ number
+    → read (written (record { kind = kind; row = row; place = place; tag = tag; number = number })) ≡ record {
+      kind = kind;
+      row = row;
+      place = place;
+      tag = tag;
+      number = number;
+    }
 read_written kind row place tag number row_fits place_fits number_fits back =
-    ap₂ (λ r p. record { kind = kind; row = r; place = p; tag = tag; number = cast_signed w64 (from_be_bytes w64 (to_be_bytes w64 (cast_unsigned w64 number))) })
+    ap₂ (λ r p. record {
+      kind = kind;
+      row = r;
+      place = p;
+      tag = tag;
+      number = cast_signed w64 (from_be_bytes w64 (to_be_bytes w64 (cast_unsigned w64 number)));
+    })
     (from_be_bytes-to_be_bytes_8 row row_fits) (from_be_bytes-to_be_bytes_4 place place_fits)
-    ∙ ap (λ n. record { kind = kind; row = row; place = place; tag = tag; number = n }) (ap (cast_signed w64) (from_be_bytes-to_be_bytes_8 (cast_unsigned w64 number) number_fits) ∙ back)
+    ∙ ap (λ n. record { kind = kind; row = row; place = place; tag = tag; number = n })
+    (ap (cast_signed w64) (from_be_bytes-to_be_bytes_8 (cast_unsigned w64 number) number_fits) ∙ back)
 
 fault_back : (fault : Fault) → fault_tagged (tag_of fault) ≡ fault
 fault_back Overflow = refl
@@ -48,7 +62,8 @@ limit_fault row place ZeroDivisor = refl
 limit_fault row place Accept = refl
 limit_fault row place Max = refl
 
-reply_fault : (row place : ℕ) (redo : Bool) (fault : Fault) → fact_told (fields_of (Reply row place redo (said.Fault fault))) ≡ Reply row place redo (said.Fault fault)
+reply_fault : (row place : ℕ) (redo : Bool) (fault : Fault)
+    → fact_told (fields_of (Reply row place redo (said.Fault fault))) ≡ Reply row place redo (said.Fault fault)
 reply_fault row place true Overflow = refl
 reply_fault row place true Range = refl
 reply_fault row place true ZeroDivisor = refl
@@ -100,10 +115,13 @@ are_fit (Word row place (seen.Is word)) types short = record { row = row_below r
 are_fit (Word row place (seen.Fault fault)) types short = record { row = row_below row short; place = types; number = no_number }
 are_fit (Word row place seen.Undefined) types short = record { row = row_below row short; place = types; number = no_number }
 are_fit (Limit row instance asked.Free) types short = record { row = row_below row short; place = types; number = no_number }
-are_fit (Limit row instance (asked.Max local)) types short = let both = and_parts (nat_lt row 100000) (nat_lt local (2 ^ 63)) short in record { row = row_below row both.0; place = types; number = length_fits local both.1 }
+are_fit (Limit row instance (asked.Max local)) types short = let both = and_parts (nat_lt row 100000) (nat_lt local (2 ^ 63)) short in
+    record { row = row_below row both.0; place = types; number = length_fits local both.1 }
 are_fit (Limit row instance (asked.Fault fault)) types short = record { row = row_below row short; place = types; number = no_number }
-are_fit (Reply row instance true (said.Accepted accepted)) types short = let both = and_parts (nat_lt row 100000) (nat_lt accepted (2 ^ 63)) short in record { row = row_below row both.0; place = types; number = length_fits accepted both.1 }
-are_fit (Reply row instance false (said.Accepted accepted)) types short = let both = and_parts (nat_lt row 100000) (nat_lt accepted (2 ^ 63)) short in record { row = row_below row both.0; place = types; number = length_fits accepted both.1 }
+are_fit (Reply row instance true (said.Accepted accepted)) types short = let both = and_parts (nat_lt row 100000) (nat_lt accepted (2 ^ 63)) short in
+    record { row = row_below row both.0; place = types; number = length_fits accepted both.1 }
+are_fit (Reply row instance false (said.Accepted accepted)) types short = let both = and_parts (nat_lt row 100000) (nat_lt accepted (2 ^ 63)) short in
+    record { row = row_below row both.0; place = types; number = length_fits accepted both.1 }
 are_fit (Reply row instance true (said.Fault fault)) types short = record { row = row_below row short; place = types; number = no_number }
 are_fit (Reply row instance false (said.Fault fault)) types short = record { row = row_below row short; place = types; number = no_number }
 
@@ -111,7 +129,8 @@ fact_back : (fact : Fact) → HasTypes fact → is_short fact ≡ true → fact_
 fact_back fact types short =
     let fit = are_fit fact types short in
     let f = fields_of fact in
-    ap fact_told (read_written f.kind f.row f.place f.tag f.number fit.row fit.place (unsigned_fits f.number fit.number) (signed_back f.number fit.number)) ∙ told_back fact
+    ap fact_told (read_written f.kind f.row f.place f.tag f.number fit.row fit.place (unsigned_fits f.number fit.number) (signed_back f.number fit.number))
+    ∙ told_back fact
 
 same_bytes : (xs : List ℕ) → bytes_eq xs xs ≡ true
 same_bytes xs = grind (arith, bytes_eq-Decides)
@@ -147,10 +166,12 @@ no_length bytes other = by_test (is_written bytes (fact_told (read bytes))) refl
     by_test : (test : Bool) → is_written bytes (fact_told (read bytes)) ≡ test → ◌≡◌ {A = Option Fact} None (told_if test (fact_told (read bytes)))
     by_test false is = refl
     by_test true is =
-        let same = bytes_are bytes (encoding (fact_told (read bytes))) (and_parts (is_short (fact_told (read bytes))) (bytes_eq bytes (encoding (fact_told (read bytes)))) is).1 in
+        let same = bytes_are bytes (encoding (fact_told (read bytes)))
+        (and_parts (is_short (fact_told (read bytes))) (bytes_eq bytes (encoding (fact_told (read bytes)))) is).1 in
         absurd (other (ap length same))
 
-pub tells : (bytes : List ℕ) (fields : Fields) (one other : Fact) (test : Bool) (result : Option Fact) → fields ≡ read bytes → one ≡ fact_told fields → other ≡ fact_told fields → test ≡ is_written bytes one → result ≡ told_if test other → result ≡ decoded bytes
+pub tells : (bytes : List ℕ) (fields : Fields) (one other : Fact) (test : Bool) (result : Option Fact) → fields ≡ read bytes → one ≡ fact_told fields
+    → other ≡ fact_told fields → test ≡ is_written bytes one → result ≡ told_if test other → result ≡ decoded bytes
 tells bytes fields one other test result fields_are one_is other_is test_is result_is =
     let fact = ap fact_told fields_are in
     result_is ∙ ap₂ told_if (test_is ∙ ap (is_written bytes) (one_is ∙ fact)) (other_is ∙ fact)

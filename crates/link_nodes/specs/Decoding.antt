@@ -1,5 +1,6 @@
 -- How bytes are decoded, which need not be believed: they are read whatever they are, written again, and compared.
-use Rattle.std.specs.Prelude.{ℕ, ◌==◌, ◌^◌, ◌<◌, Bool, true, false, ◌&&◌, ℤ, unsigned_abs, List, take, drop, slice_index_or, FitsSigned, if◌then◌else◌, Option, Some, None, ⊤}
+use Rattle.std.specs.Prelude.{ℕ, ◌==◌, ◌^◌, ◌<◌, Bool, true, false, ◌&&◌, ℤ, unsigned_abs, List, take, drop, slice_index_or, if◌then◌else◌, Option}
+use Rattle.std.specs.Prelude.{Some, None, ⊤}
 use Rattle.std.specs.Int.{w32, w64, from_be_bytes, cast_signed}
 use Rattle.std.specs.Str.{bytes_eq}
 use Rattle.fixed_words.specs.declared.types.Fault.{Fault}

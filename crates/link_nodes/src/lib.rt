@@ -1,13 +1,29 @@
-//! Facts of two nodes as bytes.
+//! Two nodes in one process, and their facts as bytes.
 //!
+//! [`run_nodes`] runs a plan by two nodes, which own its instances by turns, so many rounds: facts are lost, come twice and late, and
+//! node 1 starts again from time to time. What is put is the header and the rows that node 0 has committed, of the one trace.
 //! [`encode`] writes a fact as 22 bytes, and [`decode`] reads them; by their clauses each is the other's inverse, and bytes that encode
-//! no fact tell none. None of it takes memory.
+//! no fact tell none.
 //!
-//! Definitions: `specs/Wire.antt` (fields, encodings, and which facts can be encoded). `specs/Decoding.antt`, which need not be believed,
-//! says how bytes are read.
+//! Definitions: `specs/Rounds.antt` (what happens in each round), `specs/Shown.antt` (what is put and told) and `specs/Wire.antt`
+//! (fields, encodings, and which facts can be encoded). `specs/Screens.antt`, `specs/Desks.antt` and `specs/Decoding.antt`, which need
+//! not be believed, say how it is gone about.
 #![tactic(auto)]
 
+mod arriving;
+mod desk;
 mod fields;
+mod laws;
+mod mail;
+mod run;
+mod screen;
+mod spans;
 mod wire;
 
+pub use laws::rounds_keep;
+pub use run::{Nodes, run_nodes};
+pub use trace_rows::CrewFault as NodesFault;
 pub use wire::{decode, encode};
+
+#[cfg(test)]
+mod tests;

@@ -85,7 +85,7 @@ fn read(bytes: &[u8]) -> Option<Fields>
 }
 
 /// Whether a fact can be encoded: its row is below 100,000, and a length is at most the greatest word.
-fn is_short(fact: Fact) -> bool
+pub(crate) fn is_short(fact: Fact) -> bool
     ensures { result ≡ is_short fact }
 {
     const MOST_LENGTH: u64 = 1 << 63;

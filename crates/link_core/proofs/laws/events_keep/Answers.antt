@@ -10,7 +10,8 @@ pub returns-clause-commit : goal.returns-clause-commit
 returns-clause-commit c = work_commits
 
 pub returns-clause-pairs : goal.returns-clause-pairs
-returns-clause-pairs c = λ run order owners is_order are owns events. all_events_keep run (rule_of run owners) (rule_is_right run order owners is_order are owns) events
+returns-clause-pairs c = λ run order owners is_order are owns events. all_events_keep run (rule_of run owners)
+    (rule_is_right run order owners is_order are owns) events
 
 pub returns-clause-take : goal.returns-clause-take
 returns-clause-take c = take_keeps

@@ -19,5 +19,6 @@ loop-instance-preserved c =
 pub returns : goal.returns
 returns c =
     let long = AllZip-long _ c.args.units.now.plan.run.members c.args.units.now.states c.count-instance-end.ensures.states in
-    let past : length c.args.units.now.states ≤ c.loop-instance.instance = omega (arith, c.loop-instance-test.false, c.count-instance-end.ensures.count, long) in
+    let past : length c.args.units.now.states ≤ c.loop-instance.instance =
+    omega (arith, c.loop-instance-test.false, c.count-instance-end.ensures.count, long) in
     c.loop-instance.invariant ∙ take_all c.loop-instance.instance c.args.units.now.states past

@@ -13,14 +13,22 @@ loop-instance-preserved c =
     let members = c.args.plan.now.run.members in
     let within : c.loop-instance.instance < length members = omega (arith, c.loop-instance-test.true, c.instances-instance-end.ensures.count) in
     let numbers = map (reply_at c.args.t c.args.h) (zip members (steps_in c.args.t c.args.h members c.args.replies.now)) in
-    let there = reply_there c.args.plan.now.run c.args.t c.args.h c.loop-instance.instance c.factor.result within c.factor.ensures.factor c.args.replies.now c.requires.replies _ in
+    let there = reply_there c.args.plan.now.run c.args.t c.args.h c.loop-instance.instance c.factor.result within c.factor.ensures.factor c.args.replies.now
+    c.requires.replies _ in
     record {
-      so_far = subst (Least c.args.h numbers (c.loop-instance.instance + 1)) (sym c.capped_reply-least.ensures) (one_lesser c.args.h numbers c.loop-instance.instance c.loop-instance.least _ there c.loop-instance.invariant.so_far);
+      so_far = subst (Least c.args.h numbers (c.loop-instance.instance + 1)) (sym c.capped_reply-least.ensures)
+          (one_lesser c.args.h numbers c.loop-instance.instance c.loop-instance.least _ there c.loop-instance.invariant.so_far);
       at_most = omega (arith, c.capped_reply-least.ensures, c.loop-instance.invariant.at_most);
     }
 
 pub returns-clause-least : goal.returns-clause-least
 returns-clause-least c =
     let members = c.args.plan.now.run.members in
-    least_is c.args.h (map (reply_at c.args.t c.args.h) (zip members (steps_in c.args.t c.args.h members c.args.replies.now))) c.loop-instance.instance c.loop-instance.least
-    (omega (arith, replies_long c.args.plan.now.run c.args.t c.args.h c.args.replies.now c.requires.replies, c.loop-instance-test.false, c.instances-instance-end.ensures.count)) c.loop-instance.invariant.so_far
+    least_is c.args.h (map (reply_at c.args.t c.args.h)
+    (zip members (steps_in c.args.t c.args.h members c.args.replies.now))) c.loop-instance.instance c.loop-instance.least
+    (omega (
+      arith,
+      replies_long c.args.plan.now.run c.args.t c.args.h c.args.replies.now c.requires.replies,
+      c.loop-instance-test.false,
+      c.instances-instance-end.ensures.count,
+    )) c.loop-instance.invariant.so_far

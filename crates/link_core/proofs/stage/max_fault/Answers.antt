@@ -10,13 +10,15 @@ pub returns-then-is_some : goal.returns-then-is_some
 returns-then-is_some c =
     let there = max_there c.args.limits.now c.loop-instance.instance _ c.max_end-end.result c.loop-instance-test.true c.max_end-end.ensures in
     let some : is_some c.max_end-end.result ≡ true = cc (c.is_some.ensures, c.if-is_some.true) in
-    told_here (map max_end_of (enumerate_from 0 (map max_by c.args.limits.now))) c.loop-instance.instance c.max_end-end.result there some c.loop-instance.invariant
+    told_here (map max_end_of
+    (enumerate_from 0 (map max_by c.args.limits.now))) c.loop-instance.instance c.max_end-end.result there some c.loop-instance.invariant
 
 pub loop-instance-preserved : goal.loop-instance-preserved
 loop-instance-preserved c =
     let there = max_there c.args.limits.now c.loop-instance.instance _ c.max_end-end.result c.loop-instance-test.true c.max_end-end.ensures in
     let none : is_some c.max_end-end.result ≡ false = cc (c.is_some.ensures, c.if-is_some.false) in
-    told_next (map max_end_of (enumerate_from 0 (map max_by c.args.limits.now))) c.loop-instance.instance c.max_end-end.result there none c.loop-instance.invariant
+    told_next (map max_end_of
+    (enumerate_from 0 (map max_by c.args.limits.now))) c.loop-instance.instance c.max_end-end.result there none c.loop-instance.invariant
 
 pub returns : goal.returns
 returns c =

@@ -10,7 +10,8 @@ use Rattle.unit_tree.specs.Negotiation.{least_of}
 pub loop-instance-init : goal.loop-instance-init
 loop-instance-init c =
     let run = c.args.plan.now.run in
-    let least : c.min-least.result ≡ min (run.stop - c.args.t) run.longest = c.min-least.ensures ∙ ap₂ (λ stop longest. min (stop - c.args.t) longest) c.stop-stop.ensures.value c.longest.ensures.value in
+    let least : c.min-least.result ≡ min (run.stop - c.args.t) run.longest = c.min-least.ensures
+    ∙ ap₂ (λ stop longest. min (stop - c.args.t) longest) c.stop-stop.ensures.value c.longest.ensures.value in
     record {
       so_far = record { is = ap (λ first. least_of first (filter_map (limit_in c.args.t) (zip run.members c.args.limits.now))) least };
       at_most = omega (arith, least);
@@ -24,12 +25,19 @@ loop-instance-preserved c =
     record {
       so_far = subst (Proposes (limit_in c.args.t) (zip run.members c.args.limits.now) (min (run.stop - c.args.t) run.longest) (c.loop-instance.instance + 1))
           (sym (c.capped_limit-least.ensures ∙ ap (least_with c.loop-instance.least) there.2))
-          (proposes_next (limit_in c.args.t) (zip run.members c.args.limits.now) (min (run.stop - c.args.t) run.longest) c.loop-instance.instance c.loop-instance.least there.0 there.1 c.loop-instance.invariant.so_far);
-      at_most = omega (arith, subst (λ least. least ≤ c.loop-instance.least) (sym c.capped_limit-least.ensures) (with_most c.loop-instance.least _), c.loop-instance.invariant.at_most);
+          (proposes_next (limit_in c.args.t) (zip run.members c.args.limits.now)
+          (min (run.stop - c.args.t) run.longest) c.loop-instance.instance c.loop-instance.least there.0 there.1 c.loop-instance.invariant.so_far);
+      at_most = omega (
+        arith,
+        subst (λ least. least ≤ c.loop-instance.least) (sym c.capped_limit-least.ensures)
+            (with_most c.loop-instance.least _),
+        c.loop-instance.invariant.at_most,
+      );
     }
 
 pub returns-clause-proposal : goal.returns-clause-proposal
 returns-clause-proposal c =
     let run = c.args.plan.now.run in
     proposed_is (limit_in c.args.t) (zip run.members c.args.limits.now) run.stop run.longest c.args.t c.loop-instance.instance c.loop-instance.least
-    (omega (arith, as_many_zipped run.members c.args.limits.now c.requires.limits, c.loop-instance-test.false, c.instances-instance-end.ensures.count)) c.loop-instance.invariant.so_far
+    (omega (arith, as_many_zipped run.members c.args.limits.now c.requires.limits, c.loop-instance-test.false, c.instances-instance-end.ensures.count))
+    c.loop-instance.invariant.so_far

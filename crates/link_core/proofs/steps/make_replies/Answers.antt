@@ -21,11 +21,13 @@ make_reply-requires-clause-before c =
     let run = c.args.plan.now.run in
     let within : c.loop-instance.instance < length run.members = omega (arith, c.loop-instance-test.true, c.instances-instance-end.ensures.count) in
     let long = AllZip-long _ run.members _ c.loop-instance.invariant.before in
-    let many : c.loop-instance.instance < length c.loop-instance.before.items = omega (arith, within, long, as_many_mapped (λ one. one.items) c.loop-instance.before.items) in
+    let many : c.loop-instance.instance < length c.loop-instance.before.items =
+    omega (arith, within, long, as_many_mapped (λ one. one.items) c.loop-instance.before.items) in
     let have = subst (λ (plan : Planned). HaveStates plan.run c.args.units.now.states) c.requires.tied c.count.ensures.states in
     let had = subst (HaveStates run) (sym (ap (λ (f : Fleet). f.states) c.loop-instance.invariant.kept)) have in
     ap length c.deref_mut.ensures.value
-    ∙ room_for run c.loop-instance.before.items c.loop-instance.instance c.index_mut-before.result.now within many c.loop-instance.invariant.before c.index_mut-before.ensures.value c.loop-instance.units.states had
+    ∙ room_for run c.loop-instance.before.items c.loop-instance.instance c.index_mut-before.result.now within many c.loop-instance.invariant.before
+    c.index_mut-before.ensures.value c.loop-instance.units.states had
 
 pub loop-instance-preserved : goal.loop-instance-preserved
 loop-instance-preserved c =
@@ -35,17 +37,21 @@ loop-instance-preserved c =
     let long = AllZip-long _ run.members states have in
     let within : c.loop-instance.instance < length run.members = omega (arith, c.loop-instance-test.true, c.instances-instance-end.ensures.count) in
     let room_long = AllZip-long _ run.members _ c.loop-instance.invariant.before in
-    let many : c.loop-instance.instance < length c.loop-instance.before.items = omega (arith, within, room_long, as_many_mapped (λ one. one.items) c.loop-instance.before.items) in
+    let many : c.loop-instance.instance < length c.loop-instance.before.items =
+    omega (arith, within, room_long, as_many_mapped (λ one. one.items) c.loop-instance.before.items) in
     record {
       going = λ ports fed.
-          reply_step run c.args.owners.now c.args.me states c.loop-instance.units.states c.requires.owners long (ap (λ (f : Fleet). f.states) c.loop-instance.invariant.kept) c.loop-instance.instance within _ c.args.trial.redo c.args.trial.point c.args.trial.row c.args.trial.h ports
+          reply_step run c.args.owners.now c.args.me states c.loop-instance.units.states c.requires.owners long
+          (ap (λ (f : Fleet). f.states) c.loop-instance.invariant.kept) c.loop-instance.instance within _ c.args.trial.redo c.args.trial.point c.args.trial.row
+          c.args.trial.h ports
           (making_in c.args.notes.now) (making_in c.loop-instance.notes) (making_in c.make_reply.new.notes)
           (λ member state. c.make_reply.ensures.made ports member state (ap (λ (f : Fleet). f.inputs) c.loop-instance.invariant.kept ∙ fed))
           (c.loop-instance.invariant.going ports fed);
       notes = c.make_reply.ensures.notes;
       room = c.make_reply.ensures.room;
       kept = c.make_reply.ensures.kept ∙ c.loop-instance.invariant.kept;
-      before = room_set run c.loop-instance.before.items c.loop-instance.instance c.index_mut-before.result.now within many c.loop-instance.invariant.before c.index_mut-before.ensures.value c.make_reply.new.before (c.make_reply.ensures.before ∙ ap length c.deref_mut.ensures.value);
+      before = room_set run c.loop-instance.before.items c.loop-instance.instance c.index_mut-before.result.now within many c.loop-instance.invariant.before
+          c.index_mut-before.ensures.value c.make_reply.new.before (c.make_reply.ensures.before ∙ ap length c.deref_mut.ensures.value);
     }
 
 pub returns-clause-made : goal.returns-clause-made
@@ -55,5 +61,11 @@ returns-clause-made c = λ ports fed.
     let have = subst (λ (plan : Planned). HaveStates plan.run states) c.requires.tied c.count.ensures.states in
     let long = AllZip-long _ run.members states have in
     let at = part_at c.args.owners.now c.args.me c.args.trial.point c.args.trial.row states in
-    gone (with_said c.args.trial.redo c.args.me at ports c.args.trial.h) (zip c.args.owners.now (standings run at)) (making_in c.args.notes.now) (making_in c.loop-instance.notes) c.loop-instance.instance
-    (omega (arith, items_long run c.args.owners.now c.args.me c.args.trial.point c.args.trial.row states c.requires.owners long, c.loop-instance-test.false, c.instances-instance-end.ensures.count)) (c.loop-instance.invariant.going ports fed)
+    gone (with_said c.args.trial.redo c.args.me at ports c.args.trial.h) (zip c.args.owners.now (standings run at)) (making_in c.args.notes.now)
+    (making_in c.loop-instance.notes) c.loop-instance.instance
+    (omega (
+      arith,
+      items_long run c.args.owners.now c.args.me c.args.trial.point c.args.trial.row states c.requires.owners long,
+      c.loop-instance-test.false,
+      c.instances-instance-end.ensures.count,
+    )) (c.loop-instance.invariant.going ports fed)

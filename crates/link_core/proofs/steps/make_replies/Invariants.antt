@@ -10,7 +10,9 @@ use Rattle.unit_tree.specs.Successor.{standings}
 abbrev pub invariant-loop-instance : goal.invariant-loop-instance
 invariant-loop-instance l = record {
   going : (ports : Ports) → l.fn.units.inputs ≡ all_inputs l.plan.run ports
-      → Going (with_said l.trial.redo l.me (part_at l.owners l.me l.trial.point l.trial.row l.fn.units.states) ports l.trial.h) (zip l.owners (standings l.plan.run (part_at l.owners l.me l.trial.point l.trial.row l.fn.units.states))) (making_in l.fn.notes) (making_in l.notes) l.instance;
+      → Going (with_said l.trial.redo l.me (part_at l.owners l.me l.trial.point l.trial.row l.fn.units.states) ports l.trial.h)
+      (zip l.owners (standings l.plan.run (part_at l.owners l.me l.trial.point l.trial.row l.fn.units.states))) (making_in l.fn.notes)
+      (making_in l.notes) l.instance;
   notes : AreNotes l.plan.run l.notes;
   room : HasRoom l.notes;
   kept : l.units ≡ l.fn.units;

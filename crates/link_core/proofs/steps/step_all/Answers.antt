@@ -15,7 +15,8 @@ loop-instance-init c =
     let long = AllZip-long _ run.members states have in
     record {
       so = λ ports fed. record {
-        made = none_made states (stepped run c.args.owners.now c.args.me c.args.t c.args.h ports states) (long ∙ sym (stepped_long run c.args.owners.now c.args.me c.args.t c.args.h ports states c.requires.owners long));
+        made = none_made states (stepped run c.args.owners.now c.args.me c.args.t c.args.h ports states)
+            (long ∙ sym (stepped_long run c.args.owners.now c.args.me c.args.t c.args.h ports states c.requires.owners long));
         left = refl;
         inputs = refl;
       };
@@ -31,7 +32,8 @@ loop-instance-preserved c =
     let within : c.loop-instance.instance < length run.members = omega (arith, c.loop-instance-test.true, c.instances-instance-end.ensures.count) in
     record {
       so = λ ports fed.
-          stepping_next run c.args.owners.now c.args.me c.args.t c.args.h c.loop-instance.instance _ c.args.units.now c.loop-instance.units c.step_on.new.units ports c.requires.owners long within fed
+          stepping_next run c.args.owners.now c.args.me c.args.t c.args.h c.loop-instance.instance _ c.args.units.now c.loop-instance.units c.step_on.new.units
+          ports c.requires.owners long within fed
           (c.step_on.ensures.stepped ports) (c.loop-instance.invariant.so ports fed);
       plan = c.step_on.ensures.plan ∙ c.loop-instance.invariant.plan;
     }
@@ -46,5 +48,10 @@ returns-clause-stepped c = λ ports fed.
     let so = c.loop-instance.invariant.so ports fed in
     fleet_is c.loop-instance.units c.args.units.now whole c.loop-instance.invariant.plan
     (all_made c.loop-instance.units.states whole c.loop-instance.instance
-    (omega (arith, stepped_long run c.args.owners.now c.args.me c.args.t c.args.h ports states c.requires.owners long, c.loop-instance-test.false, c.instances-instance-end.ensures.count)) so.made)
+    (omega (
+      arith,
+      stepped_long run c.args.owners.now c.args.me c.args.t c.args.h ports states c.requires.owners long,
+      c.loop-instance-test.false,
+      c.instances-instance-end.ensures.count,
+    )) so.made)
     so.inputs

@@ -15,9 +15,11 @@ returns-then-is_one_undefined-clause-seen c =
     let own : routes ≡ (routes_of run).outputs = c.as_slice.ensures ∙ ap (λ r. r.outputs) (c.routes.ensures.routes ∙ c.order.ensures.routes) in
     let within : c.args.place < length routes = subst (λ all. c.args.place < length all) (sym own) c.requires.place in
     let read = slice_get_read routes (length routes) c.args.place c.index-as_slice-place.result refl within c.index-as_slice-place.is in
-    let is_route : slice_get (routes_of run).outputs c.args.place ≡ Some c.index-as_slice-place.result = sym (ap (λ all. slice_get all c.args.place) own) ∙ read in
+    let is_route : slice_get (routes_of run).outputs c.args.place ≡ Some c.index-as_slice-place.result = sym (ap (λ all. slice_get all c.args.place) own)
+    ∙ read in
     let have = subst (λ (plan : Planned). HaveStates plan.run c.args.units.now.states) c.requires.tied c.count.ensures.states in
-    undefined_there run c.args.units.now.states have c.args.place c.index-as_slice-place.result is_route c.args.notes.now.words.items c.deref.result.now c.deref.ensures.value c.as_slice-2.result.now c.as_slice-2.ensures
+    undefined_there run c.args.units.now.states have c.args.place c.index-as_slice-place.result is_route c.args.notes.now.words.items c.deref.result.now
+    c.deref.ensures.value c.as_slice-2.result.now c.as_slice-2.ensures
     c.is_one_undefined.result c.is_one_undefined.ensures c.if-is_one_undefined.true
 
 pub returns-clause-seen : goal.returns-clause-seen
@@ -27,12 +29,16 @@ returns-clause-seen c =
     let own : routes ≡ (routes_of run).outputs = c.as_slice.ensures ∙ ap (λ r. r.outputs) (c.routes.ensures.routes ∙ c.order.ensures.routes) in
     let within : c.args.place < length routes = subst (λ all. c.args.place < length all) (sym own) c.requires.place in
     let read = slice_get_read routes (length routes) c.args.place c.index-as_slice-place.result refl within c.index-as_slice-place.is in
-    let is_route : slice_get (routes_of run).outputs c.args.place ≡ Some c.index-as_slice-place.result = sym (ap (λ all. slice_get all c.args.place) own) ∙ read in
+    let is_route : slice_get (routes_of run).outputs c.args.place ≡ Some c.index-as_slice-place.result = sym (ap (λ all. slice_get all c.args.place) own)
+    ∙ read in
     let have = subst (λ (plan : Planned). HaveStates plan.run c.args.units.now.states) c.requires.tied c.count.ensures.states in
     let same : run ≡ run_of c.checked.result.now = c.checked.ensures.run ∙ ap run_of (sym c.checked.ensures.system) in
-    asked_there run c.args.units.now.states have c.args.place c.index-as_slice-place.result is_route c.args.notes.now.words.items c.deref.result.now c.deref.ensures.value c.as_slice-2.result.now c.as_slice-2.ensures
+    asked_there run c.args.units.now.states have c.args.place c.index-as_slice-place.result is_route c.args.notes.now.words.items c.deref.result.now
+    c.deref.ensures.value c.as_slice-2.result.now c.as_slice-2.ensures
     c.is_one_undefined.result c.is_one_undefined.ensures
-    c.args.units.now.inputs (run_of c.checked.result.now) same c.deref-2.result.now c.args.notes.now.defined.items c.deref-2.ensures.value c.requires.notes.defined c.requires.words c.ask-given.result c.told.result c.told.ensures c.ask-given.ensures.given
+    c.args.units.now.inputs
+    (run_of c.checked.result.now) same c.deref-2.result.now c.args.notes.now.defined.items c.deref-2.ensures.value c.requires.notes.defined c.requires.words
+    c.ask-given.result c.told.result c.told.ensures c.ask-given.ensures.given
     c.if-is_one_undefined.false
 
 pub returns-clause-word : goal.returns-clause-word
@@ -42,9 +48,13 @@ returns-clause-word c =
     let own : routes ≡ (routes_of run).outputs = c.as_slice.ensures ∙ ap (λ r. r.outputs) (c.routes.ensures.routes ∙ c.order.ensures.routes) in
     let within : c.args.place < length routes = subst (λ all. c.args.place < length all) (sym own) c.requires.place in
     let read = slice_get_read routes (length routes) c.args.place c.index-as_slice-place.result refl within c.index-as_slice-place.is in
-    let is_route : slice_get (routes_of run).outputs c.args.place ≡ Some c.index-as_slice-place.result = sym (ap (λ all. slice_get all c.args.place) own) ∙ read in
+    let is_route : slice_get (routes_of run).outputs c.args.place ≡ Some c.index-as_slice-place.result = sym (ap (λ all. slice_get all c.args.place) own)
+    ∙ read in
     let have = subst (λ (plan : Planned). HaveStates plan.run c.args.units.now.states) c.requires.tied c.count.ensures.states in
     let same : run ≡ run_of c.checked.result.now = c.checked.ensures.run ∙ ap run_of (sym c.checked.ensures.system) in
-    word_fits run c.args.units.now.states have c.args.place c.index-as_slice-place.result is_route c.args.notes.now.words.items c.deref.result.now c.deref.ensures.value c.as_slice-2.result.now c.as_slice-2.ensures
+    word_fits run c.args.units.now.states have c.args.place c.index-as_slice-place.result is_route c.args.notes.now.words.items c.deref.result.now
+    c.deref.ensures.value c.as_slice-2.result.now c.as_slice-2.ensures
     c.is_one_undefined.result c.is_one_undefined.ensures
-    c.args.units.now.inputs (run_of c.checked.result.now) same c.deref-2.result.now c.args.notes.now.defined.items c.deref-2.ensures.value c.requires.notes.defined c.requires.words c.ask-given.result c.told.result c.told.ensures c.ask-given.ensures.given
+    c.args.units.now.inputs
+    (run_of c.checked.result.now) same c.deref-2.result.now c.args.notes.now.defined.items c.deref-2.ensures.value c.requires.notes.defined c.requires.words
+    c.ask-given.result c.told.result c.told.ensures c.ask-given.ensures.given

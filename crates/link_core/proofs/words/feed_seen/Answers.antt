@@ -12,5 +12,6 @@ returns-clause-words c = λ ports have.
     let fits : FitsSigned w64 c.in-Is.word = search rules in
     subst (λ seen. HaveTheirWords c.args.plan.now.run (with_port ports c.args.place seen) c.feed.new.gets.inputs) (sym c.in-Is.is)
     (subst (λ run. HaveTheirWords run (slice_set ports c.args.place (Some c.in-Is.word)) c.feed.new.gets.inputs) (sym same)
-    (subst (λ word. HaveTheirWords (run_of c.checked.result.now) (slice_set ports c.args.place (Some word)) c.feed.new.gets.inputs) (to_z-of_z w64 c.in-Is.word fits)
+    (subst (λ word. HaveTheirWords (run_of c.checked.result.now) (slice_set ports c.args.place (Some word)) c.feed.new.gets.inputs)
+    (to_z-of_z w64 c.in-Is.word fits)
     (c.feed.ensures.words ports (subst (λ run. HaveTheirWords run ports c.args.units.now.inputs) same have))))

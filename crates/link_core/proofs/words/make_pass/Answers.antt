@@ -17,7 +17,8 @@ loop-place-preserved c =
     let long = AllZip-long _ run.members states have in
     let within : c.loop-place.place < length (routes_of run).outputs = omega (arith, c.loop-place-test.true, c.len-place-end.ensures, c.requires.notes.words) in
     record {
-      going = pass_step run c.args.owners.now c.args.me states c.requires.owners long c.args.row c.loop-place.place c.loop-place.place c.owner_at.result c.loop-place.units.states (making_in c.args.notes.now) (making_in c.loop-place.notes) (making_in c.make_word.new.notes)
+      going = pass_step run c.args.owners.now c.args.me states c.requires.owners long c.args.row c.loop-place.place c.loop-place.place c.owner_at.result
+          c.loop-place.units.states (making_in c.args.notes.now) (making_in c.loop-place.notes) (making_in c.make_word.new.notes)
           refl c.loop-place.invariant.states within c.owner_at.ensures c.make_word.ensures.made c.loop-place.invariant.going;
       none = λ is. elim c.if-make_word.branch [
         | then-make_word w ↦ absurd (cc (is, w.made-is))
@@ -37,5 +38,6 @@ returns-clause-made c =
     let have = subst (λ (plan : Planned). HaveStates plan.run states) c.requires.tied c.count.ensures.states in
     let long = AllZip-long _ run.members states have in
     let count = items_count run c.args.owners.now c.args.me states c.requires.owners long in
-    gone (with_word c.args.me c.args.row) (held run c.args.owners.now (own_states c.args.owners.now c.args.me states)) (making_in c.args.notes.now) (making_in c.loop-place.notes) c.loop-place.place
+    gone (with_word c.args.me c.args.row) (held run c.args.owners.now (own_states c.args.owners.now c.args.me states)) (making_in c.args.notes.now)
+    (making_in c.loop-place.notes) c.loop-place.place
     (omega (arith, count, c.loop-place-test.false, c.len-place-end.ensures, c.requires.notes.words)) c.loop-place.invariant.going

@@ -7,7 +7,8 @@ use Rattle.port_solve.specs.Solved.{HaveTheirWords}
 
 abbrev pub invariant-loop-place : goal.invariant-loop-place
 invariant-loop-place l = record {
-  going : Going (with_word l.me l.row) (held l.plan.run l.owners (own_states l.owners l.me l.fn.units.states)) (making_in l.fn.notes) (making_in l.notes) l.place;
+  going : Going (with_word l.me l.row) (held l.plan.run l.owners (own_states l.owners l.me l.fn.units.states)) (making_in l.fn.notes)
+      (making_in l.notes) l.place;
   none : l.made ≡ false → making_in l.notes ≡ making_in l.fn.notes;
   notes : AreNotes l.plan.run l.notes;
   room : HasRoom l.notes;

@@ -27,9 +27,11 @@ loop-turn-preserved c =
     let me = c.args.me in
     let outs = enumerate_from 0 (held run owners (own_states owners me c.args.units.now.states)) in
     let made : making_in c.make_pass.new.notes ≡ each (with_word me c.args.row) (making_in c.loop-turn.notes) outs =
-    subst (λ states. making_in c.make_pass.new.notes ≡ each (with_word me c.args.row) (making_in c.loop-turn.notes) (enumerate_from 0 (held run owners (own_states owners me states)))) c.loop-turn.invariant.states c.make_pass.ensures.made in
+    subst (λ states. making_in c.make_pass.new.notes ≡ each (with_word me c.args.row) (making_in c.loop-turn.notes)
+    (enumerate_from 0 (held run owners (own_states owners me states)))) c.loop-turn.invariant.states c.make_pass.ensures.made in
     record {
-      turning = turns_on me c.args.row outs (length (held run owners (own_states owners me c.args.units.now.states))) (making_in c.args.notes.now) (making_in c.loop-turn.notes) (making_in c.make_pass.new.notes) c.loop-turn._turn made c.loop-turn.invariant.turning;
+      turning = turns_on me c.args.row outs (length (held run owners (own_states owners me c.args.units.now.states))) (making_in c.args.notes.now)
+          (making_in c.loop-turn.notes) (making_in c.make_pass.new.notes) c.loop-turn._turn made c.loop-turn.invariant.turning;
       notes = c.make_pass.ensures.notes;
       room = c.make_pass.ensures.room;
       words = c.make_pass.ensures.words;
@@ -44,7 +46,8 @@ returns-after-loop-turn-clause-made c = λ point.
     let have = subst (λ (plan : Planned). HaveStates plan.run states) c.requires.tied c.count.ensures.states in
     let long = AllZip-long _ run.members states have in
     let all = held run c.args.owners.now (own_states c.args.owners.now c.args.me states) in
-    let count : length all ≡ c.len-turn-end.result = omega (arith, items_count run c.args.owners.now c.args.me states c.requires.owners long, c.requires.notes.words, c.len-turn-end.ensures) in
+    let count : length all ≡ c.len-turn-end.result = omega
+    (arith, items_count run c.args.owners.now c.args.me states c.requires.owners long, c.requires.notes.words, c.len-turn-end.ensures) in
     turned c.args.me c.args.row (enumerate_from 0 all) (length all) (making_in c.args.notes.now) (making_in c.loop-turn.notes) c.loop-turn._turn
     (omega (arith, count, c.loop-turn-test.false)) (omega (arith, count, c.loop-turn.auto._turn-end)) c.loop-turn.invariant.turning
 
@@ -55,8 +58,11 @@ returns-then-not-make_pass-clause-made c = λ point.
     let have = subst (λ (plan : Planned). HaveStates plan.run states) c.requires.tied c.count.ensures.states in
     let long = AllZip-long _ run.members states have in
     let all = held run c.args.owners.now (own_states c.args.owners.now c.args.me states) in
-    let count : length all ≡ c.len-turn-end.result = omega (arith, items_count run c.args.owners.now c.args.me states c.requires.owners long, c.requires.notes.words, c.len-turn-end.ensures) in
+    let count : length all ≡ c.len-turn-end.result = omega
+    (arith, items_count run c.args.owners.now c.args.me states c.requires.owners long, c.requires.notes.words, c.len-turn-end.ensures) in
     let made : making_in c.make_pass.new.notes ≡ each (with_word c.args.me c.args.row) (making_in c.loop-turn.notes) (enumerate_from 0 all) =
-    subst (λ one. making_in c.make_pass.new.notes ≡ each (with_word c.args.me c.args.row) (making_in c.loop-turn.notes) (enumerate_from 0 (held run c.args.owners.now (own_states c.args.owners.now c.args.me one)))) c.loop-turn.invariant.states c.make_pass.ensures.made in
-    stopped c.args.me c.args.row (enumerate_from 0 all) (length all) (making_in c.args.notes.now) (making_in c.loop-turn.notes) (making_in c.make_pass.new.notes) c.loop-turn._turn
+    subst (λ one. making_in c.make_pass.new.notes ≡ each (with_word c.args.me c.args.row) (making_in c.loop-turn.notes)
+    (enumerate_from 0 (held run c.args.owners.now (own_states c.args.owners.now c.args.me one)))) c.loop-turn.invariant.states c.make_pass.ensures.made in
+    stopped c.args.me c.args.row (enumerate_from 0 all) (length all) (making_in c.args.notes.now) (making_in c.loop-turn.notes)
+    (making_in c.make_pass.new.notes) c.loop-turn._turn
     (omega (arith, count, c.loop-turn.auto._turn-end)) made (c.make_pass.ensures.none c.if-not-make_pass.true) c.loop-turn.invariant.turning

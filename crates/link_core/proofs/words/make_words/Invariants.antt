@@ -8,7 +8,8 @@ use Rattle.port_solve.specs.Solved.{HaveTheirWords}
 
 abbrev pub invariant-loop-turn : goal.invariant-loop-turn
 invariant-loop-turn l = record {
-  turning : Turning l.me l.row (enumerate_from 0 (held l.plan.run l.owners (own_states l.owners l.me l.fn.units.states))) (length (held l.plan.run l.owners (own_states l.owners l.me l.fn.units.states))) (making_in l.fn.notes) (making_in l.notes) l._turn;
+  turning : Turning l.me l.row (enumerate_from 0 (held l.plan.run l.owners (own_states l.owners l.me l.fn.units.states)))
+      (length (held l.plan.run l.owners (own_states l.owners l.me l.fn.units.states))) (making_in l.fn.notes) (making_in l.notes) l._turn;
   notes : AreNotes l.plan.run l.notes;
   room : HasRoom l.notes;
   words : HaveTheirWords l.plan.run (ports_in l.notes.words.items) l.units.inputs;

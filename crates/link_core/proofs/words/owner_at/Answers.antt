@@ -13,8 +13,15 @@ bounds-owners-instance c =
     let own : routes ≡ (routes_of run).outputs = c.as_slice.ensures ∙ ap (λ r. r.outputs) (c.routes.ensures.routes ∙ c.order.ensures.routes) in
     let within : c.args.place < length routes = subst (λ all. c.args.place < length all) (sym own) c.requires.place in
     let read = slice_get_read routes (length routes) c.args.place c.index-as_slice-place.result refl within c.index-as_slice-place.is in
-    let is_route : slice_get (routes_of run).outputs c.args.place ≡ Some c.index-as_slice-place.result = sym (ap (λ all. slice_get all c.args.place) own) ∙ read in
-    omega (arith, instance_within run c.args.place c.index-as_slice-place.result is_route, c.requires.owners, ap (λ (r : Route). r.instance) c.index-as_slice-place.is)
+    let is_route : slice_get (routes_of run).outputs c.args.place ≡ Some c.index-as_slice-place.result = sym (ap (λ all. slice_get all c.args.place) own)
+    ∙ read in
+    omega (
+      arith,
+      instance_within run c.args.place c.index-as_slice-place.result is_route,
+      c.requires.owners,
+      ap
+          (λ (r : Route). r.instance) c.index-as_slice-place.is,
+    )
 
 pub returns : goal.returns
 returns c =
@@ -23,6 +30,8 @@ returns c =
     let own : routes ≡ (routes_of run).outputs = c.as_slice.ensures ∙ ap (λ r. r.outputs) (c.routes.ensures.routes ∙ c.order.ensures.routes) in
     let within : c.args.place < length routes = subst (λ all. c.args.place < length all) (sym own) c.requires.place in
     let read = slice_get_read routes (length routes) c.args.place c.index-as_slice-place.result refl within c.index-as_slice-place.is in
-    let is_route : slice_get (routes_of run).outputs c.args.place ≡ Some c.index-as_slice-place.result = sym (ap (λ all. slice_get all c.args.place) own) ∙ read in
+    let is_route : slice_get (routes_of run).outputs c.args.place ≡ Some c.index-as_slice-place.result = sym (ap (λ all. slice_get all c.args.place) own)
+    ∙ read in
     let there = instance_within run c.args.place c.index-as_slice-place.result is_route in
-    owner_is c.args.owners.now (routes_of run).outputs routes c.args.place c.index-as_slice-place.result _ is_route c.index-as_slice-place.is (omega (arith, there, c.requires.owners))
+    owner_is c.args.owners.now (routes_of run).outputs routes c.args.place c.index-as_slice-place.result _ is_route c.index-as_slice-place.is
+    (omega (arith, there, c.requires.owners))

@@ -9,8 +9,10 @@ returns-in-Limits-clause-made c =
     let ports = ports_in c.args.notes.now.words.items in
     let fed = subst (AreFed c.args.plan.now.run c.args.units.now.inputs ports) c.in-Limits.is c.requires.fed in
     c.make_limits.ensures.made ports fed
-    ∙ ap (λ stage. limits_by c.args.plan.now.run c.args.owners.now c.args.me (part_at c.args.owners.now c.args.me c.args.point c.args.row c.args.units.now.states) stage (making_in c.args.notes.now)) (sym c.in-Limits.is)
+    ∙ ap (λ stage. limits_by c.args.plan.now.run c.args.owners.now c.args.me
+    (part_at c.args.owners.now c.args.me c.args.point c.args.row c.args.units.now.states) stage (making_in c.args.notes.now)) (sym c.in-Limits.is)
 
 pub returns-in_default-clause-made : goal.returns-in_default-clause-made
 returns-in_default-clause-made c =
-    limits_stay c.args.plan.now.run c.args.owners.now c.args.me (part_at c.args.owners.now c.args.me c.args.point c.args.row c.args.units.now.states) c.args.wanted (making_in c.args.notes.now) c.in_default.not-Limits
+    limits_stay c.args.plan.now.run c.args.owners.now c.args.me
+    (part_at c.args.owners.now c.args.me c.args.point c.args.row c.args.units.now.states) c.args.wanted (making_in c.args.notes.now) c.in_default.not-Limits

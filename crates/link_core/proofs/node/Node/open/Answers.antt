@@ -22,17 +22,22 @@ invariant_of-result c =
     let course = c.in_ok-course.course in
     let units = c.in_ok-units.units in
     let many : c.len-places.result ≡ length (routes_of run).outputs =
-    c.len-places.ensures ∙ ap (λ (r : Routes). length r.outputs) (c.routes.ensures.routes ∙ c.order.ensures.routes) ∙ ap (λ (p : Planned). length (routes_of p.run).outputs) c.deref-2.ensures in
-    let members : c.instances-instances.result ≡ length run.members = c.instances-instances.ensures.count ∙ ap (λ (p : Planned). length p.run.members) c.deref-3.ensures in
+    c.len-places.ensures ∙ ap (λ (r : Routes). length r.outputs) (c.routes.ensures.routes ∙ c.order.ensures.routes)
+    ∙ ap (λ (p : Planned). length (routes_of p.run).outputs) c.deref-2.ensures in
+    let members : c.instances-instances.result ≡ length run.members = c.instances-instances.ensures.count
+    ∙ ap (λ (p : Planned). length p.run.members) c.deref-3.ensures in
     let states = c.in_ok-units.ensures.states ∙ ap (λ (p : Planned). (first_position p.run).states) c.deref-4.ensures in
-    let is = opened_is run c.len-places.result c.instances-instances.result many members notes c.in_ok-notes.ensures.made c.args.owners c.args.me units.states course c.in_ok-states_of.field-0
-    states (c.in_ok-states_of.ensures ∙ states) c.in_ok-course.ensures.point c.in_ok-course.ensures.number c.in_ok-course.ensures.ended c.in_ok-course.ensures.shown in
+    let is = opened_is run c.len-places.result c.instances-instances.result many members notes c.in_ok-notes.ensures.made c.args.owners c.args.me units.states
+    course c.in_ok-states_of.field-0
+    states (c.in_ok-states_of.ensures
+    ∙ states) c.in_ok-course.ensures.point c.in_ok-course.ensures.number c.in_ok-course.ensures.ended c.in_ok-course.ensures.shown in
     let judged = subst (λ (p : Planned). IsJudged p.run) c.deref.ensures c.judged.ensures in
     let tied = c.in_ok-units.ensures.plan ∙ c.deref-4.ensures in
     let have = subst (λ (p : Planned). HaveStates p.run units.states) tied c.count.ensures.states in
     let words = subst (λ (p : Planned). HaveTheirWords p.run [] units.inputs) c.deref-4.ensures c.in_ok-units.ensures.words in
     record {
-      keeps = subst (λ (p : Progress). KeepsTo run (rule_of run c.args.owners) c.args.me p) (sym is) (opened_keeps run (rule_of run c.args.owners) (right run judged c.args.owners c.args.me c.requires.owners) c.args.me);
+      keeps = subst (λ (p : Progress). KeepsTo run (rule_of run c.args.owners) c.args.me p) (sym is)
+          (opened_keeps run (rule_of run c.args.owners) (right run judged c.args.owners c.args.me c.requires.owners) c.args.me);
       is_set = record {
         tied = tied;
         owned = c.requires.owners;
@@ -55,9 +60,13 @@ returns c =
     let course = c.in_ok-course.course in
     let units = c.in_ok-units.units in
     let many : c.len-places.result ≡ length (routes_of run).outputs =
-    c.len-places.ensures ∙ ap (λ (r : Routes). length r.outputs) (c.routes.ensures.routes ∙ c.order.ensures.routes) ∙ ap (λ (p : Planned). length (routes_of p.run).outputs) c.deref-2.ensures in
-    let members : c.instances-instances.result ≡ length run.members = c.instances-instances.ensures.count ∙ ap (λ (p : Planned). length p.run.members) c.deref-3.ensures in
+    c.len-places.ensures ∙ ap (λ (r : Routes). length r.outputs) (c.routes.ensures.routes ∙ c.order.ensures.routes)
+    ∙ ap (λ (p : Planned). length (routes_of p.run).outputs) c.deref-2.ensures in
+    let members : c.instances-instances.result ≡ length run.members = c.instances-instances.ensures.count
+    ∙ ap (λ (p : Planned). length p.run.members) c.deref-3.ensures in
     let states = c.in_ok-units.ensures.states ∙ ap (λ (p : Planned). (first_position p.run).states) c.deref-4.ensures in
-    let is = opened_is run c.len-places.result c.instances-instances.result many members notes c.in_ok-notes.ensures.made c.args.owners c.args.me units.states course c.in_ok-states_of.field-0
-    states (c.in_ok-states_of.ensures ∙ states) c.in_ok-course.ensures.point c.in_ok-course.ensures.number c.in_ok-course.ensures.ended c.in_ok-course.ensures.shown in
+    let is = opened_is run c.len-places.result c.instances-instances.result many members notes c.in_ok-notes.ensures.made c.args.owners c.args.me units.states
+    course c.in_ok-states_of.field-0
+    states (c.in_ok-states_of.ensures
+    ∙ states) c.in_ok-course.ensures.point c.in_ok-course.ensures.number c.in_ok-course.ensures.ended c.in_ok-course.ensures.shown in
     ap (λ (p : Progress). record { plan = plan; owners = c.args.owners; me = c.args.me; progress = p }) is

@@ -24,9 +24,16 @@ invariant_of-self c =
     let judged = subst (λ (p : Planned). IsJudged p.run) c.deref.ensures c.judged.ensures in
     let restored = c.restore_states.ensures.units in
     let states = ap (λ (f : Fleet). f.states) restored ∙ ap (map words_in) c.deref-2.ensures.value in
-    let again : Course = record { point = n.kept.point; number = n.kept.number; ended = None; shown = record { there = false; point = n.course.shown.point; words = n.course.shown.words } } in
-    let is = restarted_is run n.owners n.me n.units.states c.restore_states.new.units.states n.notes c.clear.new.self n.course again n.kept set.noted c.clear.ensures.made states refl refl refl refl in
-    let keeps = restart_keeps run (rule_of run n.owners) (right run judged n.owners n.me set.owned) n.me (progress_in n.owners n.me n.units.states n.notes n.course n.kept) c.self.invariant.keeps in
+    let again : Course = record {
+      point = n.kept.point;
+      number = n.kept.number;
+      ended = None;
+      shown = record { there = false; point = n.course.shown.point; words = n.course.shown.words };
+    } in
+    let is = restarted_is run n.owners n.me n.units.states c.restore_states.new.units.states n.notes c.clear.new.self n.course again n.kept set.noted
+    c.clear.ensures.made states refl refl refl refl in
+    let keeps = restart_keeps run (rule_of run n.owners) (right run judged n.owners n.me set.owned) n.me
+    (progress_in n.owners n.me n.units.states n.notes n.course n.kept) c.self.invariant.keeps in
     let words = ap (λ (making : Making). making.known.words) c.clear.ensures.made in
     record {
       keeps = subst (λ (p : Progress). KeepsTo run (rule_of run n.owners) n.me p) (sym is) keeps;
@@ -52,7 +59,13 @@ returns-clause-restarted c =
     let set = c.self.invariant.is_set in
     let run = n.plan.value.run in
     let states = ap (λ (f : Fleet). f.states) c.restore_states.ensures.units ∙ ap (map words_in) c.deref-2.ensures.value in
-    let again : Course = record { point = n.kept.point; number = n.kept.number; ended = None; shown = record { there = false; point = n.course.shown.point; words = n.course.shown.words } } in
+    let again : Course = record {
+      point = n.kept.point;
+      number = n.kept.number;
+      ended = None;
+      shown = record { there = false; point = n.course.shown.point; words = n.course.shown.words };
+    } in
     let new = progress_in n.owners n.me c.restore_states.new.units.states c.clear.new.self again n.kept in
-    let is = restarted_is run n.owners n.me n.units.states c.restore_states.new.units.states n.notes c.clear.new.self n.course again n.kept set.noted c.clear.ensures.made states refl refl refl refl in
+    let is = restarted_is run n.owners n.me n.units.states c.restore_states.new.units.states n.notes c.clear.new.self n.course again n.kept set.noted
+    c.clear.ensures.made states refl refl refl refl in
     subst (λ (s : NodeState). new ≡ restarted (rule_of s.plan.run s.owners) s.progress) c.self.view_is is

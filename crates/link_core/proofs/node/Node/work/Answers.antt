@@ -17,7 +17,8 @@ pub work_on-requires-clause-ready : goal.work_on-requires-clause-ready
 work_on-requires-clause-ready c =
     let n = c.self.inside in
     let judged = subst (λ (p : Planned). IsJudged p.run) c.deref.ensures c.judged.ensures in
-    let at_plan = ready n.plan.value judged n.owners n.me n.units n.notes n.course n.kept _ c.self.invariant.is_set c.self.invariant.keeps c.reserve.new.self c.reserve.ensures.made c.reserve.ensures.defined in
+    let at_plan = ready n.plan.value judged n.owners n.me n.units n.notes n.course n.kept _ c.self.invariant.is_set c.self.invariant.keeps c.reserve.new.self
+    c.reserve.ensures.made c.reserve.ensures.defined in
     subst (λ (p : Planned). IsReady p c.as_slice.result.now n.me n.course.point n.course.number n.units c.reserve.new.self) (sym c.deref-2.ensures)
     (subst (λ os. IsReady n.plan.value os n.me n.course.point n.course.number n.units c.reserve.new.self) (sym c.as_slice.ensures) at_plan)
 
@@ -49,12 +50,16 @@ invariant_of-self-2 c =
     let judged = subst (λ (p : Planned). IsJudged p.run) c.deref.ensures c.judged.ensures in
     let did : Progress × Taken = (progress_in n.owners n.me c.work_on.new.units.states c.work_on.new.notes c.work_on.new.course n.kept, c.work_on.result) in
     let worked_is : did ≡ worked (rule_of n.plan.value.run n.owners) n.me (progress_in n.owners n.me n.units.states c.reserve.new.self n.course n.kept) =
-    subst (λ os. (progress_in os n.me c.work_on.new.units.states c.work_on.new.notes c.work_on.new.course n.kept, c.work_on.result) ≡ worked (rule_of n.plan.value.run os) n.me (progress_in os n.me n.units.states c.reserve.new.self n.course n.kept)) c.as_slice.ensures
-    (subst (λ (p : Planned). (progress_in c.as_slice.result.now n.me c.work_on.new.units.states c.work_on.new.notes c.work_on.new.course n.kept, c.work_on.result) ≡ worked (rule_of p.run c.as_slice.result.now) n.me (progress_in c.as_slice.result.now n.me n.units.states c.reserve.new.self n.course n.kept)) c.deref-2.ensures
+    subst (λ os. (progress_in os n.me c.work_on.new.units.states c.work_on.new.notes c.work_on.new.course n.kept, c.work_on.result) ≡ worked
+    (rule_of n.plan.value.run os) n.me (progress_in os n.me n.units.states c.reserve.new.self n.course n.kept)) c.as_slice.ensures
+    (subst (λ (p : Planned).
+    (progress_in c.as_slice.result.now n.me c.work_on.new.units.states c.work_on.new.notes c.work_on.new.course n.kept, c.work_on.result) ≡ worked
+    (rule_of p.run c.as_slice.result.now) n.me (progress_in c.as_slice.result.now n.me n.units.states c.reserve.new.self n.course n.kept)) c.deref-2.ensures
     (c.work_on.ensures.worked n.kept)) in
     let plan_is = c.deref-2.ensures in
     record {
-      keeps = keeps_new n.plan.value judged n.owners n.me n.units n.notes n.course n.kept _ set c.self.invariant.keeps c.reserve.new.self c.reserve.ensures.made did worked_is;
+      keeps = keeps_new n.plan.value judged n.owners n.me n.units n.notes n.course n.kept _ set c.self.invariant.keeps c.reserve.new.self
+          c.reserve.ensures.made did worked_is;
       is_set = record {
         tied = c.work_on.ensures.tied ∙ plan_is;
         owned = set.owned;
@@ -62,7 +67,8 @@ invariant_of-self-2 c =
         me_is = set.me_is;
         few = set.few;
         noted = subst (λ (p : Planned). AreNotes p.run c.work_on.new.notes) plan_is c.work_on.ensures.notes;
-        words = subst (λ (p : Planned). HaveTheirWords p.run (ports_in c.work_on.new.notes.words.items) c.work_on.new.units.inputs) plan_is c.work_on.ensures.words;
+        words = subst (λ (p : Planned). HaveTheirWords p.run
+            (ports_in c.work_on.new.notes.words.items) c.work_on.new.units.inputs) plan_is c.work_on.ensures.words;
         kept_long = set.kept_long;
         before_long = subst (λ (p : Planned). HaveStates p.run (map (λ one. one.items) c.work_on.new.before.items)) plan_is c.work_on.ensures.before;
         room = subst (λ (p : Planned). length (routes_of p.run).outputs ≤ vec_capacity c.work_on.new.course.shown.words) plan_is c.work_on.ensures.shown;
@@ -76,8 +82,12 @@ returns-clause-worked c =
     let judged = subst (λ (p : Planned). IsJudged p.run) c.deref.ensures c.judged.ensures in
     let did : Progress × Taken = (progress_in n.owners n.me c.work_on.new.units.states c.work_on.new.notes c.work_on.new.course n.kept, c.work_on.result) in
     let worked_is : did ≡ worked (rule_of n.plan.value.run n.owners) n.me (progress_in n.owners n.me n.units.states c.reserve.new.self n.course n.kept) =
-    subst (λ os. (progress_in os n.me c.work_on.new.units.states c.work_on.new.notes c.work_on.new.course n.kept, c.work_on.result) ≡ worked (rule_of n.plan.value.run os) n.me (progress_in os n.me n.units.states c.reserve.new.self n.course n.kept)) c.as_slice.ensures
-    (subst (λ (p : Planned). (progress_in c.as_slice.result.now n.me c.work_on.new.units.states c.work_on.new.notes c.work_on.new.course n.kept, c.work_on.result) ≡ worked (rule_of p.run c.as_slice.result.now) n.me (progress_in c.as_slice.result.now n.me n.units.states c.reserve.new.self n.course n.kept)) c.deref-2.ensures
+    subst (λ os. (progress_in os n.me c.work_on.new.units.states c.work_on.new.notes c.work_on.new.course n.kept, c.work_on.result) ≡ worked
+    (rule_of n.plan.value.run os) n.me (progress_in os n.me n.units.states c.reserve.new.self n.course n.kept)) c.as_slice.ensures
+    (subst (λ (p : Planned).
+    (progress_in c.as_slice.result.now n.me c.work_on.new.units.states c.work_on.new.notes c.work_on.new.course n.kept, c.work_on.result) ≡ worked
+    (rule_of p.run c.as_slice.result.now) n.me (progress_in c.as_slice.result.now n.me n.units.states c.reserve.new.self n.course n.kept)) c.deref-2.ensures
     (c.work_on.ensures.worked n.kept)) in
-    let at_inside = did_is n.plan.value judged n.owners n.me n.units n.notes n.course n.kept _ set c.self.invariant.keeps c.reserve.new.self c.reserve.ensures.made did worked_is in
+    let at_inside = did_is n.plan.value judged n.owners n.me n.units n.notes n.course n.kept _ set c.self.invariant.keeps c.reserve.new.self
+    c.reserve.ensures.made did worked_is in
     subst (λ (s : NodeState). did ≡ worked (rule_of s.plan.run s.owners) s.me s.progress) c.self.view_is at_inside

@@ -1,0 +1,193 @@
+//! Nodes and pairs. What is expected was worked out by hand.
+use crate::{Asked, Fact, Node, Pair, PairEvent, Said, Seen, Taken, by_turns};
+use fixed_words::Fault;
+use inner_tests::plan_of;
+use std::alloc::Global;
+use std::test::Fail;
+use super_time::Point;
+use unit_tree::{Ending, Place};
+
+/// A unit that counts, until one second.
+const COUNTER: &str =
+    "cosim 1\nunit Counter\n  state n : Int64 = 0\n  output y : Int64 = n\n  step\n    n := n + 1\n  end\nend\ninstance a : Counter\nend\nstop 1\nlongest 1\n";
+
+/// An output that needs one with a fault and one of the other node.
+const FAULTY: &str =
+    "cosim 1\nunit A\nstate z : Int64 = 0\ninput u : Int64 = 0\ninput v : Int64 = 0\noutput p : Int64 = 1 div z\noutput x : Int64 needs u, v = u + v\nend\nunit B\noutput y : Int64 = 3\nend\ninstance a : A\nend\ninstance b : B\nend\nconnect a.p -> a.u\nconnect b.y -> a.v\nstop 1\n";
+
+/// A ring of two instances.
+const RING: &str =
+    "cosim 1\nunit B\ninput u : Int64 = 0\noutput y : Int64 needs u = u + 1\nend\nunit A\nstate n : Int64 = 10\ninput u : Int64 = 0\noutput x : Int64 = n\nstep\nn := u\nend\nend\ninstance b : B\nend\ninstance a : A\nend\nconnect a.x -> b.u\nconnect b.y -> a.u\nstop 3\nlongest 1\n";
+
+/// Node 0 of the system of a text, whose instances are owned by turns.
+fn first_of(alloc: Global, text: &str) -> Result<Node, Fail> {
+    let plan = plan_of(alloc, text)?;
+    let owners = by_turns(alloc, &plan)?;
+    Ok(Node::open(alloc, plan, owners, 0)?)
+}
+
+/// Both nodes.
+fn pair_of(alloc: Global, text: &str) -> Result<Pair, Fail> {
+    let plan = plan_of(alloc, text)?;
+    let owners = by_turns(alloc, &plan)?;
+    Ok(Pair::open(alloc, plan, owners)?)
+}
+
+/// Where a node comes that works, ends, and starts again from the row before.
+fn works_alone(node: &mut Node) -> Result<bool, Fail> {
+    let first = node.work()?;
+    node.keep();
+    let second = node.work()?;
+    let ended = node.ended();
+    node.restart();
+    let point = node.point();
+    let going = node.ended().is_none();
+    let third = node.work()?;
+    Ok(
+        first == Taken::Row
+            && second == Taken::Ended
+            && ended == Some(Ending::Completed)
+            && point == Point { t: 1, n: 0 }
+            && going
+            && third == Taken::Ended,
+    )
+}
+
+/// Whether the last row that a node came to has one word, and which.
+fn shows(node: &Node, word: i64) -> bool {
+    match node.row() {
+        Some(row) => row.words == [word].as_slice(),
+        None => false,
+    }
+}
+
+#[test]
+fn a_node_that_owns_all_works_by_itself(rt: HostRuntime) -> Result<(), Fail> {
+    let mut node = first_of(rt.alloc(), COUNTER)?;
+    let works = works_alone(&mut node);
+    let shown = shows(&node, 1);
+    let facts = node.facts().len();
+    drop(node);
+    assert!(rt; works?);
+    assert!(rt; shown);
+    assert_eq!(rt; facts, 5);
+    Ok(())
+}
+
+/// Whether events of a pair come to this.
+fn come_to(pair: &mut Pair, events: &[(PairEvent, Taken)]) -> Result<bool, Fail> {
+    for (event, taken) in events {
+        if pair.apply(event)? != *taken {
+            return Ok(false);
+        }
+    }
+    Ok(true)
+}
+
+/// Whether nodes stand at these rows, and node 0 ended so and made these facts.
+fn stand_so(pair: &Pair, numbers: (u64, u64), ended: Option<Ending>, facts: &[Fact]) -> bool {
+    (pair.first().number(), pair.second().number()) == numbers
+        && pair.first().ended() == ended
+        && pair.first().facts() == facts
+}
+
+/// An output is told as without a word as soon as one that it needs has none, whatever else is not known.
+#[test]
+fn a_fault_is_told_before_all_words_are_known(rt: HostRuntime) -> Result<(), Fail> {
+    let mut pair = pair_of(rt.alloc(), FAULTY)?;
+    let events = [
+        (PairEvent::Work { node: 0 }, Taken::Kept),
+        (PairEvent::Work { node: 1 }, Taken::Kept),
+        (PairEvent::Deliver { node: 0, place: 0 }, Taken::Ended),
+        (PairEvent::Deliver { node: 0, place: 0 }, Taken::Dropped),
+    ];
+    let comes = come_to(&mut pair, &events);
+    let ending = Ending::UnitFault {
+        instance: 0,
+        place: Place::Output(0),
+        fault: Fault::ZeroDivisor,
+    };
+    let facts = [
+        Fact::Word {
+            row: 0,
+            place: 0,
+            seen: Seen::Fault(Fault::ZeroDivisor),
+        },
+        Fact::Word {
+            row: 0,
+            place: 1,
+            seen: Seen::Undefined,
+        },
+    ];
+    let so = stand_so(&pair, (0, 0), Some(ending), &facts);
+    drop(pair);
+    assert!(rt; comes?);
+    assert!(rt; so);
+    Ok(())
+}
+
+#[test]
+fn a_counter_goes_on_by_three_facts(rt: HostRuntime) -> Result<(), Fail> {
+    let mut pair = pair_of(rt.alloc(), COUNTER)?;
+    let events = [
+        (PairEvent::Work { node: 0 }, Taken::Row),
+        (PairEvent::Work { node: 1 }, Taken::Kept),
+        (PairEvent::Deliver { node: 1, place: 0 }, Taken::Kept),
+        (PairEvent::Deliver { node: 1, place: 1 }, Taken::Kept),
+        (PairEvent::Deliver { node: 1, place: 1 }, Taken::Dropped),
+        (PairEvent::Deliver { node: 1, place: 3 }, Taken::Dropped),
+        (PairEvent::Deliver { node: 2, place: 2 }, Taken::Dropped),
+        (PairEvent::Deliver { node: 1, place: 2 }, Taken::Row),
+        (PairEvent::Deliver { node: 1, place: 0 }, Taken::Dropped),
+        (PairEvent::Restart { node: 1 }, Taken::Kept),
+        (PairEvent::Deliver { node: 1, place: 0 }, Taken::Kept),
+    ];
+    let comes = come_to(&mut pair, &events);
+    let numbers = (pair.first().number(), pair.second().number());
+    drop(pair);
+    assert!(rt; comes?);
+    assert_eq!(rt; numbers, (1, 0));
+    Ok(())
+}
+
+#[test]
+fn a_ring_goes_on_by_facts_of_both(rt: HostRuntime) -> Result<(), Fail> {
+    let mut pair = pair_of(rt.alloc(), RING)?;
+    let events = [
+        (PairEvent::Work { node: 0 }, Taken::Kept),
+        (PairEvent::Work { node: 1 }, Taken::Kept),
+        (PairEvent::Deliver { node: 0, place: 0 }, Taken::Kept),
+        (PairEvent::Deliver { node: 1, place: 0 }, Taken::Kept),
+        (PairEvent::Deliver { node: 1, place: 1 }, Taken::Kept),
+        (PairEvent::Deliver { node: 0, place: 1 }, Taken::Kept),
+        (PairEvent::Deliver { node: 0, place: 2 }, Taken::Row),
+        (PairEvent::Deliver { node: 1, place: 2 }, Taken::Row),
+        (PairEvent::Keep { node: 1 }, Taken::Kept),
+        (PairEvent::Restart { node: 0 }, Taken::Kept),
+        (PairEvent::Work { node: 0 }, Taken::Kept),
+    ];
+    let comes = come_to(&mut pair, &events);
+    let facts = [
+        Fact::Word {
+            row: 0,
+            place: 0,
+            seen: Seen::Is(11),
+        },
+        Fact::Limit {
+            row: 0,
+            instance: 0,
+            asked: Asked::Free,
+        },
+        Fact::Reply {
+            row: 0,
+            instance: 0,
+            redo: false,
+            said: Said::Accepted(1),
+        },
+    ];
+    let so = stand_so(&pair, (0, 1), None, &facts);
+    drop(pair);
+    assert!(rt; comes?);
+    assert!(rt; so);
+    Ok(())
+}

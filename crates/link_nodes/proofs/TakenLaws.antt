@@ -1,0 +1,32 @@
+-- Facts that are taken from the last one on.
+use Rattle.std.proofs.Common.{◌≡◌, ◌∙◌, ℕ, List, [], ◌∷◌, ◌++◌, ap, ap₂, subst}
+use Rattle.std.proofs.lemmas.List.{reverse-append}
+use Rattle.std.specs.Prelude.{reverse}
+use Rattle.std.specs.List.{AllByRecursion}
+use Rattle.list_laws.proofs.Lists.{each_part}
+use Rattle.link_core.specs.Making.{rule_of}
+use Rattle.link_core.specs.NodeStates.{NodeState}
+use Rattle.link_core.specs.Nodes.{Progress, Rule, taken}
+use Rattle.link_core.specs.declared.fact.Fact.{Fact}
+use Rattle.link_core.specs.declared.taken.Taken.{Taken}
+use Rattle.link_nodes.specs.Screens.{taken_all, taken_twice}
+use Rattle.trace_plan.specs.Plans.{Planned}
+
+-- The last one, and then the others.
+pub last_taken : (rule : Rule) (me : ℕ) (node : Progress) (mail front : List Fact) (last : Fact) → mail ≡ front ++ last ∷ []
+    → taken_all rule me node (reverse mail) ≡ taken_all rule me (taken_twice rule me node last) (reverse front)
+last_taken rule me node mail front last is = ap (λ all. taken_all rule me node (reverse all)) is
+    ∙ ap (taken_all rule me node) (reverse-append front (last ∷ []))
+
+pub front_each : (P : Fact → Type 0) (mail front : List Fact) (last : Fact) → mail ≡ front ++ last ∷ [] → AllByRecursion P mail
+    → AllByRecursion P front × P last
+front_each P mail front last is are = let parts = each_part P front (last ∷ []) (subst (AllByRecursion P) is are) in (parts.0, parts.1.0)
+
+-- What a node made of a fact, of the plan's own rule.
+pub second_taken : (plan : Planned) (owners : List ℕ) (me : ℕ) (node : NodeState) (fact : Fact) → node.plan ≡ plan → node.owners ≡ owners → node.me ≡ me
+    → (next : Progress) (came : Taken)
+    → (next, came) ≡ taken (rule_of node.plan.run node.owners) node.me node.progress fact → next ≡ (taken (rule_of plan.run owners) me node.progress fact).0
+second_taken plan owners me node fact own same_owners same_me next came is =
+    ap (λ (did : Progress × Taken). did.0)
+    (is ∙ ap₂ (λ (p : Planned) os. taken (rule_of p.run os) node.me node.progress fact) own same_owners
+    ∙ ap (λ m. taken (rule_of plan.run owners) m node.progress fact) same_me)

@@ -1,0 +1,103 @@
+//! Two nodes in one process.
+ghost use Rattle.std.specs.Prelude.{◌≡◌, IfOk, OnErr};
+ghost use Rattle.link_nodes.specs.Desks.{DeskComes, IsDesk, IsOpened, desk_rule, pair_of};
+ghost use Rattle.link_nodes.specs.Rounds.{after_rounds};
+ghost use Rattle.link_nodes.specs.Shown.{BeginsRounds, ShowsRounds, told_of};
+ghost use Rattle.trace_rows.specs.Faults.{TellsFault};
+
+use crate::desk::Desk;
+use crate::mail::Round;
+use crate::screen::{Screen, judged};
+use crate::spans::Spans;
+use cosim_io::Sink;
+use fixed_words::{List, NoMemory};
+use link_core::{Node, by_turns};
+use std::alloc::Global;
+use std::sync::Arc;
+use super_time::Point;
+use trace_plan::Plan;
+use trace_rows::{CrewFault, put_header};
+use unit_tree::Ending;
+
+/// How far two nodes are: the numbers of their rows, and the point where node 0 stands and how the trace ended there, where it has.
+#[derive(Clone, Copy, Debug, PartialEq, Eq)]
+pub struct Nodes {
+    pub first: u64,
+    pub second: u64,
+    pub last: Point,
+    pub outcome: Option<Ending>,
+}
+
+/// Both nodes of a plan at its start, whose instances are owned by turns.
+fn desk_of(alloc: Global, plan: Arc<Plan>) -> Result<Desk, NoMemory>
+    ensures { IfOk result (IsOpened plan.value) }
+{
+    let owners = by_turns(alloc, &plan)?;
+    let copied = List::from_slice(alloc, owners.as_slice())?;
+    let first = Node::open(alloc, Arc::clone(&plan)?, owners, 0)?;
+    let second = Node::open(alloc, Arc::clone(&plan)?, copied, 1)?;
+    Ok(Desk {
+        plan,
+        first,
+        second,
+        first_spans: Spans::new(alloc),
+        second_spans: Spans::new(alloc),
+        mail: Vec::new(alloc),
+        screen: Screen::new(alloc),
+    })
+}
+
+/// Goes so many rounds.
+fn go_rounds<O: Sink>(desk: &mut Desk, seed: u64, rounds: u32, out: &mut O) -> Result<(), CrewFault>
+    requires { IsDesk desk.old }
+    ensures { DeskComes desk.old (after_rounds (desk_rule desk.old) seed rounds (pair_of desk.old)) desk.new
+        (O.held out.old) (O.held out.new) (O.faults out.old) (O.faults out.new) result }
+{
+    for number in 0..rounds {
+        let round = Round {
+            seed,
+            number: u64::from(number) + 1,
+        };
+        desk.round(round, out)?;
+    }
+    Ok(())
+}
+
+/// How far both nodes are.
+fn told(desk: &Desk) -> Nodes
+    ensures { result ≡ told_of (pair_of desk.now) }
+{
+    Nodes {
+        first: desk.first.number(),
+        second: desk.second.number(),
+        last: desk.first.point(),
+        outcome: desk.first.ended(),
+    }
+}
+
+/// Runs a plan by two nodes, whose instances they own by turns, so many rounds: puts the header and the rows that node 0 comes to, one
+/// piece each, and tells how far both are. In round k, from 1 on, node 0 works, then node 1. Then of the facts of either that are of the
+/// row where the other stands, those whose place in their list plus k plus `seed` is not 3 modulo 4 arrive there, encoded and decoded,
+/// from the last to the first and each twice; first at node 0. Node 1 keeps its position in each fifth round, and starts again in each
+/// eighth.
+///
+/// [`CrewFault::WriteFault`] where a put failed, and only there; then, or where there is no memory, what was put begins what these rounds
+/// show.
+pub fn run_nodes<O: Sink>(
+    alloc: Global,
+    plan: Arc<Plan>,
+    seed: u64,
+    rounds: u32,
+    out: &mut O,
+) -> Result<Nodes, CrewFault>
+    ensures whole { IfOk result (ShowsRounds plan.value seed rounds (O.held out.old) (O.held out.new)) }
+    ensures front { OnErr result (BeginsRounds plan.value seed rounds (O.held out.old) (O.held out.new)) }
+    ensures cause { TellsFault (O.faults out.old) (O.faults out.new) result }
+{
+    // All memory of the nodes but that of facts and lines is taken before anything is put.
+    let mut desk = desk_of(alloc, plan)?;
+    judged(&desk.plan);
+    put_header(alloc, &desk.plan, out)?;
+    go_rounds(&mut desk, seed, rounds, out)?;
+    Ok(told(&desk))
+}
