@@ -12,12 +12,12 @@ use Rattle.std.proofs.lemmas.List.{take_all}
 use Rattle.std.proofs.lemmas.List.Elements.{filter-append, filter_map-append}
 use Rattle.std.proofs.lemmas.Option.{same_Some}
 use Rattle.command_line.specs.Options.{◌>>=◌, at_most_one, given_of, no_options, option_of, options_of, with_all, with_one}
-use Rattle.command_line.specs.Options.{guess_in, instances_in, is_report, row_in, rows_in, seed_in, window_in, workers_in}
+use Rattle.command_line.specs.Options.{guess_in, instances_in, is_report, rounds_in, row_in, rows_in, seed_in, window_in, workers_in}
 use Rattle.command_line.specs.Words.{bytes_of}
 use Rattle.command_line.specs.declared.options.Given.{Given}
 use Rattle.guess_board.specs.declared.guesses.Policy.{Policy}
 use Rattle.command_line.specs.declared.options.CommandOption.{CommandOption}
-use Rattle.command_line.specs.declared.options.CommandOption.TheVariants.{Workers, Window, Guess, Seed, Instances, Rows, Row, Report}
+use Rattle.command_line.specs.declared.options.CommandOption.TheVariants.{Workers, Window, Guess, Seed, Instances, Rows, Row, Rounds, Report}
 
 -- ---- How many there are of a kind
 
@@ -85,6 +85,7 @@ pub record Ones : Type 0 where
   pub instances : Option (Option ℕ)
   pub rows : Option (Option ℕ)
   pub row : Option (Option ℕ)
+  pub rounds : Option (Option ℕ)
   pub report : Option (Option CommandOption)
 
 abbrev pub ones_of : List CommandOption → Ones
@@ -96,6 +97,7 @@ ones_of options = record {
   instances = ones instances_in options;
   rows = ones rows_in options;
   row = ones row_in options;
+  rounds = ones rounds_in options;
   report = at_most_one (filter is_report options);
 }
 
@@ -109,6 +111,7 @@ each all = do
   instances ← all.instances
   rows ← all.rows
   row ← all.row
+  rounds ← all.rounds
   report ← all.report
   Some (record {
     workers = workers;
@@ -118,6 +121,7 @@ each all = do
     instances = instances;
     rows = rows;
     row = row;
+    rounds = rounds;
     report = is_some report;
   })
 
@@ -130,6 +134,7 @@ all_behind more before = record {
   instances = behind more.instances before.instances;
   rows = behind more.rows before.rows;
   row = behind more.row before.row;
+  rounds = behind more.rounds before.rounds;
   report = behind more.report before.report;
 }
 
@@ -142,6 +147,7 @@ all_joined before more = λ i. record {
   instances = ones_joined instances_in before more i;
   rows = ones_joined rows_in before more i;
   row = ones_joined row_in before more i;
+  rounds = ones_joined rounds_in before more i;
   report = reports_joined before more i;
 }
 
@@ -157,7 +163,8 @@ none_after before more is =
     none_behind before.instances more.instances _ _ is (λ _ _ is.
     none_behind before.rows more.rows _ _ is (λ _ _ is.
     none_behind before.row more.row _ _ is (λ _ _ is.
-    none_behind before.report more.report _ _ is (λ _ _ is. some_given _ is))))))))
+    none_behind before.rounds more.rounds _ _ is (λ _ _ is.
+    none_behind before.report more.report _ _ is (λ _ _ is. some_given _ is)))))))))
 
 -- the ones that gave so much, with the one of `--report`, of which just this is kept that it is there
 abbrev known_ones : Given → Option CommandOption → Ones
@@ -169,6 +176,7 @@ known_ones given report = record {
   instances = Some given.instances;
   rows = Some given.rows;
   row = Some given.row;
+  rounds = Some given.rounds;
   report = Some report;
 }
 
@@ -182,7 +190,8 @@ known_by all given is =
     let instances = taken all.instances _ given seed.2 in
     let rows = taken all.rows _ given instances.2 in
     let row = taken all.row _ given rows.2 in
-    let report = taken all.report _ given row.2 in
+    let rounds = taken all.rounds _ given row.2 in
+    let report = taken all.report _ given rounds.2 in
     let same = same_Some _ given report.2 in (
       report.0,
       sym (ap (λ (g : Given). g.report) same),
@@ -194,6 +203,7 @@ known_by all given is =
         instances = (instances.1 ∙ ap (λ (g : Given). Some g.instances) same) i;
         rows = (rows.1 ∙ ap (λ (g : Given). Some g.rows) same) i;
         row = (row.1 ∙ ap (λ (g : Given). Some g.row) same) i;
+        rounds = (rounds.1 ∙ ap (λ (g : Given). Some g.rounds) same) i;
         report = report.1 i;
       },
     )
@@ -227,6 +237,9 @@ one_more (Rows number) given report is =
 one_more (Row number) given report is =
     once given.row number (λ one. record given { row = one })
     ∙ ap (λ r. behind (Some (Some number)) (Some given.row) >>= λ one. Some (record given { row = one; report = r })) is
+one_more (Rounds number) given report is =
+    once given.rounds number (λ one. record given { rounds = one })
+    ∙ ap (λ r. behind (Some (Some number)) (Some given.rounds) >>= λ one. Some (record given { rounds = one; report = r })) is
 one_more Report given None is = ap (λ r. then_some (not r) (record given { report = true })) is
 one_more Report given (Some other) is = ap (λ r. then_some (not r) (record given { report = true })) is
 

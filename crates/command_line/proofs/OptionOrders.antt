@@ -6,7 +6,8 @@ use Rattle.std.specs.Option.{option_map}
 use Rattle.std.proofs.lemmas.List.Sorted.{sum_by-IsPermutation}
 use Rattle.std.proofs.lemmas.List.Sums.{sum_by-cons}
 use Rattle.command_line.specs.Laws.{OptionsHaveNoOrder}
-use Rattle.command_line.specs.Options.{◌>>=◌, at_most_one, given_of, guess_in, instances_in, is_report, row_in, rows_in, seed_in, window_in, workers_in}
+use Rattle.command_line.specs.Options.{◌>>=◌, at_most_one, given_of, guess_in, instances_in, is_report, rounds_in, row_in, rows_in, seed_in, window_in}
+use Rattle.command_line.specs.Options.{workers_in}
 use Rattle.guess_board.specs.declared.guesses.Policy.{Policy}
 use Rattle.guess_board.specs.declared.guesses.Policy.TheVariants.{Hold, Linear}
 use Rattle.command_line.specs.declared.options.CommandOption.{CommandOption}
@@ -96,6 +97,7 @@ all_same options other moves = λ i. record {
   instances = ones_same (λ n. n) (λ a b is. is) instances_in options other moves i;
   rows = ones_same (λ n. n) (λ a b is. is) rows_in options other moves i;
   row = ones_same (λ n. n) (λ a b is. is) row_in options other moves i;
+  rounds = ones_same (λ n. n) (λ a b is. is) rounds_in options other moves i;
   report = reports_same options other moves i;
 }
 

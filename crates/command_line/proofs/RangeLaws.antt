@@ -4,11 +4,13 @@ use Rattle.std.specs.Prelude.{◌&&◌, codes, nat_le, IfSome, ⊤}
 use Rattle.std.specs.Option.{option_map}
 use Rattle.std.specs.Str.{bytes_eq}
 use Rattle.std.proofs.lemmas.Bool.Decides.{nat_tests}
-use Rattle.command_line.specs.Commands.{KeepsRanges, command_of, command_with, generation_of, replaying_of, running_of, saving_of, without_options}
+use Rattle.command_line.specs.Commands.{KeepsRanges, command_of, command_with, generation_of, replaying_of, running_of, saving_of, splitting_of}
+use Rattle.command_line.specs.Commands.{without_options}
 use Rattle.command_line.specs.Generations.{CanGive, asked_by}
 use Rattle.command_line.specs.Options.{◌>>=◌, given_by, is_given_none}
 use Rattle.command_line.specs.Ranges.{required_within, within}
 use Rattle.command_line.specs.declared.commands.Command.TheVariants.{Run, Check, Print, Upgrade, Replay, Gen, Bench, Save, Resume, Verify, Stimulus, Flatten}
+use Rattle.command_line.specs.declared.commands.Command.TheVariants.{Nodes}
 use Rattle.command_line.specs.declared.options.Given.{Given}
 
 -- ---- What holds of a value, where there is one
@@ -90,7 +92,8 @@ row_kept word given =
     (either KeepsRanges (bytes_eq word (codes "verify")) _ _ (without_kept KeepsRanges Verify given tt)
     (either KeepsRanges (bytes_eq word (codes "stimulus")) _ _ (without_kept KeepsRanges Stimulus given tt)
     (either KeepsRanges (bytes_eq word (codes "flatten")) _ _ (without_kept KeepsRanges Flatten given tt)
-    tt)))))))))))
+    (either KeepsRanges (bytes_eq word (codes "nodes")) _ _ (mapped KeepsRanges Nodes (splitting_of given) (any (splitting_of given)))
+    tt))))))))))))
 
 pub ranges_kept : (words : List (List ℕ)) → IfSome (command_of words) KeepsRanges
 ranges_kept [] = tt

@@ -8,11 +8,13 @@ use Rattle.command_line.specs.Generations.{Asked, CanGive, asked_by}
 use Rattle.command_line.specs.Options.{◌>>=◌, given_by, is_given_none}
 use Rattle.command_line.specs.declared.commands.Command.{Command}
 use Rattle.command_line.specs.declared.commands.Command.TheVariants.{Run, Check, Print, Upgrade, Replay, Gen, Bench, Save, Resume, Verify, Stimulus, Flatten}
+use Rattle.command_line.specs.declared.commands.Command.TheVariants.{Nodes}
 use Rattle.command_line.specs.Ranges.{required_within, within_or}
 use Rattle.command_line.specs.declared.options.Given.{Given}
 use Rattle.command_line.specs.declared.replaying.Replaying.{Replaying}
 use Rattle.command_line.specs.declared.running.Running.{Running}
 use Rattle.command_line.specs.declared.saving.Saving.{Saving}
+use Rattle.command_line.specs.declared.splitting.Splitting.{Splitting}
 
 -- A command where no option was given. Of one that takes some: where none is left of what was given without these.
 abbrev pub without_options : {A : Type 0} → A → Given → Option A
@@ -44,6 +46,13 @@ saving_of given = do
   row ← required_within 0 99999 given.row
   without_options (record { row = row }) (record given { row = None })
 
+-- What two nodes are asked: a seed and 1 to 100,000 rounds, and nothing else.
+abbrev pub splitting_of : Given → Option Splitting
+splitting_of given = do
+  seed ← given.seed
+  rounds ← required_within 1 100000 given.rounds
+  without_options (record { seed = seed; rounds = rounds }) (record given { seed = None; rounds = None })
+
 -- The command of a word with the options that were given: a row for each command, with the options that it takes.
 abbrev pub command_with : List ℕ → Given → Option Command
 command_with word given =
@@ -59,7 +68,8 @@ command_with word given =
     else (if bytes_eq word (codes "verify") then without_options Verify given
     else (if bytes_eq word (codes "stimulus") then without_options Stimulus given
     else (if bytes_eq word (codes "flatten") then without_options Flatten given
-    else None)))))))))))
+    else (if bytes_eq word (codes "nodes") then option_map Nodes (splitting_of given)
+    else None))))))))))))
 
 -- The command that words are of; words that are of none have no form.
 abbrev pub command_of : List (List ℕ) → Option Command
@@ -92,6 +102,7 @@ input_of Resume = Some saved_limit
 input_of Verify = Some verify_limit
 input_of Stimulus = Some stimulus_limit
 input_of Flatten = Some text_limit
+input_of (Nodes asked) = Some text_limit
 
 -- Which commands are run with workers: a run that asks for some, and `bench`.
 abbrev pub has_workers : Command → Bool

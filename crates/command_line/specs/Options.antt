@@ -10,7 +10,7 @@ use Rattle.command_line.specs.declared.options.Given.{Given}
 use Rattle.guess_board.specs.declared.guesses.Policy.{Policy}
 use Rattle.guess_board.specs.declared.guesses.Policy.TheVariants.{Hold, Linear}
 use Rattle.command_line.specs.declared.options.CommandOption.{CommandOption}
-use Rattle.command_line.specs.declared.options.CommandOption.TheVariants.{Workers, Window, Guess, Seed, Instances, Rows, Row, Report}
+use Rattle.command_line.specs.declared.options.CommandOption.TheVariants.{Workers, Window, Guess, Seed, Instances, Rows, Row, Rounds, Report}
 
 -- What comes of the value, where there is one.
 infixl 10 ◌>>=◌
@@ -22,10 +22,12 @@ abbrev pub is_given_none : Given → Bool
 is_given_none given =
     is_none given.workers
     && (is_none given.window
-    && (is_none given.guess && (is_none given.seed && (is_none given.instances && (is_none given.rows && (is_none given.row && not given.report))))))
+    && (is_none given.guess
+    && (is_none given.seed
+    && (is_none given.instances && (is_none given.rows && (is_none given.row && (is_none given.rounds && not given.report)))))))
 
 abbrev pub no_options : Given
-no_options = record { workers = None; window = None; guess = None; seed = None; instances = None; rows = None; row = None; report = false }
+no_options = record { workers = None; window = None; guess = None; seed = None; instances = None; rows = None; row = None; rounds = None; report = false }
 
 -- ---- Words as options
 
@@ -46,7 +48,8 @@ option_of flag word =
     else (if bytes_eq flag (codes "--instances") then option_map Instances (number_of_word word)
     else (if bytes_eq flag (codes "--rows") then option_map Rows (number_of_word word)
     else (if bytes_eq flag (codes "--row") then option_map Row (number_of_word word)
-    else None))))))
+    else (if bytes_eq flag (codes "--rounds") then option_map Rounds (number_of_word word)
+    else None)))))))
 
 -- Words as options: `--report` stands alone, any other flag has its value in the next word. None where some word is of no option.
 abbrev pub options_of : List (List ℕ) → Option (List CommandOption)
@@ -87,6 +90,10 @@ abbrev pub row_in : CommandOption → Option ℕ
 row_in (Row number) = Some number
 row_in _ = None
 
+abbrev pub rounds_in : CommandOption → Option ℕ
+rounds_in (Rounds number) = Some number
+rounds_in _ = None
+
 -- One that has no value is there or not.
 abbrev pub is_report : CommandOption → Bool
 is_report Report = true
@@ -108,6 +115,7 @@ given_of options = do
   instances ← at_most_one (filter_map instances_in options)
   rows ← at_most_one (filter_map rows_in options)
   row ← at_most_one (filter_map row_in options)
+  rounds ← at_most_one (filter_map rounds_in options)
   report ← at_most_one (filter is_report options)
   Some (record {
     workers = workers;
@@ -117,6 +125,7 @@ given_of options = do
     instances = instances;
     rows = rows;
     row = row;
+    rounds = rounds;
     report = is_some report;
   })
 
@@ -139,6 +148,7 @@ with_one given (Seed number) = then_some (is_none given.seed) (record given { se
 with_one given (Instances number) = then_some (is_none given.instances) (record given { instances = Some number })
 with_one given (Rows number) = then_some (is_none given.rows) (record given { rows = Some number })
 with_one given (Row number) = then_some (is_none given.row) (record given { row = Some number })
+with_one given (Rounds number) = then_some (is_none given.rounds) (record given { rounds = Some number })
 with_one given Report = then_some (not given.report) (record given { report = true })
 
 -- And with all of these, one after the other.

@@ -4,6 +4,7 @@ use Rattle.command_line.specs.Commands.{command_of}
 use Rattle.command_line.specs.Options.{given_by, no_options, number_of_word}
 use Rattle.command_line.specs.Ranges.{required_within, within, within_or}
 use Rattle.command_line.specs.declared.commands.Command.TheVariants.{Run, Check, Print, Upgrade, Replay, Gen, Bench, Save, Resume, Verify, Stimulus, Flatten}
+use Rattle.command_line.specs.declared.commands.Command.TheVariants.{Nodes}
 use Rattle.command_line.specs.declared.options.Given.{Given}
 use Rattle.guess_board.specs.declared.guesses.Policy.TheVariants.{Hold, Linear}
 
@@ -16,6 +17,7 @@ all_options = record {
   instances = Some 2;
   rows = Some 3;
   row = Some 5;
+  rounds = Some 6;
   report = true;
 }
 
@@ -48,10 +50,12 @@ pub record OptionsAreWorked : Type 0 where
   pub none : given_by [] ≡ Some no_options
   pub all : given_by
       (codes "--workers" ∷ codes "4" ∷ codes "--window" ∷ codes "0" ∷ codes "--guess" ∷ codes "linear" ∷ codes "--seed" ∷ codes "7"
-      ∷ codes "--instances" ∷ codes "2" ∷ codes "--rows" ∷ codes "3" ∷ codes "--row" ∷ codes "5" ∷ codes "--report" ∷ []) ≡ Some all_options
+      ∷ codes "--instances" ∷ codes "2" ∷ codes "--rows" ∷ codes "3" ∷ codes "--row" ∷ codes "5" ∷ codes "--rounds" ∷ codes "6"
+      ∷ codes "--report" ∷ []) ≡ Some all_options
   pub turned : given_by
-      (codes "--row" ∷ codes "5" ∷ codes "--rows" ∷ codes "3" ∷ codes "--instances" ∷ codes "02" ∷ codes "--seed" ∷ codes "7" ∷ codes "--report"
-      ∷ codes "--guess" ∷ codes "linear" ∷ codes "--window" ∷ codes "00" ∷ codes "--workers" ∷ codes "04" ∷ []) ≡ Some all_options
+      (codes "--rounds" ∷ codes "006" ∷ codes "--row" ∷ codes "5" ∷ codes "--rows" ∷ codes "3" ∷ codes "--instances" ∷ codes "02"
+      ∷ codes "--seed" ∷ codes "7" ∷ codes "--report" ∷ codes "--guess" ∷ codes "linear" ∷ codes "--window" ∷ codes "00"
+      ∷ codes "--workers" ∷ codes "04" ∷ []) ≡ Some all_options
   pub one : given_by (codes "--guess" ∷ codes "hold" ∷ []) ≡ Some (record no_options { guess = Some Hold })
   pub number_twice : given_by (codes "--window" ∷ codes "4" ∷ codes "--window" ∷ codes "4" ∷ []) ≡ None
   pub policy_twice : given_by (codes "--guess" ∷ codes "hold" ∷ codes "--guess" ∷ codes "hold" ∷ []) ≡ None
@@ -120,6 +124,14 @@ pub record CommandsAreWorked : Type 0 where
   pub seeded_stimulus : command_of (codes "stimulus" ∷ codes "--seed" ∷ codes "1" ∷ []) ≡ None
   pub flatten : command_of (codes "flatten" ∷ []) ≡ Some Flatten
   pub flattened_rows : command_of (codes "flatten" ∷ codes "--rows" ∷ codes "2" ∷ []) ≡ None
+  pub nodes : command_of (codes "nodes" ∷ codes "--rounds" ∷ codes "100000" ∷ codes "--seed" ∷ codes "9999999999999999999" ∷ [])
+      ≡ Some (Nodes (record { seed = 9999999999999999999; rounds = 100000 }))
+  pub one_round : command_of (codes "nodes" ∷ codes "--seed" ∷ codes "0" ∷ codes "--rounds" ∷ codes "1" ∷ [])
+      ≡ Some (Nodes (record { seed = 0; rounds = 1 }))
+  pub no_round : command_of (codes "nodes" ∷ codes "--seed" ∷ codes "0" ∷ codes "--rounds" ∷ codes "0" ∷ []) ≡ None
+  pub many_rounds : command_of (codes "nodes" ∷ codes "--seed" ∷ codes "0" ∷ codes "--rounds" ∷ codes "100001" ∷ []) ≡ None
+  pub no_rounds : command_of (codes "nodes" ∷ codes "--seed" ∷ codes "0" ∷ []) ≡ None
+  pub rounds_of_none : command_of (codes "replay" ∷ codes "--seed" ∷ codes "1" ∷ codes "--rounds" ∷ codes "1" ∷ []) ≡ None
   pub no_word : command_of [] ≡ None
   pub empty : command_of ([] ∷ []) ≡ None
   pub other_case : command_of (codes "Run" ∷ []) ≡ None

@@ -9,6 +9,7 @@ use crate::options::{Given, given_by};
 use crate::replaying::{Replaying, replaying_of};
 use crate::running::{Running, running_of};
 use crate::saving::{Saving, saving_of};
+use crate::splitting::{Splitting, splitting_of};
 use unit_text::LONGEST_TEXT;
 
 /// A command of the program, with its options.
@@ -38,6 +39,8 @@ pub enum Command {
     Stimulus,
     /// Puts the canonical text of the system that a nested text becomes, whose groups are made flat.
     Flatten,
+    /// Puts the rows that two nodes commit, which exchange what they need over a link that loses messages.
+    Nodes(Splitting),
 }
 
 /// The most bytes that `resume` reads.
@@ -62,7 +65,8 @@ impl Command {
             | Command::Upgrade
             | Command::Replay(_)
             | Command::Save(_)
-            | Command::Flatten => Some(LONGEST_TEXT),
+            | Command::Flatten
+            | Command::Nodes(_) => Some(LONGEST_TEXT),
             Command::Resume => Some(LONGEST_SAVED),
             Command::Verify => Some(LONGEST_VERIFIED),
             Command::Stimulus => Some(LONGEST_STIMULUS),
@@ -136,6 +140,8 @@ fn command_with(word: &str, given: Given) -> Option<Command>
         without_options(Command::Stimulus, given)
     } else if word == "flatten" {
         without_options(Command::Flatten, given)
+    } else if word == "nodes" {
+        Some(Command::Nodes(splitting_of(given)?))
     } else {
         None
     }

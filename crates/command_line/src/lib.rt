@@ -16,6 +16,7 @@ mod ranges;
 mod replaying;
 mod running;
 mod saving;
+mod splitting;
 
 pub use commands::{Command, command_of, words_are_worked};
 pub use generation::Generation;
@@ -24,3 +25,4 @@ pub use ranges::Within;
 pub use replaying::Replaying;
 pub use running::{Running, Window, Workers};
 pub use saving::{RowNumber, Saving};
+pub use splitting::{Rounds, Splitting};

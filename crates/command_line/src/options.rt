@@ -24,6 +24,8 @@ pub enum CommandOption {
     Rows(u64),
     /// `--row N`
     Row(u64),
+    /// `--rounds N`
+    Rounds(u64),
     /// `--report`
     Report,
 }
@@ -38,6 +40,7 @@ pub struct Given {
     pub instances: Option<u64>,
     pub rows: Option<u64>,
     pub row: Option<u64>,
+    pub rounds: Option<u64>,
     pub report: bool,
 }
 
@@ -51,6 +54,7 @@ impl Given {
         instances: None,
         rows: None,
         row: None,
+        rounds: None,
         report: false,
     };
 
@@ -65,6 +69,7 @@ impl Given {
             && self.instances.is_none()
             && self.rows.is_none()
             && self.row.is_none()
+            && self.rounds.is_none()
             && !self.report
     }
 
@@ -99,6 +104,10 @@ impl Given {
             }),
             CommandOption::Row(number) => self.row.is_none().then_some(Given {
                 row: Some(number),
+                ..self
+            }),
+            CommandOption::Rounds(number) => self.rounds.is_none().then_some(Given {
+                rounds: Some(number),
                 ..self
             }),
             CommandOption::Report => (!self.report).then_some(Given {
@@ -179,6 +188,8 @@ fn option_of(flag: &str, word: &str) -> Option<CommandOption>
         Some(CommandOption::Rows(number(word.as_bytes())?))
     } else if flag == "--row" {
         Some(CommandOption::Row(number(word.as_bytes())?))
+    } else if flag == "--rounds" {
+        Some(CommandOption::Rounds(number(word.as_bytes())?))
     } else {
         None
     }
