@@ -25,6 +25,7 @@ use Rattle.cosim_app.specs.Answer.{CanReport, TellsReplay, TellsReported, accept
 use Rattle.cosim_app.specs.Accepted.{run_answer}
 use Rattle.cosim_app.specs.Answer.{report_lines, with_counts, with_report}
 use Rattle.cosim_app.specs.Answer.{IsTooLongInVersion2, TellsUpgrade}
+use Rattle.cosim_app.specs.NodesAnswers.{IsTooLargeForNodes, TellsNodes}
 use Rattle.cosim_app.specs.SavedAnswers.{LacksPosition, TellsPosition}
 use Rattle.cosim_app.specs.TableAnswers.{AnswersTable, LeavesTable, PlaysTable, RefusesTable}
 use Rattle.command_line.specs.Commands.{KeepsRanges, command_of, input_of, saved_limit, stimulus_limit, verify_limit}
@@ -35,12 +36,14 @@ use Rattle.cosim_app.specs.Laws.{AnswersAgree, EndsAreServed, EveryCallIsAnswere
 use Rattle.cosim_app.specs.Laws.{RunsAgree}
 use Rattle.command_line.specs.declared.commands.Command.{Command}
 use Rattle.command_line.specs.declared.commands.Command.TheVariants.{Run, Check, Print, Upgrade, Replay, Gen, Bench, Save, Resume, Verify, Stimulus, Flatten}
+use Rattle.command_line.specs.declared.commands.Command.TheVariants.{Nodes}
 use Rattle.command_line.proofs.RangeLaws.{ranges_kept}
 use Rattle.cosim_app.proofs.Lawful.{Agree, AnswersOrBreaks, AnswersSystems, HasNoOther, HasOneAnswer, IsLawful, agree_as_same, at_most_or_above}
 use Rattle.cosim_app.proofs.Lawful.{determined_on_accepted, determined_piece, determined_unread, determined_within, lawful_on_accepted, lawful_piece}
 use Rattle.cosim_app.proofs.Lawful.{lawful_unread, lawful_with_rule, lawful_within, longer}
 use Rattle.cosim_app.proofs.FlatLaws.{flat_once, flatten_lawful, too_long_nest}
 use Rattle.cosim_app.proofs.TableLaws.{plays_once, stimulus_lawful, verdicts_once, verify_lawful}
+use Rattle.cosim_app.proofs.NodesLaws.{nodes_answer_systems, nodes_same}
 use Rattle.cosim_app.proofs.SavedLaws.{resume_lawful, resumes_same, saves_answer, saves_same}
 use Rattle.cosim_app.proofs.TraceLaws.{IsWhole, is_end, one_outcome, plain_outcome, whole_asked, whole_of}
 use Rattle.cosim_app.proofs.ReplayLaws.{can_replay_of, counts_there}
@@ -235,6 +238,7 @@ lawful Resume keeps = resume_lawful
 lawful Verify keeps = lawful_within verify_limit RefusesTable AnswersTable verify_lawful
 lawful Stimulus keeps = lawful_within stimulus_limit LeavesTable PlaysTable stimulus_lawful
 lawful Flatten keeps = flatten_lawful
+lawful (Nodes asked) keeps = lawful_with_rule (TellsNodes asked) IsTooLargeForNodes 34 (nodes_answer_systems asked)
 
 determined : (command : Command) → KeepsRanges command → IsDetermined (Some command) → HasNoOther (ServedBy command)
 determined (Run asked) keeps settled = determined_on_accepted (TellsReported asked) (reported_same asked settled)
@@ -249,6 +253,7 @@ determined Resume keeps settled = resumes_same
 determined Verify keeps settled = determined_within verify_limit AnswersTable verdicts_once
 determined Stimulus keeps settled = determined_within stimulus_limit PlaysTable plays_once
 determined Flatten keeps settled = flat_once
+determined (Nodes asked) keeps settled = determined_on_accepted (TellsNodes asked) (nodes_same asked)
 
 -- an input that was read is no longer than a command may read
 pub in_limit : (input : Option ℕ) (read : Vec ℕ Global) (text : List ℕ) → text ≡ read.items → IsInLimit input (Ok read)
@@ -278,6 +283,7 @@ long_by Resume limit text is long =
 long_by Verify limit text is long = longer verify_limit limit RefusesTable text is long
 long_by Stimulus limit text is long = longer stimulus_limit limit LeavesTable text is long
 long_by Flatten limit text is long = inl (too_long_nest limit text is long)
+long_by (Nodes asked) limit text is long = inl (too_long limit text is long)
 
 -- a command that reads nothing has the same answers for all inputs
 free_by : (command : Command) → input_of command ≡ None → (one other : List ℕ) (answer : Answer) → Answers command one answer
@@ -294,6 +300,7 @@ free_by Resume is one other answer answers = absurd (cc)
 free_by Verify is one other answer answers = absurd (cc)
 free_by Stimulus is one other answer answers = absurd (cc)
 free_by Flatten is one other answer answers = absurd (cc)
+free_by (Nodes asked) is one other answer answers = absurd (cc)
 free_by (Bench asked) is one other answer (inl refusal) = absurd refusal.refused
 free_by (Bench asked) is one other answer (inr serves) = inr serves
 

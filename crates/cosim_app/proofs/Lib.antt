@@ -3,6 +3,7 @@ pub mod CommandLaws
 pub mod FlatLaws
 pub mod Lawful
 pub mod MakingLaws
+pub mod NodesLaws
 pub mod OutputNames
 pub mod ReplayLaws
 pub mod ResumeLaws

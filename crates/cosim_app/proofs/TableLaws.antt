@@ -1,14 +1,14 @@
 -- What the answers of `verify` and `stimulus` keep, and what the commands came to, as answers of their input.
 use Rattle.std.specs.Prelude.{Vec}
 use Rattle.std.specs.declared.alloc.Global.{Global}
-use Rattle.std.proofs.Common.{◌≡◌, ◌⊎◌, ◌≤◌, ℕ, List, [], ◌∷◌, length, Result, Ok, Err, refl, sym, ap, subst, ◌∙◌, inl, inr}
+use Rattle.std.proofs.Common.{◌≡◌, ◌⊎◌, ◌≤◌, ℕ, List, length, Ok, Err, refl, sym, ap, subst, ◌∙◌, inl, inr}
 use Rattle.event_runs.specs.EventTrace.{EventRow}
 use Rattle.event_runs.specs.Readings.{read_end, read_rows}
 use Rattle.stimulus_tables.specs.TableSystems.{table_system}
 use Rattle.stimulus_tables.specs.Tables.{IsTable, LeavesForm}
 use Rattle.stimulus_tables.specs.declared.moment.Moment.{Moment}
 use Rattle.stimulus_tables.proofs.OneTable.{judged_once as records_judged_once}
-use Rattle.text_accept.specs.Accepting.{IsAcceptedAs, IsRefusedAt}
+use Rattle.text_accept.specs.Accepting.{IsRefusedAt}
 use Rattle.text_accept.proofs.Acceptance.{judged_once}
 use Rattle.trace_verify.specs.Parting.{IsParted, LacksTrace}
 use Rattle.trace_verify.specs.Stimuli.{IsSystemOf}

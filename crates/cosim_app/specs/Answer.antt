@@ -17,17 +17,18 @@ use Rattle.unit_tree.specs.declared.system.System.{System}
 use Rattle.unit_upgrade.specs.Upgrades.{upgraded}
 use Rattle.cosim_call.specs.Answers.{Answer, piece_answer, refused_answer, usage_answer}
 use Rattle.cosim_call.specs.Notes.{line_end}
-use Rattle.cosim_call.specs.declared.status.Status.TheVariants as status
 use Rattle.command_line.specs.Commands.{command_of}
 use Rattle.cosim_app.specs.Accepted.{OnAccepted, RefusesAlso, TellsTrace, planned, printed_answer, printed_text}
 use Rattle.cosim_app.specs.Figures.{figures_text}
 use Rattle.cosim_app.specs.FlatAnswers.{AnswersFlatten, FlattenRefuses}
 use Rattle.command_line.specs.Generations.{Asked, system_asked}
+use Rattle.cosim_app.specs.NodesAnswers.{AnswersNodes, NodesRefuses}
 use Rattle.cosim_app.specs.Notes.{counts_text, report_text}
 use Rattle.cosim_app.specs.SavedAnswers.{AnswersResume, AnswersSave, ResumeRefuses, SaveRefuses}
 use Rattle.cosim_app.specs.TableAnswers.{AnswersStimulus, AnswersVerify, StimulusRefuses, VerifyRefuses}
 use Rattle.command_line.specs.declared.commands.Command.{Command}
 use Rattle.command_line.specs.declared.commands.Command.TheVariants.{Run, Check, Print, Upgrade, Replay, Gen, Bench, Save, Resume, Verify, Stimulus, Flatten}
+use Rattle.command_line.specs.declared.commands.Command.TheVariants.{Nodes}
 use Rattle.command_line.specs.declared.replaying.Replaying.{Replaying}
 use Rattle.command_line.specs.declared.running.Running.{Running}
 
@@ -138,6 +139,7 @@ ServedBy Resume text answer = AnswersResume text answer
 ServedBy Verify text answer = AnswersVerify text answer
 ServedBy Stimulus text answer = AnswersStimulus text answer
 ServedBy Flatten text answer = AnswersFlatten text answer
+ServedBy (Nodes asked) text answer = AnswersNodes asked text answer
 
 -- The line and the rule by which a command refuses a text; one that reads nothing refuses nothing.
 abbrev pub RefusedBy : Command → List ℕ → ℕ → ℕ → Type 0
@@ -153,6 +155,7 @@ RefusedBy Resume text line rule = ResumeRefuses text line rule
 RefusedBy Verify text line rule = VerifyRefuses text line rule
 RefusedBy Stimulus text line rule = StimulusRefuses text line rule
 RefusedBy Flatten text line rule = FlattenRefuses text line rule
+RefusedBy (Nodes asked) text line rule = NodesRefuses text line rule
 
 -- A text that is refused is answered by its line and rule.
 pub record AnswersRefusal (command : Command) (text : List ℕ) (answer : Answer) : Type 0 where

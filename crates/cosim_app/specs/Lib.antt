@@ -4,6 +4,7 @@ pub mod Figures
 pub mod FlatAnswers
 pub mod Laws
 pub mod Limits
+pub mod NodesAnswers
 pub mod Notes
 pub mod SavedAnswers
 pub mod Serving

@@ -111,3 +111,7 @@ report_text report =
     ++ steps_text report.found report.own
     ++ tickets_text report.tickets report.posted report.back report.lapsed
     ++ line_end
+
+-- The line that tells at which rows two nodes stand.
+abbrev pub nodes_text : ℕ → ℕ → List ℕ
+nodes_text first second = note (codes "node 0 row " ++ decimal first ++ codes ", node 1 row " ++ decimal second)

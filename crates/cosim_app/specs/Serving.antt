@@ -1,44 +1,48 @@
 -- What the parts of commands do with a text and with the plan of a run.
 use Rattle.std.specs.Prelude.{◌≡◌, ℕ, ◌+◌, ◌<◌, ◌≤◌, List, [], ◌∷◌, ◌++◌, length, Result, Ok, Err, ⊤, Vec}
 use Rattle.std.specs.declared.alloc.Global.{Global}
+use Rattle.link_nodes.specs.Shown.{BeginsRounds, ShowsRounds}
+use Rattle.link_nodes.specs.declared.run.Nodes.{Nodes}
+use Rattle.nest_text.specs.Nests.{IsNestOf, RefusesNest}
+use Rattle.nest_text.specs.declared.nest.Nest.{Nest}
+use Rattle.save_point.specs.SavedTexts.{BreaksAtLine, IsSaved, saved_text}
+use Rattle.save_point.specs.Saving.{FitsNone, HasNoPosition, IsOpenedBy}
+use Rattle.save_point.specs.declared.reading.Saved.{Saved}
 use Rattle.spec_core.specs.Replays.{IsReplayed, PutsTrace}
 use Rattle.spec_core.specs.declared.counts.Counts.{Counts}
+use Rattle.sub_flat.specs.Flattening.{flat_of}
+use Rattle.sub_flat.specs.NestRules.{BreaksNest, IsRefusedNest}
 use Rattle.text_accept.specs.Accepting.{IsAcceptedAs, IsRefusedAt}
 use Rattle.text_accept.specs.declared.accepting.AcceptedText.{AcceptedText}
+use Rattle.trace_core.specs.Runs.{RunState, Stands}
 use Rattle.trace_plan.specs.Plans.{Planned}
 use Rattle.trace_rows.specs.Reports.{PutsFront, PutsRestFront, ReportsRest, ReportsTrace}
 use Rattle.trace_rows.specs.declared.report.Report.{Report}
+use Rattle.trace_verify.specs.Parting.{IsParted}
+use Rattle.trace_verify.specs.Stimuli.{IsSystemOf}
+use Rattle.trace_verify.specs.Verdicts.{records_of}
+use Rattle.trace_verify.specs.declared.parting.Parted.{Parted}
 use Rattle.unit_tree.specs.Compositions.{run_of}
 use Rattle.unit_tree.specs.Routes.{IsOrderOf}
+use Rattle.unit_tree.specs.Successor.{Position}
 use Rattle.unit_tree.specs.Texts.{text_limit}
+use Rattle.unit_tree.specs.Trace.{IsPositionOf}
 use Rattle.unit_tree.specs.declared.system.System.{System}
 use Rattle.unit_upgrade.specs.Upgrades.{upgraded}
+use Rattle.command_line.specs.declared.replaying.Replaying.{Replaying}
+use Rattle.command_line.specs.declared.running.Running.{Running}
+use Rattle.command_line.specs.declared.splitting.Splitting.{Splitting}
 use Rattle.cosim_call.specs.Calls.{Stream, Fails}
 use Rattle.cosim_call.specs.declared.coming.Served.{Served}
-use Rattle.cosim_call.specs.declared.coming.Stopped.{Stopped}
 use Rattle.cosim_call.specs.declared.coming.Stopped.TheVariants as stopped
+use Rattle.cosim_call.specs.declared.coming.Stopped.{Stopped}
 use Rattle.cosim_app.specs.Accepted.{printed_text, status_of, traced_notes}
 use Rattle.cosim_app.specs.Answer.{report_lines}
+use Rattle.cosim_app.specs.NodesAnswers.{node_status, told_notes}
 use Rattle.cosim_app.specs.Notes.{counts_text}
 use Rattle.cosim_app.specs.SavedAnswers.{lines_before, text_behind}
 use Rattle.cosim_app.specs.SourcePlaces.{source_end}
 use Rattle.cosim_app.specs.TableAnswers.{LacksTable, LeavesTable}
-use Rattle.nest_text.specs.Nests.{IsNestOf, RefusesNest}
-use Rattle.nest_text.specs.declared.nest.Nest.{Nest}
-use Rattle.sub_flat.specs.Flattening.{flat_of}
-use Rattle.sub_flat.specs.NestRules.{BreaksNest, IsRefusedNest}
-use Rattle.trace_verify.specs.Parting.{IsParted}
-use Rattle.trace_verify.specs.declared.parting.Parted.{Parted}
-use Rattle.trace_verify.specs.Stimuli.{IsSystemOf}
-use Rattle.trace_verify.specs.Verdicts.{records_of}
-use Rattle.save_point.specs.SavedTexts.{BreaksAtLine, IsSaved, saved_text}
-use Rattle.save_point.specs.Saving.{FitsNone, HasNoPosition, IsOpenedBy}
-use Rattle.save_point.specs.declared.reading.Saved.{Saved}
-use Rattle.trace_core.specs.Runs.{RunState, Stands}
-use Rattle.unit_tree.specs.Successor.{Position}
-use Rattle.unit_tree.specs.Trace.{IsPositionOf}
-use Rattle.command_line.specs.declared.replaying.Replaying.{Replaying}
-use Rattle.command_line.specs.declared.running.Running.{Running}
 
 -- Why a text was not accepted: the refusal of it, or want of memory, which says nothing.
 abbrev pub IsUnaccepted : List ℕ → Stopped → Type 0
@@ -168,3 +172,15 @@ FindsFlat nest (Ok flat) = (flat.items ≡ printed_text (flat_of nest)) × ((lin
 FindsFlat nest (Err (stopped.Refused line rule)) = IsRefusedNest nest line rule
 FindsFlat nest (Err stopped.NoMemory) = ⊤
 FindsFlat nest (Err _) = ⊥
+-- ---- Two nodes
+-- Two nodes made their rounds: what node 0 shows was put, and how far they are is told; or they were given up, and what was put begins
+-- that.
+abbrev pub RunsNodes : Planned → Splitting → Stream → Stream → Result Nodes Stopped → Type 0
+RunsNodes plan asked out out' (Ok nodes) = ShowsRounds plan asked.seed asked.rounds out.bytes out'.bytes nodes × (out'.faults ≡ out.faults)
+RunsNodes plan asked out out' (Err stopped.WriteFault) = BeginsRounds plan asked.seed asked.rounds out.bytes out'.bytes × Fails out out'
+RunsNodes plan asked out out' (Err stopped.NoMemory) = BeginsRounds plan asked.seed asked.rounds out.bytes out'.bytes × (out'.faults ≡ out.faults)
+RunsNodes plan asked out out' (Err _) = ⊥
+-- How node 0 ended is told, where it did, and how far both nodes are; or there was no memory.
+abbrev pub TellsRounds : System → Nodes → Result Served Stopped → Type 0
+TellsRounds system nodes (Ok served) = (served.status ≡ node_status nodes.outcome) × (served.notes ≡ told_notes system nodes)
+TellsRounds system nodes (Err why) = why ≡ stopped.NoMemory

@@ -9,7 +9,7 @@ ghost use Rattle.cosim_app.specs.Laws.{AnswersAgree, EndsAreServed, EveryCallIsA
 ghost use Rattle.command_line.specs.Words.{bytes_of};
 
 use crate::commands::{
-    bench, check, flatten, generate, print, replay, resume, run, save, stimulus, upgrade, verify,
+    bench, check, flatten, generate, nodes, print, replay, resume, run, save, stimulus, upgrade, verify,
 };
 use command_line::{Command, command_of};
 use cosim_call::{Served, Status, Stopped, finish, put_made, read_input, tell};
@@ -43,6 +43,7 @@ fn serve<O: Sink>(
         Command::Verify => put_made(alloc, verify::make(alloc, text), out),
         Command::Stimulus => put_made(alloc, stimulus::make(alloc, text), out),
         Command::Flatten => put_made(alloc, flatten::make(alloc, text), out),
+        Command::Nodes(asked) => nodes::serve(alloc, *asked, text, out),
     }
 }
 
@@ -71,7 +72,8 @@ fn serve_crewed<R: Threads + Wait + Copy + Send + Drop + 'static, O: Sink, G: Ga
         | Command::Resume
         | Command::Verify
         | Command::Stimulus
-        | Command::Flatten => unreachable!(),
+        | Command::Flatten
+        | Command::Nodes(_) => unreachable!(),
     }
 }
 

@@ -5,6 +5,7 @@ pub(crate) mod bench;
 pub(crate) mod check;
 pub(crate) mod flatten;
 pub(crate) mod generate;
+pub(crate) mod nodes;
 pub(crate) mod print;
 pub(crate) mod replay;
 pub(crate) mod resume;

@@ -4,7 +4,7 @@ ghost use Rattle.cosim_call.specs.Notes.{line_end};
 ghost use Rattle.cosim_app.specs.Accepted.{traced_notes};
 ghost use Rattle.cosim_app.specs.SourcePlaces.{instance_shape, source_end, source_place};
 ghost use Rattle.event_runs.specs.Readings.{event_shape, output_read};
-ghost use Rattle.cosim_app.specs.Notes.{count_text, counts_text, report_text, steps_text, tickets_text, fault_number, instance_name, name_in, output_name, place_text, point_text, fault_text, budget_text, lengths_text, step_refused_text, ending_notes};
+ghost use Rattle.cosim_app.specs.Notes.{count_text, counts_text, nodes_text, report_text, steps_text, tickets_text, fault_number, instance_name, name_in, output_name, place_text, point_text, fault_text, budget_text, lengths_text, step_refused_text, ending_notes};
 
 use cosim_call::append_all;
 use fixed_words::{Fault, List, NoMemory};
@@ -238,6 +238,25 @@ pub(crate) fn report(alloc: Global, report: Report) -> Result<Vec<u8>, NoMemory>
         report.lapsed,
     )?;
     append_all(&mut note, &[b"\n"])?;
+    Ok(note)
+}
+
+/// At which rows two nodes stand.
+pub(crate) fn nodes(alloc: Global, first: u64, second: u64) -> Result<Vec<u8>, NoMemory>
+    ensures { IfOk result (λ note. note.items ≡ nodes_text first second) }
+{
+    let (mut one, mut other) = (Buffer::new(), Buffer::new());
+    let mut note = Vec::new(alloc);
+    append_all(
+        &mut note,
+        &[
+            b"cosim: node 0 row ",
+            one.format(first).as_bytes(),
+            b", node 1 row ",
+            other.format(second).as_bytes(),
+            b"\n",
+        ],
+    )?;
     Ok(note)
 }
 
