@@ -14,6 +14,7 @@ declare -gA _cosim_options=(
   [stimulus]=''
   [flatten]=''
   [replay]='--seed --workers'
+  [nodes]='--seed --rounds'
   [gen]='--seed --instances --rows'
   [bench]='--seed --instances --rows'
 )
