@@ -172,7 +172,9 @@ FindsFlat nest (Ok flat) = (flat.items ≡ printed_text (flat_of nest)) × ((lin
 FindsFlat nest (Err (stopped.Refused line rule)) = IsRefusedNest nest line rule
 FindsFlat nest (Err stopped.NoMemory) = ⊤
 FindsFlat nest (Err _) = ⊥
+
 -- ---- Two nodes
+
 -- Two nodes made their rounds: what node 0 shows was put, and how far they are is told; or they were given up, and what was put begins
 -- that.
 abbrev pub RunsNodes : Planned → Splitting → Stream → Stream → Result Nodes Stopped → Type 0
@@ -180,6 +182,7 @@ RunsNodes plan asked out out' (Ok nodes) = ShowsRounds plan asked.seed asked.rou
 RunsNodes plan asked out out' (Err stopped.WriteFault) = BeginsRounds plan asked.seed asked.rounds out.bytes out'.bytes × Fails out out'
 RunsNodes plan asked out out' (Err stopped.NoMemory) = BeginsRounds plan asked.seed asked.rounds out.bytes out'.bytes × (out'.faults ≡ out.faults)
 RunsNodes plan asked out out' (Err _) = ⊥
+
 -- How node 0 ended is told, where it did, and how far both nodes are; or there was no memory.
 abbrev pub TellsRounds : System → Nodes → Result Served Stopped → Type 0
 TellsRounds system nodes (Ok served) = (served.status ≡ node_status nodes.outcome) × (served.notes ≡ told_notes system nodes)

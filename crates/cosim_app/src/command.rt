@@ -9,7 +9,8 @@ ghost use Rattle.cosim_app.specs.Laws.{AnswersAgree, EndsAreServed, EveryCallIsA
 ghost use Rattle.command_line.specs.Words.{bytes_of};
 
 use crate::commands::{
-    bench, check, flatten, generate, nodes, print, replay, resume, run, save, stimulus, upgrade, verify,
+    bench, check, flatten, generate, nodes, print, replay, resume, run, save, stimulus, upgrade,
+    verify,
 };
 use command_line::{Command, command_of};
 use cosim_call::{Served, Status, Stopped, finish, put_made, read_input, tell};

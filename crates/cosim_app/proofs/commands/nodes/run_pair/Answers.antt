@@ -20,7 +20,7 @@ returns-in-Ok g c = (
   subst (λ (p : Planned). ShowsRounds p c.args.asked.seed c.args.asked.rounds (g.O.Sink.held c.args.out.now) (g.O.Sink.held c.run_nodes.new.out) c.in-Ok.nodes)
       c.in_ok-clone.ensures.cases
       (subst (λ rounds. ShowsRounds c.in_ok-clone.field-0.value c.args.asked.seed rounds (g.O.Sink.held c.args.out.now)
-          (g.O.Sink.held c.run_nodes.new.out) c.in-Ok.nodes) c.get-rounds.ensures.value c.in-Ok.ensures.whole),
+      (g.O.Sink.held c.run_nodes.new.out) c.in-Ok.nodes) c.get-rounds.ensures.value c.in-Ok.ensures.whole),
   c.in-Ok.ensures.cause.same (λ e. absurd (cc)),
 )
 
@@ -29,7 +29,7 @@ returns-in-Err-WriteFault g c = (
   subst (λ (p : Planned). BeginsRounds p c.args.asked.seed c.args.asked.rounds (g.O.Sink.held c.args.out.now) (g.O.Sink.held c.run_nodes.new.out))
       c.in_ok-clone.ensures.cases
       (subst (λ rounds. BeginsRounds c.in_ok-clone.field-0.value c.args.asked.seed rounds (g.O.Sink.held c.args.out.now)
-          (g.O.Sink.held c.run_nodes.new.out)) c.get-rounds.ensures.value c.in-Err-WriteFault.ensures.front),
+      (g.O.Sink.held c.run_nodes.new.out)) c.get-rounds.ensures.value c.in-Err-WriteFault.ensures.front),
   c.in-Err-WriteFault.ensures.cause.failed (ap (λ (e : CrewFault). Err e) c.in-Err-WriteFault.field-0-is),
 )
 
@@ -38,6 +38,6 @@ returns-in-Err-NoMemory g c = (
   subst (λ (p : Planned). BeginsRounds p c.args.asked.seed c.args.asked.rounds (g.O.Sink.held c.args.out.now) (g.O.Sink.held c.run_nodes.new.out))
       c.in_ok-clone.ensures.cases
       (subst (λ rounds. BeginsRounds c.in_ok-clone.field-0.value c.args.asked.seed rounds (g.O.Sink.held c.args.out.now)
-          (g.O.Sink.held c.run_nodes.new.out)) c.get-rounds.ensures.value c.in-Err-NoMemory.ensures.front),
+      (g.O.Sink.held c.run_nodes.new.out)) c.get-rounds.ensures.value c.in-Err-NoMemory.ensures.front),
   c.in-Err-NoMemory.ensures.cause.same (λ e. absurd (cc)),
 )
