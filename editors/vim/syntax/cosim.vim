@@ -10,6 +10,7 @@ syntax keyword cosimOperator and or not div mod
 syntax keyword cosimFunction abs min clamp int fix present
 syntax keyword cosimConstant true false absent
 syntax keyword cosimTime t h
+syntax match cosimNest "^\s*\zs\(group\|main\|in\|out\)\ze\(\s\+\h\|\s*$\|\s*#\)"
 syntax keyword cosimType Int8 UInt8 Int16 UInt16 Int32 UInt32 Int64 Bool Fixed
 syntax match cosimNumber "\<\d\+\(\.\d\+\)\?\>"
 syntax match cosimSign ":=\|->\|[=!<>]=\|[-+*/<>]"
@@ -22,6 +23,7 @@ highlight default link cosimOperator Operator
 highlight default link cosimFunction Function
 highlight default link cosimConstant Constant
 highlight default link cosimTime Special
+highlight default link cosimNest Structure
 highlight default link cosimType Type
 highlight default link cosimNumber Number
 highlight default link cosimSign Operator
