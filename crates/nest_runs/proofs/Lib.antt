@@ -1,0 +1,11 @@
+pub mod CarryLaws
+pub mod ListLaws
+pub mod MadeValues
+pub mod MemberLaws
+pub mod ScopeLaws
+pub mod SightLaws
+pub mod SoundLaws
+pub mod TextLaws
+pub mod TraceLaws
+pub mod WayLaws
+pub mod WireLaws

@@ -1,0 +1,34 @@
+-- Laws of runs of nests.
+use Rattle.std.specs.Prelude.{◌↔◌, ℕ, List}
+use Rattle.super_time.specs.declared.point.Point.{Point}
+use Rattle.unit_tree.specs.Canonical.{canonical_text}
+use Rattle.unit_tree.specs.Orders.{HasNoCycle}
+use Rattle.unit_tree.specs.declared.ending.Ending.{Ending}
+use Rattle.unit_tree.specs.declared.system.System.{System}
+use Rattle.event_runs.specs.EventRuns.{IsEventTraceOf}
+use Rattle.event_runs.specs.EventTrace.{EventRow}
+use Rattle.nest_text.specs.Nests.{IsNestOf}
+use Rattle.nest_text.specs.declared.nest.Nest.{Nest}
+use Rattle.sub_flat.specs.Flattening.{flat_of}
+use Rattle.sub_flat.specs.NestRules.{BreaksNest}
+use Rattle.text_accept.specs.Accepting.{IsAcceptedAs}
+use Rattle.nest_runs.specs.SoundNests.{IsSound}
+use Rattle.nest_runs.specs.NestTrace.{IsNestTraceOf, HasOneNestTraceOf}
+
+-- The trace of a nest is that of its flat system: the same rows, with the same signals of all components' outputs, the same last point
+-- and the same end.
+abbrev pub NestsRunAsTheyAreFlat : Type 0
+NestsRunAsTheyAreFlat =
+    (nest : Nest) → IsSound nest → (rows : List EventRow) (last : Point) (ending : Ending)
+    → IsNestTraceOf nest rows last ending ↔ IsEventTraceOf (flat_of nest) rows last ending
+
+-- So there is exactly one, where the flat system has no cycle.
+abbrev pub NestsHaveOneOutcome : Type 0
+NestsHaveOneOutcome = (nest : Nest) → IsSound nest → HasNoCycle (flat_of nest) → HasOneNestTraceOf nest
+
+-- A nested text whose nest keeps the rules of groups runs as the canonical text of its flat system, where that text is accepted.
+abbrev pub NestedTextsRunFlat : Type 0
+NestedTextsRunFlat =
+    (text : List ℕ) (nest : Nest) (system : System) (lines : List ℕ) → IsNestOf text nest → ((line rule : ℕ) → BreaksNest nest line rule → ⊥)
+    → IsAcceptedAs (canonical_text (flat_of nest)) system lines
+    → (rows : List EventRow) (last : Point) (ending : Ending) → IsNestTraceOf nest rows last ending ↔ IsEventTraceOf system rows last ending

@@ -1,0 +1,4 @@
+pub mod Laws
+pub mod NestPorts
+pub mod NestTrace
+pub mod SoundNests

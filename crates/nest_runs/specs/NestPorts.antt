@@ -1,0 +1,70 @@
+-- Ports of a nest: where its lines stand, which ports they name, and how these are connected.
+use Rattle.std.specs.Prelude.{◌≡◌, ℕ, zero, suc, false, if◌then◌else◌, Some, Contains}
+use Rattle.unit_tree.specs.declared.system.Instance.{Instance}
+use Rattle.unit_tree.specs.declared.system.PortName.{PortName}
+use Rattle.unit_tree.specs.declared.system.Wire.{Wire}
+use Rattle.nest_text.specs.declared.nest.Nest.{Nest}
+use Rattle.sub_flat.specs.Flattening.{top, scope_of, instances_of, wires_of, is_component, flat_port, expand, step_down}
+use Rattle.sub_flat.specs.declared.scope.Scope.{Scope}
+use Rattle.sub_flat.specs.declared.scope.Spot.{Spot}
+
+-- ---- Scopes
+
+-- One scope stands in another: it is that of an instance there, which is one of a group.
+pub record IsInside (nest : Nest) (outer scope : Scope) : Type 0 where
+  pub instance : Instance
+  pub stands : Contains (instances_of nest outer.group) instance
+  pub leads : scope_of nest outer instance ≡ Some scope
+
+-- A scope so many levels deep: that of `main`, or one inside a scope that is a level less deep.
+abbrev pub IsScopeAt : Nest → ℕ → Scope → Type 0
+IsScopeAt nest zero scope = scope ≡ top
+IsScopeAt nest (suc depth) scope = (outer : Scope) × IsScopeAt nest depth outer × IsInside nest outer scope
+
+abbrev pub IsScope : Nest → Scope → Type 0
+IsScope nest scope = (depth : ℕ) × IsScopeAt nest depth scope
+
+-- ---- Ports
+
+-- A port of a group is told by where its instance stands. A component has one name in all scopes, which is its name in the flat
+-- system.
+pub data NestPort : Type 0 where
+  OfComponent : PortName → NestPort
+  OfGroup : Spot → NestPort
+
+abbrev pub spot_of : Scope → PortName → Spot
+spot_of scope port = record { scope = scope; port = port }
+
+-- The port that a name in a scope means. One at an instance that isn't there may name a component of another scope.
+abbrev pub port_at : Nest → Spot → NestPort
+port_at nest spot = if is_component nest spot then OfComponent (flat_port spot) else OfGroup spot
+
+-- ---- Lines
+
+-- A connection of some scope leads from an output to an input.
+pub record Connects (nest : Nest) (from to : NestPort) : Type 0 where
+  pub scope : Scope
+  pub wire : Wire
+  pub is_scope : IsScope nest scope
+  pub stands : Contains (wires_of nest scope.group) wire
+  pub from_is : from ≡ port_at nest (spot_of scope wire.from)
+  pub to_is : to ≡ port_at nest (spot_of scope wire.to)
+
+-- An `in` line leads from an input of a group to one inside.
+pub record LeadsIn (nest : Nest) (outer inner : NestPort) : Type 0 where
+  pub spot : Spot
+  pub next : Spot
+  pub is_scope : IsScope nest spot.scope
+  pub of_group : is_component nest spot ≡ false
+  pub line : Contains (expand nest spot) next
+  pub outer_is : outer ≡ port_at nest spot
+  pub inner_is : inner ≡ port_at nest next
+
+-- An `out` line makes an output of a group of one inside.
+pub record LeadsOut (nest : Nest) (outer inner : NestPort) : Type 0 where
+  pub spot : Spot
+  pub next : Spot
+  pub is_scope : IsScope nest spot.scope
+  pub line : step_down nest spot ≡ Some next
+  pub outer_is : outer ≡ port_at nest spot
+  pub inner_is : inner ≡ port_at nest next

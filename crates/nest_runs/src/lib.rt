@@ -1,0 +1,12 @@
+//! Runs of nests: what a system of groups does, told at its groups and components, without code.
+//!
+//! - `specs/NestPorts.antt`: where lines of a nest stand, the ports that they name, and what connects these;
+//! - `specs/NestTrace.antt`: port assignments in which the ports of groups have values too, and traces by them.
+//!
+//! That such a trace is just the trace of the flat system is a law ([`nests_run_as_they_are_flat`]), and so is that of the text
+//! which flattening puts ([`nested_texts_run_flat`]); `specs/Laws.antt` states both.
+#![tactic(auto)]
+
+mod laws;
+
+pub use laws::{nested_texts_run_flat, nests_run_as_they_are_flat};
