@@ -190,9 +190,9 @@ module _ (nest : Nest) (sound : IsSound nest) where
   first_instance : (group : Group) → is_empty group.instances ≡ false → (instance : Instance) × Has group.instances instance
   first_instance group some = by group.instances some
     where
-      by : (instances : List Instance) → is_empty instances ≡ false → (instance : Instance) × Has instances instance
+      by : (given : List Instance) → is_empty given ≡ false → (instance : Instance) × Has given instance
       by [] some = absurd (cc)
-      by (instance ∷ instances) some = (instance, inl refl)
+      by (instance ∷ others) some = (instance, inl refl)
 
   -- A scope of a group has an instance.
   has_instance : (depth : ℕ) (scope : Scope) → IsScopeAt nest (suc depth) scope → (instance : Instance) × Has (instances_of nest scope.group) instance
