@@ -39,7 +39,7 @@ pub enum Command {
     Stimulus,
     /// Puts the canonical text of the system that a nested text becomes, whose groups are made flat.
     Flatten,
-    /// Puts the rows that two nodes commit, which exchange what they need over a link that loses messages.
+    /// Puts the rows that the first of two nodes commits, which tell each other facts over a link that loses some of them.
     Nodes(Splitting),
 }
 

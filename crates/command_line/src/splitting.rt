@@ -9,7 +9,7 @@ use crate::ranges::Within;
 /// How many rounds two nodes make.
 pub type Rounds = Within<1, 100_000>;
 
-/// By which seed the messages between two nodes are lost, and for how many rounds they run.
+/// By which seed facts between two nodes are lost, and for how many rounds they run.
 #[derive(Clone, Copy, Debug, PartialEq, Eq)]
 pub struct Splitting {
     pub seed: u64,

@@ -4,6 +4,7 @@ pub mod BoardLaws
 pub mod CountLaws
 pub mod GoLaws
 pub mod KeepLaws
+pub mod LengthLaws
 pub mod LoopLaws
 pub mod MakeLaws
 pub mod MoveLaws
@@ -17,6 +18,7 @@ pub mod PrefixLaws
 pub mod PassLaws
 pub mod RoomLaws
 pub mod RuleLaws
+pub mod ShortFacts
 pub mod StageBodies
 pub mod StageItems
 pub mod StageLaws
@@ -24,5 +26,6 @@ pub mod StepBodies
 pub mod TakeLaws
 pub mod TruthLaws
 pub mod TryLaws
+pub mod ValueLaws
 pub mod WordLaws
 pub mod WorkLaws

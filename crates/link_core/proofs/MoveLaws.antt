@@ -1,8 +1,8 @@
 -- Where a node moves, for who doesn't know of stages.
-use Rattle.std.proofs.Common.{◌≡◌, ◌∙◌, ℕ, suc, List, sym, ap}
+use Rattle.std.proofs.Common.{◌≡◌, ℕ, suc, List, sym, ap}
 use Rattle.link_core.specs.Boards.{Board}
 use Rattle.link_core.specs.Making.{move_by, rule_of, stage_at}
-use Rattle.link_core.specs.Nodes.{End, Go, Move, Stay}
+use Rattle.link_core.specs.Nodes.{Go, Move}
 use Rattle.link_core.specs.declared.stage.Stage.{Stage}
 use Rattle.link_core.specs.declared.stage.Stage.TheVariants.{Limits, On, Over, Redo, Trial, Words}
 use Rattle.unit_tree.specs.Compositions.{Composition}

@@ -248,6 +248,23 @@ module _ (run : Composition) (rule : Rule) (right : IsRightRule run rule) where
     pub take_keeps : (node : Progress) (fact : Fact) → KeepsTo run rule me node → IsHonest run fact → KeepsTo run rule me (taken rule me node fact).0
     take_keeps node fact keeps honest = taken_by node fact (drops rule me node fact) keeps honest refl
 
+    -- A fact that isn't dropped arrives at a node that hasn't ended.
+    going_on : (ended : Option Ending) (others : Bool) → (is_some ended || others) ≡ false → ended ≡ None
+    going_on None others is = refl
+    going_on (Some ending) others is = absurd (cc)
+
+    take_commits_by : (node : Progress) (fact : Fact) (dropped : Bool) (keeps : KeepsTo run rule me node) → IsHonest run fact
+        → drops rule me node fact ≡ false → dropped ≡ false
+        → Works run rule me (knowing node fact) keeps.stand (if dropped then (node, Dropped) else worked rule me (knowing node fact))
+    unfolding knowing_keeps
+    take_commits_by node fact true keeps honest is was = absurd (cc)
+    take_commits_by node fact false keeps honest is was = work_commits (knowing node fact) (knowing_keeps node keeps fact honest is)
+        (going_on node.ended (not (row_of fact == node.at.number) || (not (rule.is_of (1 - me) fact) || has node.known fact)) is)
+
+    pub take_commits : (node : Progress) (fact : Fact) (keeps : KeepsTo run rule me node) → IsHonest run fact → drops rule me node fact ≡ false
+        → Works run rule me (knowing node fact) keeps.stand (taken rule me node fact)
+    take_commits node fact keeps honest is = take_commits_by node fact (drops rule me node fact) keeps honest is is
+
     deliver_keeps : (node : Progress) (facts : List Fact) (place : ℕ) (found : Option Fact) → slice_get facts place ≡ found → KeepsTo run rule me node
         → AllByRecursion (IsTrueFact run) facts → KeepsTo run rule me (delivered rule me node found).0
     deliver_keeps node facts place None is keeps so = keeps

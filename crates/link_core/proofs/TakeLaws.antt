@@ -1,15 +1,15 @@
 -- Facts that arrive: of whose instance they are, and what a node is that learnt one.
-use Rattle.std.proofs.Common.{◌≡◌, ◌∙◌, ℕ, zero, suc, ◌+◌, ◌-◌, ◌<◌, ◌≤◌, ◌==◌, Bool, true, false, ◌||◌, not, is_some, ℤ, List, [], ◌∷◌, length, map, Option}
+use Rattle.std.proofs.Common.{◌≡◌, ◌∙◌, ℕ, zero, suc, ◌-◌, ◌<◌, ◌≤◌, ◌==◌, Bool, true, false, ◌||◌, is_some, ℤ, List, [], ◌∷◌, length, map, Option}
 use Rattle.std.proofs.Common.{Some, None, Ok, Err, refl, sym, ap, ap₂, subst, arith}
 use Rattle.std.proofs.lemmas.Option.{same_Some, slice_get_past, slice_get_within}
-use Rattle.std.specs.Prelude.{if◌then◌else◌, slice_get, zip, IfSome}
+use Rattle.std.specs.Prelude.{if◌then◌else◌, slice_get, IfSome}
 use Rattle.std.specs.List.{AllByRecursion}
-use Rattle.std.specs.Option.{option_and_then, option_map}
+use Rattle.std.specs.Option.{option_map}
 use Rattle.fixed_words.specs.Operations.{Outcome}
 use Rattle.link_core.specs.Boards.{IsSo, board_of, entry, row_of, seen_of}
 use Rattle.link_core.specs.Inner.{IsSet}
-use Rattle.link_core.specs.Keeping.{IsHonest, IsSoOn, IsTrueFact, KeepsTo}
-use Rattle.link_core.specs.Making.{held, is_held_by, is_own, no_states, own_state, own_states, ports_in, rule_of}
+use Rattle.link_core.specs.Keeping.{IsHonest, IsTrueFact, KeepsTo}
+use Rattle.link_core.specs.Making.{held, is_held_by, is_own, no_states, own_states, ports_in, rule_of}
 use Rattle.link_core.specs.Nodes.{Making, Progress, drops, has, knowing, taken, worked}
 use Rattle.link_core.specs.Noted.{AreNotes, IsItemOf, IsWordSeen, knowing_fact, making_in}
 use Rattle.link_core.specs.Ready.{IsJudged, is_dropped, progress_in}

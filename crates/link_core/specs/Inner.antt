@@ -2,6 +2,7 @@
 use Rattle.std.specs.Prelude.{◌≡◌, ◌≤◌, ◌^◌, ℕ, ℤ, List, map, length, vec_capacity}
 use Rattle.std.specs.List.{AllByRecursion}
 use Rattle.link_core.specs.Keeping.{KeepsTo}
+use Rattle.link_core.specs.Lengths.{AreOfWords}
 use Rattle.link_core.specs.Making.{ports_in, rule_of}
 use Rattle.link_core.specs.NodeStates.{NodeState}
 use Rattle.link_core.specs.Noted.{AreNotes}
@@ -38,7 +39,8 @@ pub record IsSet (plan : Planned) (owners : List ℕ) (me : ℕ) (units : Fleet)
   pub before_long : HaveStates plan.run before
   pub room : length (routes_of plan.run).outputs ≤ vec_capacity course.shown.words
 
--- A node keeps to the trace.
+-- A node keeps to the trace, and the numbers of its plan are words of 64 bits.
 pub record IsNode (node : Inside) : Type 0 where
   pub keeps : KeepsTo node.plan.value.run (rule_of node.plan.value.run node.owners) node.me (node_state node).progress
   pub is_set : IsSet node.plan.value node.owners node.me node.units node.notes node.course node.kept (map (λ one. one.items) node.before.items)
+  pub of_words : AreOfWords node.plan.value.run

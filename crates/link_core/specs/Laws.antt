@@ -1,8 +1,9 @@
 -- Laws of facts, stages, nodes and pairs.
 use Rattle.link_core.specs.Boards.{Agrees, Board, IsAlike, IsKnown, IsOn, LacksNone, before_limits, before_redo, before_trial, board_of}
 use Rattle.link_core.specs.Keeping.{IsHonest, IsRightRule, IsTrueFact, KeepsTo, PairKeepsTo}
+use Rattle.link_core.specs.Lengths.{AreOfWords, is_short}
 use Rattle.link_core.specs.Making.{each, held, name_of, rule_of, with_word, words_made}
-use Rattle.link_core.specs.Nodes.{Making, Progress, Rule, making_of, taken, worked}
+use Rattle.link_core.specs.Nodes.{Making, Progress, Rule, drops, knowing, making_of, taken, worked}
 use Rattle.link_core.specs.Pairs.{after_events, opened_pair}
 use Rattle.link_core.specs.Stages.{stage_of}
 use Rattle.link_core.specs.declared.fact.Fact.{Fact}
@@ -11,8 +12,10 @@ use Rattle.link_core.specs.declared.stage.Stage.{Stage}
 use Rattle.link_core.specs.declared.stage.Stage.TheVariants.{Limits, On, Over, Redo, Trial, Words}
 use Rattle.link_core.specs.declared.taken.Taken.{Taken}
 use Rattle.link_core.specs.declared.taken.Taken.TheVariants.{Dropped, Ended, Kept, Row}
+use Rattle.port_solve.specs.Sound.{IsSound}
 use Rattle.std.specs.List.{AllZip, enumerate_from}
-use Rattle.std.specs.Prelude.{List, None, length, map, true, ℕ, ⊤, ◌++◌, ◌≡◌, ◌≤◌}
+use Rattle.std.specs.Prelude.{List, None, false, length, map, true, ℕ, ⊤, ◌++◌, ◌≡◌, ◌≤◌}
+use Rattle.trace_plan.specs.Plans.{IsBounded}
 use Rattle.unit_tree.specs.Compositions.{AreMembers, Composition}
 use Rattle.unit_tree.specs.Ports.{IsPlaceOrder, outlets}
 use Rattle.unit_tree.specs.Successor.{Position, after, agreed, ends, goes, proposed, successor}
@@ -78,6 +81,13 @@ WorkCommitsRightly =
     (run : Composition) (rule : Rule) → IsRightRule run rule → (me : ℕ) (node : Progress) (keeps : KeepsTo run rule me node) → node.ended ≡ None
     → Works run rule me node keeps.stand (worked rule me node)
 
+-- So it is with a fact that arrives and isn't dropped: the node, which knows it from then on, works.
+abbrev pub TakeCommitsRightly : Type 0
+TakeCommitsRightly =
+    (run : Composition) (rule : Rule) → IsRightRule run rule → (me : ℕ) (node : Progress) (fact : Fact) (keeps : KeepsTo run rule me node)
+    → IsHonest run fact → drops rule me node fact ≡ false
+    → Works run rule me (knowing node fact) keeps.stand (taken rule me node fact)
+
 -- A node may take any honest fact.
 abbrev pub HonestFactsKeep : Type 0
 HonestFactsKeep =
@@ -105,3 +115,9 @@ abbrev pub PassesAreEnough : Type 0
 PassesAreEnough =
     (run : Composition) (owners : List ℕ) (me : ℕ) (at : Position) (making : Making) → length making.known.words ≡ length (held run owners at.states)
     → each (with_word me at.number) (words_made run owners me at making) (enumerate_from 0 (held run owners at.states)) ≡ words_made run owners me at making
+
+-- In a run whose numbers are in their ranges, each true fact is short.
+abbrev pub FactsAreShort : Type 0
+FactsAreShort = (run : Composition) (order : List ℕ) → IsPlaceOrder run order → AreMembers run → IsSound run → IsBounded run → AreOfWords run → (fact : Fact)
+    → IsTrueFact run fact
+    → is_short fact ≡ true

@@ -3,6 +3,7 @@ pub mod Inner
 pub mod Joined
 pub mod Keeping
 pub mod Laws
+pub mod Lengths
 pub mod Making
 pub mod NodeStates
 pub mod Nodes

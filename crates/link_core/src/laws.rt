@@ -1,6 +1,6 @@
 //! Laws of facts, stages, nodes and pairs.
 ghost use Rattle.link_core.specs.Laws.{FactsAreFunctional, StagesAreRight, PairsKeepToTheTrace, PassesAreEnough, RulesAreRight};
-ghost use Rattle.link_core.specs.Laws.{EventsKeep, HonestFactsKeep, TrueFactsAreHonest, WorkCommitsRightly};
+ghost use Rattle.link_core.specs.Laws.{EventsKeep, FactsAreShort, HonestFactsKeep, TakeCommitsRightly, TrueFactsAreHonest, WorkCommitsRightly};
 
 /// A law: an item has one fact.
 pub fn facts_are_functional()
@@ -23,6 +23,7 @@ pub fn rules_are_right()
 pub fn events_keep()
     ensures keep { EventsKeep }
     ensures commit { WorkCommitsRightly }
+    ensures take_commits { TakeCommitsRightly }
     ensures pairs { PairsKeepToTheTrace }
     ensures take { HonestFactsKeep }
     ensures honest { TrueFactsAreHonest }
@@ -31,4 +32,10 @@ pub fn events_keep()
 /// A law: as many passes over the outputs as there are outputs make all words that can be made.
 pub fn passes_are_enough()
     ensures { PassesAreEnough }
+{}
+
+/// A law: each true fact of a run has a row below 100,000, and tells no length above the greatest word, where the numbers of each `max`
+/// are words.
+pub fn facts_are_short()
+    ensures { FactsAreShort }
 {}

@@ -7,7 +7,7 @@
 //!
 //! Definitions: `specs/Boards.antt` (the facts of a position, and what is known beside what is so), `specs/Stages.antt` (what a row asks
 //! for next), `specs/Nodes.antt` (what each call makes of a node), `specs/Making.antt` (what a node makes of what it knows),
-//! `specs/Pairs.antt` (pairs and events), `specs/Keeping.antt` (what nodes keep), `specs/NodeStates.antt` (what contracts see of a node)
+//! `specs/Pairs.antt` (pairs and events), `specs/Keeping.antt` (what nodes keep), `specs/Lengths.antt` (how long the steps in facts are), `specs/NodeStates.antt` (what contracts see of a node)
 //! and `specs/Laws.antt`: over every list of events each fact that is listed is the true one of its row, and each node stands at its part
 //! of the place of its number in the one trace, also after it started again. `specs/Noted.antt`, `specs/Ready.antt`, `specs/Inner.antt`
 //! and `specs/Joined.antt`, which need not be believed, say how it is gone about.
@@ -17,6 +17,7 @@ mod course;
 mod fact;
 mod keeping;
 mod laws;
+mod lengths;
 mod node;
 mod notes;
 mod opening;
@@ -32,7 +33,8 @@ mod working;
 
 pub use fact::{Asked, Fact, Said, Seen};
 pub use laws::{
-    events_keep, facts_are_functional, passes_are_enough, rules_are_right, stages_are_right,
+    events_keep, facts_are_functional, facts_are_short, passes_are_enough, rules_are_right,
+    stages_are_right,
 };
 pub use node::{Node, Row};
 pub use owners::by_turns;

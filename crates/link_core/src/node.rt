@@ -1,7 +1,8 @@
 //! A node.
 ghost use Rattle.std.specs.List.{AllByRecursion};
-ghost use Rattle.std.specs.Prelude.{◌≡◌, ◌≤◌, length, Some, None, IfOk, OnErr, IfSome, IfNone};
+ghost use Rattle.std.specs.Prelude.{◌≡◌, ◌≤◌, true, length, Some, None, IfOk, OnErr, IfSome, IfNone};
 ghost use Rattle.link_core.specs.Keeping.{IsHonest, KeepsTo};
+ghost use Rattle.link_core.specs.Lengths.{is_short};
 ghost use Rattle.link_core.specs.Making.{rule_of};
 ghost use Rattle.link_core.specs.NodeStates.{IsSameNode};
 ghost use Rattle.link_core.specs.Nodes.{keeping, opened, restarted, taken, worked};
@@ -10,6 +11,7 @@ ghost use Rattle.unit_tree.specs.Successor.{first_position};
 use crate::course::{Course, Kept};
 use crate::fact::Fact;
 use crate::keeping::{keep_states, restore_states};
+use crate::lengths::read_plan;
 use crate::notes::Notes;
 use crate::opening::{course_of, notes_of, states_of, units_of};
 use crate::taken::Taken;
@@ -82,6 +84,7 @@ impl Node {
         }) }
     {
         judged(&plan);
+        read_plan(&plan);
         let places = plan.order().routes().outputs.len();
         if places as u64 > 4_294_967_296 {
             return Err(AllocError);
@@ -207,6 +210,7 @@ impl Node {
     pub fn facts(&self) -> &[Fact]
         ensures facts { result.now ≡ self.now.progress.facts }
         ensures honest { AllByRecursion (IsHonest self.now.plan.run) result.now }
+        ensures short { AllByRecursion (λ fact. is_short fact ≡ true) result.now }
     {
         judged(&self.plan);
         &self.notes.facts

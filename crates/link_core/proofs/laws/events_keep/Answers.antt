@@ -1,4 +1,4 @@
-use Rattle.link_core.proofs.PairLaws.{all_events_keep, take_keeps, true_is_honest, work_commits}
+use Rattle.link_core.proofs.PairLaws.{all_events_keep, take_commits, take_keeps, true_is_honest, work_commits}
 use Rattle.link_core.proofs.RuleLaws.{rule_is_right}
 use Rattle.link_core.specs.Making.{rule_of}
 use Rattle.link_core.proofs.laws.events_keep.Goals as goal
@@ -8,6 +8,9 @@ returns-clause-keep c = all_events_keep
 
 pub returns-clause-commit : goal.returns-clause-commit
 returns-clause-commit c = work_commits
+
+pub returns-clause-take_commits : goal.returns-clause-take_commits
+returns-clause-take_commits c = take_commits
 
 pub returns-clause-pairs : goal.returns-clause-pairs
 returns-clause-pairs c = λ run order owners is_order are owns events. all_events_keep run (rule_of run owners)

@@ -3,9 +3,7 @@ use Rattle.std.proofs.lemmas.Option.{slice_get_past}
 use Rattle.std.specs.Prelude.{IfOk, None, Some, slice_get}
 use Rattle.link_core.specs.Keeping.{IsHonest}
 use Rattle.link_core.specs.Making.{rule_of}
-use Rattle.link_core.specs.Nodes.{Progress}
 use Rattle.link_core.specs.Pairs.{delivered}
-use Rattle.link_core.specs.declared.fact.Fact.{Fact}
 use Rattle.link_core.proofs.PairLaws.{found_is}
 use Rattle.link_core.proofs.pair.deliver.Goals as goal
 use Rattle.list_laws.proofs.Members.{read_at}

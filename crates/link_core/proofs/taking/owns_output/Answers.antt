@@ -1,4 +1,4 @@
-use Rattle.std.proofs.Common.{◌≡◌, ◌∙◌, ◌<◌, ◌≤◌, length, ap, arith}
+use Rattle.std.proofs.Common.{◌≡◌, ◌∙◌, length, ap, arith}
 use Rattle.link_core.proofs.TakeLaws.{output_missing, output_owned}
 use Rattle.link_core.proofs.taking.owns_output.Goals as goal
 use Rattle.unit_tree.specs.Routes.{routes_of}

@@ -51,6 +51,7 @@ invariant_of-self c =
         before_long = set.before_long;
         room = set.room;
       };
+      of_words = c.self.invariant.of_words;
     }
 
 pub returns-clause-restarted : goal.returns-clause-restarted

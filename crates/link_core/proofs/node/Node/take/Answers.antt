@@ -1,9 +1,9 @@
 use Rattle.std.proofs.Common.{◌≡◌, ◌∙◌, ◌≤◌, ◌<◌, ℤ, Vec, Global, map, refl, ap, ap₂, subst, sym}
 use Rattle.std.specs.Prelude.{length, vec_capacity}
-use Rattle.link_core.specs.Keeping.{IsHonest, KeepsTo}
+use Rattle.link_core.specs.Keeping.{IsHonest}
 use Rattle.link_core.specs.Making.{ports_in, rule_of}
 use Rattle.link_core.specs.NodeStates.{NodeState}
-use Rattle.link_core.specs.Nodes.{Making, Progress, drops, knowing, taken, worked}
+use Rattle.link_core.specs.Nodes.{Progress, taken, worked}
 use Rattle.link_core.specs.Noted.{AreNotes, IsItemOf, knowing_fact, making_in}
 use Rattle.link_core.specs.Ready.{IsJudged, IsReady, is_dropped, progress_in}
 use Rattle.link_core.specs.declared.taken.Taken.{Taken}
@@ -198,6 +198,7 @@ invariant_of-self-2 c =
         before_long = subst (λ (p : Planned). HaveStates p.run (map (λ one. one.items) c.work_on.new.before.items)) done_is c.work_on.ensures.before;
         room = subst (λ (p : Planned). length (routes_of p.run).outputs ≤ vec_capacity c.work_on.new.course.shown.words) done_is c.work_on.ensures.shown;
       };
+      of_words = c.self.invariant.of_words;
     }
 
 pub returns-clause-taken : goal.returns-clause-taken

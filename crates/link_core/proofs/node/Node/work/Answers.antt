@@ -73,6 +73,7 @@ invariant_of-self-2 c =
         before_long = subst (λ (p : Planned). HaveStates p.run (map (λ one. one.items) c.work_on.new.before.items)) plan_is c.work_on.ensures.before;
         room = subst (λ (p : Planned). length (routes_of p.run).outputs ≤ vec_capacity c.work_on.new.course.shown.words) plan_is c.work_on.ensures.shown;
       };
+      of_words = c.self.invariant.of_words;
     }
 
 pub returns-clause-worked : goal.returns-clause-worked
