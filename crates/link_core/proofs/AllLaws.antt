@@ -3,8 +3,8 @@ use Rattle.std.proofs.Common.{◌≡◌, ◌∙◌, ℕ, ◌==◌, Bool, true, f
 use Rattle.std.specs.Prelude.{if◌then◌else◌}
 use Rattle.std.specs.Option.{option_map}
 use Rattle.link_core.specs.Boards.{Board, entry, said_of}
-use Rattle.link_core.specs.Making.{each, held_standings, limits_by, limits_made, names_of, ports_in, put_redo, put_reply, redos_by, redos_made, replies_by}
-use Rattle.link_core.specs.Making.{replies_made, with_limit, with_redo, with_reply, words_made}
+use Rattle.link_core.specs.Making.{each, held_standings, limits_by, limits_made, names_of, ports_in, put_said, redos_by, redos_made, replies_by}
+use Rattle.link_core.specs.Making.{replies_made, with_limit, with_said, words_made}
 use Rattle.link_core.specs.Nodes.{Making}
 use Rattle.link_core.specs.Noted.{AreFed, IsTrue, part_at, position_at}
 use Rattle.link_core.specs.Ready.{IsJudged, all_made}
@@ -34,11 +34,11 @@ each_words : {X : Type 0} (make : Making → X → Making) (items : List X) (mak
 each_words make [] making step = refl
 each_words make (item ∷ items) making step = each_words make items (make making item) step ∙ step making item
 
-reply_words : (row instance : ℕ) (found : Option Said) (making : Making) → (put_reply row instance found making).known.words ≡ making.known.words
+reply_words : (row instance : ℕ) (found : Option Said) (making : Making) → (put_said false row instance found making).known.words ≡ making.known.words
 reply_words row instance None making = refl
 reply_words row instance (Some said) making = refl
 
-redo_words : (row instance : ℕ) (found : Option Said) (making : Making) → (put_redo row instance found making).known.words ≡ making.known.words
+redo_words : (row instance : ℕ) (found : Option Said) (making : Making) → (put_said true row instance found making).known.words ≡ making.known.words
 redo_words row instance None making = refl
 redo_words row instance (Some said) making = refl
 
@@ -55,12 +55,12 @@ module _ (run : Composition) (owners : List ℕ) (me : ℕ) (at : Position) wher
   limits_words (On h) making = refl
 
   pub replies_words : (stage : Stage) (making : Making) → (replies_by run owners me at stage making).known.words ≡ making.known.words
-  replies_words (Trial h) making = each_words (with_reply me at (ports_in making.known.words) h) (held_standings run owners at) making one
+  replies_words (Trial h) making = each_words (with_said false me at (ports_in making.known.words) h) (held_standings run owners at) making one
     where
-      one : (now : Making) (item : ℕ × (ℕ × Standing)) → (with_reply me at (ports_in making.known.words) h now item).known.words ≡ now.known.words
+      one : (now : Making) (item : ℕ × (ℕ × Standing)) → (with_said false me at (ports_in making.known.words) h now item).known.words ≡ now.known.words
       one now (instance, (owner, standing)) =
           by_if ((owner == me) && is_none (entry now.known.replies instance))
-          (put_reply at.number instance (option_map said_of (step_at at.point.t h (ports_in making.known.words) standing)) now) now now.known.words
+          (put_said false at.number instance (option_map said_of (step_at at.point.t h (ports_in making.known.words) standing)) now) now now.known.words
           (reply_words at.number instance (option_map said_of (step_at at.point.t h (ports_in making.known.words) standing)) now) refl
   replies_words Limits making = refl
   replies_words Words making = refl
@@ -69,12 +69,12 @@ module _ (run : Composition) (owners : List ℕ) (me : ℕ) (at : Position) wher
   replies_words (On h) making = refl
 
   pub redos_words : (stage : Stage) (making : Making) → (redos_by run owners me at stage making).known.words ≡ making.known.words
-  redos_words (Redo h) making = each_words (with_redo me at (ports_in making.known.words) h) (held_standings run owners at) making one
+  redos_words (Redo h) making = each_words (with_said true me at (ports_in making.known.words) h) (held_standings run owners at) making one
     where
-      one : (now : Making) (item : ℕ × (ℕ × Standing)) → (with_redo me at (ports_in making.known.words) h now item).known.words ≡ now.known.words
+      one : (now : Making) (item : ℕ × (ℕ × Standing)) → (with_said true me at (ports_in making.known.words) h now item).known.words ≡ now.known.words
       one now (instance, (owner, standing)) =
           by_if ((owner == me) && is_none (entry now.known.redos instance))
-          (put_redo at.number instance (option_map said_of (step_at at.point.t h (ports_in making.known.words) standing)) now) now now.known.words
+          (put_said true at.number instance (option_map said_of (step_at at.point.t h (ports_in making.known.words) standing)) now) now now.known.words
           (redo_words at.number instance (option_map said_of (step_at at.point.t h (ports_in making.known.words) standing)) now) refl
   redos_words Limits making = refl
   redos_words Words making = refl

@@ -5,8 +5,8 @@ use Rattle.std.specs.Prelude.{if◌then◌else◌, slice_set}
 use Rattle.std.specs.List.{enumerate_from}
 use Rattle.std.specs.Option.{option_map}
 use Rattle.link_core.specs.Boards.{Board, asked_of, entry, said_of}
-use Rattle.link_core.specs.Making.{determined, each, held, held_standings, limits_by, limits_made, made, passes, ports_in, put_redo, put_reply, put_word}
-use Rattle.link_core.specs.Making.{redos_by, redos_made, replies_by, replies_made, stage_at, with_limit, with_redo, with_reply, with_word, words_made}
+use Rattle.link_core.specs.Making.{determined, each, held, held_standings, limits_by, limits_made, made, passes, ports_in, put_said, put_word}
+use Rattle.link_core.specs.Making.{redos_by, redos_made, replies_by, replies_made, stage_at, with_limit, with_said, with_word, words_made}
 use Rattle.link_core.specs.Nodes.{Making}
 use Rattle.link_core.specs.declared.fact.Fact.{Fact}
 use Rattle.link_core.specs.declared.fact.Fact.TheVariants.{Word, Limit, Reply}
@@ -74,29 +74,29 @@ module _ (before : List Fact) where
       (Limit at.number instance (asked_of (max_at at.point.t ports standing))))
 
   put_reply_behind : (row instance : ℕ) (found : Option Said) (making : Making)
-      → put_reply row instance found (behind making) ≡ behind (put_reply row instance found making)
+      → put_said false row instance found (behind making) ≡ behind (put_said false row instance found making)
   put_reply_behind row instance None making = refl
   put_reply_behind row instance (Some said) making =
       one_more (record making.known { replies = slice_set making.known.replies instance (Some said) }) making.facts (Reply row instance false said)
 
   put_redo_behind : (row instance : ℕ) (found : Option Said) (making : Making)
-      → put_redo row instance found (behind making) ≡ behind (put_redo row instance found making)
+      → put_said true row instance found (behind making) ≡ behind (put_said true row instance found making)
   put_redo_behind row instance None making = refl
   put_redo_behind row instance (Some said) making =
       one_more (record making.known { redos = slice_set making.known.redos instance (Some said) }) making.facts (Reply row instance true said)
 
-  reply_behind : (me : ℕ) (at : Position) (ports : Ports) (h : ℕ) → Keeps (with_reply me at ports h)
+  reply_behind : (me : ℕ) (at : Position) (ports : Ports) (h : ℕ) → Keeps (with_said false me at ports h)
   reply_behind me at ports h making (instance, (owner, standing)) =
       if_behind ((owner == me) && is_none (entry making.known.replies instance))
-      (put_reply at.number instance (option_map said_of (step_at at.point.t h ports standing)) making) making
-      (put_reply at.number instance (option_map said_of (step_at at.point.t h ports standing)) (behind making))
+      (put_said false at.number instance (option_map said_of (step_at at.point.t h ports standing)) making) making
+      (put_said false at.number instance (option_map said_of (step_at at.point.t h ports standing)) (behind making))
       (put_reply_behind at.number instance (option_map said_of (step_at at.point.t h ports standing)) making)
 
-  redo_behind : (me : ℕ) (at : Position) (ports : Ports) (h : ℕ) → Keeps (with_redo me at ports h)
+  redo_behind : (me : ℕ) (at : Position) (ports : Ports) (h : ℕ) → Keeps (with_said true me at ports h)
   redo_behind me at ports h making (instance, (owner, standing)) =
       if_behind ((owner == me) && is_none (entry making.known.redos instance))
-      (put_redo at.number instance (option_map said_of (step_at at.point.t h ports standing)) making) making
-      (put_redo at.number instance (option_map said_of (step_at at.point.t h ports standing)) (behind making))
+      (put_said true at.number instance (option_map said_of (step_at at.point.t h ports standing)) making) making
+      (put_said true at.number instance (option_map said_of (step_at at.point.t h ports standing)) (behind making))
       (put_redo_behind at.number instance (option_map said_of (step_at at.point.t h ports standing)) making)
 
   module _ (run : Composition) (owners : List ℕ) (me : ℕ) (at : Position) where
@@ -114,7 +114,7 @@ module _ (before : List Fact) where
 
     pub replies_behind : (stage : Stage) (making : Making)
         → replies_by run owners me at stage (behind making) ≡ behind (replies_by run owners me at stage making)
-    replies_behind (Trial h) making = each_behind (with_reply me at (ports_in making.known.words) h) (held_standings run owners at) making
+    replies_behind (Trial h) making = each_behind (with_said false me at (ports_in making.known.words) h) (held_standings run owners at) making
         (reply_behind me at (ports_in making.known.words) h)
     replies_behind Words making = refl
     replies_behind Limits making = refl
@@ -123,7 +123,7 @@ module _ (before : List Fact) where
     replies_behind (On h) making = refl
 
     pub redos_behind : (stage : Stage) (making : Making) → redos_by run owners me at stage (behind making) ≡ behind (redos_by run owners me at stage making)
-    redos_behind (Redo h) making = each_behind (with_redo me at (ports_in making.known.words) h) (held_standings run owners at) making
+    redos_behind (Redo h) making = each_behind (with_said true me at (ports_in making.known.words) h) (held_standings run owners at) making
         (redo_behind me at (ports_in making.known.words) h)
     redos_behind Words making = refl
     redos_behind Limits making = refl

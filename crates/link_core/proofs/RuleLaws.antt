@@ -9,8 +9,8 @@ use Rattle.link_core.specs.Boards.{seen_of}
 use Rattle.link_core.specs.Keeping.{IsMade, IsNewFact, IsPlace, IsRightMove, IsRightRule}
 use Rattle.link_core.specs.Laws.{AreWordsKnown, IsRightStage}
 use Rattle.link_core.specs.Making.{determined, each, held, held_outlets, held_standings, limits_by, limits_made, made, move_by, name_of, no_states}
-use Rattle.link_core.specs.Making.{nothing_known, own_after, own_state, own_states, part_of, passes, port_in, ports_in, put_redo, put_reply, put_word, redos_by}
-use Rattle.link_core.specs.Making.{replies_by, replies_made, row_shown, rule_of, stage_at, with_limit, with_redo, with_reply, with_word, words_made}
+use Rattle.link_core.specs.Making.{nothing_known, own_after, own_state, own_states, part_of, passes, port_in, ports_in, put_said, put_word, redos_by}
+use Rattle.link_core.specs.Making.{replies_by, replies_made, row_shown, rule_of, stage_at, with_limit, with_said, with_word, words_made}
 use Rattle.link_core.specs.Nodes.{Making}
 use Rattle.link_core.specs.Stages.{stage_of, word_end}
 use Rattle.link_core.specs.declared.fact.Asked.{Asked}
@@ -242,7 +242,7 @@ module _ (run : Composition) (owners : List ℕ) (me : ℕ) (stand : Stand) (is_
     facts = all_more (IsNewFact run stand) making.facts (Limit number instance asked ∷ []) keeps.facts ((refl, on), tt);
   }
 
-  add_reply : (making : Making) (instance : ℕ) (said : Option Said) → P making → entry board.replies instance ≡ said → P (put_reply number instance said making)
+  add_reply : (making : Making) (instance : ℕ) (said : Option Said) → P making → entry board.replies instance ≡ said → P (put_said false number instance said making)
   add_reply making instance None keeps on = keeps
   add_reply making instance (Some said) keeps on = record {
     agrees = record {
@@ -254,7 +254,7 @@ module _ (run : Composition) (owners : List ℕ) (me : ℕ) (stand : Stand) (is_
     facts = all_more (IsNewFact run stand) making.facts (Reply number instance false said ∷ []) keeps.facts ((refl, on), tt);
   }
 
-  add_redo : (making : Making) (instance : ℕ) (said : Option Said) → P making → entry board.redos instance ≡ said → P (put_redo number instance said making)
+  add_redo : (making : Making) (instance : ℕ) (said : Option Said) → P making → entry board.redos instance ≡ said → P (put_said true number instance said making)
   add_redo making instance None keeps on = keeps
   add_redo making instance (Some said) keeps on = record {
     agrees = record {
@@ -347,7 +347,7 @@ module _ (run : Composition) (owners : List ℕ) (me : ℕ) (stand : Stand) (is_
       keeps
 
   reply_keeps : (h : ℕ) → before_trial run stand ≡ true → h ≡ proposed run stand.at stand.ports → (making : Making) (item : ℕ × (ℕ × Standing)) → P making
-      → Q item → P (with_reply me at' stand.ports h making item)
+      → Q item → P (with_said false me at' stand.ports h making item)
   reply_keeps h tries is making (instance, (owner, standing)) keeps (other, there, same) =
       if_keeps ((owner == me) && is_none (entry making.known.replies instance)) _ making
       (λ test. add_reply making instance (option_map said_of (step_at stand.at.point.t h stand.ports standing)) keeps
@@ -359,7 +359,7 @@ module _ (run : Composition) (owners : List ℕ) (me : ℕ) (stand : Stand) (is_
       keeps
 
   redo_keeps : (h : ℕ) → before_redo run stand ≡ true → h ≡ agreed run stand.at stand.ports → (making : Making) (item : ℕ × (ℕ × Standing)) → P making → Q item
-      → P (with_redo me at' stand.ports h making item)
+      → P (with_said true me at' stand.ports h making item)
   redo_keeps h redoes is making (instance, (owner, standing)) keeps (other, there, same) =
       if_keeps ((owner == me) && is_none (entry making.known.redos instance)) _ making
       (λ test. add_redo making instance (option_map said_of (step_at stand.at.point.t h stand.ports standing)) keeps
@@ -395,8 +395,8 @@ module _ (run : Composition) (owners : List ℕ) (me : ℕ) (stand : Stand) (is_
   replies_keep making (Over ending) keeps right = keeps
   replies_keep making (On h) keeps right = keeps
   replies_keep making (Trial h) keeps (lacks, words, tries, is) =
-      subst (λ ports. P (each (with_reply me at' ports h) making (held_standings run owners at'))) (sym (ports_are making.known words))
-      (each_keeps P Q (with_reply me at' stand.ports h) (held_standings run owners at') making (reply_keeps h tries is) standings_are keeps)
+      subst (λ ports. P (each (with_said false me at' ports h) making (held_standings run owners at'))) (sym (ports_are making.known words))
+      (each_keeps P Q (with_said false me at' stand.ports h) (held_standings run owners at') making (reply_keeps h tries is) standings_are keeps)
 
   pub redos_keep : (making : Making) (stage : Stage) → P making → IsRightStage run stand making.known stage → P (redos_by run owners me at' stage making)
   redos_keep making Words keeps right = keeps
@@ -405,8 +405,8 @@ module _ (run : Composition) (owners : List ℕ) (me : ℕ) (stand : Stand) (is_
   redos_keep making (Over ending) keeps right = keeps
   redos_keep making (On h) keeps right = keeps
   redos_keep making (Redo h) keeps (lacks, words, redoes, is) =
-      subst (λ ports. P (each (with_redo me at' ports h) making (held_standings run owners at'))) (sym (ports_are making.known words))
-      (each_keeps P Q (with_redo me at' stand.ports h) (held_standings run owners at') making (redo_keeps h redoes is) standings_are keeps)
+      subst (λ ports. P (each (with_said true me at' ports h) making (held_standings run owners at'))) (sym (ports_are making.known words))
+      (each_keeps P Q (with_said true me at' stand.ports h) (held_standings run owners at') making (redo_keeps h redoes is) standings_are keeps)
 
   pub makes_right : (known : Board) → Agrees board known → P (made run owners me at' known)
   makes_right known so =

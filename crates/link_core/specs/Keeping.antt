@@ -67,7 +67,8 @@ pub record PairKeepsTo (run : Composition) (rule : Rule) (pair : Pair) : Type 0 
 
 abbrev pub IsRightMove : Composition → Rule → ℕ → Stand → Board → Move → Type 0
 IsRightMove run rule me stand known Stay = LacksNone (board_of run stand) known → ⊥
-IsRightMove run rule me stand known (Go at) = LacksNone (board_of run stand) known × ((next : Stand) × Goes run stand next × (at ≡ rule.part me next.at))
+IsRightMove run rule me stand known (Go at) =
+    LacksNone (board_of run stand) known × ((next : Stand) × Goes run stand next × (at ≡ rule.part me next.at))
 IsRightMove run rule me stand known (End ending) = LacksNone (board_of run stand) known × (successor run stand.at stand.ports ≡ ends ending)
 
 abbrev pub IsNewFact : Composition → Stand → Fact → Type 0

@@ -37,7 +37,8 @@ IsRightStage run stand known (On h) = LacksNone (board_of run stand) known × (h
     (successor run stand.at stand.ports ≡ goes (after run stand.at stand.ports))
 IsRightStage run stand known Words = LacksNone (board_of run stand) known → ⊥
 IsRightStage run stand known Limits = (LacksNone (board_of run stand) known → ⊥) × AreWordsKnown run stand known × (before_limits run stand ≡ true)
-IsRightStage run stand known (Trial h) = (LacksNone (board_of run stand) known → ⊥) × AreWordsKnown run stand known × (before_trial run stand ≡ true) ×
+IsRightStage run stand known (Trial h) =
+    (LacksNone (board_of run stand) known → ⊥) × AreWordsKnown run stand known × (before_trial run stand ≡ true) ×
     (h ≡ proposed run stand.at stand.ports)
 IsRightStage run stand known (Redo h) = (LacksNone (board_of run stand) known → ⊥) × AreWordsKnown run stand known × (before_redo run stand ≡ true) ×
     (h ≡ agreed run stand.at stand.ports)
@@ -108,16 +109,18 @@ RulesAreRight = (run : Composition) (order owners : List ℕ) → IsPlaceOrder r
 abbrev pub PairsKeepToTheTrace : Type 0
 PairsKeepToTheTrace =
     (run : Composition) (order owners : List ℕ) → IsPlaceOrder run order → AreMembers run → length owners ≡ length run.members
-    → (events : List PairEvent) → PairKeepsTo run (rule_of run owners) (after_events (rule_of run owners) (opened_pair (rule_of run owners) run) events)
+    → (events : List PairEvent)
+    → PairKeepsTo run (rule_of run owners) (after_events (rule_of run owners) (opened_pair (rule_of run owners) run) events)
 
 -- One more pass makes no word.
 abbrev pub PassesAreEnough : Type 0
 PassesAreEnough =
     (run : Composition) (owners : List ℕ) (me : ℕ) (at : Position) (making : Making) → length making.known.words ≡ length (held run owners at.states)
-    → each (with_word me at.number) (words_made run owners me at making) (enumerate_from 0 (held run owners at.states)) ≡ words_made run owners me at making
+    → each (with_word me at.number) (words_made run owners me at making) (enumerate_from 0 (held run owners at.states))
+    ≡ words_made run owners me at making
 
 -- In a run whose numbers are in their ranges, each true fact is short.
 abbrev pub FactsAreShort : Type 0
-FactsAreShort = (run : Composition) (order : List ℕ) → IsPlaceOrder run order → AreMembers run → IsSound run → IsBounded run → AreOfWords run → (fact : Fact)
-    → IsTrueFact run fact
-    → is_short fact ≡ true
+FactsAreShort =
+    (run : Composition) (order : List ℕ) → IsPlaceOrder run order → AreMembers run → IsSound run → IsBounded run → AreOfWords run
+    → (fact : Fact) → IsTrueFact run fact → is_short fact ≡ true

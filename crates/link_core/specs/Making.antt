@@ -1,6 +1,6 @@
 -- What a node makes of what it knows, and where it moves.
 use Rattle.link_core.specs.Boards.{Board, asked_of, entry, said_of, seen_of}
-use Rattle.link_core.specs.Nodes.{End, Go, Making, Move, Rule, Stay}
+use Rattle.link_core.specs.Nodes.{End, Go, Making, Move, Rule, Stay, with_fact}
 use Rattle.link_core.specs.Stages.{stage_of, word_end}
 use Rattle.link_core.specs.declared.fact.Fact.{Fact}
 use Rattle.link_core.specs.declared.fact.Fact.TheVariants.{Limit, Reply, Word}
@@ -11,7 +11,7 @@ use Rattle.link_core.specs.declared.stage.Stage.{Stage}
 use Rattle.link_core.specs.declared.stage.Stage.TheVariants.{Limits, On, Over, Redo, Trial}
 use Rattle.std.specs.List.{enumerate_from, flat_map, list_any}
 use Rattle.std.specs.Option.{option_map}
-use Rattle.std.specs.Prelude.{Bool, List, None, Option, Some, [], false, if◌then◌else◌, is_none, length, map, slice_get, slice_set, suc, true, zero, zip, ℕ, ℤ}
+use Rattle.std.specs.Prelude.{Bool, List, None, Option, Some, [], false, if◌then◌else◌, is_none, length, map, slice_get, suc, true, zero, zip, ℕ, ℤ}
 use Rattle.std.specs.Prelude.{◌&&◌, ◌++◌, ◌==◌, ◌∷◌}
 use Rattle.unit_tree.specs.Compositions.{Composition}
 use Rattle.unit_tree.specs.Negotiation.{max_at, state_after, step_at}
@@ -71,12 +71,13 @@ determined words outlet =
 
 -- ---- Making facts
 
+-- A fact that is made is known from then on, and listed.
+abbrev pub with_made : Fact → Making → Making
+with_made fact making = record { known = with_fact making.known fact; facts = making.facts ++ fact ∷ [] }
+
 abbrev pub put_word : ℕ → ℕ → Option Seen → Making → Making
 put_word number place None making = making
-put_word number place (Some seen) making = record {
-  known = record making.known { words = slice_set making.known.words place (Some seen) };
-  facts = making.facts ++ Word number place seen ∷ [];
-}
+put_word number place (Some seen) making = with_made (Word number place seen) making
 
 abbrev pub with_word : ℕ → ℕ → Making → ℕ × (ℕ × Outlet) → Making
 with_word me number making (place, (owner, outlet)) =
@@ -98,34 +99,19 @@ words_made run owners me at making =
 abbrev pub with_limit : ℕ → Position → Ports → Making → ℕ × (ℕ × Standing) → Making
 with_limit me at ports making (instance, (owner, standing)) =
     if (owner == me) && is_none (entry making.known.limits instance)
-    then record {
-      known = record making.known { limits = slice_set making.known.limits instance (Some (asked_of (max_at at.point.t ports standing))) };
-      facts = making.facts ++ Limit at.number instance (asked_of (max_at at.point.t ports standing)) ∷ [];
-    }
-    else making
+    then with_made (Limit at.number instance (asked_of (max_at at.point.t ports standing))) making else making
 
-abbrev pub put_reply : ℕ → ℕ → Option Said → Making → Making
-put_reply number instance None making = making
-put_reply number instance (Some said) making = record {
-  known = record making.known { replies = slice_set making.known.replies instance (Some said) };
-  facts = making.facts ++ Reply number instance false said ∷ [];
-}
+-- What is known of a step in the trial, or of one that is made anew.
+abbrev pub said_entry : Bool → Board → ℕ → Option Said
+said_entry redo known instance = if redo then entry known.redos instance else entry known.replies instance
 
-abbrev pub put_redo : ℕ → ℕ → Option Said → Making → Making
-put_redo number instance None making = making
-put_redo number instance (Some said) making = record {
-  known = record making.known { redos = slice_set making.known.redos instance (Some said) };
-  facts = making.facts ++ Reply number instance true said ∷ [];
-}
+abbrev pub put_said : Bool → ℕ → ℕ → Option Said → Making → Making
+put_said redo number instance None making = making
+put_said redo number instance (Some said) making = with_made (Reply number instance redo said) making
 
-abbrev pub with_reply : ℕ → Position → Ports → ℕ → Making → ℕ × (ℕ × Standing) → Making
-with_reply me at ports h making (instance, (owner, standing)) =
-    if (owner == me) && is_none (entry making.known.replies instance) then put_reply at.number instance
-    (option_map said_of (step_at at.point.t h ports standing)) making else making
-
-abbrev pub with_redo : ℕ → Position → Ports → ℕ → Making → ℕ × (ℕ × Standing) → Making
-with_redo me at ports h making (instance, (owner, standing)) =
-    if (owner == me) && is_none (entry making.known.redos instance) then put_redo at.number instance
+abbrev pub with_said : Bool → ℕ → Position → Ports → ℕ → Making → ℕ × (ℕ × Standing) → Making
+with_said redo me at ports h making (instance, (owner, standing)) =
+    if (owner == me) && is_none (said_entry redo making.known instance) then put_said redo at.number instance
     (option_map said_of (step_at at.point.t h ports standing)) making else making
 
 abbrev pub held_standings : Composition → List ℕ → Position → List (ℕ × (ℕ × Standing))
@@ -136,11 +122,11 @@ limits_by run owners me at Limits making = each (with_limit me at (ports_in maki
 limits_by run owners me at _ making = making
 
 abbrev pub replies_by : Composition → List ℕ → ℕ → Position → Stage → Making → Making
-replies_by run owners me at (Trial h) making = each (with_reply me at (ports_in making.known.words) h) making (held_standings run owners at)
+replies_by run owners me at (Trial h) making = each (with_said false me at (ports_in making.known.words) h) making (held_standings run owners at)
 replies_by run owners me at _ making = making
 
 abbrev pub redos_by : Composition → List ℕ → ℕ → Position → Stage → Making → Making
-redos_by run owners me at (Redo h) making = each (with_redo me at (ports_in making.known.words) h) making (held_standings run owners at)
+redos_by run owners me at (Redo h) making = each (with_said true me at (ports_in making.known.words) h) making (held_standings run owners at)
 redos_by run owners me at _ making = making
 
 abbrev pub stage_at : Composition → Position → Board → Stage

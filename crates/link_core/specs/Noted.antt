@@ -5,7 +5,7 @@ use Rattle.std.specs.Option.{option_map}
 use Rattle.fixed_words.specs.declared.types.Fault.{Fault}
 use Rattle.link_core.specs.Boards.{Agrees, Board, asked_of, board_of, entry, said_of}
 use Rattle.link_core.specs.Keeping.{IsPlace}
-use Rattle.link_core.specs.Making.{own_states, part_of, put_redo, put_reply, with_redo, with_reply}
+use Rattle.link_core.specs.Making.{own_states, part_of, put_said, said_entry, with_made}
 use Rattle.link_core.specs.Nodes.{Making, with_fact}
 use Rattle.link_core.specs.declared.fact.Fact.{Fact}
 use Rattle.link_core.specs.declared.fact.Fact.TheVariants.{Limit, Reply, Word}
@@ -153,26 +153,11 @@ pub record IsPartOf (owners : List ℕ) (me : ℕ) (states : List (List ℤ)) (r
 -- With the limit of an instance, where it is one's own and isn't known.
 abbrev pub limit_if : Bool → ℕ → ℕ → Ports → Standing → ℕ → Making → Making
 limit_if own row t ports standing instance making =
-    if own && is_none (entry making.known.limits instance)
-    then record {
-      known = record making.known { limits = slice_set making.known.limits instance (Some (asked_of (max_at t ports standing))) };
-      facts = making.facts ++ Limit row instance (asked_of (max_at t ports standing)) ∷ [];
-    }
-    else making
+    if own && is_none (entry making.known.limits instance) then with_made (Limit row instance (asked_of (max_at t ports standing))) making else making
 
 abbrev pub said_given : Result ℕ Fault → Said
 said_given (Ok accepted) = Accepted accepted
 said_given (Err fault) = StepFault fault
-
--- What is told of a step in the trial, or of one that is made anew.
-abbrev pub said_entry : Bool → Board → ℕ → Option Said
-said_entry redo known instance = if redo then entry known.redos instance else entry known.replies instance
-
-abbrev pub put_said : Bool → ℕ → ℕ → Option Said → Making → Making
-put_said redo row instance said making = if redo then put_redo row instance said making else put_reply row instance said making
-
-abbrev pub with_said : Bool → ℕ → Position → Ports → ℕ → Making → ℕ × (ℕ × Standing) → Making
-with_said redo me at ports h making item = if redo then with_redo me at ports h making item else with_reply me at ports h making item
 
 -- With the reply of an instance, where it is one's own and isn't known.
 abbrev pub reply_if : Bool → Bool → ℕ → ℕ → ℕ → Ports → Standing → ℕ → Making → Making

@@ -94,5 +94,6 @@ stage_of_limits run at board =
 abbrev pub stage_of : Composition → List (ℕ × ℕ) → Position → Board → Stage
 stage_of run names at board =
     if list_all is_some board.words
-    then over_or (first_some (first_some (map word_end (zip names board.words)) ∷ stop_end run at ∷ row_end run at ∷ [])) (stage_of_limits run at board)
+    then over_or (first_some (first_some (map word_end (zip names board.words)) ∷ stop_end run at ∷ row_end run at ∷ []))
+    (stage_of_limits run at board)
     else Words

@@ -7,10 +7,11 @@
 //!
 //! Definitions: `specs/Boards.antt` (the facts of a position, and what is known beside what is so), `specs/Stages.antt` (what a row asks
 //! for next), `specs/Nodes.antt` (what each call makes of a node), `specs/Making.antt` (what a node makes of what it knows),
-//! `specs/Pairs.antt` (pairs and events), `specs/Keeping.antt` (what nodes keep), `specs/Lengths.antt` (how long the steps in facts are), `specs/NodeStates.antt` (what contracts see of a node)
-//! and `specs/Laws.antt`: over every list of events each fact that is listed is the true one of its row, and each node stands at its part
-//! of the place of its number in the one trace, also after it started again. `specs/Noted.antt`, `specs/Ready.antt`, `specs/Inner.antt`
-//! and `specs/Joined.antt`, which need not be believed, say how it is gone about.
+//! `specs/Pairs.antt` (pairs and events), `specs/Keeping.antt` (what nodes keep), `specs/Lengths.antt` (which facts are short),
+//! `specs/NodeStates.antt` (what contracts see of a node) and `specs/Laws.antt`: over every list of events each fact that is listed is the
+//! true one of its row, and each node stands at its part of the place of its number in the one trace, also after it started again.
+//! `specs/Noted.antt`, `specs/Ready.antt`, `specs/Inner.antt` and `specs/Joined.antt`, which need not be believed, say how it is gone
+//! about.
 #![tactic(auto)]
 
 mod course;

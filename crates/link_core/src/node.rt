@@ -122,7 +122,8 @@ impl Node {
     ///
     /// [`NoMemory`]: nothing was done.
     pub fn work(&mut self) -> Result<Taken, NoMemory>
-        ensures worked { IfOk result (λ answer. (self.new.progress, answer) ≡ worked (rule_of self.old.plan.run self.old.owners) self.old.me self.old.progress) }
+        ensures worked { IfOk result (λ answer. (self.new.progress, answer)
+            ≡ worked (rule_of self.old.plan.run self.old.owners) self.old.me self.old.progress) }
         ensures same { IsSameNode self.old self.new }
         ensures refused { OnErr result (self.new ≡ self.old) }
     {
@@ -150,7 +151,8 @@ impl Node {
     /// [`NoMemory`]: nothing was done.
     pub fn take(&mut self, fact: &Fact) -> Result<Taken, NoMemory>
         requires honest { IsHonest self.old.plan.run fact.now }
-        ensures taken { IfOk result (λ answer. (self.new.progress, answer) ≡ taken (rule_of self.old.plan.run self.old.owners) self.old.me self.old.progress fact.now) }
+        ensures taken { IfOk result (λ answer. (self.new.progress, answer)
+            ≡ taken (rule_of self.old.plan.run self.old.owners) self.old.me self.old.progress fact.now) }
         ensures same { IsSameNode self.old self.new }
         ensures refused { OnErr result (self.new ≡ self.old) }
     {

@@ -29,7 +29,12 @@ fn filled<T: Copy>(alloc: Global, count: usize, value: T) -> Result<Vec<T>, NoMe
 /// Notes of so many outputs and instances, of which nothing is known.
 pub(crate) fn notes_of(alloc: Global, places: usize, instances: usize) -> Result<Notes, NoMemory>
     ensures made { IfOk result (λ notes. making_in notes ≡ record {
-      known = record { words = replicate places None; limits = replicate instances None; replies = replicate instances None; redos = replicate instances None };
+      known = record {
+        words = replicate places None;
+        limits = replicate instances None;
+        replies = replicate instances None;
+        redos = replicate instances None;
+      };
       facts = [];
     }) }
     ensures defined { IfOk result (λ notes. notes.defined.items ≡ replicate places false) }

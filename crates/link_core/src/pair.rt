@@ -16,7 +16,7 @@ use std::sync::Arc;
 use trace_plan::Plan;
 
 /// The fact at a place of the other node's list arrives at a node, where there is one.
-fn deliver(node: &mut Node, other: &Node, place: u32) -> Result<Taken, NoMemory>
+pub(crate) fn deliver(node: &mut Node, other: &Node, place: u32) -> Result<Taken, NoMemory>
     requires plan { other.now.plan ≡ node.old.plan }
     ensures delivered { IfOk result (λ answer. (node.new.progress, answer)
         ≡ delivered (rule_of node.old.plan.run node.old.owners) node.old.me node.old.progress (slice_get other.now.progress.facts place)) }
@@ -116,7 +116,8 @@ impl Pair {
     ///
     /// [`NoMemory`]: nothing was done.
     pub fn apply(&mut self, event: &PairEvent) -> Result<Taken, NoMemory>
-        ensures applied { IfOk result (λ answer. (self.new.both, answer) ≡ event_step (rule_of self.old.plan.run self.old.owners) self.old.both event.now) }
+        ensures applied { IfOk result (λ answer. (self.new.both, answer)
+            ≡ event_step (rule_of self.old.plan.run self.old.owners) self.old.both event.now) }
         ensures same { IsSamePair self.old self.new }
         ensures refused { OnErr result (self.new ≡ self.old) }
     {
@@ -129,14 +130,14 @@ impl Pair {
 
     /// Node 0.
     pub fn first(&self) -> &Node
-        ensures { result.now.progress ≡ self.now.both.first }
+        ensures { result.now ≡ record { plan = self.now.plan; owners = self.now.owners; me = 0; progress = self.now.both.first } }
     {
         &self.first
     }
 
     /// Node 1.
     pub fn second(&self) -> &Node
-        ensures { result.now.progress ≡ self.now.both.second }
+        ensures { result.now ≡ record { plan = self.now.plan; owners = self.now.owners; me = 1; progress = self.now.both.second } }
     {
         &self.second
     }

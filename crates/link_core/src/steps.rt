@@ -2,8 +2,8 @@
 ghost use Rattle.std.specs.Prelude.{◌≡◌, ◌<◌, ◌≤◌, ◌+◌, ◌^◌, true, ℤ, List, [], length, map, slice_get, slice_index_or, is_none, is_some, Some};
 ghost use Rattle.std.specs.Option.{option_map};
 ghost use Rattle.link_core.specs.Boards.{asked_of, said_of};
-ghost use Rattle.link_core.specs.Making.{each, held_standings, with_limit};
-ghost use Rattle.link_core.specs.Noted.{making_in, AreNotes, HasRoom, part_at, limit_if, put_said, reply_if, said_entry, said_given, stepped, stepped_if, with_said};
+ghost use Rattle.link_core.specs.Making.{each, held_standings, put_said, said_entry, with_limit, with_said};
+ghost use Rattle.link_core.specs.Noted.{making_in, AreNotes, HasRoom, part_at, limit_if, reply_if, said_given, stepped, stepped_if};
 ghost use Rattle.port_solve.specs.Solved.{HaveStates};
 ghost use Rattle.trace_units.specs.Fleets.{with_state};
 ghost use Rattle.unit_tree.specs.Compositions.{Composition, Member};
@@ -54,7 +54,8 @@ fn ask_max(plan: &Plan, units: &mut Units, instance: u32, t: u64) -> Asked
     requires tied { units.old.plan ≡ plan.now }
     requires there { instance < length plan.now.run.members }
     requires time { t ≤ 10 ^ 15 }
-    ensures asked { (ports : Ports) (member : Member) (state : List ℤ) → units.old.inputs ≡ all_inputs plan.now.run ports → slice_get plan.now.run.members instance ≡ Some member
+    ensures asked { (ports : Ports) (member : Member) (state : List ℤ) → units.old.inputs ≡ all_inputs plan.now.run ports
+        → slice_get plan.now.run.members instance ≡ Some member
         → slice_get units.old.states instance ≡ Some state → result ≡ asked_of (max_at t ports (member, state)) }
     ensures kept { units.new ≡ units.old }
 {
@@ -77,7 +78,8 @@ fn make_limit(
     requires notes { AreNotes plan.now.run notes.old }
     requires room { HasRoom notes.old }
     requires time { t ≤ 10 ^ 15 }
-    ensures made { (ports : Ports) (member : Member) (state : List ℤ) → units.old.inputs ≡ all_inputs plan.now.run ports → slice_get plan.now.run.members instance ≡ Some member
+    ensures made { (ports : Ports) (member : Member) (state : List ℤ) → units.old.inputs ≡ all_inputs plan.now.run ports
+        → slice_get plan.now.run.members instance ≡ Some member
         → slice_get units.old.states instance ≡ Some state
         → making_in notes.new ≡ limit_if own row t ports (member, state) instance (making_in notes.old) }
     ensures notes { AreNotes plan.now.run notes.new }
@@ -139,7 +141,8 @@ fn try_step(
     requires there { instance < length plan.now.run.members }
     requires end { t + h ≤ 10 ^ 15 }
     requires before { length before.old ≡ length (slice_index_or units.old.states instance []) }
-    ensures said { (ports : Ports) (member : Member) (state : List ℤ) → units.old.inputs ≡ all_inputs plan.now.run ports → slice_get plan.now.run.members instance ≡ Some member
+    ensures said { (ports : Ports) (member : Member) (state : List ℤ) → units.old.inputs ≡ all_inputs plan.now.run ports
+        → slice_get plan.now.run.members instance ≡ Some member
         → slice_get units.old.states instance ≡ Some state → result ≡ option_map said_of (step_at t h ports (member, state)) }
     ensures kept { units.new ≡ units.old }
     ensures before { length before.new ≡ length before.old }
@@ -212,7 +215,8 @@ fn make_reply(
     requires room { HasRoom notes.old }
     requires end { trial.point.t + trial.h ≤ 10 ^ 15 }
     requires before { length before.old ≡ length (slice_index_or units.old.states instance []) }
-    ensures made { (ports : Ports) (member : Member) (state : List ℤ) → units.old.inputs ≡ all_inputs plan.now.run ports → slice_get plan.now.run.members instance ≡ Some member
+    ensures made { (ports : Ports) (member : Member) (state : List ℤ) → units.old.inputs ≡ all_inputs plan.now.run ports
+        → slice_get plan.now.run.members instance ≡ Some member
         → slice_get units.old.states instance ≡ Some state
         → making_in notes.new ≡ reply_if trial.redo own trial.row trial.point.t trial.h ports (member, state) instance (making_in notes.old) }
     ensures notes { AreNotes plan.now.run notes.new }
@@ -267,7 +271,8 @@ fn step_on(plan: &Plan, units: &mut Units, instance: u32, t: u64, h: u64, own: b
     requires tied { units.old.plan ≡ plan.now }
     requires there { instance < length plan.now.run.members }
     requires end { t + h ≤ 10 ^ 15 }
-    ensures stepped { (ports : Ports) (member : Member) (state : List ℤ) → units.old.inputs ≡ all_inputs plan.now.run ports → slice_get plan.now.run.members instance ≡ Some member
+    ensures stepped { (ports : Ports) (member : Member) (state : List ℤ) → units.old.inputs ≡ all_inputs plan.now.run ports
+        → slice_get plan.now.run.members instance ≡ Some member
         → slice_get units.old.states instance ≡ Some state → units.new ≡ with_state units.old instance (stepped_if own t h ports (member, state)) }
     ensures plan { units.new.plan ≡ units.old.plan }
 {

@@ -1,10 +1,15 @@
 //! Nodes and pairs. What is expected was worked out by hand.
+ghost use Rattle.std.specs.Prelude.{◌≡◌, ◌≤◌, IfOk};
+
+use crate::pair::deliver;
 use crate::{Asked, Fact, Node, Pair, PairEvent, Said, Seen, Taken, by_turns};
-use fixed_words::Fault;
+use fixed_words::{Fault, NoMemory};
 use inner_tests::plan_of;
 use std::alloc::Global;
+use std::sync::Arc;
 use std::test::Fail;
 use super_time::Point;
+use trace_plan::Plan;
 use unit_tree::{Ending, Place};
 
 /// A unit that counts, until one second.
@@ -19,11 +24,19 @@ const FAULTY: &str =
 const RING: &str =
     "cosim 1\nunit B\ninput u : Int64 = 0\noutput y : Int64 needs u = u + 1\nend\nunit A\nstate n : Int64 = 10\ninput u : Int64 = 0\noutput x : Int64 = n\nstep\nn := u\nend\nend\ninstance b : B\nend\ninstance a : A\nend\nconnect a.x -> b.u\nconnect b.y -> a.u\nstop 3\nlongest 1\n";
 
-/// Node 0 of the system of a text, whose instances are owned by turns.
+/// Node 0 or 1 of a plan, whose instances are owned by turns.
+fn node_of(alloc: Global, plan: &Arc<Plan>, me: u8) -> Result<Node, NoMemory>
+    requires { me ≤ 1 }
+    ensures { IfOk result (λ node. node.plan ≡ plan.now.value) }
+{
+    let owners = by_turns(alloc, plan)?;
+    Node::open(alloc, Arc::clone(plan)?, owners, me)
+}
+
+/// Node 0 of the system of a text.
 fn first_of(alloc: Global, text: &str) -> Result<Node, Fail> {
     let plan = plan_of(alloc, text)?;
-    let owners = by_turns(alloc, &plan)?;
-    Ok(Node::open(alloc, plan, owners, 0)?)
+    Ok(node_of(alloc, &plan, 0)?)
 }
 
 /// Both nodes.
@@ -189,5 +202,66 @@ fn a_ring_goes_on_by_facts_of_both(rt: HostRuntime) -> Result<(), Fail> {
     drop(pair);
     assert!(rt; comes?);
     assert!(rt; so);
+    Ok(())
+}
+
+/// What the nodes of a ring answer, which take facts of each other by their places. A third one is node 1 too, and takes a fact of its own.
+fn answers(first: &mut Node, second: &mut Node, third: &mut Node) -> Result<[Taken; 10], NoMemory>
+    requires second { second.old.plan ≡ first.old.plan }
+    requires third { third.old.plan ≡ first.old.plan }
+{
+    Ok([
+        second.work()?,
+        deliver(third, second, 0)?,
+        deliver(first, second, 0)?,
+        deliver(first, second, 0)?,
+        deliver(first, second, 1)?,
+        deliver(second, first, 0)?,
+        deliver(second, first, 1)?,
+        deliver(first, second, 1)?,
+        deliver(first, second, 2)?,
+        deliver(first, second, 2)?,
+    ])
+}
+
+/// Whether a node has no new facts where it starts again and works, and stands at the first row.
+fn starts_anew(node: &mut Node, facts: usize) -> Result<bool, NoMemory> {
+    node.restart();
+    let taken = node.work()?;
+    Ok(taken == Taken::Kept && node.number() == 0 && node.facts().len() == facts)
+}
+
+#[test]
+fn nodes_take_facts_of_the_other_once(rt: HostRuntime) -> Result<(), Fail> {
+    let alloc = rt.alloc();
+    let plan = plan_of(alloc, RING)?;
+    let mut first = node_of(alloc, &plan, 0)?;
+    let mut second = node_of(alloc, &plan, 1)?;
+    let mut third = node_of(alloc, &plan, 1)?;
+    let answers = answers(&mut first, &mut second, &mut third);
+    let rows = (first.number(), second.number(), third.number());
+    let anew = starts_anew(&mut first, 3);
+    drop(first);
+    drop(second);
+    drop(third);
+    let expected = [
+        Taken::Kept,
+        // Its own.
+        Taken::Dropped,
+        Taken::Kept,
+        // It is known.
+        Taken::Dropped,
+        // There is none yet.
+        Taken::Dropped,
+        Taken::Kept,
+        Taken::Kept,
+        Taken::Kept,
+        Taken::Row,
+        // Of the row before.
+        Taken::Dropped,
+    ];
+    assert_eq!(rt; answers?, expected);
+    assert_eq!(rt; rows, (1, 0, 0));
+    assert!(rt; anew?);
     Ok(())
 }

@@ -1,5 +1,6 @@
 //! Words of outputs, as far as they are determined.
-ghost use Rattle.std.specs.Prelude.{◌≡◌, ◌<◌, ◌≤◌, ◌+◌, ◌^◌, ◌&&◌, false, true, length, slice_get, is_none, vec_capacity, if◌then◌else◌, Some, IfSome};
+ghost use Rattle.std.specs.Prelude.{◌≡◌, ◌<◌, ◌≤◌, ◌+◌, ◌^◌, ◌&&◌, false, true, length, slice_get, is_none, vec_capacity};
+ghost use Rattle.std.specs.Prelude.{if◌then◌else◌, Some, IfSome};
 ghost use Rattle.std.specs.List.{list_any, enumerate_from};
 ghost use Rattle.std.specs.Option.{option_map};
 ghost use Rattle.link_core.specs.Boards.{entry, seen_of};
@@ -51,7 +52,8 @@ fn determined(plan: &Plan, units: &mut Units, notes: &Notes, place: u32) -> Opti
     requires place { place < length (routes_of plan.now.run).outputs }
     requires notes { AreNotes plan.now.run notes.now }
     requires words { HaveTheirWords plan.now.run (ports_in notes.now.words.items) units.old.inputs }
-    ensures seen { (outlet : Outlet) → slice_get (outlets plan.now.run units.old.states) place ≡ Some outlet → result ≡ determined notes.now.words.items outlet }
+    ensures seen { (outlet : Outlet) → slice_get (outlets plan.now.run units.old.states) place ≡ Some outlet
+        → result ≡ determined notes.now.words.items outlet }
     ensures word { IfSome result (IsWordSeen plan.now.run place) }
     ensures kept { units.new ≡ units.old }
 {
@@ -78,7 +80,8 @@ fn feed_seen(plan: &Plan, units: &mut Units, place: u32, seen: Seen)
     requires tied { units.old.plan ≡ plan.now }
     requires place { place < length (routes_of plan.now.run).outputs }
     requires word { IsWordSeen plan.now.run place seen }
-    ensures words { (ports : Ports) → HaveTheirWords plan.now.run ports units.old.inputs → HaveTheirWords plan.now.run (with_port ports place seen) units.new.inputs }
+    ensures words { (ports : Ports) → HaveTheirWords plan.now.run ports units.old.inputs
+        → HaveTheirWords plan.now.run (with_port ports place seen) units.new.inputs }
     ensures states { units.new.states ≡ units.old.states }
     ensures plan { units.new.plan ≡ units.old.plan }
 {
@@ -129,7 +132,8 @@ fn make_word(
     requires room { HasRoom notes.old }
     requires words { HaveTheirWords plan.now.run (ports_in notes.old.words.items) units.old.inputs }
     ensures made { (outlet : Outlet) → slice_get (outlets plan.now.run units.old.states) place ≡ Some outlet → making_in notes.new
-        ≡ (if own && is_none (entry notes.old.words.items place) then put_word row place (determined notes.old.words.items outlet) (making_in notes.old)
+        ≡ (if own && is_none (entry notes.old.words.items place)
+        then put_word row place (determined notes.old.words.items outlet) (making_in notes.old)
         else making_in notes.old) }
     ensures none { result ≡ false → making_in notes.new ≡ making_in notes.old }
     ensures notes { AreNotes plan.now.run notes.new }

@@ -46,7 +46,8 @@ fn make_limits_wanted(
     requires room { HasRoom notes.old }
     requires time { point.t ≤ plan.now.run.stop }
     requires fed { AreFed plan.now.run units.old.inputs (ports_in notes.old.words.items) wanted }
-    ensures made { making_in notes.new ≡ limits_by plan.now.run owners.now me (part_at owners.now me point row units.old.states) wanted (making_in notes.old) }
+    ensures made { making_in notes.new
+        ≡ limits_by plan.now.run owners.now me (part_at owners.now me point row units.old.states) wanted (making_in notes.old) }
     ensures notes { AreNotes plan.now.run notes.new }
     ensures room { HasRoom notes.new }
     ensures kept { units.new ≡ units.old }
@@ -78,7 +79,8 @@ fn make_replies_wanted(
     requires before { HaveStates plan.now.run (map (λ one. one.items) before.old.items) }
     requires step { AllowsStep plan.now.run point wanted }
     requires fed { AreFed plan.now.run units.old.inputs (ports_in notes.old.words.items) wanted }
-    ensures made { making_in notes.new ≡ replies_by plan.now.run owners.now me (part_at owners.now me point row units.old.states) wanted (making_in notes.old) }
+    ensures made { making_in notes.new
+        ≡ replies_by plan.now.run owners.now me (part_at owners.now me point row units.old.states) wanted (making_in notes.old) }
     ensures notes { AreNotes plan.now.run notes.new }
     ensures room { HasRoom notes.new }
     ensures before { HaveStates plan.now.run (map (λ one. one.items) before.new.items) }
@@ -119,7 +121,8 @@ fn make_redos_wanted(
     requires before { HaveStates plan.now.run (map (λ one. one.items) before.old.items) }
     requires step { AllowsStep plan.now.run point wanted }
     requires fed { AreFed plan.now.run units.old.inputs (ports_in notes.old.words.items) wanted }
-    ensures made { making_in notes.new ≡ redos_by plan.now.run owners.now me (part_at owners.now me point row units.old.states) wanted (making_in notes.old) }
+    ensures made { making_in notes.new
+        ≡ redos_by plan.now.run owners.now me (part_at owners.now me point row units.old.states) wanted (making_in notes.old) }
     ensures notes { AreNotes plan.now.run notes.new }
     ensures room { HasRoom notes.new }
     ensures before { HaveStates plan.now.run (map (λ one. one.items) before.new.items) }
@@ -157,7 +160,8 @@ pub(crate) fn make_all(
     requires before { HaveStates plan.now.run (map (λ one. one.items) before.old.items) }
     requires time { point.t ≤ plan.now.run.stop }
     requires rows { row < plan.now.run.row_budget }
-    ensures made { making_in notes.new ≡ all_made plan.now.run owners.now me (part_at owners.now me point row units.old.states) (making_in notes.old) }
+    ensures made { making_in notes.new
+        ≡ all_made plan.now.run owners.now me (part_at owners.now me point row units.old.states) (making_in notes.old) }
     ensures ready { IsReady plan.now owners.now me point row units.new notes.new }
     ensures before { HaveStates plan.now.run (map (λ one. one.items) before.new.items) }
     ensures states { units.new.states ≡ units.old.states }

@@ -1,6 +1,7 @@
 use Rattle.std.proofs.Common.{◌∙◌, ◌<◌, length, zip, ap, subst, sym, arith}
 use Rattle.std.proofs.lemmas.Slice.Zip.{AllZip-long}
-use Rattle.link_core.specs.Noted.{making_in, part_at, with_said}
+use Rattle.link_core.specs.Making.{with_said}
+use Rattle.link_core.specs.Noted.{making_in, part_at}
 use Rattle.link_core.proofs.PassBodies.{gone}
 use Rattle.link_core.proofs.StageBodies.{as_many_mapped}
 use Rattle.link_core.proofs.RoomLaws.{room_for, room_set}
