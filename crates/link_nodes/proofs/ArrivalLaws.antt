@@ -10,7 +10,7 @@ use Rattle.link_core.specs.Pairs.{Pair, after_events, delivered, event_step}
 use Rattle.link_core.specs.declared.fact.Fact.{Fact}
 use Rattle.link_core.specs.declared.pair_event.PairEvent.TheVariants.{Deliver}
 use Rattle.link_nodes.specs.Rounds.{arrivals, is_sent, numbered_sent}
-use Rattle.link_nodes.specs.Screens.{taken_all, taken_twice}
+use Rattle.link_nodes.specs.ShownRows.{taken_all, taken_twice}
 use Rattle.list_laws.proofs.Lists.{each_append}
 use Rattle.list_laws.proofs.Members.{at_seam}
 
@@ -89,20 +89,20 @@ module _ (rule : Rule) where
     sent_listed row facts = reversed (IsListed facts) (numbered_sent seed k row facts)
         (filtered (IsListed facts) (is_sent seed k row) (enumerate_from 0 facts) (numbered_listed 0 [] facts refl))
 
-    pub first_told : (mail : List Fact) → mail ≡ map fact_of (numbered_sent seed k pair.first.at.number pair.second.facts)
+    pub first_told : (transit : List Fact) → transit ≡ map fact_of (numbered_sent seed k pair.first.at.number pair.second.facts)
         → after_events rule pair (arrivals 0 (numbered_sent seed k pair.first.at.number pair.second.facts)) ≡ record pair {
           first = taken_all rule 0 pair.first
-              (reverse mail);
+              (reverse transit);
         }
-    first_told mail is =
+    first_told transit is =
         let sent = numbered_sent seed k pair.first.at.number pair.second.facts in
         first_by pair (reverse sent) (sent_listed pair.first.at.number pair.second.facts)
         ∙ ap (λ facts. record pair { first = taken_all rule 0 pair.first facts }) (reverse_map fact_of sent ∙ ap reverse (sym is))
 
-    pub second_told : (mail : List Fact) → mail ≡ map fact_of (numbered_sent seed k pair.second.at.number pair.first.facts)
+    pub second_told : (transit : List Fact) → transit ≡ map fact_of (numbered_sent seed k pair.second.at.number pair.first.facts)
         → after_events rule pair
-        (arrivals 1 (numbered_sent seed k pair.second.at.number pair.first.facts)) ≡ record pair { second = taken_all rule 1 pair.second (reverse mail) }
-    second_told mail is =
+        (arrivals 1 (numbered_sent seed k pair.second.at.number pair.first.facts)) ≡ record pair { second = taken_all rule 1 pair.second (reverse transit) }
+    second_told transit is =
         let sent = numbered_sent seed k pair.second.at.number pair.first.facts in
         second_by pair (reverse sent) (sent_listed pair.second.at.number pair.first.facts)
         ∙ ap (λ facts. record pair { second = taken_all rule 1 pair.second facts }) (reverse_map fact_of sent ∙ ap reverse (sym is))

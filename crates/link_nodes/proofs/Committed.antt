@@ -15,7 +15,7 @@ use Rattle.link_core.specs.declared.taken.Taken.TheVariants.{Dropped, Ended}
 use Rattle.link_core.proofs.MoveLaws.{moves_to_next}
 use Rattle.link_core.proofs.PairLaws.{knowing_keeps, work_commits}
 use Rattle.link_core.proofs.RuleLaws.{reach_words, rule_is_right}
-use Rattle.link_nodes.specs.Screens.{rows_come_to}
+use Rattle.link_nodes.specs.ShownRows.{rows_come_to}
 use Rattle.link_nodes.specs.Shown.{committed, lines_shown}
 use Rattle.list_laws.proofs.Members.{at_seam, take_next}
 use Rattle.run_laws.proofs.PositionLaws.{positions_keep}

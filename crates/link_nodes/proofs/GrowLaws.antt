@@ -6,7 +6,7 @@ use Rattle.std.specs.Prelude.{if◌then◌else◌}
 use Rattle.link_core.specs.Nodes.{End, Go, Move, Progress, Rule, Stay, drops, knowing, making_of, moved, taken, with_making, worked}
 use Rattle.link_core.specs.declared.fact.Fact.{Fact}
 use Rattle.link_core.specs.declared.taken.Taken.TheVariants.{Dropped, Ended}
-use Rattle.link_nodes.specs.Screens.{AreNoted, IsNoted, taken_all, taken_twice}
+use Rattle.link_nodes.specs.ShownRows.{AreNoted, IsNoted, taken_all, taken_twice}
 use Rattle.link_nodes.specs.declared.spans.Spans.{Spans}
 
 -- The list has got more facts.

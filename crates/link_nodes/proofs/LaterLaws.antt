@@ -9,7 +9,7 @@ use Rattle.link_core.specs.Nodes.{End, Go, Move, Progress, Stay, drops, knowing,
 use Rattle.link_core.specs.declared.fact.Fact.{Fact}
 use Rattle.link_core.specs.declared.taken.Taken.TheVariants.{Dropped, Ended}
 use Rattle.link_core.proofs.MoveLaws.{moves_to_next}
-use Rattle.link_nodes.specs.Screens.{taken_all, taken_twice}
+use Rattle.link_nodes.specs.ShownRows.{taken_all, taken_twice}
 use Rattle.link_nodes.specs.Shown.{committed, lines_shown}
 use Rattle.trace_plan.specs.Plans.{Planned}
 use Rattle.trace_rows.specs.Lines.{lines_of}

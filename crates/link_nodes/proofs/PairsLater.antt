@@ -7,11 +7,11 @@ use Rattle.link_core.specs.Pairs.{Pair, after_events}
 use Rattle.link_core.specs.declared.pair_event.PairEvent.TheVariants.{Keep, Restart, Work}
 use Rattle.link_nodes.proofs.ArrivalLaws.{fact_of, first_told, second_told}
 use Rattle.link_nodes.proofs.LaterLaws.{IsLater, all_later, later_still, same_later, worked_later}
-use Rattle.link_nodes.specs.Rounds.{after_round, after_rounds, kept_in, numbered_sent, to_first, to_second}
+use Rattle.link_nodes.specs.Rounds.{after_round, after_rounds, closing_events, numbered_sent, to_first, to_second}
 use Rattle.unit_tree.specs.Compositions.{Composition}
 
 -- The first node of a pair is that of another.
-pub kept_first : (rule : Rule) (pair : Pair) (k : ℕ) → (after_events rule pair (kept_in k)).first ≡ pair.first
+pub kept_first : (rule : Rule) (pair : Pair) (k : ℕ) → (after_events rule pair (closing_events k)).first ≡ pair.first
 kept_first rule pair k = by_tests (k % 5 == 0) (k % 8 == 0)
   where
     by_tests : (keeps restarts : Bool) → (after_events rule pair
@@ -31,18 +31,18 @@ module _ (run : Composition) (owners : List ℕ) where
 
   pub first_later : (seed k : ℕ) (pair : Pair) → IsLater pair.first (to_first rule seed k pair).first
   first_later seed k pair =
-      let mail = map fact_of (numbered_sent seed k pair.first.at.number pair.second.facts) in
-      subst (λ (p : Pair). IsLater pair.first p.first) (sym (first_told rule seed k pair mail refl)) (all_later run owners 0 pair.first (reverse mail))
+      let transit = map fact_of (numbered_sent seed k pair.first.at.number pair.second.facts) in
+      subst (λ (p : Pair). IsLater pair.first p.first) (sym (first_told rule seed k pair transit refl)) (all_later run owners 0 pair.first (reverse transit))
 
   -- What is left of a round, from each of its parts on.
-  pub rest_later : (seed k : ℕ) (pair : Pair) → IsLater pair.first (after_events rule (to_second rule seed k pair) (kept_in k)).first
+  pub rest_later : (seed k : ℕ) (pair : Pair) → IsLater pair.first (after_events rule (to_second rule seed k pair) (closing_events k)).first
   rest_later seed k pair = subst (IsLater pair.first) (sym (kept_first rule (to_second rule seed k pair) k ∙ second_first rule seed k pair))
       (same_later pair.first)
 
-  pub told_later : (seed k : ℕ) (pair : Pair) → IsLater pair.first (after_events rule (to_second rule seed k (to_first rule seed k pair)) (kept_in k)).first
+  pub told_later : (seed k : ℕ) (pair : Pair) → IsLater pair.first (after_events rule (to_second rule seed k (to_first rule seed k pair)) (closing_events k)).first
   told_later seed k pair =
       let one = to_first rule seed k pair in
-      later_still pair.first one.first (after_events rule (to_second rule seed k one) (kept_in k)).first (first_later seed k pair) (rest_later seed k one)
+      later_still pair.first one.first (after_events rule (to_second rule seed k one) (closing_events k)).first (first_later seed k pair) (rest_later seed k one)
 
   pub round_later : (seed k : ℕ) (pair : Pair) → IsLater pair.first (after_round rule seed k pair).first
   round_later seed k pair =

@@ -7,7 +7,7 @@ use Rattle.link_core.specs.Pairs.{Pair, after_events, opened_pair}
 use Rattle.link_core.specs.declared.pair_event.PairEvent.TheVariants.{Work}
 use Rattle.link_core.proofs.PairLaws.{all_events_keep, events_keep}
 use Rattle.link_core.proofs.RuleLaws.{rule_is_right}
-use Rattle.link_nodes.specs.Rounds.{RoundsKeepToTheTrace, arrivals, kept_in, after_round, after_rounds, numbered_sent, to_first, to_second}
+use Rattle.link_nodes.specs.Rounds.{RoundsKeepToTheTrace, arrivals, closing_events, after_round, after_rounds, numbered_sent, to_first, to_second}
 use Rattle.unit_tree.specs.Compositions.{Composition}
 
 module _ (run : Composition) (rule : Rule) (right : IsRightRule run rule) where
@@ -18,7 +18,7 @@ module _ (run : Composition) (rule : Rule) (right : IsRightRule run rule) where
       let two = events_keep run rule right worked (arrivals 0 (numbered_sent seed k worked.first.at.number worked.second.facts)) one in
       let first = to_first rule seed k worked in
       let three = events_keep run rule right first (arrivals 1 (numbered_sent seed k first.second.at.number first.first.facts)) two in
-      events_keep run rule right (to_second rule seed k first) (kept_in k) three
+      events_keep run rule right (to_second rule seed k first) (closing_events k) three
 
   rounds_keep : (seed k : ℕ) → PairKeepsTo run rule (after_rounds rule seed k (opened_pair rule run))
   rounds_keep seed zero = all_events_keep run rule right []

@@ -5,12 +5,12 @@ use Rattle.std.proofs.KnownBytes.{Appends-trans}
 use Rattle.cosim_io.specs.Pieces.{AppendsPrefix}
 use Rattle.cosim_io.proofs.PieceLemmas.{AppendsPrefix-after, AppendsPrefix-longer, AppendsPrefix-nil}
 use Rattle.link_core.specs.Pairs.{Pair}
-use Rattle.link_nodes.proofs.DeskLaws.{pair_there}
-use Rattle.link_nodes.specs.Desks.{DeskComes, IsOpened, desk_rule, pair_of, rule_by_turns}
+use Rattle.link_nodes.proofs.ExchangeLaws.{pair_there}
+use Rattle.link_nodes.specs.Exchanges.{ExchangeComes, IsOpened, exchange_rule, pair_of, rule_by_turns}
 use Rattle.link_nodes.specs.Rounds.{after_rounds, pair_after}
-use Rattle.link_nodes.specs.Screens.{ComesTo, IsJudged}
+use Rattle.link_nodes.specs.ShownRows.{ComesTo, IsJudged}
 use Rattle.link_nodes.specs.Shown.{BeginsRounds, ShowsRounds, lines_shown, told_of}
-use Rattle.link_nodes.specs.declared.desk.Desk.{Desk}
+use Rattle.link_nodes.specs.declared.exchange.Exchange.{Exchange}
 use Rattle.link_nodes.specs.declared.run.Nodes.{Nodes}
 use Rattle.run_laws.proofs.RunTraces.{one_trace}
 use Rattle.trace_plan.specs.Plans.{Planned}
@@ -33,24 +33,24 @@ begins_header plan seed rounds held held' front = record {
       (lines_shown plan (pair_after plan.run seed rounds).first stands) front;
 }
 
-module _ (plan : Planned) (seed rounds : ℕ) (desk : Desk) (opened : IsOpened plan desk) (held0 held1 held2 : Option (List ℕ))
+module _ (plan : Planned) (seed rounds : ℕ) (exchange : Exchange) (opened : IsOpened plan exchange) (held0 held1 held2 : Option (List ℕ))
     (header : Appends held0 held1 (header_of plan.system)) where
-  target_is : after_rounds (desk_rule desk) seed rounds (pair_of desk) ≡ pair_after plan.run seed rounds
+  target_is : after_rounds (exchange_rule exchange) seed rounds (pair_of exchange) ≡ pair_after plan.run seed rounds
   target_is = ap₂ (λ (p : Planned) both. after_rounds (rule_by_turns p.run) seed rounds both) opened.plan' opened.pair
 
-  start_is : (stands : List Stand) → lines_shown plan desk.first.progress stands ≡ []
+  start_is : (stands : List Stand) → lines_shown plan exchange.first.progress stands ≡ []
   start_is stands = ap (λ (p : Pair). lines_shown plan p.first stands) opened.pair ∙ no_lines plan.system
 
-  module _ (next : Desk) (faults1 faults2 : ℕ) where
+  module _ (next : Exchange) (faults1 faults2 : ℕ) where
     abbrev Gone : Result (Unit {0}) CrewFault → Type 0
-    Gone result = DeskComes desk (after_rounds (desk_rule desk) seed rounds (pair_of desk)) next held1 held2 faults1 faults2 result
+    Gone result = ExchangeComes exchange (after_rounds (exchange_rule exchange) seed rounds (pair_of exchange)) next held1 held2 faults1 faults2 result
 
     at_plan : (result : Result (Unit {0}) CrewFault) → Gone result
-        → ComesTo plan desk.first.progress (pair_after plan.run seed rounds).first next.first.progress held1 held2 faults1 faults2 result
+        → ComesTo plan exchange.first.progress (pair_after plan.run seed rounds).first next.first.progress held1 held2 faults1 faults2 result
     at_plan result gone =
-        subst (λ (p : Pair). ComesTo plan desk.first.progress p.first next.first.progress held1 held2 faults1 faults2 result) target_is
-        (subst (λ (p : Planned). ComesTo p desk.first.progress
-        (after_rounds (desk_rule desk) seed rounds (pair_of desk)).first next.first.progress held1 held2 faults1 faults2 result) opened.plan' gone.comes)
+        subst (λ (p : Pair). ComesTo plan exchange.first.progress p.first next.first.progress held1 held2 faults1 faults2 result) target_is
+        (subst (λ (p : Planned). ComesTo p exchange.first.progress
+        (after_rounds (exchange_rule exchange) seed rounds (pair_of exchange)).first next.first.progress held1 held2 faults1 faults2 result) opened.plan' gone.comes)
 
     pub begins_rounds : (fault : CrewFault) → Gone (Err fault) → BeginsRounds plan seed rounds held0 held2
     begins_rounds fault gone = record {
@@ -74,6 +74,6 @@ module _ (plan : Planned) (seed rounds : ℕ) (desk : Desk) (opened : IsOpened p
           trace = one.is_trace;
           out = subst (λ all. Appends held0 held2 (header_of plan.system ++ all)) piece
               (Appends-trans held0 held1 held2 (header_of plan.system) grows.piece header grows.put);
-          told = told ∙ ap told_of (pair_there desk (after_rounds (desk_rule desk) seed rounds (pair_of desk)) next held1 held2 faults1 faults2 gone
+          told = told ∙ ap told_of (pair_there exchange (after_rounds (exchange_rule exchange) seed rounds (pair_of exchange)) next held1 held2 faults1 faults2 gone
               ∙ target_is);
         }

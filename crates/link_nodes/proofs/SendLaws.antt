@@ -8,7 +8,7 @@ use Rattle.link_core.specs.declared.fact.Fact.{Fact}
 use Rattle.link_core.proofs.PassBodies.{numbered_next}
 use Rattle.link_nodes.proofs.ArrivalLaws.{fact_of}
 use Rattle.link_nodes.specs.Rounds.{is_sent}
-use Rattle.link_nodes.specs.Screens.{AreOfOtherRows}
+use Rattle.link_nodes.specs.ShownRows.{AreOfOtherRows}
 use Rattle.list_laws.proofs.Members.{at_place}
 
 filter_by : {A : Type 0} (test : A → Bool) (told : Bool) (x : A) (xs : List A) → test x ≡ told
@@ -88,22 +88,22 @@ module _ (seed k row : ℕ) (facts : List Fact) where
     pub end_left : (place : ℕ) → end ≤ place → left place ≡ []
     end_left place behind = from_end (length facts) place (omega arith) behind
 
-  pub record Sending (mail : List Fact) (place : ℕ) : Type 0 where
-    pub all : mail ++ left place ≡ left 0
+  pub record Sending (transit : List Fact) (place : ℕ) : Type 0 where
+    pub all : transit ++ left place ≡ left 0
 
-  pub sends : (place : ℕ) (fact arrived : Fact) (mail mail' : List Fact) → slice_get facts place ≡ Some fact → is_sent seed k row (place, fact) ≡ true
-      → mail' ≡ mail ++ arrived ∷ [] → arrived ≡ fact → Sending mail place → Sending mail' (place + 1)
-  sends place fact arrived mail mail' is sent pushed same so =
+  pub sends : (place : ℕ) (fact arrived : Fact) (transit transit' : List Fact) → slice_get facts place ≡ Some fact → is_sent seed k row (place, fact) ≡ true
+      → transit' ≡ transit ++ arrived ∷ [] → arrived ≡ fact → Sending transit place → Sending transit' (place + 1)
+  sends place fact arrived transit transit' is sent pushed same so =
       let next : place + 1 ≡ suc place = omega arith in
       record {
         all =
-            ap₂ (λ one at. one ++ left at) (pushed ∙ ap (λ one. mail ++ one ∷ []) same) next
-            ∙ append_assoc mail (fact ∷ []) (left (suc place))
-            ∙ ap (λ rest. mail ++ rest) (sym (left_by true place fact is sent)) ∙ so.all;
+            ap₂ (λ one at. one ++ left at) (pushed ∙ ap (λ one. transit ++ one ∷ []) same) next
+            ∙ append_assoc transit (fact ∷ []) (left (suc place))
+            ∙ ap (λ rest. transit ++ rest) (sym (left_by true place fact is sent)) ∙ so.all;
       }
 
-  pub loses : (place : ℕ) (fact : Fact) (mail : List Fact) → slice_get facts place ≡ Some fact → is_sent seed k row (place, fact) ≡ false → Sending mail place
-      → Sending mail (place + 1)
-  loses place fact mail is lost so =
+  pub loses : (place : ℕ) (fact : Fact) (transit : List Fact) → slice_get facts place ≡ Some fact → is_sent seed k row (place, fact) ≡ false → Sending transit place
+      → Sending transit (place + 1)
+  loses place fact transit is lost so =
       let next : place + 1 ≡ suc place = omega arith in
-      record { all = ap (λ at. mail ++ left at) next ∙ ap (λ rest. mail ++ rest) (sym (left_by false place fact is lost)) ∙ so.all }
+      record { all = ap (λ at. transit ++ left at) next ∙ ap (λ rest. transit ++ rest) (sym (left_by false place fact is lost)) ∙ so.all }

@@ -8,7 +8,7 @@ use Rattle.std.specs.Prelude.{slice_get}
 use Rattle.std.specs.List.{AllByRecursion}
 use Rattle.link_core.specs.Boards.{row_of}
 use Rattle.link_core.specs.declared.fact.Fact.{Fact}
-use Rattle.link_nodes.specs.Screens.{AreNoted, AreOfOtherRows}
+use Rattle.link_nodes.specs.ShownRows.{AreNoted, AreOfOtherRows}
 use Rattle.link_nodes.specs.declared.spans.Span.{Span}
 use Rattle.list_laws.proofs.Lists.{each_more, each_so}
 use Rattle.list_laws.proofs.Members.{at_front, each_has, has_at, set_elsewhere, set_there, take_next}

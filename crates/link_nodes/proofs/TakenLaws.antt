@@ -9,18 +9,18 @@ use Rattle.link_core.specs.NodeStates.{NodeState}
 use Rattle.link_core.specs.Nodes.{Progress, Rule, taken}
 use Rattle.link_core.specs.declared.fact.Fact.{Fact}
 use Rattle.link_core.specs.declared.taken.Taken.{Taken}
-use Rattle.link_nodes.specs.Screens.{taken_all, taken_twice}
+use Rattle.link_nodes.specs.ShownRows.{taken_all, taken_twice}
 use Rattle.trace_plan.specs.Plans.{Planned}
 
 -- The last one, and then the others.
-pub last_taken : (rule : Rule) (me : ℕ) (node : Progress) (mail front : List Fact) (last : Fact) → mail ≡ front ++ last ∷ []
-    → taken_all rule me node (reverse mail) ≡ taken_all rule me (taken_twice rule me node last) (reverse front)
-last_taken rule me node mail front last is = ap (λ all. taken_all rule me node (reverse all)) is
+pub last_taken : (rule : Rule) (me : ℕ) (node : Progress) (transit front : List Fact) (last : Fact) → transit ≡ front ++ last ∷ []
+    → taken_all rule me node (reverse transit) ≡ taken_all rule me (taken_twice rule me node last) (reverse front)
+last_taken rule me node transit front last is = ap (λ all. taken_all rule me node (reverse all)) is
     ∙ ap (taken_all rule me node) (reverse-append front (last ∷ []))
 
-pub front_each : (P : Fact → Type 0) (mail front : List Fact) (last : Fact) → mail ≡ front ++ last ∷ [] → AllByRecursion P mail
+pub front_each : (P : Fact → Type 0) (transit front : List Fact) (last : Fact) → transit ≡ front ++ last ∷ [] → AllByRecursion P transit
     → AllByRecursion P front × P last
-front_each P mail front last is are = let parts = each_part P front (last ∷ []) (subst (AllByRecursion P) is are) in (parts.0, parts.1.0)
+front_each P transit front last is are = let parts = each_part P front (last ∷ []) (subst (AllByRecursion P) is are) in (parts.0, parts.1.0)
 
 -- What a node made of a fact, of the plan's own rule.
 pub second_taken : (plan : Planned) (owners : List ℕ) (me : ℕ) (node : NodeState) (fact : Fact) → node.plan ≡ plan → node.owners ≡ owners → node.me ≡ me

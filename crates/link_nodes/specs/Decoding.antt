@@ -13,7 +13,8 @@ use Rattle.link_core.specs.declared.fact.Said.{Said}
 use Rattle.link_core.specs.declared.fact.Said.TheVariants as said
 use Rattle.link_core.specs.declared.fact.Seen.{Seen}
 use Rattle.link_core.specs.declared.fact.Seen.TheVariants as seen
-use Rattle.link_nodes.specs.Wire.{encoding, is_short}
+use Rattle.link_core.specs.Lengths.{is_short}
+use Rattle.link_nodes.specs.Wire.{encoding}
 use Rattle.link_nodes.specs.declared.fields.Fields.{Fields}
 
 -- What fields may tell, read without a test.

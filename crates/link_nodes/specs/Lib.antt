@@ -1,6 +1,6 @@
 pub mod Decoding
-pub mod Desks
+pub mod Exchanges
 pub mod Rounds
-pub mod Screens
+pub mod ShownRows
 pub mod Shown
 pub mod Wire

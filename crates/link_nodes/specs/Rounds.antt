@@ -31,12 +31,13 @@ abbrev pub to_second : Rule → ℕ → ℕ → Pair → Pair
 to_second rule seed k pair = after_events rule pair (arrivals 1 (numbered_sent seed k pair.second.at.number pair.first.facts))
 
 -- Node 1 keeps its position in each fifth round, and starts again in each eighth.
-abbrev pub kept_in : ℕ → List PairEvent
-kept_in k = (if k % 5 == 0 then Keep 1 ∷ [] else []) ++ (if k % 8 == 0 then Restart 1 ∷ [] else [])
+abbrev pub closing_events : ℕ → List PairEvent
+closing_events k = (if k % 5 == 0 then Keep 1 ∷ [] else []) ++ (if k % 8 == 0 then Restart 1 ∷ [] else [])
 
 -- Both work; then facts arrive at the first and at the second.
 abbrev pub after_round : Rule → ℕ → ℕ → Pair → Pair
-after_round rule seed k pair = after_events rule (to_second rule seed k (to_first rule seed k (after_events rule pair (Work 0 ∷ Work 1 ∷ [])))) (kept_in k)
+after_round rule seed k pair =
+    after_events rule (to_second rule seed k (to_first rule seed k (after_events rule pair (Work 0 ∷ Work 1 ∷ [])))) (closing_events k)
 
 -- So many rounds, numbered from 1.
 abbrev pub after_rounds : Rule → ℕ → ℕ → Pair → Pair

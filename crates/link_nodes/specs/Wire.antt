@@ -1,5 +1,5 @@
--- Facts as bytes: 22, all fields big-endian.
-use Rattle.std.specs.Prelude.{ℕ, ◌<◌, ◌^◌, nat_lt, Bool, true, false, ◌&&◌, pos, List, ◌∷◌, ◌++◌, FitsSigned}
+-- Facts as bytes: 22, all fields big-endian. A fact can be encoded where it is short (`is_short` of link_core).
+use Rattle.std.specs.Prelude.{ℕ, ◌<◌, ◌^◌, true, false, pos, List, ◌∷◌, ◌++◌, FitsSigned}
 use Rattle.std.specs.Int.{w32, w64, to_be_bytes, cast_unsigned}
 use Rattle.fixed_words.specs.declared.types.Fault.{Fault}
 use Rattle.fixed_words.specs.declared.types.Fault.TheVariants.{Overflow, Range, ZeroDivisor, Accept, Max}
@@ -38,14 +38,6 @@ written f = f.kind ∷ (to_be_bytes w64 f.row ++ (to_be_bytes w32 f.place ++ (f.
 -- The encoding of a fact.
 abbrev pub encoding : Fact → List ℕ
 encoding fact = written (fields_of fact)
-
--- A fact can be encoded: its row is below 100,000, and a length is at most the greatest word.
-abbrev pub is_short : Fact → Bool
-is_short (Word row place seen) = nat_lt row 100000
-is_short (Limit row instance (asked.Max local)) = nat_lt row 100000 && nat_lt local (2 ^ 63)
-is_short (Limit row instance asked) = nat_lt row 100000
-is_short (Reply row instance redo (said.Accepted accepted)) = nat_lt row 100000 && nat_lt accepted (2 ^ 63)
-is_short (Reply row instance redo said) = nat_lt row 100000
 
 -- The numbers of a fact are those of its types. Where the type of a fact is known, they are.
 abbrev pub HasTypes : Fact → Type 0

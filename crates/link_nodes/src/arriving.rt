@@ -5,9 +5,9 @@ ghost use Rattle.link_core.specs.Keeping.{IsHonest};
 ghost use Rattle.link_core.specs.Making.{rule_of};
 ghost use Rattle.link_core.specs.NodeStates.{IsSameNode};
 ghost use Rattle.link_core.specs.Nodes.{taken, worked};
-ghost use Rattle.link_nodes.specs.Screens.{ComesTo, taken_all};
+ghost use Rattle.link_nodes.specs.ShownRows.{ComesTo, taken_all};
 
-use crate::screen::{Screen, judged};
+use crate::row_room::{RowRoom, judged};
 use cosim_io::Sink;
 use fixed_words::NoMemory;
 use link_core::{Fact, Node};
@@ -16,7 +16,7 @@ use trace_rows::CrewFault;
 
 /// Lets node 0 work, and puts the row that it comes to.
 pub(crate) fn work_shown<O: Sink>(
-    screen: &mut Screen,
+    room: &mut RowRoom,
     plan: &Plan,
     node: &mut Node,
     out: &mut O,
@@ -24,7 +24,9 @@ pub(crate) fn work_shown<O: Sink>(
     requires own { node.old.plan ≡ plan.now }
     requires owners { length node.old.owners ≡ length plan.now.run.members }
     requires me { node.old.me ≡ 0 }
-    ensures comes { ComesTo plan.now node.old.progress ((worked (rule_of plan.now.run node.old.owners) 0 node.old.progress).0) node.new.progress (O.held out.old) (O.held out.new) (O.faults out.old) (O.faults out.new) result }
+    ensures comes { ComesTo plan.now node.old.progress
+        ((worked (rule_of plan.now.run node.old.owners) 0 node.old.progress).0) node.new.progress
+        (O.held out.old) (O.held out.new) (O.faults out.old) (O.faults out.new) result }
     ensures same { IsSameNode node.old node.new }
 {
     judged(plan);
@@ -32,12 +34,12 @@ pub(crate) fn work_shown<O: Sink>(
     let _ = node.number();
     let going = node.ended().is_none();
     let came = node.work()?;
-    screen.show(plan, node, going, came, out)
+    room.show(plan, node, going, came, out)
 }
 
 /// Lets node 0 take a fact, and puts the row that it comes to.
 fn take_shown<O: Sink>(
-    screen: &mut Screen,
+    room: &mut RowRoom,
     plan: &Plan,
     node: &mut Node,
     fact: &Fact,
@@ -47,7 +49,9 @@ fn take_shown<O: Sink>(
     requires owners { length node.old.owners ≡ length plan.now.run.members }
     requires me { node.old.me ≡ 0 }
     requires honest { IsHonest plan.now.run fact.now }
-    ensures comes { ComesTo plan.now node.old.progress ((taken (rule_of plan.now.run node.old.owners) 0 node.old.progress fact.now).0) node.new.progress (O.held out.old) (O.held out.new) (O.faults out.old) (O.faults out.new) result }
+    ensures comes { ComesTo plan.now node.old.progress
+        ((taken (rule_of plan.now.run node.old.owners) 0 node.old.progress fact.now).0) node.new.progress
+        (O.held out.old) (O.held out.new) (O.faults out.old) (O.faults out.new) result }
     ensures same { IsSameNode node.old node.new }
 {
     judged(plan);
@@ -55,42 +59,49 @@ fn take_shown<O: Sink>(
     let _ = node.number();
     let going = node.ended().is_none();
     let came = node.take(fact)?;
-    screen.show(plan, node, going, came, out)
+    room.show(plan, node, going, came, out)
 }
 
 /// Lets facts arrive at node 0, from the last to the first and each twice, and puts the rows that it comes to.
 pub(crate) fn take_all_shown<O: Sink>(
-    screen: &mut Screen,
+    room: &mut RowRoom,
     plan: &Plan,
     node: &mut Node,
-    mail: &mut Vec<Fact>,
+    transit: &mut Vec<Fact>,
     out: &mut O,
 ) -> Result<(), CrewFault>
     requires own { node.old.plan ≡ plan.now }
     requires owners { length node.old.owners ≡ length plan.now.run.members }
     requires me { node.old.me ≡ 0 }
-    requires honest { AllByRecursion (IsHonest plan.now.run) mail.old.items }
-    ensures comes { ComesTo plan.now node.old.progress (taken_all (rule_of plan.now.run node.old.owners) 0 node.old.progress (reverse mail.old.items)) node.new.progress (O.held out.old) (O.held out.new) (O.faults out.old) (O.faults out.new) result }
+    requires honest { AllByRecursion (IsHonest plan.now.run) transit.old.items }
+    ensures comes { ComesTo plan.now node.old.progress
+        (taken_all (rule_of plan.now.run node.old.owners) 0 node.old.progress (reverse transit.old.items)) node.new.progress
+        (O.held out.old) (O.held out.new) (O.faults out.old) (O.faults out.new) result }
     ensures same { IsSameNode node.old node.new }
-    ensures empty { OnOk result (mail.new.items ≡ []) }
+    ensures empty { OnOk result (transit.new.items ≡ []) }
 {
-    while let Some(fact) = mail.pop() {
-        take_shown(screen, plan, node, &fact, out)?;
-        take_shown(screen, plan, node, &fact, out)?;
+    while let Some(fact) = transit.pop() {
+        take_shown(room, plan, node, &fact, out)?;
+        take_shown(room, plan, node, &fact, out)?;
     }
     Ok(())
 }
 
 /// Lets facts arrive at node 1, from the last to the first and each twice.
-pub(crate) fn take_all(plan: &Plan, node: &mut Node, mail: &mut Vec<Fact>) -> Result<(), NoMemory>
+pub(crate) fn take_all(
+    plan: &Plan,
+    node: &mut Node,
+    transit: &mut Vec<Fact>,
+) -> Result<(), NoMemory>
     requires own { node.old.plan ≡ plan.now }
     requires me { node.old.me ≡ 1 }
-    requires honest { AllByRecursion (IsHonest plan.now.run) mail.old.items }
-    ensures taken { OnOk result (node.new.progress ≡ taken_all (rule_of plan.now.run node.old.owners) 1 node.old.progress (reverse mail.old.items)) }
+    requires honest { AllByRecursion (IsHonest plan.now.run) transit.old.items }
+    ensures taken { OnOk result (node.new.progress
+        ≡ taken_all (rule_of plan.now.run node.old.owners) 1 node.old.progress (reverse transit.old.items)) }
     ensures same { IsSameNode node.old node.new }
-    ensures empty { OnOk result (mail.new.items ≡ []) }
+    ensures empty { OnOk result (transit.new.items ≡ []) }
 {
-    while let Some(fact) = mail.pop() {
+    while let Some(fact) = transit.pop() {
         node.take(&fact)?;
         node.take(&fact)?;
     }

@@ -6,18 +6,18 @@
 //! no fact tell none.
 //!
 //! Definitions: `specs/Rounds.antt` (what happens in each round), `specs/Shown.antt` (what is put and told) and `specs/Wire.antt`
-//! (fields, encodings, and which facts can be encoded). `specs/Screens.antt`, `specs/Desks.antt` and `specs/Decoding.antt`, which need
-//! not be believed, say how it is gone about.
+//! (fields and encodings). `specs/ShownRows.antt`, `specs/Exchanges.antt` and `specs/Decoding.antt`, which need not be believed, say how
+//! it is gone about.
 #![tactic(auto)]
 
 mod arriving;
-mod desk;
+mod exchange;
 mod fields;
 mod laws;
-mod mail;
+mod row_room;
 mod run;
-mod screen;
 mod spans;
+mod transit;
 mod wire;
 
 pub use laws::rounds_keep;

@@ -1,14 +1,14 @@
 //! Two nodes in one process.
 ghost use Rattle.std.specs.Prelude.{◌≡◌, IfOk, OnErr};
-ghost use Rattle.link_nodes.specs.Desks.{DeskComes, IsDesk, IsOpened, desk_rule, pair_of};
+ghost use Rattle.link_nodes.specs.Exchanges.{ExchangeComes, IsExchange, IsOpened, exchange_rule, pair_of};
 ghost use Rattle.link_nodes.specs.Rounds.{after_rounds};
 ghost use Rattle.link_nodes.specs.Shown.{BeginsRounds, ShowsRounds, told_of};
 ghost use Rattle.trace_rows.specs.Faults.{TellsFault};
 
-use crate::desk::Desk;
-use crate::mail::Round;
-use crate::screen::{Screen, judged};
+use crate::exchange::Exchange;
+use crate::row_room::{RowRoom, judged};
 use crate::spans::Spans;
+use crate::transit::Round;
 use cosim_io::Sink;
 use fixed_words::{List, NoMemory};
 use link_core::{Node, by_turns};
@@ -29,28 +29,33 @@ pub struct Nodes {
 }
 
 /// Both nodes of a plan at its start, whose instances are owned by turns.
-fn desk_of(alloc: Global, plan: Arc<Plan>) -> Result<Desk, NoMemory>
+fn exchange_of(alloc: Global, plan: Arc<Plan>) -> Result<Exchange, NoMemory>
     ensures { IfOk result (IsOpened plan.value) }
 {
     let owners = by_turns(alloc, &plan)?;
     let copied = List::from_slice(alloc, owners.as_slice())?;
     let first = Node::open(alloc, Arc::clone(&plan)?, owners, 0)?;
     let second = Node::open(alloc, Arc::clone(&plan)?, copied, 1)?;
-    Ok(Desk {
+    Ok(Exchange {
         plan,
         first,
         second,
         first_spans: Spans::new(alloc),
         second_spans: Spans::new(alloc),
-        mail: Vec::new(alloc),
-        screen: Screen::new(alloc),
+        transit: Vec::new(alloc),
+        room: RowRoom::new(alloc),
     })
 }
 
 /// Goes so many rounds.
-fn go_rounds<O: Sink>(desk: &mut Desk, seed: u64, rounds: u32, out: &mut O) -> Result<(), CrewFault>
-    requires { IsDesk desk.old }
-    ensures { DeskComes desk.old (after_rounds (desk_rule desk.old) seed rounds (pair_of desk.old)) desk.new
+fn go_rounds<O: Sink>(
+    exchange: &mut Exchange,
+    seed: u64,
+    rounds: u32,
+    out: &mut O,
+) -> Result<(), CrewFault>
+    requires { IsExchange exchange.old }
+    ensures { ExchangeComes exchange.old (after_rounds (exchange_rule exchange.old) seed rounds (pair_of exchange.old)) exchange.new
         (O.held out.old) (O.held out.new) (O.faults out.old) (O.faults out.new) result }
 {
     for number in 0..rounds {
@@ -58,20 +63,20 @@ fn go_rounds<O: Sink>(desk: &mut Desk, seed: u64, rounds: u32, out: &mut O) -> R
             seed,
             number: u64::from(number) + 1,
         };
-        desk.round(round, out)?;
+        exchange.round(round, out)?;
     }
     Ok(())
 }
 
 /// How far both nodes are.
-fn told(desk: &Desk) -> Nodes
-    ensures { result ≡ told_of (pair_of desk.now) }
+fn told(exchange: &Exchange) -> Nodes
+    ensures { result ≡ told_of (pair_of exchange.now) }
 {
     Nodes {
-        first: desk.first.number(),
-        second: desk.second.number(),
-        last: desk.first.point(),
-        outcome: desk.first.ended(),
+        first: exchange.first.number(),
+        second: exchange.second.number(),
+        last: exchange.first.point(),
+        outcome: exchange.first.ended(),
     }
 }
 
@@ -95,9 +100,9 @@ pub fn run_nodes<O: Sink>(
     ensures cause { TellsFault (O.faults out.old) (O.faults out.new) result }
 {
     // All memory of the nodes but that of facts and lines is taken before anything is put.
-    let mut desk = desk_of(alloc, plan)?;
-    judged(&desk.plan);
-    put_header(alloc, &desk.plan, out)?;
-    go_rounds(&mut desk, seed, rounds, out)?;
-    Ok(told(&desk))
+    let mut exchange = exchange_of(alloc, plan)?;
+    judged(&exchange.plan);
+    put_header(alloc, &exchange.plan, out)?;
+    go_rounds(&mut exchange, seed, rounds, out)?;
+    Ok(told(&exchange))
 }

@@ -2,7 +2,7 @@
 ghost use Rattle.std.specs.Prelude.{◌≡◌, ◌≤◌, ◌<◌, ◌++◌, ◌∷◌, ◌^◌, [], List, length, take, OnOk};
 ghost use Rattle.link_core.specs.Boards.{row_of};
 ghost use Rattle.link_core.specs.declared.fact.Fact.{Fact as TheFact};
-ghost use Rattle.link_nodes.specs.Screens.{AreNoted, AreOfOtherRows};
+ghost use Rattle.link_nodes.specs.ShownRows.{AreNoted, AreOfOtherRows};
 
 use fixed_words::NoMemory;
 use link_core::Fact;

@@ -1,7 +1,8 @@
+ghost use Rattle.link_core.specs.Lengths.{is_short};
 ghost use Rattle.link_core.specs.declared.fact.Fact.{Fact};
 ghost use Rattle.std.specs.Prelude.{◌≡◌, true, length, IfSome, IfNone, Some, None};
 ghost use Rattle.link_nodes.specs.Decoding.{decoded, is_written, read, told_if};
-ghost use Rattle.link_nodes.specs.Wire.{encoding, is_short, written, HasTypes};
+ghost use Rattle.link_nodes.specs.Wire.{encoding, written, HasTypes};
 
 use crate::fields::{Fields, fact_of, fields_of};
 use link_core::{Asked, Fact, Said};
@@ -85,7 +86,7 @@ fn read(bytes: &[u8]) -> Option<Fields>
 }
 
 /// Whether a fact can be encoded: its row is below 100,000, and a length is at most the greatest word.
-pub(crate) fn is_short(fact: Fact) -> bool
+fn is_short(fact: Fact) -> bool
     ensures { result ≡ is_short fact }
 {
     const MOST_LENGTH: u64 = 1 << 63;
@@ -105,7 +106,7 @@ pub(crate) fn is_short(fact: Fact) -> bool
     }
 }
 
-/// Encodes a fact. No memory is taken.
+/// Encodes a fact that is short, as each one is that a node lists. No memory is taken.
 pub fn encode(fact: &Fact) -> [u8; 22]
     requires { is_short fact.now ≡ true }
     ensures { result ≡ encoding fact.now }

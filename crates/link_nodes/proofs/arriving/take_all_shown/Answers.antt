@@ -3,20 +3,20 @@ use Rattle.std.specs.Prelude.{reverse}
 use Rattle.link_core.specs.Keeping.{IsHonest}
 use Rattle.link_core.specs.Making.{rule_of}
 use Rattle.link_core.specs.Nodes.{Progress, taken}
-use Rattle.link_nodes.specs.Screens.{ComesTo, taken_all, taken_twice}
+use Rattle.link_nodes.specs.ShownRows.{ComesTo, taken_all, taken_twice}
 use Rattle.link_nodes.proofs.LaterLaws.{IsLater, all_later, later_still, taken_later}
-use Rattle.link_nodes.proofs.ScreenLaws.{comes_on, comes_there, part_up}
+use Rattle.link_nodes.proofs.ShownRowLaws.{comes_on, comes_there, part_up}
 use Rattle.link_nodes.proofs.TakenLaws.{front_each, last_taken}
 use Rattle.link_nodes.proofs.arriving.take_all_shown.Goals as goal
 use Rattle.trace_rows.proofs.RowLaws.{err_is}
 
 pub take_shown-requires-clause-honest : goal.take_shown-requires-clause-honest
 take_shown-requires-clause-honest g c = (front_each
-    (IsHonest c.args.plan.now.run) c.loop-fact.mail.items c.pop.new.self.items c.in-Some.fact c.in-Some.ensures.items c.loop-fact.invariant.honest).1
+    (IsHonest c.args.plan.now.run) c.loop-fact.transit.items c.pop.new.self.items c.in-Some.fact c.in-Some.ensures.items c.loop-fact.invariant.honest).1
 
 pub take_shown-requires-in-Some-clause-honest : goal.take_shown-requires-in-Some-clause-honest
 take_shown-requires-in-Some-clause-honest g c = (front_each
-    (IsHonest c.args.plan.now.run) c.loop-fact.mail.items c.pop.new.self.items c.in-Some.fact c.in-Some.ensures.items c.loop-fact.invariant.honest).1
+    (IsHonest c.args.plan.now.run) c.loop-fact.transit.items c.pop.new.self.items c.in-Some.fact c.in-Some.ensures.items c.loop-fact.invariant.honest).1
 
 pub returns-in_err-take_shown-clause-comes : goal.returns-in_err-take_shown-clause-comes
 returns-in_err-take_shown-clause-comes g c =
@@ -28,8 +28,8 @@ returns-in_err-take_shown-clause-comes g c =
     let one = (taken rule 0 now fact).0 in
     let two = taken_twice rule 0 now fact in
     let front = c.pop.new.self.items in
-    let target = taken_all rule 0 c.args.node.now.progress (reverse c.args.mail.now.items) in
-    let end_is : taken_all rule 0 two (reverse front) ≡ target = sym (last_taken rule 0 now c.loop-fact.mail.items front fact c.in-Some.ensures.items)
+    let target = taken_all rule 0 c.args.node.now.progress (reverse c.args.transit.now.items) in
+    let end_is : taken_all rule 0 two (reverse front) ≡ target = sym (last_taken rule 0 now c.loop-fact.transit.items front fact c.in-Some.ensures.items)
     ∙ c.loop-fact.invariant.rest in
     let later = subst (IsLater one) end_is (later_still one two (taken_all rule 0 two (reverse front)) (taken_later plan.run owners 0 one fact)
     (all_later plan.run owners 0 two (reverse front))) in
@@ -67,10 +67,10 @@ returns-in_err-take_shown-2-clause-comes g c =
     (g.O.Sink.faults c.take_shown-in-Some.new.out) (Err fault)) (then.owners ∙ was.owners) c.in_err-take_shown-2.ensures.comes in
     let two = (taken rule 0 mid fact).0 in
     let front = c.pop.new.self.items in
-    let target = taken_all rule 0 start (reverse c.args.mail.now.items) in
+    let target = taken_all rule 0 start (reverse c.args.transit.now.items) in
     let two_is : taken_twice rule 0 now fact ≡ two = ap (λ (p : Progress). (taken rule 0 p fact).0) (sym first.there) in
     let end_is : taken_all rule 0 two (reverse front) ≡ target = ap (λ (p : Progress). taken_all rule 0 p (reverse front)) (sym two_is)
-    ∙ sym (last_taken rule 0 now c.loop-fact.mail.items front fact c.in-Some.ensures.items) ∙ c.loop-fact.invariant.rest in
+    ∙ sym (last_taken rule 0 now c.loop-fact.transit.items front fact c.in-Some.ensures.items) ∙ c.loop-fact.invariant.rest in
     let later = subst (IsLater two) end_is (all_later plan.run owners 0 two (reverse front)) in
     part_up plan start mid two target c.take_shown-in-Some.new.node.progress (g.O.Sink.held c.args.out.now) (g.O.Sink.held c.take_shown.new.out)
     (g.O.Sink.held c.take_shown-in-Some.new.out) (g.O.Sink.faults c.args.out.now) (g.O.Sink.faults c.take_shown.new.out)
@@ -105,11 +105,11 @@ loop-fact-preserved g c =
     let front = c.pop.new.self.items in
     let two_is : taken_twice rule 0 now fact ≡ two = ap (λ (p : Progress). (taken rule 0 p fact).0) (sym first.there) in
     let last = c.take_shown-in-Some.ensures.same in
-    let each = front_each (IsHonest plan.run) c.loop-fact.mail.items front fact c.in-Some.ensures.items c.loop-fact.invariant.honest in
+    let each = front_each (IsHonest plan.run) c.loop-fact.transit.items front fact c.in-Some.ensures.items c.loop-fact.invariant.honest in
     record {
       rest =
           ap (λ (p : Progress). taken_all rule 0 p (reverse front)) (second.there ∙ sym two_is)
-          ∙ sym (last_taken rule 0 now c.loop-fact.mail.items front fact c.in-Some.ensures.items) ∙ c.loop-fact.invariant.rest;
+          ∙ sym (last_taken rule 0 now c.loop-fact.transit.items front fact c.in-Some.ensures.items) ∙ c.loop-fact.invariant.rest;
       same = record { plan = last.plan ∙ then.plan ∙ was.plan; owners = last.owners ∙ then.owners ∙ was.owners; me = last.me ∙ then.me ∙ was.me };
       honest = each.0;
       comes =

@@ -3,7 +3,7 @@ use Rattle.link_core.specs.Keeping.{KeepsTo}
 use Rattle.link_core.specs.Making.{rule_of}
 use Rattle.link_core.specs.Nodes.{worked}
 use Rattle.link_nodes.proofs.LaterLaws.{worked_later}
-use Rattle.link_nodes.proofs.ScreenLaws.{comes_not, going_told, work_comes}
+use Rattle.link_nodes.proofs.ShownRowLaws.{comes_not, going_told, work_comes}
 use Rattle.link_nodes.proofs.arriving.work_shown.Goals as goal
 use Rattle.trace_plan.specs.Plans.{Planned}
 use Rattle.trace_rows.specs.declared.fault.CrewFault.TheVariants.{NoMemory}

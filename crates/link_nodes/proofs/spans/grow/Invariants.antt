@@ -1,6 +1,6 @@
 use Rattle.std.proofs.Common.{◌≡◌, ◌+◌, ◌-◌, List, length}
 use Rattle.link_core.specs.declared.fact.Fact.{Fact}
-use Rattle.link_nodes.specs.Screens.{AreNoted}
+use Rattle.link_nodes.specs.ShownRows.{AreNoted}
 use Rattle.link_nodes.proofs.spans.grow.Given as goal
 
 abbrev pub invariant-loop-rows : goal.invariant-loop-rows

@@ -1,5 +1,5 @@
 use Rattle.std.proofs.Common.{◌+◌, ◌++◌, ◌∷◌, [], set, subst}
-use Rattle.link_nodes.specs.Screens.{AreNoted}
+use Rattle.link_nodes.specs.ShownRows.{AreNoted}
 use Rattle.link_nodes.proofs.SpanLaws.{noted_next}
 use Rattle.link_nodes.proofs.spans.note_one.Goals as goal
 use Rattle.list_laws.proofs.Members.{read_at}

@@ -1,5 +1,5 @@
 use Rattle.std.proofs.Common.{◌≤◌, length, take}
-use Rattle.link_nodes.specs.Screens.{AreNoted}
+use Rattle.link_nodes.specs.ShownRows.{AreNoted}
 use Rattle.link_nodes.proofs.spans.Spans.note.Given as goal
 
 abbrev pub invariant-loop-place : goal.invariant-loop-place

@@ -1,9 +1,9 @@
 use Rattle.std.proofs.Common.{◌≡◌, ◌∙◌, ◌∷◌, [], subst}
 use Rattle.std.specs.Io.KnownBytes.{Appends}
 use Rattle.cosim_io.specs.Pieces.{AppendsPrefix}
-use Rattle.link_nodes.specs.Screens.{row_told}
+use Rattle.link_nodes.specs.ShownRows.{row_told}
 use Rattle.link_nodes.proofs.RowWords.{one_line, row_words}
-use Rattle.link_nodes.proofs.screen.Screen.put_row.Goals as goal
+use Rattle.link_nodes.proofs.row_room.RowRoom.put_row.Goals as goal
 use Rattle.list_laws.proofs.Options.{on_err}
 use Rattle.trace_rows.specs.Lines.{lines_of}
 

@@ -1,9 +1,9 @@
-use Rattle.link_nodes.proofs.DeskLaws.{firsts_short, round_comes, seconds_short, works_short}
-use Rattle.link_nodes.proofs.desk.Desk.round.Goals as goal
+use Rattle.link_nodes.proofs.ExchangeLaws.{firsts_short, round_comes, seconds_short, works_short}
+use Rattle.link_nodes.proofs.exchange.Exchange.round.Goals as goal
 use Rattle.trace_rows.proofs.RowLaws.{err_is}
 
 pub keep-requires : goal.keep-requires
-keep-requires g c = (c.in_ok-tell_second.ensures (g.O.Sink.held c.tell_first.new.out) (g.O.Sink.faults c.tell_first.new.out)).is_desk
+keep-requires g c = (c.in_ok-tell_second.ensures (g.O.Sink.held c.tell_first.new.out) (g.O.Sink.faults c.tell_first.new.out)).is_exchange
 
 pub returns-in_err-work : goal.returns-in_err-work
 returns-in_err-work g c =
@@ -39,4 +39,4 @@ returns g c =
     (g.O.Sink.faults c.args.out.now) (g.O.Sink.faults c.work.new.out) (g.O.Sink.faults c.tell_first.new.out) (g.O.Sink.faults c.tell_first.new.out)
     c.in_ok-work.ensures c.in_ok-tell_first.ensures c.keep.new.self
     (c.in_ok-tell_second.ensures (g.O.Sink.held c.tell_first.new.out)
-    (g.O.Sink.faults c.tell_first.new.out)) c.keep.ensures.desk c.keep.ensures.plan c.keep.ensures.pair
+    (g.O.Sink.faults c.tell_first.new.out)) c.keep.ensures.exchange c.keep.ensures.plan c.keep.ensures.pair

@@ -4,11 +4,11 @@ use Rattle.std.specs.List.{AllByRecursion}
 use Rattle.link_core.specs.Keeping.{IsHonest}
 use Rattle.link_core.specs.Making.{rule_of}
 use Rattle.link_nodes.specs.Rounds.{numbered_sent}
-use Rattle.link_nodes.specs.Screens.{AreNoted, ComesTo, IsNoted, taken_all}
+use Rattle.link_nodes.specs.ShownRows.{AreNoted, ComesTo, IsNoted, taken_all}
 use Rattle.link_nodes.proofs.ArrivalLaws.{fact_of, sent_each}
-use Rattle.link_nodes.proofs.DeskLaws.{first_dry, first_owned, first_part, first_stays}
+use Rattle.link_nodes.proofs.ExchangeLaws.{first_dry, first_owned, first_part, first_stays}
 use Rattle.link_nodes.proofs.GrowLaws.{all_noted}
-use Rattle.link_nodes.proofs.desk.Desk.tell_first.Goals as goal
+use Rattle.link_nodes.proofs.exchange.Exchange.tell_first.Goals as goal
 use Rattle.trace_plan.specs.Plans.{Planned}
 use Rattle.trace_rows.specs.declared.fault.CrewFault.TheVariants.{NoMemory}
 use Rattle.trace_rows.proofs.RowLaws.{err_is}
@@ -59,22 +59,22 @@ take_all_shown-requires-clause-honest g c =
 
 pub returns : goal.returns
 returns g c =
-    let desk = c.args.self.now in
+    let exchange = c.args.self.now in
     let seed = c.args.round.seed in
     let k = c.args.round.number in
-    let mail = c.send.new.mail.items in
-    let mail_is : mail ≡ map fact_of (numbered_sent seed k desk.first.progress.at.number desk.second.progress.facts) =
+    let transit = c.send.new.transit.items in
+    let transit_is : transit ≡ map fact_of (numbered_sent seed k exchange.first.progress.at.number exchange.second.progress.facts) =
     c.in_ok-send.ensures ∙ ap₂ (λ row facts. map fact_of (numbered_sent seed k row facts)) c.number-row.ensures.number c.facts-facts.ensures.facts in
-    let comes = subst (λ os. ComesTo desk.plan.value desk.first.progress
-    (taken_all (rule_of desk.plan.value.run os) 0 desk.first.progress (reverse mail)) c.take_all_shown.new.node.progress (g.O.Sink.held c.args.out.now)
+    let comes = subst (λ os. ComesTo exchange.plan.value exchange.first.progress
+    (taken_all (rule_of exchange.plan.value.run os) 0 exchange.first.progress (reverse transit)) c.take_all_shown.new.node.progress (g.O.Sink.held c.args.out.now)
     (g.O.Sink.held c.take_all_shown.new.out) (g.O.Sink.faults c.args.out.now)
     (g.O.Sink.faults c.take_all_shown.new.out) c.take_all_shown.result) c.requires.first_owners
-    (subst (λ (p : Planned). ComesTo p desk.first.progress
-    (taken_all (rule_of p.run desk.first.owners) 0 desk.first.progress (reverse mail)) c.take_all_shown.new.node.progress (g.O.Sink.held c.args.out.now)
+    (subst (λ (p : Planned). ComesTo p exchange.first.progress
+    (taken_all (rule_of p.run exchange.first.owners) 0 exchange.first.progress (reverse transit)) c.take_all_shown.new.node.progress (g.O.Sink.held c.args.out.now)
     (g.O.Sink.held c.take_all_shown.new.out) (g.O.Sink.faults c.args.out.now)
     (g.O.Sink.faults c.take_all_shown.new.out) c.take_all_shown.result) c.deref.ensures c.take_all_shown.ensures.comes) in
-    first_part desk _ seed k mail (g.O.Sink.held c.args.out.now) (g.O.Sink.held c.take_all_shown.new.out) (g.O.Sink.faults c.args.out.now)
-    (g.O.Sink.faults c.take_all_shown.new.out) c.take_all_shown.result c.requires refl mail_is comes
+    first_part exchange _ seed k transit (g.O.Sink.held c.args.out.now) (g.O.Sink.held c.take_all_shown.new.out) (g.O.Sink.faults c.args.out.now)
+    (g.O.Sink.faults c.take_all_shown.new.out) c.take_all_shown.result c.requires refl transit_is comes
     c.take_all_shown.ensures.same refl refl
     (subst (IsNoted c.note.new.self) c.facts-facts.ensures.facts
     (all_noted c.note.new.self c.facts-facts.result.now c.in_ok-note.ensures.all c.in_ok-note.ensures.noted))

@@ -1,5 +1,5 @@
 use Rattle.std.proofs.Common.{◌≡◌, ◌∙◌, ap, subst, sym}
-use Rattle.link_nodes.proofs.screen.judged.Goals as goal
+use Rattle.link_nodes.proofs.row_room.judged.Goals as goal
 use Rattle.run_laws.proofs.PositionLaws.{system_has_members}
 use Rattle.unit_tree.specs.Compositions.{AreMembers, run_of}
 use Rattle.unit_tree.specs.Plain.{plain_form}

@@ -4,11 +4,11 @@ use Rattle.std.specs.List.{AllByRecursion}
 use Rattle.link_core.specs.Keeping.{IsHonest}
 use Rattle.link_core.specs.Making.{rule_of}
 use Rattle.link_nodes.specs.Rounds.{numbered_sent}
-use Rattle.link_nodes.specs.Screens.{AreNoted, IsNoted, taken_all}
+use Rattle.link_nodes.specs.ShownRows.{AreNoted, IsNoted, taken_all}
 use Rattle.link_nodes.proofs.ArrivalLaws.{fact_of, sent_each}
-use Rattle.link_nodes.proofs.DeskLaws.{second_dry, second_part, second_stays}
+use Rattle.link_nodes.proofs.ExchangeLaws.{second_dry, second_part, second_stays}
 use Rattle.link_nodes.proofs.GrowLaws.{all_noted}
-use Rattle.link_nodes.proofs.desk.Desk.tell_second.Goals as goal
+use Rattle.link_nodes.proofs.exchange.Exchange.tell_second.Goals as goal
 use Rattle.trace_plan.specs.Plans.{Planned}
 use Rattle.trace_rows.specs.declared.fault.CrewFault.TheVariants.{NoMemory}
 use Rattle.trace_rows.proofs.RowLaws.{err_is}
@@ -60,16 +60,16 @@ returns-in_err-take_all c = λ held faults.
 
 pub returns : goal.returns
 returns c = λ held faults.
-    let desk = c.args.self.now in
+    let exchange = c.args.self.now in
     let seed = c.args.round.seed in
     let k = c.args.round.number in
-    let mail = c.send.new.mail.items in
-    let mail_is : mail ≡ map fact_of (numbered_sent seed k desk.second.progress.at.number desk.first.progress.facts) =
+    let transit = c.send.new.transit.items in
+    let transit_is : transit ≡ map fact_of (numbered_sent seed k exchange.second.progress.at.number exchange.first.progress.facts) =
     c.in_ok-send.ensures ∙ ap₂ (λ row facts. map fact_of (numbered_sent seed k row facts)) c.number-row.ensures.number c.facts-facts.ensures.facts in
     let came = c.in_ok-take_all.ensures.taken
-    ∙ ap₂ (λ (p : Planned) os. taken_all (rule_of p.run os) 1 desk.second.progress (reverse mail)) c.deref.ensures c.requires.second_owners in
-    second_part desk _ seed k mail held
-    faults c.requires refl mail_is came c.take_all.ensures.same refl refl
+    ∙ ap₂ (λ (p : Planned) os. taken_all (rule_of p.run os) 1 exchange.second.progress (reverse transit)) c.deref.ensures c.requires.second_owners in
+    second_part exchange _ seed k transit held
+    faults c.requires refl transit_is came c.take_all.ensures.same refl refl
     (subst (IsNoted c.note.new.self) c.facts-facts.ensures.facts
     (all_noted c.note.new.self c.facts-facts.result.now c.in_ok-note.ensures.all c.in_ok-note.ensures.noted))
     c.in_ok-take_all.ensures.empty

@@ -14,7 +14,7 @@ use Rattle.link_core.specs.declared.fact.Fact.{Fact}
 use Rattle.link_core.specs.declared.taken.Taken.{Taken}
 use Rattle.link_nodes.proofs.Committed.{taken_grows, worked_grows}
 use Rattle.link_nodes.proofs.LaterLaws.{IsLater, shown_more}
-use Rattle.link_nodes.specs.Screens.{ComesTo, IsJudged, Shows, ShowsPast, comes, rows_come_to}
+use Rattle.link_nodes.specs.ShownRows.{ComesTo, IsJudged, Shows, ShowsPast, comes, rows_come_to}
 use Rattle.link_nodes.specs.Shown.{lines_shown}
 use Rattle.trace_plan.specs.Plans.{Planned}
 use Rattle.trace_rows.specs.Faults.{TellsFault}

@@ -2,13 +2,13 @@
 ghost use Rattle.std.specs.Prelude.{◌≡◌, ◌∷◌, [], List, Option, ℕ};
 ghost use Rattle.link_core.specs.Pairs.{after_events};
 ghost use Rattle.link_core.specs.declared.pair_event.PairEvent.TheVariants.{Work};
-ghost use Rattle.link_nodes.specs.Desks.{DeskComes, IsDesk, desk_rule, pair_of};
-ghost use Rattle.link_nodes.specs.Rounds.{after_round, kept_in, to_first, to_second};
+ghost use Rattle.link_nodes.specs.Exchanges.{ExchangeComes, IsExchange, exchange_rule, pair_of};
+ghost use Rattle.link_nodes.specs.Rounds.{after_round, closing_events, to_first, to_second};
 
 use crate::arriving::{take_all, take_all_shown, work_shown};
-use crate::mail::{Round, send};
-use crate::screen::Screen;
+use crate::row_room::RowRoom;
 use crate::spans::Spans;
+use crate::transit::{Round, send};
 use cosim_io::Sink;
 use link_core::{Fact, Node};
 use std::sync::Arc;
@@ -17,33 +17,33 @@ use trace_rows::CrewFault;
 
 /// Both nodes of a plan, the facts on their way, and what rows are put with.
 #[derive(Drop)]
-pub(crate) struct Desk {
+pub(crate) struct Exchange {
     pub(crate) plan: Arc<Plan>,
     pub(crate) first: Node,
     pub(crate) second: Node,
     /// Of the facts of each.
     pub(crate) first_spans: Spans,
     pub(crate) second_spans: Spans,
-    pub(crate) mail: Vec<Fact>,
-    pub(crate) screen: Screen,
+    pub(crate) transit: Vec<Fact>,
+    pub(crate) room: RowRoom,
 }
 
-impl Desk {
+impl Exchange {
     /// Lets both nodes work.
     fn work<O: Sink>(&mut self, out: &mut O) -> Result<(), CrewFault>
-        requires { IsDesk self.old }
-        ensures { DeskComes self.old (after_events (desk_rule self.old) (pair_of self.old) (Work 0 ∷ Work 1 ∷ [])) self.new
+        requires { IsExchange self.old }
+        ensures { ExchangeComes self.old (after_events (exchange_rule self.old) (pair_of self.old) (Work 0 ∷ Work 1 ∷ [])) self.new
             (O.held out.old) (O.held out.new) (O.faults out.old) (O.faults out.new) result }
     {
-        work_shown(&mut self.screen, &self.plan, &mut self.first, out)?;
+        work_shown(&mut self.room, &self.plan, &mut self.first, out)?;
         self.second.work()?;
         Ok(())
     }
 
     /// Lets facts of node 1 arrive at node 0. Where it has ended it would take none, so none are sent.
     fn tell_first<O: Sink>(&mut self, round: Round, out: &mut O) -> Result<(), CrewFault>
-        requires { IsDesk self.old }
-        ensures { DeskComes self.old (to_first (desk_rule self.old) round.seed round.number (pair_of self.old)) self.new
+        requires { IsExchange self.old }
+        ensures { ExchangeComes self.old (to_first (exchange_rule self.old) round.seed round.number (pair_of self.old)) self.new
             (O.held out.old) (O.held out.new) (O.faults out.old) (O.faults out.new) result }
     {
         if self.first.ended().is_some() {
@@ -53,21 +53,22 @@ impl Desk {
         let facts = self.second.facts();
         self.second_spans.note(facts)?;
         let span = self.second_spans.span(row);
-        send(facts, span, round, row, &mut self.mail)?;
+        send(facts, span, round, row, &mut self.transit)?;
         take_all_shown(
-            &mut self.screen,
+            &mut self.room,
             &self.plan,
             &mut self.first,
-            &mut self.mail,
+            &mut self.transit,
             out,
         )
     }
 
     /// Lets facts of node 0 arrive at node 1, likewise.
     fn tell_second(&mut self, round: Round) -> Result<(), CrewFault>
-        requires { IsDesk self.old }
+        requires { IsExchange self.old }
         ensures { (held : Option (List ℕ)) (faults : ℕ)
-            → DeskComes self.old (to_second (desk_rule self.old) round.seed round.number (pair_of self.old)) self.new held held faults faults result }
+            → ExchangeComes self.old (to_second (exchange_rule self.old) round.seed round.number (pair_of self.old)) self.new held held faults faults
+            result }
     {
         if self.second.ended().is_some() {
             return Ok(());
@@ -76,17 +77,17 @@ impl Desk {
         let facts = self.first.facts();
         self.first_spans.note(facts)?;
         let span = self.first_spans.span(row);
-        send(facts, span, round, row, &mut self.mail)?;
-        take_all(&self.plan, &mut self.second, &mut self.mail)?;
+        send(facts, span, round, row, &mut self.transit)?;
+        take_all(&self.plan, &mut self.second, &mut self.transit)?;
         Ok(())
     }
 
     /// Keeps the position of node 1, or starts it again, where the round has it.
     fn keep(&mut self, number: u64)
-        requires { IsDesk self.old }
-        ensures desk { IsDesk self.new }
+        requires { IsExchange self.old }
+        ensures exchange { IsExchange self.new }
         ensures plan { self.new.plan.value ≡ self.old.plan.value }
-        ensures pair { pair_of self.new ≡ after_events (desk_rule self.old) (pair_of self.old) (kept_in number) }
+        ensures pair { pair_of self.new ≡ after_events (exchange_rule self.old) (pair_of self.old) (closing_events number) }
     {
         if number % 5 == 0 {
             self.second.keep();
@@ -98,8 +99,8 @@ impl Desk {
 
     /// A round.
     pub(crate) fn round<O: Sink>(&mut self, round: Round, out: &mut O) -> Result<(), CrewFault>
-        requires { IsDesk self.old }
-        ensures { DeskComes self.old (after_round (desk_rule self.old) round.seed round.number (pair_of self.old)) self.new
+        requires { IsExchange self.old }
+        ensures { ExchangeComes self.old (after_round (exchange_rule self.old) round.seed round.number (pair_of self.old)) self.new
             (O.held out.old) (O.held out.new) (O.faults out.old) (O.faults out.new) result }
     {
         self.work(out)?;

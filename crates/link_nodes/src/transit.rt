@@ -1,14 +1,15 @@
 //! Facts on their way from one node to the other.
-ghost use Rattle.std.specs.Prelude.{◌≡◌, ◌≤◌, [], map, length, IfOk, OnOk};
+ghost use Rattle.std.specs.List.{AllByRecursion};
+ghost use Rattle.std.specs.Prelude.{◌≡◌, ◌≤◌, true, [], map, length, OnOk};
+ghost use Rattle.link_core.specs.Lengths.{is_short};
 ghost use Rattle.link_nodes.specs.Rounds.{is_sent, numbered_sent};
-ghost use Rattle.link_nodes.specs.Screens.{AreOfOtherRows};
+ghost use Rattle.link_nodes.specs.ShownRows.{AreOfOtherRows};
 ghost use Rattle.link_nodes.specs.Wire.{HasTypes};
 
 use crate::spans::Span;
-use crate::wire::{decode, encode, is_short};
+use crate::wire::{decode, encode};
 use fixed_words::NoMemory;
 use link_core::{Asked, Fact, Said, Seen};
-use std::alloc::AllocError;
 
 /// A round, by its number from 1, and the seed that tells with it which facts are lost.
 #[derive(Clone, Copy, Debug)]
@@ -33,15 +34,13 @@ fn typed(fact: Fact)
 }
 
 /// A fact as it arrives: encoded, and decoded.
-fn carried(fact: Fact) -> Result<Fact, NoMemory>
-    ensures { IfOk result (λ arrived. arrived ≡ fact) }
+fn carried(fact: Fact) -> Fact
+    requires { is_short fact ≡ true }
+    ensures { result ≡ fact }
 {
-    if !is_short(fact) {
-        return Err(AllocError);
-    }
     typed(fact);
     match decode(&encode(&fact)) {
-        Some(arrived) => Ok(arrived),
+        Some(arrived) => arrived,
         None => unreachable!(),
     }
 }
@@ -52,17 +51,18 @@ pub(crate) fn send(
     span: Span,
     round: Round,
     row: u64,
-    mail: &mut Vec<Fact>,
+    transit: &mut Vec<Fact>,
 ) -> Result<(), NoMemory>
     requires end { span.end ≤ length facts.now }
     requires others { AreOfOtherRows facts.now row span.first span.end }
-    requires empty { mail.old.items ≡ [] }
-    ensures { OnOk result (mail.new.items ≡ map (λ one. one.1) (numbered_sent round.seed round.number row facts.now)) }
+    requires short { AllByRecursion (λ fact. is_short fact ≡ true) facts.now }
+    requires empty { transit.old.items ≡ [] }
+    ensures { OnOk result (transit.new.items ≡ map (λ one. one.1) (numbered_sent round.seed round.number row facts.now)) }
 {
     for place in span.first..span.end {
         let fact = facts[place];
         if is_sent(round, row, place, fact) {
-            mail.push(carried(fact)?)?;
+            transit.push(carried(fact))?;
         }
     }
     Ok(())

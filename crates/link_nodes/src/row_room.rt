@@ -3,7 +3,7 @@ ghost use Rattle.std.specs.Prelude.{◌≡◌, ◌∷◌, [], OnOk, OnErr};
 ghost use Rattle.std.specs.Io.KnownBytes.{Appends};
 ghost use Rattle.cosim_io.specs.Pieces.{AppendsPrefix};
 ghost use Rattle.link_core.specs.Keeping.{IsRowOfTrace};
-ghost use Rattle.link_nodes.specs.Screens.{IsJudged, comes, row_told, rows_come_to};
+ghost use Rattle.link_nodes.specs.ShownRows.{IsJudged, comes, row_told, rows_come_to};
 ghost use Rattle.trace_rows.specs.Faults.{TellsFault};
 ghost use Rattle.trace_rows.specs.Lines.{lines_of};
 
@@ -36,15 +36,15 @@ fn comes(going: bool, taken: Taken) -> bool
 
 /// What rows are put with: one writer for all of them, and room for the text of one.
 #[derive(Drop)]
-pub(crate) struct Screen {
+pub(crate) struct RowRoom {
     writer: RowWriter,
     line: Vec<u8>,
 }
 
-impl Screen {
+impl RowRoom {
     /// It takes no memory yet; `alloc` is where it comes from later.
-    pub(crate) fn new(alloc: Global) -> Screen {
-        Screen {
+    pub(crate) fn new(alloc: Global) -> RowRoom {
+        RowRoom {
             writer: RowWriter::new(alloc),
             line: Vec::new(alloc),
         }
@@ -79,8 +79,10 @@ impl Screen {
         out: &mut O,
     ) -> Result<(), CrewFault>
         requires own { node.now.plan ≡ plan.now }
-        ensures whole { OnOk result (Appends (O.held out.old) (O.held out.new) (lines_of plan.now.system (rows_come_to going (node.now.progress, taken)))) }
-        ensures front { OnErr result (AppendsPrefix (O.held out.old) (O.held out.new) (lines_of plan.now.system (rows_come_to going (node.now.progress, taken)))) }
+        ensures whole { OnOk result (Appends (O.held out.old) (O.held out.new)
+            (lines_of plan.now.system (rows_come_to going (node.now.progress, taken)))) }
+        ensures front { OnErr result (AppendsPrefix (O.held out.old) (O.held out.new)
+            (lines_of plan.now.system (rows_come_to going (node.now.progress, taken)))) }
         ensures cause { TellsFault (O.faults out.old) (O.faults out.new) result }
     {
         let comes = comes(going, taken);
