@@ -4,7 +4,7 @@ use Rattle.std.specs.Prelude.{if◌then◌else◌}
 use Rattle.std.specs.Option.{option_map}
 use Rattle.link_core.specs.Boards.{Board, entry, said_of}
 use Rattle.link_core.specs.Making.{each, held_standings, limits_by, limits_made, names_of, ports_in, put_said, redos_by, redos_made, replies_by}
-use Rattle.link_core.specs.Making.{replies_made, with_limit, with_said, words_made}
+use Rattle.link_core.specs.Making.{replies_made, said_entry, with_limit, with_said, words_made}
 use Rattle.link_core.specs.Nodes.{Making}
 use Rattle.link_core.specs.Noted.{AreFed, IsTrue, part_at, position_at}
 use Rattle.link_core.specs.Ready.{IsJudged, all_made}
@@ -18,7 +18,7 @@ use Rattle.port_solve.specs.Solved.{HaveInputs, HaveStates, HaveTheirWords}
 use Rattle.super_time.specs.declared.point.Point.{Point}
 use Rattle.unit_tree.specs.Compositions.{Composition}
 use Rattle.unit_tree.specs.Negotiation.{step_at}
-use Rattle.unit_tree.specs.Ports.{Standing}
+use Rattle.unit_tree.specs.Ports.{Ports, Standing}
 use Rattle.unit_tree.specs.Routes.{routes_of}
 use Rattle.unit_tree.specs.Successor.{Position}
 
@@ -34,13 +34,18 @@ each_words : {X : Type 0} (make : Making → X → Making) (items : List X) (mak
 each_words make [] making step = refl
 each_words make (item ∷ items) making step = each_words make items (make making item) step ∙ step making item
 
-reply_words : (row instance : ℕ) (found : Option Said) (making : Making) → (put_said false row instance found making).known.words ≡ making.known.words
-reply_words row instance None making = refl
-reply_words row instance (Some said) making = refl
+said_words : (redo : Bool) (row instance : ℕ) (found : Option Said) (making : Making)
+    → (put_said redo row instance found making).known.words ≡ making.known.words
+said_words redo row instance None making = refl
+said_words true row instance (Some said) making = refl
+said_words false row instance (Some said) making = refl
 
-redo_words : (row instance : ℕ) (found : Option Said) (making : Making) → (put_said true row instance found making).known.words ≡ making.known.words
-redo_words row instance None making = refl
-redo_words row instance (Some said) making = refl
+with_said_words : (redo : Bool) (me : ℕ) (at : Position) (ports : Ports) (h : ℕ) (making : Making) (item : ℕ × (ℕ × Standing))
+    → (with_said redo me at ports h making item).known.words ≡ making.known.words
+with_said_words redo me at ports h making (instance, (owner, standing)) =
+    let said : Option Said = option_map said_of (step_at at.point.t h ports standing) in
+    by_if ((owner == me) && is_none (said_entry redo making.known instance)) (put_said redo at.number instance said making) making making.known.words
+    (said_words redo at.number instance said making) refl
 
 module _ (run : Composition) (owners : List ℕ) (me : ℕ) (at : Position) where
   pub limits_words : (stage : Stage) (making : Making) → (limits_by run owners me at stage making).known.words ≡ making.known.words
@@ -55,13 +60,8 @@ module _ (run : Composition) (owners : List ℕ) (me : ℕ) (at : Position) wher
   limits_words (On h) making = refl
 
   pub replies_words : (stage : Stage) (making : Making) → (replies_by run owners me at stage making).known.words ≡ making.known.words
-  replies_words (Trial h) making = each_words (with_said false me at (ports_in making.known.words) h) (held_standings run owners at) making one
-    where
-      one : (now : Making) (item : ℕ × (ℕ × Standing)) → (with_said false me at (ports_in making.known.words) h now item).known.words ≡ now.known.words
-      one now (instance, (owner, standing)) =
-          by_if ((owner == me) && is_none (entry now.known.replies instance))
-          (put_said false at.number instance (option_map said_of (step_at at.point.t h (ports_in making.known.words) standing)) now) now now.known.words
-          (reply_words at.number instance (option_map said_of (step_at at.point.t h (ports_in making.known.words) standing)) now) refl
+  replies_words (Trial h) making = each_words (with_said false me at (ports_in making.known.words) h) (held_standings run owners at) making
+      (with_said_words false me at (ports_in making.known.words) h)
   replies_words Limits making = refl
   replies_words Words making = refl
   replies_words (Redo h) making = refl
@@ -69,13 +69,8 @@ module _ (run : Composition) (owners : List ℕ) (me : ℕ) (at : Position) wher
   replies_words (On h) making = refl
 
   pub redos_words : (stage : Stage) (making : Making) → (redos_by run owners me at stage making).known.words ≡ making.known.words
-  redos_words (Redo h) making = each_words (with_said true me at (ports_in making.known.words) h) (held_standings run owners at) making one
-    where
-      one : (now : Making) (item : ℕ × (ℕ × Standing)) → (with_said true me at (ports_in making.known.words) h now item).known.words ≡ now.known.words
-      one now (instance, (owner, standing)) =
-          by_if ((owner == me) && is_none (entry now.known.redos instance))
-          (put_said true at.number instance (option_map said_of (step_at at.point.t h (ports_in making.known.words) standing)) now) now now.known.words
-          (redo_words at.number instance (option_map said_of (step_at at.point.t h (ports_in making.known.words) standing)) now) refl
+  redos_words (Redo h) making = each_words (with_said true me at (ports_in making.known.words) h) (held_standings run owners at) making
+      (with_said_words true me at (ports_in making.known.words) h)
   redos_words Limits making = refl
   redos_words Words making = refl
   redos_words (Trial h) making = refl

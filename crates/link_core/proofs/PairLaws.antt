@@ -40,13 +40,13 @@ pub set_so : {A : Type 0} (so known : List (Option A)) (place : ℕ) (one : A) �
     → AllZip IsSo so (slice_set known place (Some one))
 set_so so known place one are is = set_honest so known place one are (there_so (entry so place) one is)
 
-on_so : (board : Board) (fact : Fact) → IsOn board fact → IsSoOn board fact
+pub on_so : (board : Board) (fact : Fact) → IsOn board fact → IsSoOn board fact
 on_so board (Word row place seen) on = there_so (entry board.words place) seen on
 on_so board (Limit row instance asked) on = there_so (entry board.limits instance) asked on
 on_so board (Reply row instance true said) on = there_so (entry board.redos instance) said on
 on_so board (Reply row instance false said) on = there_so (entry board.replies instance) said on
 
-fact_so : (so known : Board) (fact : Fact) → Agrees so known → IsSoOn so fact → Agrees so (with_fact known fact)
+pub fact_so : (so known : Board) (fact : Fact) → Agrees so known → IsSoOn so fact → Agrees so (with_fact known fact)
 fact_so so known (Word row place seen) are on = record {
   words = set_honest so.words known.words place seen are.words on;
   limits = are.limits;

@@ -6,8 +6,9 @@ use Rattle.std.specs.List.{enumerate_from}
 use Rattle.std.specs.Option.{option_map}
 use Rattle.link_core.specs.Boards.{Board, asked_of, entry, said_of}
 use Rattle.link_core.specs.Making.{determined, each, held, held_standings, limits_by, limits_made, made, passes, ports_in, put_said, put_word}
-use Rattle.link_core.specs.Making.{redos_by, redos_made, replies_by, replies_made, stage_at, with_limit, with_said, with_word, words_made}
-use Rattle.link_core.specs.Nodes.{Making}
+use Rattle.link_core.specs.Making.{redos_by, redos_made, replies_by, replies_made, said_entry, stage_at, with_limit, with_made, with_said, with_word}
+use Rattle.link_core.specs.Making.{words_made}
+use Rattle.link_core.specs.Nodes.{Making, with_fact}
 use Rattle.link_core.specs.declared.fact.Fact.{Fact}
 use Rattle.link_core.specs.declared.fact.Fact.TheVariants.{Word, Limit, Reply}
 use Rattle.link_core.specs.declared.fact.Said.{Said}
@@ -28,9 +29,9 @@ module _ (before : List Fact) where
   abbrev Keeps : {X : Type 0} → (Making → X → Making) → Type 0
   Keeps {X} make = (making : Making) (x : X) → make (behind making) x ≡ behind (make making x)
 
-  one_more : (known : Board) (facts : List Fact) (fact : Fact)
-      → ◌≡◌ {A = Making} (record { known = known; facts = (before ++ facts) ++ fact ∷ [] }) (record { known = known; facts = before ++ (facts ++ fact ∷ []) })
-  one_more known facts fact = ap (λ all. record { known = known; facts = all }) (append_assoc before facts (fact ∷ []))
+  fact_behind : (fact : Fact) (making : Making) → with_made fact (behind making) ≡ behind (with_made fact making)
+  fact_behind fact making =
+      ap (λ facts. record { known = with_fact making.known fact; facts = facts }) (append_assoc before making.facts (fact ∷ []))
 
   each_behind : {X : Type 0} (make : Making → X → Making) (items : List X) (making : Making) → Keeps make
       → each make (behind making) items ≡ behind (each make making items)
@@ -45,8 +46,7 @@ module _ (before : List Fact) where
   put_word_behind : (row place : ℕ) (found : Option Seen) (making : Making)
       → put_word row place found (behind making) ≡ behind (put_word row place found making)
   put_word_behind row place None making = refl
-  put_word_behind row place (Some seen) making = one_more (record making.known { words = slice_set making.known.words place (Some seen) }) making.facts
-      (Word row place seen)
+  put_word_behind row place (Some seen) making = fact_behind (Word row place seen) making
 
   word_behind : (me row : ℕ) → Keeps (with_word me row)
   word_behind me row making (place, (owner, outlet)) =
@@ -61,43 +61,21 @@ module _ (before : List Fact) where
 
   limit_behind : (me : ℕ) (at : Position) (ports : Ports) → Keeps (with_limit me at ports)
   limit_behind me at ports making (instance, (owner, standing)) =
-      if_behind ((owner == me) && is_none (entry making.known.limits instance))
-      (record {
-        known = record making.known { limits = slice_set making.known.limits instance (Some (asked_of (max_at at.point.t ports standing))) };
-        facts = making.facts ++ Limit at.number instance (asked_of (max_at at.point.t ports standing)) ∷ [];
-      }) making
-      (record {
-        known = record making.known { limits = slice_set making.known.limits instance (Some (asked_of (max_at at.point.t ports standing))) };
-        facts = (before ++ making.facts) ++ Limit at.number instance (asked_of (max_at at.point.t ports standing)) ∷ [];
-      })
-      (one_more (record making.known { limits = slice_set making.known.limits instance (Some (asked_of (max_at at.point.t ports standing))) }) making.facts
-      (Limit at.number instance (asked_of (max_at at.point.t ports standing))))
+      let fact : Fact = Limit at.number instance (asked_of (max_at at.point.t ports standing)) in
+      if_behind ((owner == me) && is_none (entry making.known.limits instance)) (with_made fact making) making (with_made fact (behind making))
+      (fact_behind fact making)
 
-  put_reply_behind : (row instance : ℕ) (found : Option Said) (making : Making)
-      → put_said false row instance found (behind making) ≡ behind (put_said false row instance found making)
-  put_reply_behind row instance None making = refl
-  put_reply_behind row instance (Some said) making =
-      one_more (record making.known { replies = slice_set making.known.replies instance (Some said) }) making.facts (Reply row instance false said)
+  put_said_behind : (redo : Bool) (row instance : ℕ) (found : Option Said) (making : Making)
+      → put_said redo row instance found (behind making) ≡ behind (put_said redo row instance found making)
+  put_said_behind redo row instance None making = refl
+  put_said_behind redo row instance (Some said) making = fact_behind (Reply row instance redo said) making
 
-  put_redo_behind : (row instance : ℕ) (found : Option Said) (making : Making)
-      → put_said true row instance found (behind making) ≡ behind (put_said true row instance found making)
-  put_redo_behind row instance None making = refl
-  put_redo_behind row instance (Some said) making =
-      one_more (record making.known { redos = slice_set making.known.redos instance (Some said) }) making.facts (Reply row instance true said)
-
-  reply_behind : (me : ℕ) (at : Position) (ports : Ports) (h : ℕ) → Keeps (with_said false me at ports h)
-  reply_behind me at ports h making (instance, (owner, standing)) =
-      if_behind ((owner == me) && is_none (entry making.known.replies instance))
-      (put_said false at.number instance (option_map said_of (step_at at.point.t h ports standing)) making) making
-      (put_said false at.number instance (option_map said_of (step_at at.point.t h ports standing)) (behind making))
-      (put_reply_behind at.number instance (option_map said_of (step_at at.point.t h ports standing)) making)
-
-  redo_behind : (me : ℕ) (at : Position) (ports : Ports) (h : ℕ) → Keeps (with_said true me at ports h)
-  redo_behind me at ports h making (instance, (owner, standing)) =
-      if_behind ((owner == me) && is_none (entry making.known.redos instance))
-      (put_said true at.number instance (option_map said_of (step_at at.point.t h ports standing)) making) making
-      (put_said true at.number instance (option_map said_of (step_at at.point.t h ports standing)) (behind making))
-      (put_redo_behind at.number instance (option_map said_of (step_at at.point.t h ports standing)) making)
+  said_behind : (redo : Bool) (me : ℕ) (at : Position) (ports : Ports) (h : ℕ) → Keeps (with_said redo me at ports h)
+  said_behind redo me at ports h making (instance, (owner, standing)) =
+      let said : Option Said = option_map said_of (step_at at.point.t h ports standing) in
+      if_behind ((owner == me) && is_none (said_entry redo making.known instance)) (put_said redo at.number instance said making) making
+      (put_said redo at.number instance said (behind making))
+      (put_said_behind redo at.number instance said making)
 
   module _ (run : Composition) (owners : List ℕ) (me : ℕ) (at : Position) where
     pub words_behind : (making : Making) → words_made run owners me at (behind making) ≡ behind (words_made run owners me at making)
@@ -115,7 +93,7 @@ module _ (before : List Fact) where
     pub replies_behind : (stage : Stage) (making : Making)
         → replies_by run owners me at stage (behind making) ≡ behind (replies_by run owners me at stage making)
     replies_behind (Trial h) making = each_behind (with_said false me at (ports_in making.known.words) h) (held_standings run owners at) making
-        (reply_behind me at (ports_in making.known.words) h)
+        (said_behind false me at (ports_in making.known.words) h)
     replies_behind Words making = refl
     replies_behind Limits making = refl
     replies_behind (Redo h) making = refl
@@ -124,7 +102,7 @@ module _ (before : List Fact) where
 
     pub redos_behind : (stage : Stage) (making : Making) → redos_by run owners me at stage (behind making) ≡ behind (redos_by run owners me at stage making)
     redos_behind (Redo h) making = each_behind (with_said true me at (ports_in making.known.words) h) (held_standings run owners at) making
-        (redo_behind me at (ports_in making.known.words) h)
+        (said_behind true me at (ports_in making.known.words) h)
     redos_behind Words making = refl
     redos_behind Limits making = refl
     redos_behind (Trial h) making = refl

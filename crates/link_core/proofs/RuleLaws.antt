@@ -2,18 +2,20 @@
 use Rattle.fixed_words.specs.Operations.{Outcome}
 use Rattle.link_core.proofs.BoardLaws.{known_all, words_end}
 use Rattle.link_core.proofs.MakeLaws.{Below, Lacks, all_seen, determined_is, ports_below, ports_lack}
-use Rattle.link_core.proofs.PairLaws.{all_more, set_so}
+use Rattle.link_core.proofs.PairLaws.{all_more, fact_so, on_so}
 use Rattle.link_core.proofs.StageLaws.{stage_is_right}
-use Rattle.link_core.specs.Boards.{Agrees, Board, IsKnown, IsSo, asked_of, before_limits, before_redo, before_trial, board_of, entry, said_of, said_where}
-use Rattle.link_core.specs.Boards.{seen_of}
+use Rattle.link_core.specs.Boards.{Agrees, Board, IsKnown, IsOn, IsSo, asked_of, before_limits, before_redo, before_trial, board_of, entry, row_of, said_of}
+use Rattle.link_core.specs.Boards.{said_where, seen_of}
 use Rattle.link_core.specs.Keeping.{IsMade, IsNewFact, IsPlace, IsRightMove, IsRightRule}
 use Rattle.link_core.specs.Laws.{AreWordsKnown, IsRightStage}
 use Rattle.link_core.specs.Making.{determined, each, held, held_outlets, held_standings, limits_by, limits_made, made, move_by, name_of, no_states}
 use Rattle.link_core.specs.Making.{nothing_known, own_after, own_state, own_states, part_of, passes, port_in, ports_in, put_said, put_word, redos_by}
-use Rattle.link_core.specs.Making.{replies_by, replies_made, row_shown, rule_of, stage_at, with_limit, with_said, with_word, words_made}
+use Rattle.link_core.specs.Making.{replies_by, replies_made, row_shown, rule_of, stage_at, with_limit, with_made, with_said, with_word}
+use Rattle.link_core.specs.Making.{words_made}
 use Rattle.link_core.specs.Nodes.{Making}
 use Rattle.link_core.specs.Stages.{stage_of, word_end}
 use Rattle.link_core.specs.declared.fact.Asked.{Asked}
+use Rattle.link_core.specs.declared.fact.Fact.{Fact}
 use Rattle.link_core.specs.declared.fact.Fact.TheVariants.{Limit, Reply, Word}
 use Rattle.link_core.specs.declared.fact.Said.{Said}
 use Rattle.link_core.specs.declared.fact.Seen.{Seen}
@@ -212,59 +214,21 @@ module _ (run : Composition) (owners : List ℕ) (me : ℕ) (stand : Stand) (is_
   if_keeps true one other first second = first refl
   if_keeps false one other first second = second
 
-  add_word : (making : Making) (place : ℕ) (seen : Seen) → P making → entry board.words place ≡ Some seen
-      → P (record {
-        known = record making.known { words = slice_set making.known.words place (Some seen) };
-        facts = making.facts ++ Word number place seen ∷ [];
-      })
-  add_word making place seen keeps on = record {
-    agrees = record {
-      words = set_so board.words making.known.words place seen keeps.agrees.words on;
-      limits = keeps.agrees.limits;
-      replies = keeps.agrees.replies;
-      redos = keeps.agrees.redos;
-    };
-    facts = all_more (IsNewFact run stand) making.facts (Word number place seen ∷ []) keeps.facts ((refl, on), tt);
+  add_fact : (making : Making) (fact : Fact) → P making → row_of fact ≡ number → IsOn board fact → P (with_made fact making)
+  add_fact making fact keeps row on = record {
+    agrees = fact_so board making.known fact keeps.agrees (on_so board fact on);
+    facts = all_more (IsNewFact run stand) making.facts (fact ∷ []) keeps.facts ((row, on), tt);
   }
 
-  add_limit : (making : Making) (instance : ℕ) (asked : Asked) → P making → entry board.limits instance ≡ Some asked
-      → P (record {
-        known = record making.known { limits = slice_set making.known.limits instance (Some asked) };
-        facts = making.facts ++ Limit number instance asked ∷ [];
-      })
-  add_limit making instance asked keeps on = record {
-    agrees = record {
-      words = keeps.agrees.words;
-      limits = set_so board.limits making.known.limits instance asked keeps.agrees.limits on;
-      replies = keeps.agrees.replies;
-      redos = keeps.agrees.redos;
-    };
-    facts = all_more (IsNewFact run stand) making.facts (Limit number instance asked ∷ []) keeps.facts ((refl, on), tt);
-  }
-
-  add_reply : (making : Making) (instance : ℕ) (said : Option Said) → P making → entry board.replies instance ≡ said → P (put_said false number instance said making)
+  add_reply : (making : Making) (instance : ℕ) (said : Option Said) → P making → entry board.replies instance ≡ said
+      → P (put_said false number instance said making)
   add_reply making instance None keeps on = keeps
-  add_reply making instance (Some said) keeps on = record {
-    agrees = record {
-      words = keeps.agrees.words;
-      limits = keeps.agrees.limits;
-      replies = set_so board.replies making.known.replies instance said keeps.agrees.replies on;
-      redos = keeps.agrees.redos;
-    };
-    facts = all_more (IsNewFact run stand) making.facts (Reply number instance false said ∷ []) keeps.facts ((refl, on), tt);
-  }
+  add_reply making instance (Some said) keeps on = add_fact making (Reply number instance false said) keeps refl on
 
-  add_redo : (making : Making) (instance : ℕ) (said : Option Said) → P making → entry board.redos instance ≡ said → P (put_said true number instance said making)
+  add_redo : (making : Making) (instance : ℕ) (said : Option Said) → P making → entry board.redos instance ≡ said
+      → P (put_said true number instance said making)
   add_redo making instance None keeps on = keeps
-  add_redo making instance (Some said) keeps on = record {
-    agrees = record {
-      words = keeps.agrees.words;
-      limits = keeps.agrees.limits;
-      replies = keeps.agrees.replies;
-      redos = set_so board.redos making.known.redos instance said keeps.agrees.redos on;
-    };
-    facts = all_more (IsNewFact run stand) making.facts (Reply number instance true said ∷ []) keeps.facts ((refl, on), tt);
-  }
+  add_redo making instance (Some said) keeps on = add_fact making (Reply number instance true said) keeps refl on
 
   -- ---- Words
 
@@ -282,7 +246,7 @@ module _ (run : Composition) (owners : List ℕ) (me : ℕ) (stand : Stand) (is_
   put_keeps making place outlet (Some seen) keeps is told =
       let below = subst (AllZip Below (ports_in making.known.words)) (sym is_stand) (ports_below stand.ports outs making.known.words keeps.agrees.words) in
       let lacks = subst (AllZip Lacks making.known.words) (sym is_stand) (ports_lack stand.ports outs making.known.words keeps.agrees.words) in
-      add_word making place seen keeps (word_there place outlet is ∙ ap (λ one. Some one)
+      add_fact making (Word number place seen) keeps refl (word_there place outlet is ∙ ap (λ one. Some one)
       (sym (determined_is making.known.words stand.ports outlet seen below lacks told)))
 
   word_keeps : (making : Making) (item : ℕ × (ℕ × Outlet)) → P making → IsAtPlace (IsSame me) outs item → P (with_word me number making item)
@@ -340,7 +304,7 @@ module _ (run : Composition) (owners : List ℕ) (me : ℕ) (stand : Stand) (is_
       → P (with_limit me at' stand.ports making item)
   limit_keeps asks making (instance, (owner, standing)) keeps (other, there, same) =
       if_keeps ((owner == me) && is_none (entry making.known.limits instance)) _ making
-      (λ test. add_limit making instance (asked_of (max_at stand.at.point.t stand.ports standing)) keeps
+      (λ test. add_fact making (Limit number instance (asked_of (max_at stand.at.point.t stand.ports standing))) keeps refl
       (there_is (λ one. when (before_limits run stand) (asked_of (max_at stand.at.point.t stand.ports one))) instance standing
       (there ∙ ap (λ one. Some one) (sym (same (and_parts (owner == me) (is_none (entry making.known.limits instance)) test).0)))
       ∙ ap (λ so. when so (asked_of (max_at stand.at.point.t stand.ports standing))) asks))
