@@ -14,7 +14,6 @@ use Rattle.link_core.specs.Making.{replies_by, replies_made, row_shown, rule_of,
 use Rattle.link_core.specs.Making.{words_made}
 use Rattle.link_core.specs.Nodes.{Making}
 use Rattle.link_core.specs.Stages.{stage_of, word_end}
-use Rattle.link_core.specs.declared.fact.Asked.{Asked}
 use Rattle.link_core.specs.declared.fact.Fact.{Fact}
 use Rattle.link_core.specs.declared.fact.Fact.TheVariants.{Limit, Reply, Word}
 use Rattle.link_core.specs.declared.fact.Said.{Said}
@@ -30,7 +29,7 @@ use Rattle.std.proofs.lemmas.Option.{slice_get-map}
 use Rattle.std.proofs.lemmas.Slice.Zip.{AllZip-long}
 use Rattle.std.specs.List.{AllByRecursion, AllZip, enumerate_from, flat_map}
 use Rattle.std.specs.Option.{option_and_then, option_map}
-use Rattle.std.specs.Prelude.{Bool, List, None, Option, Some, [], false, if◌then◌else◌, is_none, length, map, slice_get, slice_set, suc, true, zero, zip, ℕ, ℤ}
+use Rattle.std.specs.Prelude.{Bool, List, None, Option, Some, [], false, if◌then◌else◌, is_none, length, map, slice_get, suc, true, zero, zip, ℕ, ℤ}
 use Rattle.std.specs.Prelude.{◌&&◌, ◌++◌, ◌==◌, ◌∷◌, ◌≡◌}
 use Rattle.std.specs.Result.{result_ok}
 use Rattle.unit_tree.specs.Compositions.{AreMembers, Composition, Member}

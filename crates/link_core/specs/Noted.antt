@@ -1,5 +1,5 @@
 -- Notes as they are held: the board, the facts, and room for as many more as items are not known. None of it need be believed.
-use Rattle.std.specs.Prelude.{◌≡◌, ℕ, suc, ◌+◌, ◌≤◌, ◌<◌, ◌==◌, min, nat_lt, Bool, true, false, ◌&&◌, is_none, ℤ, List, [], ◌∷◌, ◌++◌, map, zip, length}
+use Rattle.std.specs.Prelude.{◌≡◌, ℕ, suc, ◌+◌, ◌≤◌, ◌<◌, ◌==◌, min, nat_lt, Bool, true, false, ◌&&◌, is_none, ℤ, List, [], ◌∷◌, map, zip, length}
 use Rattle.std.specs.Prelude.{slice_set, vec_capacity, if◌then◌else◌, Option, Some, None, Result, Ok, Err, ⊤}
 use Rattle.std.specs.Option.{option_map}
 use Rattle.fixed_words.specs.declared.types.Fault.{Fault}

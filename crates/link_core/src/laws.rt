@@ -18,8 +18,9 @@ pub fn rules_are_right()
     ensures { RulesAreRight }
 {}
 
-/// A law: over every list of events each fact is the true one of its row, and each node stands at the place of its number. It commits
-/// or ends exactly where it lacks no fact of its row. Told of any rule that is right, and of that of a run.
+/// A law: over every list of events each fact is the true one of its row, and each node stands at the place of its number. A node that
+/// works, or takes a fact that isn't dropped, commits or ends exactly where it then lacks no fact of its row. Told of any rule that is
+/// right, and of that of a run.
 pub fn events_keep()
     ensures keep { EventsKeep }
     ensures commit { WorkCommitsRightly }

@@ -84,6 +84,7 @@ impl Node {
         }) }
     {
         judged(&plan);
+        // That the numbers of a plan are words is known by the clause of this call alone.
         read_plan(&plan);
         let places = plan.order().routes().outputs.len();
         if places as u64 > 4_294_967_296 {
