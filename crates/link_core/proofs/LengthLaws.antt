@@ -1,5 +1,6 @@
 -- How long the steps are that members ask for and accept.
-use Rattle.std.proofs.Common.{◌≡◌, ℕ, zero, suc, ◌+◌, ◌^◌, ◌<◌, ◌≤◌, cond, Bool, true, false, ℤ, pos, negsuc, List, [], ◌∷◌, map, length, Option, Some, None, Result, Ok}
+use Rattle.std.proofs.Common.{◌≡◌, ℕ, zero, suc, ◌+◌, ◌^◌, ◌<◌, ◌≤◌, cond, Bool, true, false, ℤ, pos, negsuc, List, [], ◌∷◌, map, length, Option}
+use Rattle.std.proofs.Common.{Some, None, Result, Ok}
 use Rattle.std.proofs.Common.{Err, refl, sym, subst, arith, ◌++◌}
 use Rattle.std.proofs.lemmas.Bool.Decides.{nat_tests}
 use Rattle.std.specs.Prelude.{⊤, IfSome, zip, unsigned_abs, slice_get, unwrap_or}
@@ -66,7 +67,8 @@ word_fits ports outlet = by_inputs (inputs_for ports outlet)
     by_outcome inputs (Err fault) is = tt
 
     by_inputs : (found : Option (List ℤ))
-        → IfSome (option_and_then result_ok (option_map (λ inputs. get_of outlet.standing.0.component outlet.standing.1 inputs outlet.output) found)) IsWord
+        → IfSome (option_and_then result_ok
+        (option_map (λ inputs. get_of outlet.standing.0.component outlet.standing.1 inputs outlet.output) found)) IsWord
     by_inputs None = tt
     by_inputs (Some inputs) = by_outcome inputs (get_of outlet.standing.0.component outlet.standing.1 inputs outlet.output) refl
 
@@ -158,13 +160,15 @@ step_by : (held : Bool) (result : Result Moved Fault) (t h : ℕ) (member : Memb
 step_by true result t h member state inputs small is have gives = tt
 step_by false (Err fault) t h member state inputs small is have gives = tt
 step_by false (Ok moved) t h member state inputs small is have gives =
-    let kept = (step_keeps member.component state inputs (local_time member.factor t) (local_step member.factor t h) moved is.params have gives).accepted in
+    let kept =
+    (step_keeps member.component state inputs (local_time member.factor t) (local_step member.factor t h) moved is.params have gives).accepted in
     omega (arith, kept, local_end member.factor t h, small)
 
 pub step_short : (t h : ℕ) (ports : Ports) (member : Member) (state : List ℤ) → t + h ≤ 10 ^ 15 → IsMember member
     → AreWordsOf member.component.unit.states state → IsShortStep (step_at t h ports (member, state))
 step_short t h ports member state small is have =
-    step_by (is_held member.factor t h) (step_of member.component state (inputs_at ports member) (local_time member.factor t) (local_step member.factor t h))
+    step_by (is_held member.factor t h)
+    (step_of member.component state (inputs_at ports member) (local_time member.factor t) (local_step member.factor t h))
     t h member state (inputs_at ports member) small is have refl
 
 -- ---- The members of a system

@@ -1,5 +1,6 @@
 -- The facts of a run are short.
-use Rattle.std.proofs.Common.{◌≡◌, ℕ, zero, suc, ◌+◌, ◌-◌, ◌^◌, ◌<◌, ◌≤◌, Bool, true, false, List, [], ◌∷◌, map, length, Option, Some, None, Result, Ok, Err, ℤ, sym}
+use Rattle.std.proofs.Common.{◌≡◌, ℕ, zero, suc, ◌+◌, ◌-◌, ◌^◌, ◌<◌, ◌≤◌, Bool, true, false, List, [], ◌∷◌, map, length, Option, Some, None}
+use Rattle.std.proofs.Common.{Result, Ok, Err, ℤ, sym}
 use Rattle.std.proofs.Common.{ap₂, subst, arith}
 use Rattle.std.proofs.lemmas.Bool.{lt-ltb}
 use Rattle.std.specs.List.{AllByRecursion, AllZip}
@@ -60,16 +61,16 @@ said_short true (Some (Err fault)) short = tt
 abbrev Words : Member → List ℤ → Type 0
 Words member state = AreWordsOf member.component.unit.states state
 
-module _ (types : List Ty) (t : ℕ) (ports : Ports) where
-  limits_short : (so : Bool) (members : List Member) (states : List (List ℤ)) → t ≤ 10 ^ 15 → ArePortsWords ports → AllByRecursion IsMember members
-      → AllByRecursion (IsSoundMember types) members
+module _ (t : ℕ) (ports : Ports) where
+  limits_short : (types : List Ty) (so : Bool) (members : List Member) (states : List (List ℤ)) → t ≤ 10 ^ 15 → ArePortsWords ports
+      → AllByRecursion IsMember members → AllByRecursion (IsSoundMember types) members
       → AllByRecursion IsOfWords members → AllZip Words members states
       → AllByRecursion (λ found. IfSome found IsShortAsked) (map (λ standing. when so (asked_of (max_at t ports standing))) (zip members states))
-  limits_short so [] states small seen are sound words have = tt
-  limits_short so (member ∷ members) [] small seen are sound words have = absurd have
-  limits_short so (member ∷ members) (state ∷ states) small seen are sound words have = (
+  limits_short types so [] states small seen are sound words have = tt
+  limits_short types so (member ∷ members) [] small seen are sound words have = absurd have
+  limits_short types so (member ∷ members) (state ∷ states) small seen are sound words have = (
     asked_short so (max_at t ports (member, state)) (max_short types member sound.0 words.0 state have.0 ports seen t small are.0.factor),
-    limits_short so members states small seen are.1 sound.1 words.1 have.1,
+    limits_short types so members states small seen are.1 sound.1 words.1 have.1,
   )
 
   steps_short : (there : Bool) (h : ℕ) (members : List Member) (states : List (List ℤ)) → t + h ≤ 10 ^ 15 → AllByRecursion IsMember members
@@ -99,8 +100,8 @@ reply_is_short : (row instance : ℕ) (redo : Bool) (said : Said) → row < 1000
 reply_is_short row instance redo (Accepted accepted) below short = length_short row accepted below short
 reply_is_short row instance redo (StepFault fault) below short = row_short row below
 
-module _ (run : Composition) (order : List ℕ) (is_order : IsPlaceOrder run order) (are : AreMembers run) (sound : IsSound run) (bounded : IsBounded run)
-    (words : AreOfWords run) where
+module _ (run : Composition) (order : List ℕ) (is_order : IsPlaceOrder run order) (are : AreMembers run) (sound : IsSound run)
+    (bounded : IsBounded run) (words : AreOfWords run) where
   module _ (stand : Stand) (place : IsPlace run stand) where
     abbrev t : ℕ
     t = stand.at.point.t
@@ -126,19 +127,19 @@ module _ (run : Composition) (order : List ℕ) (is_order : IsPlaceOrder run ord
     on_short (Limit row instance asked) row_is on =
         limit_is_short row instance asked row_is
         (entry_is IsShortAsked (board_of run stand).limits instance asked
-        (limits_short (types_of_places run) t stand.ports (before_limits run stand) run.members stand.at.states (omega (arith, small_trial))
+        (limits_short t stand.ports (types_of_places run) (before_limits run stand) run.members stand.at.states (omega (arith, small_trial))
         (ports_fit run stand.at.states stand.ports (place_stands run order are is_order stand place)) are sound words
         (place_words run order are is_order stand place)) on)
     on_short (Reply row instance true said) row_is on =
         reply_is_short row instance true said row_is
         (entry_is IsShortSaid (board_of run stand).redos instance said
-        (steps_short (types_of_places run) t stand.ports (before_redo run stand) (agreed run stand.at stand.ports) run.members stand.at.states small_redo are
+        (steps_short t stand.ports (before_redo run stand) (agreed run stand.at stand.ports) run.members stand.at.states small_redo are
         (place_words run order are is_order stand place)) on)
     on_short (Reply row instance false said) row_is on =
         reply_is_short row instance false said row_is
         (entry_is IsShortSaid (board_of run stand).replies instance said
-        (steps_short (types_of_places run) t stand.ports (before_trial run stand) (proposed run stand.at stand.ports) run.members stand.at.states small_trial
-        are (place_words run order are is_order stand place)) on)
+        (steps_short t stand.ports (before_trial run stand) (proposed run stand.at stand.ports) run.members stand.at.states small_trial are
+        (place_words run order are is_order stand place)) on)
 
   pub fact_is_short : (fact : Fact) → IsTrueFact run fact → is_short fact ≡ true
   fact_is_short fact so =

@@ -1,5 +1,6 @@
 -- Values of expressions are words where the numbers in them and the words that they see are.
-use Rattle.std.proofs.Common.{◌≡◌, ◌∙◌, ℕ, cond, Bool, true, false, ◌&&◌, ◌||◌, ◌-◌, nat_le, ℤ, ◌+ℤ◌, ◌-ℤ◌, ◌*ℤ◌, neg_ℤ, pos, List, [], ◌∷◌, Result, Ok, Err, refl, sym, subst}
+use Rattle.std.proofs.Common.{◌≡◌, ◌∙◌, ℕ, cond, Bool, true, false, ◌&&◌, ◌||◌, ◌-◌, nat_le, ℤ, ◌+ℤ◌, ◌-ℤ◌, ◌*ℤ◌, neg_ℤ, pos, List, [], ◌∷◌}
+use Rattle.std.proofs.Common.{Result, Ok, Err, refl, sym, subst}
 use Rattle.std.proofs.lemmas.Bool.{and_parts}
 use Rattle.std.specs.Prelude.{⊤, unsigned_abs, int_le, int_lt, not}
 use Rattle.std.specs.Int.{int_min}
@@ -15,7 +16,8 @@ use Rattle.fixed_words.specs.declared.types.Kind.{Kind}
 use Rattle.fixed_words.specs.declared.types.Kind.TheVariants as kinds
 use Rattle.fixed_words.specs.declared.types.Ty.TheVariants.{Int64}
 use Rattle.link_core.specs.Lengths.{has_words, node_has_words}
-use Rattle.unit_tree.specs.Values.{◌>>=◌, Meaning, as_kind, binary_value, clamped_value, holds, node_meaning, product_of, ratio_of, truth, unary_value, value_of}
+use Rattle.unit_tree.specs.Values.{◌>>=◌, Meaning, as_kind, binary_value, clamped_value, holds, node_meaning, product_of, ratio_of, truth}
+use Rattle.unit_tree.specs.Values.{unary_value, value_of}
 use Rattle.unit_tree.specs.Values.{value_of_name, whole_part, with_decimals}
 use Rattle.unit_tree.specs.declared.environment.Environment.{Environment}
 use Rattle.unit_tree.specs.declared.environment.Value.{Value}
@@ -26,12 +28,14 @@ use Rattle.unit_tree.specs.declared.expr.Expr as expr
 use Rattle.unit_tree.specs.declared.expr.Expr.{Expr}
 use Rattle.unit_tree.specs.declared.expr.Expr.TheFolds.{ind-Expr, map-Expr}
 use Rattle.unit_tree.specs.declared.expr.Expr.TheOpen.{Expr-F}
-use Rattle.unit_tree.specs.declared.expr.Expr.TheVariants.{rolls-Number, rolls-Truth, rolls-Var, rolls-Time, rolls-Step, rolls-Unary, rolls-Binary, rolls-Clamp}
+use Rattle.unit_tree.specs.declared.expr.Expr.TheVariants.{rolls-Number, rolls-Truth, rolls-Var, rolls-Time, rolls-Step, rolls-Unary}
+use Rattle.unit_tree.specs.declared.expr.Expr.TheVariants.{rolls-Binary, rolls-Clamp}
 use Rattle.unit_tree.specs.declared.expr.Expr.TheVariants.{rolls-Choose, rolls-Absent, rolls-Present}
 use Rattle.unit_tree.specs.declared.expr.Expr.TheViews.{roll-Expr}
 use Rattle.unit_tree.specs.declared.expr.UnOp.{UnOp}
 use Rattle.unit_tree.specs.declared.expr.UnOp.TheVariants as of
-use Rattle.unit_tree.proofs.FoldLemmas.{fold-Number, fold-Truth, fold-Var, fold-Time, fold-Step, fold-Unary, fold-Binary, fold-Clamp, fold-Choose, fold-Absent}
+use Rattle.unit_tree.proofs.FoldLemmas.{fold-Number, fold-Truth, fold-Var, fold-Time, fold-Step, fold-Unary, fold-Binary, fold-Clamp}
+use Rattle.unit_tree.proofs.FoldLemmas.{fold-Choose, fold-Absent}
 use Rattle.unit_tree.proofs.FoldLemmas.{fold-Present}
 
 abbrev pub IsWord : ℤ → Type 0
@@ -146,7 +150,8 @@ named_by : (same : Bool) (kind : Kind) (word : ℤ) (other : Value) → IsWord w
 named_by true kind word other is or = is
 named_by false kind word other is or = or
 
-named_fits : (variables : List Variable) (words : List ℤ) (name : List ℕ) → AllByRecursion IsWord words → IsWord (value_of_name variables words name).word
+named_fits : (variables : List Variable) (words : List ℤ) (name : List ℕ) → AllByRecursion IsWord words
+    → IsWord (value_of_name variables words name).word
 named_fits [] words name are = refl
 named_fits (variable ∷ variables) [] name are = refl
 named_fits (variable ∷ variables) (word ∷ words) name are =
@@ -208,7 +213,8 @@ chosen_fits false one other is or = or
 
 means-Choose : (condition chosen other : Expr) → Claim condition → Claim chosen → Claim other → Claim (expr.Choose condition chosen other)
 means-Choose condition chosen other on_condition on_chosen on_other has =
-    let all = and_parts (has_words condition) (has_words chosen && has_words other) (sym (fold-Choose Bool node_has_words condition chosen other) ∙ has) in
+    let all =
+    and_parts (has_words condition) (has_words chosen && has_words other) (sym (fold-Choose Bool node_has_words condition chosen other) ∙ has) in
     let parts = and_parts (has_words chosen) (has_words other) all.1 in
     subst MeansWords (sym (fold-Choose Meaning node_meaning condition chosen other))
     (λ env are. followed (value_of condition env) (λ c. cond (holds c) (value_of chosen env) (value_of other env)) (on_condition all.0 env are)
