@@ -5,7 +5,7 @@ use Rattle.unit_tree.specs.Printable.{IsPrintable}
 use Rattle.unit_tree.specs.declared.system.Instance.{Instance}
 use Rattle.unit_tree.specs.declared.system.System.{System}
 use Rattle.unit_tree.specs.declared.system.Wire.{Wire}
-use Rattle.sub_flat.specs.Flattening.{flat_of, flat_port, flat_wires, leaves, named_in, scope_of}
+use Rattle.sub_flat.specs.Flattening.{flat_of, flat_port, flat_wires, leaves, levels, named_in, scope_of, top}
 use Rattle.sub_flat.specs.GroupTests.{main_misses_port}
 use Rattle.sub_flat.specs.NestRules.{AtGroup, BreaksNest, IsRefusedNest, IsTooLarge}
 use Rattle.nest_text.specs.declared.fault.NestFault.{NestFault}
@@ -55,6 +55,12 @@ wires_inside nest (suc depth) scope instance = unwrap_or (option_map (flat_wires
 
 abbrev pub wire_between : Spot → Spot → Wire
 wire_between from to = record { from = flat_port from; to = flat_port to }
+
+-- The components of the flat system, which are no more than there may be; or that it is too large.
+abbrev pub MakesLeaves : Nest → Result (List Instance) Unflat → Type 0
+MakesLeaves nest (Ok made) = (made ≡ leaves nest levels top) × (length made ≤ 64)
+MakesLeaves nest (Err unflat.TooLarge) = IsTooLarge nest
+MakesLeaves nest (Err unflat.NoMemory) = ⊤
 
 -- The flat system, or that it is too large.
 abbrev pub FlatAnswers : Nest → Result System Unflat → Type 0

@@ -4,5 +4,6 @@ pub mod Flattening
 pub mod GroupTests
 pub mod Laws
 pub mod NestRules
+pub mod Reaching
 pub mod Searching
 pub mod Tables

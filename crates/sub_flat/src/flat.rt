@@ -1,12 +1,14 @@
 //! The flat system of a nest, up to what it may have.
-ghost use Rattle.std.specs.Prelude.{◌≡◌, ◌∷◌, ◌++◌, [], ◌≤◌, length, map, IfOk, OnOk};
-ghost use Rattle.std.specs.List.{flat_map};
-ghost use Rattle.sub_flat.specs.FlatReading.{FlatAnswers, IsKeptPrintable, MadeWithin, PutsWithin, leaves_inside, wire_between, wires_inside};
+ghost use Rattle.std.specs.Prelude.{◌≡◌, ◌∷◌, ◌++◌, [], ◌≤◌, nat_lt, length, map, IfOk, OnOk};
+ghost use Rattle.std.specs.List.{flat_map, list_any};
+ghost use Rattle.sub_flat.specs.FlatReading.{FlatAnswers, IsKeptPrintable, MadeWithin, MakesLeaves, PutsWithin, leaves_inside, wire_between, wires_inside};
+ghost use Rattle.sub_flat.specs.Reaching.{AreKnown};
 ghost use Rattle.sub_flat.specs.Flattening.{flat_port, flat_sample, flat_wire, flat_wires, follow, leaves, levels, named_in, reach, top, wires_of};
 
 use crate::fault::Unflat;
 use crate::names::NestNames;
-use crate::scope::{Scope, Spot, flat_name, flat_port, follow, inside, reach, spot_of};
+use crate::scope::{LEVELS, Scope, Spot, flat_name, flat_port, follow, inside, spot_of, top};
+use crate::ways::{Ways, reached};
 use fixed_words::{List, NoMemory};
 use std::alloc::Global;
 use std::mem::replace;
@@ -14,11 +16,11 @@ use unit_plain::copy_system;
 use unit_print::is_printable;
 use unit_tree::{Instance, Name, PortName, Setting, System, Wire};
 
-/// How many scopes stand in each other at most.
-const LEVELS: usize = 33;
-
 /// The most instances of a system.
 const MOST_INSTANCES: usize = 64;
+
+/// The most bytes of a name.
+const LONGEST_NAME: usize = 32;
 
 /// The most connections of a system.
 const MOST_WIRES: usize = 2048;
@@ -130,34 +132,22 @@ fn put_to(alloc: Global, from: &Spot, to: &[Spot], wires: &mut List<Wire>) -> Re
     Ok(())
 }
 
-/// The inputs of components that an input of a scope reaches.
-fn reached(
-    alloc: Global,
-    names: &NestNames<'_>,
-    scope: &Scope,
-    to: &PortName,
-) -> Result<List<Spot>, NoMemory>
-    ensures { IfOk result (λ made. made ≡ reach names.now levels (record { scope = scope.now; port = to.now } ∷ [])) }
-{
-    let mut spots = List::new(alloc);
-    spots.push(spot_of(alloc, scope, to)?)?;
-    reach(alloc, names, LEVELS, spots)
-}
-
 /// Puts what a connection of a scope becomes behind others.
 fn put_flat_wire(
     alloc: Global,
     names: &NestNames<'_>,
+    ways: &Ways<'_>,
     scope: &Scope,
     wire: &Wire,
     wires: &mut List<Wire>,
 ) -> Result<(), Unflat>
-    requires { length wires.old ≤ 2048 }
+    requires room { length wires.old ≤ 2048 }
+    requires known { AreKnown names.now ways.now.scopes ways.now.known.items }
     ensures { PutsWithin 2048 wires.old wires.new (flat_wire names.now scope.now wire.now) result }
 {
     let from = spot_of(alloc, scope, &wire.from)?;
     let from = follow(alloc, names, LEVELS, from)?;
-    let to = reached(alloc, names, scope, &wire.to)?;
+    let to = reached(alloc, names, ways, scope, &wire.to)?;
     put_to(alloc, &from, to.as_slice(), wires)
 }
 
@@ -165,14 +155,16 @@ fn put_flat_wire(
 fn put_own_wires(
     alloc: Global,
     names: &NestNames<'_>,
+    ways: &Ways<'_>,
     scope: &Scope,
     wires: &mut List<Wire>,
 ) -> Result<(), Unflat>
-    requires { length wires.old ≤ 2048 }
+    requires room { length wires.old ≤ 2048 }
+    requires known { AreKnown names.now ways.now.scopes ways.now.known.items }
     ensures { PutsWithin 2048 wires.old wires.new (flat_map (flat_wire names.now scope.now) (wires_of names.now scope.now.group)) result }
 {
     for wire in names.wires(scope.group) {
-        put_flat_wire(alloc, names, scope, wire, wires)?;
+        put_flat_wire(alloc, names, ways, scope, wire, wires)?;
     }
     Ok(())
 }
@@ -182,12 +174,14 @@ fn put_own_wires(
 fn put_wires_inside(
     alloc: Global,
     names: &NestNames<'_>,
+    ways: &Ways<'_>,
     depth: usize,
     scope: &Scope,
     instance: &Instance,
     wires: &mut List<Wire>,
 ) -> Result<(), Unflat>
-    requires { length wires.old ≤ 2048 }
+    requires room { length wires.old ≤ 2048 }
+    requires known { AreKnown names.now ways.now.scopes ways.now.known.items }
     ensures { PutsWithin 2048 wires.old wires.new (wires_inside names.now depth scope.now instance.now) result }
 {
     if depth == 0 {
@@ -197,7 +191,7 @@ fn put_wires_inside(
         return Ok(());
     };
     let scope = inside(alloc, scope, &instance.name, place)?;
-    put_wires(alloc, names, depth - 1, &scope, wires)
+    put_wires(alloc, names, ways, depth - 1, &scope, wires)
 }
 
 /// Puts the connections in a scope behind others.
@@ -205,16 +199,18 @@ fn put_wires_inside(
 fn put_wires(
     alloc: Global,
     names: &NestNames<'_>,
+    ways: &Ways<'_>,
     depth: usize,
     scope: &Scope,
     wires: &mut List<Wire>,
 ) -> Result<(), Unflat>
-    requires { length wires.old ≤ 2048 }
+    requires room { length wires.old ≤ 2048 }
+    requires known { AreKnown names.now ways.now.scopes ways.now.known.items }
     ensures { PutsWithin 2048 wires.old wires.new (flat_wires names.now depth scope.now) result }
 {
-    put_own_wires(alloc, names, scope, wires)?;
+    put_own_wires(alloc, names, ways, scope, wires)?;
     for instance in names.instances(scope.group) {
-        put_wires_inside(alloc, names, depth, scope, instance, wires)?;
+        put_wires_inside(alloc, names, ways, depth, scope, instance, wires)?;
     }
     Ok(())
 }
@@ -249,16 +245,6 @@ fn flat_samples(
     Ok(made)
 }
 
-/// The scope of `main`.
-fn top(alloc: Global) -> Scope
-    ensures { result ≡ top }
-{
-    Scope {
-        prefix: List::new(alloc),
-        group: None,
-    }
-}
-
 fn flat_instances(alloc: Global, names: &NestNames<'_>) -> Result<List<Instance>, Unflat>
     ensures { MadeWithin 64 (leaves names.now levels top) result }
 {
@@ -267,11 +253,33 @@ fn flat_instances(alloc: Global, names: &NestNames<'_>) -> Result<List<Instance>
     Ok(instances)
 }
 
+fn has_long_name(instances: &[Instance]) -> bool
+    ensures { result ≡ list_any (λ instance. nat_lt 32 (length instance.name)) instances.now }
+{
+    instances
+        .iter()
+        .any(|instance| instance.name.len() > LONGEST_NAME)
+}
+
+/// The components of the flat system, where none has too long a name. So no more than sixteen scopes stand in each other where
+/// connections are followed.
+fn named_instances(alloc: Global, names: &NestNames<'_>) -> Result<List<Instance>, Unflat>
+    ensures { MakesLeaves names.now result }
+{
+    let instances = flat_instances(alloc, names)?;
+    if has_long_name(instances.as_slice()) {
+        drop(instances);
+        return Err(Unflat::TooLarge);
+    }
+    Ok(instances)
+}
+
 fn all_flat_wires(alloc: Global, names: &NestNames<'_>) -> Result<List<Wire>, Unflat>
     ensures { MadeWithin 2048 (flat_wires names.now levels top) result }
 {
+    let ways = Ways::new(alloc, names)?;
     let mut wires = List::new(alloc);
-    put_wires(alloc, names, LEVELS, &top(alloc), &mut wires)?;
+    put_wires(alloc, names, &ways, LEVELS, &top(alloc), &mut wires)?;
     Ok(wires)
 }
 
@@ -307,7 +315,7 @@ fn if_printable(alloc: Global, system: System) -> Result<System, Unflat>
 pub(crate) fn flat_system(alloc: Global, names: &NestNames<'_>) -> Result<System, Unflat>
     ensures { FlatAnswers names.now result }
 {
-    let instances = flat_instances(alloc, names)?;
+    let instances = named_instances(alloc, names)?;
     let wires = all_flat_wires(alloc, names)?;
     let main = &names.nest().main;
     let samples = flat_samples(alloc, names, main.samples.as_slice())?;

@@ -17,7 +17,7 @@ pub(crate) fn level(levels: &[usize], place: usize) -> usize
     }
 }
 
-fn put(numbers: &mut [usize], place: usize, number: usize) {
+pub(crate) fn put(numbers: &mut [usize], place: usize, number: usize) {
     if let Some(one) = numbers.get_mut(place) {
         *one = number;
     }

@@ -12,6 +12,7 @@ mod cycles;
 mod fault;
 mod flat;
 mod flattening;
+mod guide;
 mod judge;
 mod laws;
 mod levels;
@@ -19,6 +20,7 @@ mod lists;
 mod names;
 mod scope;
 mod tables;
+mod ways;
 
 pub use flattening::flatten;
 pub use laws::nests_are_judged_once;

@@ -1,10 +1,10 @@
 //! Scopes of a nest, and ports that are followed from scope to scope.
-ghost use Rattle.std.specs.Prelude.{◌≡◌, ◌∷◌, [], ◌++◌, IfOk, OnOk, bytes_eq, find, map, slice_get, false};
+ghost use Rattle.std.specs.Prelude.{◌≡◌, ◌∷◌, [], ◌++◌, IfOk, IsTrue, OnOk, bytes_eq, find, map, slice_get, false};
 ghost use Rattle.std.specs.Borrow.{Bor};
 ghost use Rattle.std.specs.Option.{option_map, option_to_list, unwrap_or};
 ghost use Rattle.nest_text.specs.declared.nest.Bind.{Bind as Binds};
 ghost use Rattle.std.specs.List.{flat_map, list_all, list_any};
-ghost use Rattle.sub_flat.specs.Flattening.{distinct, expand, flat_port, follow, inside, is_component, reach, same_group, same_spot, spot_in, step_down};
+ghost use Rattle.sub_flat.specs.Flattening.{distinct, expand, flat_port, follow, inside, is_component, reach, same_group, same_spot, spot_in, step_down, top};
 ghost use Rattle.unit_tree.specs.Names.{same_port};
 
 use crate::lists::PlacesByName;
@@ -22,6 +22,19 @@ pub struct Scope {
     pub prefix: Name,
     /// The place of the group; none in `main`.
     pub group: Option<usize>,
+}
+
+/// How many scopes stand in each other at most.
+pub(crate) const LEVELS: usize = 33;
+
+/// The scope of `main`.
+pub(crate) fn top(alloc: Global) -> Scope
+    ensures { result ≡ top }
+{
+    Scope {
+        prefix: List::new(alloc),
+        group: None,
+    }
 }
 
 /// A port of an instance that stands in a scope.
@@ -61,7 +74,7 @@ fn copied_port(alloc: Global, port: &PortName) -> Result<PortName, NoMemory>
     Ok(PortName { instance, port })
 }
 
-fn copied_scope(alloc: Global, scope: &Scope) -> Result<Scope, NoMemory>
+pub(crate) fn copied_scope(alloc: Global, scope: &Scope) -> Result<Scope, NoMemory>
     ensures { IfOk result (λ made. made ≡ scope.now) }
 {
     Ok(Scope {
@@ -157,7 +170,7 @@ fn are_components(names: &NestNames<'_>, spots: &[Spot]) -> bool
 }
 
 /// Puts the inner port of a line behind others, where there is a line.
-fn put_bind(
+pub(crate) fn put_bind(
     alloc: Global,
     scope: &Scope,
     bind: Option<&Bind>,
@@ -193,7 +206,7 @@ fn put_expanded(
     Ok(())
 }
 
-fn same_group(one: Option<usize>, other: Option<usize>) -> bool
+pub(crate) fn same_group(one: Option<usize>, other: Option<usize>) -> bool
     ensures { result ≡ same_group one other }
 {
     match (one, other) {
@@ -203,11 +216,17 @@ fn same_group(one: Option<usize>, other: Option<usize>) -> bool
     }
 }
 
-fn same_port(one: &PortName, other: &PortName) -> bool
+pub(crate) fn same_port(one: &PortName, other: &PortName) -> bool
     ensures { result ≡ same_port one.now other.now }
 {
     one.instance.as_slice() == other.instance.as_slice()
         && one.port.as_slice() == other.port.as_slice()
+}
+
+pub(crate) fn same_scope(one: &Scope, other: &Scope) -> bool
+    ensures { IsTrue result → one.now ≡ other.now }
+{
+    one.prefix.as_slice() == other.prefix.as_slice() && same_group(one.group, other.group)
 }
 
 fn same_spot(one: &Spot, other: &Spot) -> bool
@@ -236,7 +255,7 @@ fn is_kept(spot: &Spot, spots: &[Spot], places: &[usize]) -> bool
 }
 
 /// Each port once, at its first place. Those that are kept are found by their own names, so that few are compared.
-fn distinct(alloc: Global, spots: &[Spot]) -> Result<List<Spot>, NoMemory>
+pub(crate) fn distinct(alloc: Global, spots: &[Spot]) -> Result<List<Spot>, NoMemory>
     ensures { IfOk result (λ kept. kept ≡ distinct [] spots.now) }
 {
     let mut kept = List::new(alloc);
