@@ -34,6 +34,8 @@ pub struct Guide<'n> {
     starts: Vec<usize>,
     /// For each `in` line of each scope, where the list that is being made may have it.
     places: Vec<usize>,
+    /// The first scope of the group of which a list is being made.
+    first: usize,
     /// An input leads to more inputs than there may be connections.
     has_given_up: bool,
 }
@@ -72,6 +74,7 @@ impl<'n> Guide<'n> {
             groups,
             starts: Vec::new(alloc),
             places: Vec::new(alloc),
+            first: 0,
             has_given_up: false,
         })
     }
@@ -151,26 +154,29 @@ impl<'n> Guide<'n> {
         self.groups.get(group)?.lines.get(&inner).copied()
     }
 
-    /// The number of an `in` line among those of all scopes.
-    fn number(&self, group: usize, end: End) -> Option<usize> {
-        let first = self.groups.get(group)?.first?;
-        let scope = first.saturating_add(end.scope as usize);
-        Some(level(self.starts.as_slice(), scope).saturating_add(end.line as usize))
-    }
-
-    /// Where the list of a group that is being made may have an input.
-    pub(crate) fn place_of(&self, group: usize, end: End) -> usize {
-        match self.number(group, end) {
-            Some(number) => level(self.places.as_slice(), number),
+    /// Begins a list of a group.
+    pub(crate) fn begin(&mut self, group: usize) {
+        self.first = match self.groups.get(group) {
+            Some(one) => one.first.unwrap_or(0),
             None => 0,
-        }
+        };
     }
 
-    /// Notes where the list of a group that is being made has an input.
-    pub(crate) fn note_place(&mut self, group: usize, end: End, place: usize) {
-        if let Some(number) = self.number(group, end) {
-            put(self.places.as_mut_slice(), number, place);
-        }
+    /// The number of an `in` line among those of all scopes.
+    fn number(&self, end: End) -> usize {
+        let scope = self.first.saturating_add(end.scope as usize);
+        level(self.starts.as_slice(), scope).saturating_add(end.line as usize)
+    }
+
+    /// Where the list that is being made may have an input.
+    pub(crate) fn place_of(&self, end: End) -> usize {
+        level(self.places.as_slice(), self.number(end))
+    }
+
+    /// Notes where the list that is being made has an input.
+    pub(crate) fn note_place(&mut self, end: End, place: usize) {
+        let number = self.number(end);
+        put(self.places.as_mut_slice(), number, place);
     }
 }
 

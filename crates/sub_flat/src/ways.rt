@@ -5,7 +5,7 @@
 ghost use Rattle.std.specs.Prelude.{◌≡◌, ◌∷◌, ◌++◌, ◌+◌, [], ℕ, List, Some, None, true, IfOk, IsTrue, OnOk, map, slice_get};
 ghost use Rattle.std.specs.List.{flat_map};
 ghost use Rattle.std.specs.Option.{option_map, option_to_list};
-ghost use Rattle.sub_flat.specs.Flattening.{distinct, ins_in, levels, place_at, reach, spot_in};
+ghost use Rattle.sub_flat.specs.Flattening.{distinct, ins_in, inside, levels, place_at, reach, spot_in};
 ghost use Rattle.sub_flat.specs.Reaching.{AreKnown, all_ends, FindsKnown, IsKnown, LeadsTo, Puts, PutsOnce, SameKept, input_at, ins_of, inputs_at, onward};
 ghost use Rattle.sub_flat.specs.declared.scope.Spot.{Spot as Spots};
 ghost use Rattle.nest_text.specs.declared.nest.Bind.{Bind as Binds};
@@ -57,28 +57,33 @@ fn is_at(ends: &[End], place: usize, end: End) -> bool
     }
 }
 
-/// Puts an input behind others, where it isn't among them.
+/// Puts an input behind others, where it isn't among them, and tells its place. It is looked for at a place where it may be, and at the
+/// one that the guide tells.
 fn put_once(
     guide: &mut Guide<'_>,
-    group: usize,
+    guess: usize,
     end: End,
     ends: &mut List<End>,
-) -> Result<(), NoMemory>
-    ensures { OnOk result (PutsOnce end ends.old ends.new) }
+) -> Result<usize, NoMemory>
+    ensures { IfOk result (λ place. PutsOnce end ends.old ends.new) }
 {
-    let place = guide.place_of(group, end);
-    if is_at(ends.as_slice(), place, end) {
-        return Ok(());
+    if is_at(ends.as_slice(), guess, end) {
+        return Ok(guess);
     }
-    guide.note_place(group, end, ends.len());
+    let place = guide.place_of(end);
+    if is_at(ends.as_slice(), place, end) {
+        return Ok(place);
+    }
+    let place = ends.len();
+    guide.note_place(end, place);
     ends.push(end)?;
-    Ok(())
+    Ok(place)
 }
 
-/// Puts inputs behind others, each as it is reached from a scope that stands so many places before.
+/// Puts inputs behind others, each as it is reached from a scope that stands so many places before. Most often they stand side by side
+/// where they were put before.
 fn put_onward(
     guide: &mut Guide<'_>,
-    group: usize,
     offset: u32,
     inner: &[End],
     ends: &mut List<End>,
@@ -86,6 +91,7 @@ fn put_onward(
     ensures { IfOk result (λ told. IsTrue told → (input : End → List Spots)
         → SameKept (flat_map input ends.new) (flat_map input (ends.old ++ map (onward offset) inner.now))) }
 {
+    let mut guess: usize = 0;
     for end in inner {
         let Some(scope) = end.scope.checked_add(offset) else {
             return Ok(false);
@@ -93,15 +99,9 @@ fn put_onward(
         if ends.len() > MOST_ENDS {
             return Ok(false);
         }
-        put_once(
-            guide,
-            group,
-            End {
-                scope,
-                line: end.line,
-            },
-            ends,
-        )?;
+        let line = end.line;
+        let place = put_once(guide, guess, End { scope, line }, ends)?;
+        guess = place.saturating_add(1);
     }
     Ok(true)
 }
@@ -123,46 +123,62 @@ fn find<'k, 'n>(
     None
 }
 
+/// What is behind a front.
+fn behind<'b>(whole: &'b [u8], front: &[u8]) -> Option<&'b [u8]>
+    ensures { (rest : List ℕ) → option_map (λ found. found.now) result ≡ Some rest → whole.now ≡ front.now ++ rest }
+{
+    whole.strip_prefix(front)
+}
+
+/// Whether a scope is the one inside an instance of another.
+fn is_inside(inner: &Scope, scope: &Scope, name: &Name, place: usize) -> bool
+    ensures { IsTrue result → inner.now ≡ inside scope.now name.now place }
+{
+    let Some(rest) = behind(inner.prefix.as_slice(), scope.prefix.as_slice()) else {
+        return false;
+    };
+    let Some(last) = behind(rest, name.as_slice()) else {
+        return false;
+    };
+    match last {
+        [b'_'] => same_group(inner.group, Some(place)),
+        _ => false,
+    }
+}
+
 /// Whether the scope inside an instance stands so many places behind a scope.
 fn leads_from(
-    alloc: Global,
     scopes: &[Scope],
     base: usize,
     offset: usize,
-    wanted: &Scope,
-) -> Result<bool, NoMemory>
-    ensures { IfOk result (λ told. IsTrue told → slice_get scopes.now (base + offset) ≡ Some wanted.now) }
+    scope: &Scope,
+    name: &Name,
+    place: usize,
+) -> bool
+    ensures { IsTrue result → slice_get scopes.now (base + offset) ≡ Some (inside scope.now name.now place) }
 {
-    let Some(place) = base.checked_add(offset) else {
-        return Ok(false);
+    let Some(onward) = base.checked_add(offset) else {
+        return false;
     };
-    match at(scopes, place) {
-        Some(other) => Ok(same_scope(other, wanted)),
-        None => Ok(false),
+    match at(scopes, onward) {
+        Some(inner) => is_inside(inner, scope, name, place),
+        None => false,
     }
 }
 
 /// Whether the scope inside an instance of a group stands so many places behind each scope of the group.
-fn leads(
-    alloc: Global,
-    scopes: &[Scope],
-    group: usize,
-    name: &Name,
-    place: usize,
-    offset: usize,
-) -> Result<bool, NoMemory>
-    ensures { IfOk result (λ told. IsTrue told → LeadsTo scopes.now group name.now place offset) }
+fn leads(scopes: &[Scope], group: usize, name: &Name, place: usize, offset: usize) -> bool
+    ensures { IsTrue result → LeadsTo scopes.now group name.now place offset }
 {
     for (base, scope) in scopes.iter().enumerate() {
         if !same_group(scope.group, Some(group)) {
             continue;
         }
-        let wanted = inside(alloc, scope, name, place)?;
-        if !leads_from(alloc, scopes, base, offset, &wanted)? {
-            return Ok(false);
+        if !leads_from(scopes, base, offset, scope, name, place) {
+            return false;
         }
     }
-    Ok(true)
+    true
 }
 
 /// A line that leads to the same inner port as this: the first one, where the guide knows it.
@@ -209,13 +225,12 @@ fn put_component<'n>(
     let Ok(line) = u32::try_from(line) else {
         return Ok(None);
     };
-    put_once(guide, group, End { scope: 0, line }, ends)?;
+    drop(put_once(guide, 0, End { scope: 0, line }, ends)?);
     Ok(Some(0))
 }
 
 /// Puts the inputs that a line leads to through a group, where they are known.
 fn put_inside<'n>(
-    alloc: Global,
     names: &NestNames<'n>,
     scopes: &[Scope],
     known: &[Known<'n>],
@@ -236,10 +251,10 @@ fn put_inside<'n>(
         return Ok(None);
     };
     let name = &bind.inner.instance;
-    if !leads(alloc, scopes, group, name, place, offset as usize)? {
+    if !leads(scopes, group, name, place, offset as usize) {
         return Ok(None);
     }
-    if !put_onward(guide, group, offset, inner.ends.as_slice(), ends)? {
+    if !put_onward(guide, offset, inner.ends.as_slice(), ends)? {
         return Ok(None);
     }
     Ok(inner.height.checked_add(1))
@@ -265,7 +280,7 @@ fn put_line<'n>(
     };
     match names.place_at(Some(group), bind.inner.instance.as_slice()) {
         None => put_component(names, scopes, guide, group, bind, line, ends),
-        Some(place) => put_inside(alloc, names, scopes, known, guide, group, bind, place, ends),
+        Some(place) => put_inside(names, scopes, known, guide, group, bind, place, ends),
     }
 }
 
@@ -282,6 +297,7 @@ fn follow_lines<'n>(
     requires { AreKnown names.now scopes.now known.now }
     ensures { IfOk result (λ made. (one : _) → made ≡ Some one → IsKnown names.now scopes.now one) }
 {
+    guide.begin(group);
     let mut ends = List::new(alloc);
     let mut height: usize = 0;
     for line in names.ins_named(group, port) {

@@ -17,10 +17,10 @@ returns c height is =
     let found = c.find.ensures inner (ap (option_map (λ one. one.now)) c.in-Some.is) in
     let high = sym (some_is _ _ c.checked_add.result height is c.checked_add.ensures) in
     let leads : LeadsTo c.args.scopes.now c.args.group bind.inner.instance c.args.place offset =
-    c.in_ok-leads.ensures c.if-not-branch.false in
+    c.leads.ensures c.if-not-leads.false in
     let puts : (input : End → List Spot) → SameKept (flat_map input new) (flat_map input (c.args.ends.now ++ map (onward offset) inner.ends)) =
     λ input.
     subst (λ ends. SameKept (flat_map input new) (flat_map input (c.args.ends.now ++ map (onward offset) ends))) c.as_slice-3.ensures
-    (c.in_ok-put_onward.ensures c.if-not-branch-2.false input) in
+    (c.in_ok-put_onward.ensures c.if-not-branch.false input) in
     puts_inside nest c.args.scopes.now c.args.known.now c.args.group c.args.place offset height bind inner c.args.ends.now new c.requires.known
     (subst (λ port. FindsKnown c.args.known.now c.args.place port inner) c.as_slice.ensures found) leads c.requires.inside puts high

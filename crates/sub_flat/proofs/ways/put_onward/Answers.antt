@@ -11,5 +11,5 @@ loop-end-preserved c input =
     let one = get_or inner c.loop-end.end-index none in
     let onward = some_is _ _ c.checked_add.result c.in-Some.scope c.in-Some.is c.checked_add.ensures in
     onward_next input c.args.offset c.args.ends.now c.loop-end.ends c.put_once.new.ends inner c.loop-end.end-index none c.loop-end-test.true
-    (subst (λ scope. PutsOnce (record { scope = scope; line = one.line }) c.loop-end.ends c.put_once.new.ends) onward c.in_ok-put_once.ensures)
+    (subst (λ scope. PutsOnce (record { scope = scope; line = one.line }) c.loop-end.ends c.put_once.new.ends) onward c.in_ok-place.ensures)
     (c.loop-end.invariant input)
