@@ -4,7 +4,8 @@
 //! uses it behind [`nest_text::read_nest`].
 //!
 //! Definitions: `specs/Flattening.antt` (the flat system) and `specs/NestRules.antt` (which nests have none). How flattening goes about
-//! it stands in `specs/FlatReading.antt` (early ends) and `specs/Searching.antt` (groups that contain themselves).
+//! it stands in `specs/FlatReading.antt` (early ends), `specs/Reaching.antt` (where inputs of groups lead, each worked out once) and
+//! `specs/Searching.antt` (groups that contain themselves).
 #![tactic(auto)]
 
 mod asks;

@@ -48,6 +48,7 @@ pub struct Known<'n> {
 }
 
 /// Whether an input is at a place of others.
+#[inline(always)]
 fn is_at(ends: &[End], place: usize, end: End) -> bool
     ensures { IsTrue result → slice_get ends.now place ≡ Some end }
 {
@@ -59,6 +60,7 @@ fn is_at(ends: &[End], place: usize, end: End) -> bool
 
 /// Puts an input behind others, where it isn't among them, and tells its place. It is looked for at a place where it may be, and at the
 /// one that the guide tells.
+#[inline(always)]
 fn put_once(
     guide: &mut Guide<'_>,
     guess: usize,
