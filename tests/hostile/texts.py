@@ -123,3 +123,109 @@ def connected(unit):
     text = unit + inputs + "output y:Int8=0\nend\ninstance a:u\nend\ninstance b:u\nend\n" + lines + "stop 0\n"
     assert len(text) <= LONGEST
     return text.encode()
+
+
+NESTED_MAIN = """main
+cosim 1
+unit A
+output y:Int32=1
+end
+unit D
+input u:Int32=0
+output p:Int32=2
+end
+instance a:A
+end
+stop 3
+"""
+ONE_GROUP = NESTED_MAIN + "instance g:G\nend\n"
+
+
+def long_nests():
+    """Nested texts of nearly 1 MiB, each with its name."""
+    one = "group {}\ninstance d:D\nend\n"
+    return [
+        ("groups without instances", filled("", lambda n: f"group {name_of(n)}\n", NESTED_MAIN)),
+        ("groups of one component", filled("", lambda n: one.format(name_of(n)), NESTED_MAIN)),
+        ("a chain of groups", chain_of_groups(one.format(name_of(27_000)))),
+        ("a cycle of groups", chain_of_groups(group_around(name_of(27_000), name_of(0)))),
+        ("instances in a group, each with a line", filled("group G\n", lambda n: f"instance {name_of(n)}:D\nend\nin x->{name_of(n)}.u\n", ONE_GROUP)),
+        ("connections to lines that lead to one input", connections_to(lambda number: "x", lambda n: "in x->d.u\n")),
+        ("connections to names that lead to one input", connections_to(name_of, lambda n: f"in {name_of(n)}->d.u\n")),
+        ("connections to many ways to one input", connections_to(lambda number: "x", *ways("D"))),
+        ("connections to names that lead to many ways", names_with_ways()),
+        ("groups in many places, with many ways each", places_with_ways(60)),
+        ("many ways to all inputs that there may be", ways_to_inputs(2_000, 1)),
+        ("many ways to more inputs than there may be", ways_to_inputs(2_100, 1)),
+        ("many ways to many inputs, for some connections", ways_to_inputs(128, 16)),
+        ("outputs that are connected", connected_outputs()),
+        ("samples down a chain", samples_down(14)),
+        ("samples and connections down a chain that is too deep", samples_down(33)),
+    ]
+
+
+def group_around(name, inner):
+    return f"group {name}\ninstance k:{inner}\nend\n"
+
+
+def chain_of_groups(last):
+    """Groups of which each is inside the one before it; and a last one."""
+    groups = "".join(group_around(name_of(number), name_of(number + 1)) for number in range(27_000))
+    return (groups + last + NESTED_MAIN).encode()
+
+
+def connections_to(target, line, front="group G\ninstance d:D\nend\n"):
+    """As many connections as there may be to inputs of a group, which has lines of its own."""
+    wires = "".join(f"connect a.y->g.{target(number)}\n" for number in range(2_048))
+    return filled(front, line, ONE_GROUP + wires)
+
+
+def ways(inner, count=30_000):
+    """A line for each of many names of a group `H`, all of which lead to one input, and the groups around them."""
+    names = "".join(f"in {name_of(number)}->d.u\n" for number in range(count))
+    front = f"group H\ninstance d:{inner}\nend\n{names}group G\ninstance k:H\nend\n"
+    return (lambda number: f"in x->k.{name_of(number % count)}\n"), front
+
+
+def names_with_ways():
+    """Connections to as many names, each of which leads by two lines to all of many ways."""
+    line, front = ways("D", 20_000)
+    lines = "".join(line(number) for number in range(20_000)) + "in z->k." + name_of(0) + "\n"
+    names = "".join(f"in {name_of(number)}->k.x\nin {name_of(number)}->k.z\n" for number in range(2_048))
+    wires = "".join(f"connect a.y->g.{name_of(number)}\n" for number in range(2_048))
+    return (front + lines + "group F\ninstance k:G\nend\n" + names + NESTED_MAIN + "instance g:F\nend\n" + wires).encode()
+
+
+def places_with_ways(places):
+    """Instances of one group with many ways, each of which is connected."""
+    line, front = ways("D")
+    instances = "".join(f"instance g{number}:G\nend\n" for number in range(places))
+    wires = "".join(f"connect a.y->g{number}.x\n" for number in range(places))
+    return filled(front, line, NESTED_MAIN + instances + wires)
+
+
+def ways_to_inputs(inputs, connections):
+    """Many ways, each of which leads to many inputs."""
+    unit = "unit M\n" + "".join(f"input {name_of(number)}:Int8=0\n" for number in range(inputs)) + "end\n"
+    leads = "group J\ninstance d:M\nend\n" + "".join(f"in y->d.{name_of(number)}\n" for number in range(inputs))
+    names = "".join(f"in {name_of(number)}->j.y\nin {name_of(number)}->j.z\n" for number in range(16_000))
+    front = leads + f"in z->d.{name_of(0)}\ngroup H\ninstance j:J\nend\n{names}group G\ninstance k:H\nend\n"
+    tail = NESTED_MAIN.replace("instance a", unit + "instance a") + "instance g:G\nend\n" + "connect a.y->g.x\n" * connections
+    return filled(front, lambda number: f"in x->k.{name_of(number % 16_000)}\n", tail)
+
+
+def connected_outputs():
+    """Many outputs, through two groups, and as many connections from them as there may be."""
+    inner = "group H\ninstance d:D\nend\n" + "".join(f"out {name_of(number)}=d.p\n" for number in range(25_000))
+    outer = "group G\ninstance k:H\nend\n" + "".join(f"out {name_of(number)}=k.{name_of(number)}\n" for number in range(25_000))
+    wires = "".join(f"connect g.{name_of(number)}->a.u\n" for number in range(2_048))
+    return (inner + outer + ONE_GROUP + wires).encode()
+
+
+def samples_down(depth):
+    """As many connections as there may be, and many samples, down a chain of groups."""
+    groups = "group G0\ninstance d:D\nend\nin x->d.u\nout y=d.p\n"
+    for number in range(1, depth):
+        groups += f"group G{number}\ninstance k:G{number - 1}\nend\nin x->k.x\nout y=k.y\n"
+    main = NESTED_MAIN + f"instance g:G{depth - 1}\nend\n" + "connect a.y->g.x\n" * 2_048
+    return filled(groups + main, lambda number: "sample g.y\n")
