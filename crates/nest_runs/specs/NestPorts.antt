@@ -26,8 +26,8 @@ IsScope nest scope = (depth : ℕ) × IsScopeAt nest depth scope
 
 -- ---- Ports
 
--- A port of a group is told by where its instance stands. A component has one name in all scopes, which is its name in the flat
--- system.
+-- A port of a group is told by the scope and the name of its instance. A component has one name in all scopes, which is its name in
+-- the flat system.
 pub data NestPort : Type 0 where
   OfComponent : PortName → NestPort
   OfGroup : Spot → NestPort
@@ -35,7 +35,8 @@ pub data NestPort : Type 0 where
 abbrev pub spot_of : Scope → PortName → Spot
 spot_of scope port = record { scope = scope; port = port }
 
--- The port that a name in a scope means. One at an instance that isn't there may name a component of another scope.
+-- The port that a name in a scope means: of several instances of one name the first is meant. A port at an instance that isn't there
+-- may be one of a component of another scope.
 abbrev pub port_at : Nest → Spot → NestPort
 port_at nest spot = if is_component nest spot then OfComponent (flat_port spot) else OfGroup spot
 

@@ -28,7 +28,7 @@ use Rattle.nest_runs.specs.NestPorts.{NestPort, OfComponent, Connects, LeadsIn, 
 abbrev pub components_of : Nest → System
 components_of nest = record nest.main { instances = leaves nest levels top; wires = []; samples = [] }
 
--- A member whose inputs, plain ones first, read the places from a number on.
+-- A member whose inputs, plain ones first, read the places from a number on. In a list of what inputs have a place is an input's.
 abbrev pub reading_from : ℕ → EventMember → EventMember
 reading_from first one = record {
   member = record one.member { sources = map (λ counted. AtPlace counted.0) (enumerate_from first one.member.component.unit.inputs) };

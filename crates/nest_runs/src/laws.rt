@@ -1,14 +1,15 @@
 //! Laws of runs of nests.
 ghost use Rattle.nest_runs.specs.Laws.{NestsRunAsTheyAreFlat, NestsHaveOneOutcome, NestedTextsRunFlat};
 
-/// A law: a nest that breaks no rule of groups has the rows, the last point and the end of its flat system; so it has exactly
-/// one of each where that is well-formed and without a cycle.
+/// A law: a nest that breaks no rule of groups, and whose flat system is well-formed, has the rows, the last point and the end of
+/// that system; so it has exactly one of each where this has no cycle.
 pub fn nests_run_as_they_are_flat()
     ensures same { NestsRunAsTheyAreFlat }
     ensures one { NestsHaveOneOutcome }
 {}
 
-/// A law: a nested text runs as the canonical text of its flat system does, where that is accepted.
+/// A law: where its nest breaks no rule of groups, a nested text runs as the canonical text of its flat system does, if that is
+/// accepted.
 pub fn nested_texts_run_flat()
     ensures { NestedTextsRunFlat }
 {}
