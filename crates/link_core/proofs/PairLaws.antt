@@ -2,7 +2,7 @@
 use Rattle.link_core.specs.Boards.{Agrees, Board, IsOn, IsSo, LacksNone, board_of, entry, row_of}
 use Rattle.link_core.specs.Keeping.{IsHonest, IsMade, IsNewFact, IsPlace, IsRightMove, IsRightRule, IsRowOfTrace, IsSoOn, IsTrueFact, KeepsTo, PairKeepsTo}
 use Rattle.link_core.specs.Keeping.{StandsAt}
-use Rattle.link_core.specs.Laws.{AnswersRightly, ShowsRow, Works}
+use Rattle.link_core.specs.Laws.{AnswersRightly, MovesRightly, ShowsRow, Works}
 use Rattle.link_core.specs.Nodes.{End, Go, Move, Progress, Rule, Stay, drops, has, keeping, knowing, making_of, moved, opened, restarted, taken, with_fact}
 use Rattle.link_core.specs.Nodes.{with_making, worked}
 use Rattle.link_core.specs.Pairs.{Pair, after_events, delivered, event_step, happened, node_of, opened_pair, step_of_node}
@@ -202,6 +202,12 @@ module _ (run : Composition) (rule : Rule) (right : IsRightRule run rule) where
     shows_by node keeps (Go at) is = shown_is node keeps (making_of rule me node).known (made_of node keeps).agrees is.0
     shows_by node keeps (End ending) is = shown_is node keeps (making_of rule me node).known (made_of node keeps).agrees is.0
 
+    moves_by : (node : Progress) (keeps : KeepsTo run rule me node) (move : Move) → IsRightMove run rule me keeps.stand (making_of rule me node).known move
+        → MovesRightly run rule me node.at keeps.stand (moved rule (with_making node (making_of rule me node)) move)
+    moves_by node keeps Stay is = refl
+    moves_by node keeps (Go at) is = is.1
+    moves_by node keeps (End ending) is = (ending, is.1, refl)
+
     commits_by : (node : Progress) (found : Option Ending) (keeps : KeepsTo run rule me node) → found ≡ None
         → Works run rule me node keeps.stand (if is_some found then (node, Ended) else does node)
     commits_by node (Some ending) keeps going = absurd (cc)
@@ -209,6 +215,7 @@ module _ (run : Composition) (rule : Rule) (right : IsRightRule run rule) where
       facts = facts_by node (rule.move me node.at (making_of rule me node).known);
       answers = answers_by node keeps (rule.move me node.at (making_of rule me node).known) (move_of node keeps);
       row = shows_by node keeps (rule.move me node.at (making_of rule me node).known) (move_of node keeps);
+      moves = moves_by node keeps (rule.move me node.at (making_of rule me node).known) (move_of node keeps);
     }
 
     pub work_commits : (node : Progress) (keeps : KeepsTo run rule me node) → node.ended ≡ None → Works run rule me node keeps.stand (worked rule me node)

@@ -14,7 +14,7 @@ use Rattle.link_core.specs.declared.taken.Taken.{Taken}
 use Rattle.link_core.specs.declared.taken.Taken.TheVariants.{Dropped, Ended, Kept, Row}
 use Rattle.port_solve.specs.Sound.{IsSound}
 use Rattle.std.specs.List.{AllZip, enumerate_from}
-use Rattle.std.specs.Prelude.{List, None, false, length, map, true, ℕ, ⊤, ◌++◌, ◌≡◌, ◌≤◌}
+use Rattle.std.specs.Prelude.{List, None, Some, false, length, map, true, ℕ, ⊤, ◌++◌, ◌≡◌, ◌≤◌}
 use Rattle.trace_plan.specs.Plans.{IsBounded}
 use Rattle.unit_tree.specs.Compositions.{AreMembers, Composition}
 use Rattle.unit_tree.specs.Ports.{IsPlaceOrder, outlets}
@@ -72,11 +72,20 @@ ShowsRow run stand (node, Row) = node.row ≡ row_at run stand
 ShowsRow run stand (node, Ended) = node.row ≡ row_at run stand
 ShowsRow run stand (node, other) = ⊤
 
+-- With a row it goes on to its part of the next position, with the end it has the run's, and else it stays.
+abbrev pub MovesRightly : Composition → Rule → ℕ → Position → Stand → Progress × Taken → Type 0
+MovesRightly run rule me at stand (node, Row) = (next : Stand) × Goes run stand next × (node.at ≡ rule.part me next.at)
+MovesRightly run rule me at stand (node, Ended) = (ending : Ending) × (successor run stand.at stand.ports ≡ ends ending) × (node.ended ≡ Some ending)
+MovesRightly run rule me at stand (node, other) = node.at ≡ at
+
+-- What a node did at its stand: it lists the facts that it made, commits its row or ends exactly where it then lacks none, and else stays.
 pub record Works (run : Composition) (rule : Rule) (me : ℕ) (node : Progress) (stand : Stand) (did : Progress × Taken) : Type 0 where
   pub facts : did.0.facts ≡ node.facts ++ (making_of rule me node).facts
   pub answers : AnswersRightly run stand (making_of rule me node).known did.1
   pub row : ShowsRow run stand did
+  pub moves : MovesRightly run rule me node.at stand did
 
+-- A node that hasn't ended does so where it works.
 abbrev pub WorkCommitsRightly : Type 0
 WorkCommitsRightly =
     (run : Composition) (rule : Rule) → IsRightRule run rule → (me : ℕ) (node : Progress) (keeps : KeepsTo run rule me node) → node.ended ≡ None

@@ -19,8 +19,8 @@ pub fn rules_are_right()
 {}
 
 /// A law: over every list of events each fact is the true one of its row, and each node stands at the place of its number. A node that
-/// works, or takes a fact that isn't dropped, commits or ends exactly where it then lacks no fact of its row. Told of any rule that is
-/// right, and of that of a run.
+/// works, or takes a fact that isn't dropped, commits or ends exactly where it then lacks no fact of its row: it goes on to its part of
+/// the next position, has the run's end, or stays. Told of any rule that is right, and of that of a run.
 pub fn events_keep()
     ensures keep { EventsKeep }
     ensures commit { WorkCommitsRightly }
@@ -35,8 +35,8 @@ pub fn passes_are_enough()
     ensures { PassesAreEnough }
 {}
 
-/// A law: each true fact of a run has a row below 100,000, and tells no length above the greatest word, where the numbers of each `max`
-/// are words.
+/// A law: each true fact of an ordered run whose bounds and types are those of a plan has a row below 100,000, and tells no length above
+/// the greatest word, where the words of parameters and the numbers of each `max` fit 64 bits, as those of every node's plan do.
 pub fn facts_are_short()
     ensures { FactsAreShort }
 {}

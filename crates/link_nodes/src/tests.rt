@@ -126,6 +126,8 @@ fn each_kind_has_its_tags(rt: HostRuntime) -> Result<(), Fail> {
     let told = [
         (0, 0, 3, None),
         (1, 0, 3, word(Seen::Is(3))),
+        (1, 2, 0, word(Seen::Fault(Fault::Range))),
+        (1, 4, 0, word(Seen::Fault(Fault::Accept))),
         (1, 5, 0, word(Seen::Fault(Fault::Max))),
         (1, 6, 0, word(Seen::Undefined)),
         (1, 6, 1, None),
