@@ -12,19 +12,19 @@ use Rattle.unit_tree.specs.declared.system.Wire.{Wire}
 use Rattle.event_runs.specs.EventPorts.{signal_in}
 use Rattle.event_runs.specs.Events.{Signal}
 use Rattle.nest_text.specs.declared.nest.Nest.{Nest}
-use Rattle.sub_flat.specs.Flattening.{levels, wires_of, flat_port, follow, step_down, expand}
+use Rattle.sub_flat.specs.Flattening.{levels, wires_of, flat_port, follow, step_down, expand, is_component}
 use Rattle.sub_flat.specs.declared.scope.Spot.{Spot}
 use Rattle.list_laws.proofs.Members.{Has}
 use Rattle.run_laws.proofs.PlainCycles.{comes_from_output}
 use Rattle.run_laws.proofs.PlainOrders.{wired, has_source}
 use Rattle.run_laws.proofs.PlaceOrders.{found_at}
-use Rattle.nest_runs.specs.NestPorts.{NestPort, OfComponent, OfGroup, IsScopeAt, port_at, Connects, LeadsIn}
+use Rattle.nest_runs.specs.NestPorts.{NestPort, OfComponent, OfGroup, IsScopeAt, port_at, Connects, LeadsIn, LeadsOut}
 use Rattle.nest_runs.specs.NestTrace.{PortValues, AreCarried, IsFed, output_signals}
 use Rattle.nest_runs.specs.SoundNests.{IsSound}
 use Rattle.nest_runs.proofs.SoundLaws.{flat_ranged}
 use Rattle.nest_runs.proofs.ListLaws.{contained, contains}
 use Rattle.nest_runs.proofs.ScopeLaws.{name_long}
-use Rattle.nest_runs.proofs.WayLaws.{Way, Step, step_in, step_out, step_deeper, follow_none, follow_next, followed_leaf, way_more}
+use Rattle.nest_runs.proofs.WayLaws.{Way, Step, step_in, step_out, step_deeper, follow_none, follow_next, followed_leaf, next_out_there, way_more}
 use Rattle.nest_runs.proofs.WireLaws.{Connection, ends, source, component_port, group_port, component_meant, group_meant, all, flat, standing}
 use Rattle.nest_runs.proofs.WireLaws.{among_all}
 use Rattle.nest_runs.proofs.WireLaws.{ends_keep, behind, becomes, wire_to}
@@ -204,3 +204,67 @@ module _ (nest : Nest) (sound : IsSound nest) (values : PortValues) (carried : A
           ∙ carried_to back.one back.count back.leaf back.has back.way
           ∙ ap (λ p. Some (values.outs (OfComponent p))) from
           ∙ ap Some (sym (signal_at (λ p. values.outs (OfComponent p)) (outputs_of (flat nest sound)) first output))
+
+  -- ---- What ports of groups have
+
+  origin_by : (port : NestPort) (given : Option Signal) → values.ins port ≡ Some given → Origin port
+  origin_by (OfComponent port) given has = origin_of port given has
+  origin_by (OfGroup spot) given has = origin_of_group (suc (length spot.scope.prefix)) spot given (omega arith) has
+
+  -- The component's output that a connected input has its value of.
+  pub record Source (port : NestPort) (given : Option Signal) : Type 0 where
+    pub origin : Origin port
+    pub is : given ≡ values.outs (OfComponent (source nest origin.one))
+
+  some_same : (one other : Option Signal) → Some one ≡ Some other → one ≡ other
+  some_same one other same = cc
+
+  pub source_of_input : (port : NestPort) (given : Option Signal) → values.ins port ≡ Some given → Source port given
+  source_of_input port given has =
+      let origin = origin_by port given has in
+      record {
+        origin = origin;
+        is = some_same given (values.outs (OfComponent (source nest origin.one)))
+            (sym has ∙ ap values.ins (sym origin.is) ∙ carried_to origin.one origin.count origin.last origin.has origin.way);
+      }
+
+  -- An output of a group has what a component's has.
+  pub group_output : (outer inner : NestPort) (line : LeadsOut nest outer inner)
+      → values.outs outer ≡ values.outs (OfComponent (flat_port (follow nest levels line.spot)))
+  group_output outer inner line =
+      let step = step_out nest line.spot line.next line.line in
+      let leaf = followed_leaf nest sound 32 (suc line.is_scope.0) line.next
+      (step_deeper nest (λ group. group.outs) line.is_scope.0 line.spot line.next line.is_scope.1 step)
+      (next_out_there nest sound line.spot line.next step) (omega arith) in
+      let is = ap (is_component nest) (follow_next nest 32 line.spot line.next line.line) ∙ leaf in
+      ap values.outs line.outer_is
+      ∙ followed levels line.is_scope.0 line.spot line.is_scope.1
+      ∙ ap values.outs (component_port nest (follow nest levels line.spot) is)
+
+module _ (nest : Nest) (sound : IsSound nest) (one other : PortValues) (carried : AreCarried nest one) (others : AreCarried nest other)
+    (same : (port : PortName) → one.outs (OfComponent port) ≡ other.outs (OfComponent port)) where
+  -- An input that is connected by one assignment has the same by the other.
+  connected_too : (port : NestPort) (given : Option Signal) → one.ins port ≡ Some given → other.ins port ≡ Some given
+  connected_too port given has =
+      let from = source_of_input nest sound one carried port given has in
+      let origin = from.origin in
+      ap other.ins (sym origin.is)
+      ∙ carried_to nest sound other others origin.one origin.count origin.last origin.has origin.way
+      ∙ ap Some (sym (same (source nest origin.one)) ∙ sym from.is)
+
+  pub outputs_same : (outer inner : NestPort) → LeadsOut nest outer inner → one.outs outer ≡ other.outs outer
+  outputs_same outer inner line =
+      group_output nest sound one carried outer inner line
+      ∙ same (flat_port (follow nest levels line.spot))
+      ∙ sym (group_output nest sound other others outer inner line)
+
+module _ (nest : Nest) (sound : IsSound nest) (one other : PortValues) (carried : AreCarried nest one) (others : AreCarried nest other)
+    (same : (port : PortName) → one.outs (OfComponent port) ≡ other.outs (OfComponent port)) where
+  pub inputs_same : (port : NestPort) → one.ins port ≡ other.ins port
+  inputs_same port = by (one.ins port) (other.ins port) refl refl
+    where
+      by : (mine yours : Option (Option Signal)) → one.ins port ≡ mine → other.ins port ≡ yours → mine ≡ yours
+      by None None is told = refl
+      by None (Some given) is told =
+          let back = connected_too nest sound other one others carried (λ p. sym (same p)) port given told in absurd (cc)
+      by (Some given) yours is told = sym (connected_too nest sound one other carried others same port given is) ∙ told

@@ -1,5 +1,5 @@
 //! Laws of runs of nests.
-ghost use Rattle.nest_runs.specs.Laws.{NestsRunAsTheyAreFlat, NestsHaveOneOutcome, NestedTextsRunFlat};
+ghost use Rattle.nest_runs.specs.Laws.{GroupsHaveWhatComponentsHave, GroupsShowComponents, NestedTextsRunFlat, NestsHaveOneOutcome, NestsRunAsTheyAreFlat};
 
 /// A law: a nest that breaks no rule of groups, and whose flat system is well-formed, has the rows, the last point and the end of
 /// that system; so it has exactly one of each where this has no cycle.
@@ -12,4 +12,11 @@ pub fn nests_run_as_they_are_flat()
 /// accepted.
 pub fn nested_texts_run_flat()
     ensures { NestedTextsRunFlat }
+{}
+
+/// A law: the ports of groups have no other values than the components behind them give, and an output has just that of the component
+/// that its lines lead down to.
+pub fn groups_have_what_components_have()
+    ensures determined { GroupsHaveWhatComponentsHave }
+    ensures outputs { GroupsShowComponents }
 {}

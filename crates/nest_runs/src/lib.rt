@@ -4,9 +4,12 @@
 //! - `specs/NestTrace.antt`: port assignments in which the ports of groups have values too, and traces by them.
 //!
 //! That such a trace is just the trace of the flat system is a law ([`nests_run_as_they_are_flat`]), and so is that of the text
-//! which flattening puts ([`nested_texts_run_flat`]); `specs/Laws.antt` states both.
+//! which flattening puts ([`nested_texts_run_flat`]); `specs/Laws.antt` states both. Ports of groups
+//! have no values but those of components ([`groups_have_what_components_have`]).
 #![tactic(auto)]
 
 mod laws;
 
-pub use laws::{nested_texts_run_flat, nests_run_as_they_are_flat};
+pub use laws::{
+    groups_have_what_components_have, nested_texts_run_flat, nests_run_as_they_are_flat,
+};
