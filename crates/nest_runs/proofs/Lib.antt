@@ -9,3 +9,4 @@ pub mod TextLaws
 pub mod TraceLaws
 pub mod WayLaws
 pub mod WireLaws
+pub mod WorkedWays
