@@ -158,6 +158,14 @@ def long_nests():
         ("many ways to all inputs that there may be", ways_to_inputs(2_000, 1)),
         ("many ways to more inputs than there may be", ways_to_inputs(2_100, 1)),
         ("many ways to many inputs, for some connections", ways_to_inputs(128, 16)),
+        ("many ways to a few more inputs, for some connections", ways_to_inputs(130, 15)),
+        ("names that lead to all inputs that there may be", names_to_inputs(2_000, 30_000)),
+        ("names that lead to as many inputs as are kept", names_to_inputs(128, 30_000)),
+        ("names that lead to inputs in many places", names_in_places(15, 130)),
+        ("names that lead to more inputs than there may be, in many places", names_in_places(17, 130)),
+        ("two paths to scopes of one name", twin_paths(1_500, 20_000)),
+        ("two paths to scopes of one name, with few inputs", twin_paths(100, 20_000)),
+        ("instances of one name", twin_instances(60)),
         ("outputs that are connected", connected_outputs()),
         ("samples down a chain", samples_down(14)),
         ("samples and connections down a chain that is too deep", samples_down(33)),
@@ -212,6 +220,59 @@ def ways_to_inputs(inputs, connections):
     front = leads + f"in z->d.{name_of(0)}\ngroup H\ninstance j:J\nend\n{names}group G\ninstance k:H\nend\n"
     tail = NESTED_MAIN.replace("instance a", unit + "instance a") + "instance g:G\nend\n" + "connect a.y->g.x\n" * connections
     return filled(front, lambda number: f"in x->k.{name_of(number % 16_000)}\n", tail)
+
+
+def unit_with(inputs):
+    return "unit M\n" + "".join(f"input {name_of(number)}:Int8=0\n" for number in range(inputs)) + "end\n"
+
+
+def leads(inputs, port, instance="d"):
+    return "".join(f"in {port}->{instance}.{name_of(number)}\n" for number in range(inputs))
+
+
+def with_unit(unit):
+    return NESTED_MAIN.replace("instance a", unit + "instance a")
+
+
+def names_to_inputs(inputs, names):
+    """Many names, each of which leads to all of many inputs by one line, and one that leads to each name."""
+    inner = "group J\ninstance d:M\nend\n" + leads(inputs, "y") + "group H\ninstance j:J\nend\n"
+    inner += "".join(f"in {name_of(number)}->j.y\n" for number in range(names)) + "group G\ninstance k:H\nend\n"
+    tail = with_unit(unit_with(inputs)) + "instance g:G\nend\nconnect a.y->g.x\n"
+    return filled(inner, lambda number: f"in x->k.{name_of(number % names)}\n", tail)
+
+
+def names_in_places(places, inputs):
+    """Instances of a group with many names, each of which leads to many inputs; all are asked for at once."""
+    names = 12_000
+    inner = "group H\ninstance d:M\nend\n" + leads(inputs, "y") + "group J\ninstance k:H\nend\n"
+    inner += "".join(f"in {name_of(number)}->k.y\n" for number in range(names)) + "group G\n"
+    inner += "".join(f"instance j{place}:J\nend\n" for place in range(places))
+    tail = with_unit(unit_with(inputs)) + "instance g:G\nend\nconnect a.y->g.x\n"
+    return filled(inner, lambda number: f"in x->j{number % places}.{name_of(number // places % names)}\n", tail)
+
+
+def twin_paths(inputs, names):
+    """Two ways through groups to scopes of one name, each with many inputs that many names lead to, and connections to some of them."""
+    inner = "group C\ninstance d:M\nend\n" + leads(inputs, "x") + leads(1, "z")
+    first = "group P\ninstance b_c:C\nend\nin x->b_c.x\nin z->b_c.z\n"
+    second = "group Q\ninstance c:C\nend\nin x->c.x\nin z->c.z\n"
+    both = "group G\ninstance a:P\nend\ninstance a_b:Q\nend\nin x->a.x\nin x->a_b.x\nin z->a.z\nin z->a_b.z\n"
+    outer = "group F\ninstance g:G\nend\n" + "".join(f"in {name_of(number)}->g.z\n" for number in range(names))
+    outer += "in x->g.x\ngroup E\ninstance f:F\nend\nin x->f.x\n"
+    connections = 2_048 // inputs
+    wires = "connect a.y->e.x\n" * connections + "connect a.y->e.w\n" * (2_048 - connections * inputs)
+    tail = with_unit(unit_with(inputs)) + "instance e:E\nend\n" + wires
+    return filled(inner + first + second + both + outer, lambda number: f"in w->f.{name_of(number % names)}\n", tail)
+
+
+def twin_instances(count):
+    """Instances of one name, so that scopes inside them are the same, with many names that lead to a few inputs."""
+    names = 15_000
+    inner = "group C\ninstance d:M\nend\n" + leads(3, "x") + "group B\n" + "instance c:C\nend\n" * count
+    inner += "".join(f"in {name_of(number)}->c.x\n" for number in range(names)) + "group G\ninstance b:B\nend\n"
+    tail = with_unit(unit_with(3)) + "instance g:G\nend\n" + "connect a.y->g.x\n" * 682
+    return filled(inner, lambda number: f"in x->b.{name_of(number % names)}\n", tail)
 
 
 def connected_outputs():

@@ -8,7 +8,7 @@ use Rattle.std.proofs.lemmas.Slice.Zip.{AllZip-long}
 use Rattle.nest_text.specs.Nests.{IsGroupOf, IsNestOf, RefusesNest, groups_of}
 use Rattle.nest_text.specs.declared.nest.Nest.{Nest}
 use Rattle.nest_text.proofs.NestsThere.{nested_once}
-use Rattle.sub_flat.specs.Flattening.{flat_of}
+use Rattle.nest_names.specs.Flattening.{flat_of}
 use Rattle.sub_flat.specs.NestRules.{BreaksNest, IsRefusedNest}
 use Rattle.sub_flat.proofs.JudgedOnce.{judged_once as nest_judged}
 use Rattle.text_accept.specs.Accepting.{IsAcceptedAs, IsRefusedAt}

@@ -3,7 +3,7 @@
 use Rattle.std.specs.Prelude.{◌≡◌, ◌⊎◌, ℕ, List}
 use Rattle.nest_text.specs.Nests.{IsNestOf, RefusesNest}
 use Rattle.nest_text.specs.declared.nest.Nest.{Nest}
-use Rattle.sub_flat.specs.Flattening.{flat_of}
+use Rattle.nest_names.specs.Flattening.{flat_of}
 use Rattle.sub_flat.specs.NestRules.{BreaksNest, IsRefusedNest}
 use Rattle.text_accept.specs.Accepting.{IsAcceptedAs, IsRefusedAt}
 use Rattle.unit_tree.specs.declared.system.System.{System}

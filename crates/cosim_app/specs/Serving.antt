@@ -10,7 +10,7 @@ use Rattle.save_point.specs.Saving.{FitsNone, HasNoPosition, IsOpenedBy}
 use Rattle.save_point.specs.declared.reading.Saved.{Saved}
 use Rattle.spec_core.specs.Replays.{IsReplayed, PutsTrace}
 use Rattle.spec_core.specs.declared.counts.Counts.{Counts}
-use Rattle.sub_flat.specs.Flattening.{flat_of}
+use Rattle.nest_names.specs.Flattening.{flat_of}
 use Rattle.sub_flat.specs.NestRules.{BreaksNest, IsRefusedNest}
 use Rattle.text_accept.specs.Accepting.{IsAcceptedAs, IsRefusedAt}
 use Rattle.text_accept.specs.declared.accepting.AcceptedText.{AcceptedText}

@@ -12,8 +12,8 @@ use Rattle.unit_tree.specs.declared.system.Wire.{Wire}
 use Rattle.event_runs.specs.EventPorts.{signal_in}
 use Rattle.event_runs.specs.Events.{Signal}
 use Rattle.nest_text.specs.declared.nest.Nest.{Nest}
-use Rattle.sub_flat.specs.Flattening.{levels, wires_of, flat_port, follow, step_down, expand, is_component}
-use Rattle.sub_flat.specs.declared.scope.Spot.{Spot}
+use Rattle.nest_names.specs.Flattening.{levels, wires_of, flat_port, follow, step_down, expand, is_component}
+use Rattle.nest_names.specs.declared.scope.Spot.{Spot}
 use Rattle.list_laws.proofs.Members.{Has}
 use Rattle.run_laws.proofs.PlainCycles.{comes_from_output}
 use Rattle.run_laws.proofs.PlainOrders.{wired, has_source}

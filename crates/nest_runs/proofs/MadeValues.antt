@@ -10,8 +10,8 @@ use Rattle.unit_tree.specs.declared.system.PortName.{PortName}
 use Rattle.event_runs.specs.EventPorts.{Signals, signal_in}
 use Rattle.event_runs.specs.Events.{Signal}
 use Rattle.nest_text.specs.declared.nest.Nest.{Nest}
-use Rattle.sub_flat.specs.Flattening.{levels, flat_port, follow, is_component, expand, same_spot, wires_of}
-use Rattle.sub_flat.specs.declared.scope.Spot.{Spot}
+use Rattle.nest_names.specs.Flattening.{levels, flat_port, follow, is_component, expand, same_spot, wires_of}
+use Rattle.nest_names.specs.declared.scope.Spot.{Spot}
 use Rattle.language_laws.proofs.NameLaws.{same_port_of}
 use Rattle.language_laws.proofs.PlainNames.{has_flat, flat_has}
 use Rattle.list_laws.proofs.Members.{Has, found_passes}

@@ -19,13 +19,15 @@ use Rattle.unit_tree.specs.declared.unit.Unit.{Unit}
 use Rattle.nest_text.specs.declared.nest.Bind.{Bind}
 use Rattle.nest_text.specs.declared.nest.Group.{Group}
 use Rattle.nest_text.specs.declared.nest.Nest.{Nest}
-use Rattle.sub_flat.specs.Flattening.{group_place, of_group, instances_of, wires_of, instance_among, top, inside, scope_of, place_at, scope_at}
-use Rattle.sub_flat.specs.Flattening.{levels}
-use Rattle.sub_flat.specs.Flattening.{leaves, named_in, flat_of}
-use Rattle.sub_flat.specs.GroupTests.{is_misnamed, has_wrong_name, has_input, has_output, has_port, is_there, misses, misses_group, wire_misses}
+use Rattle.nest_names.specs.Flattening.{group_place, of_group, instances_of, wires_of, instance_among, top, inside, scope_of, place_at, scope_at}
+use Rattle.nest_names.specs.Flattening.{levels}
+use Rattle.nest_names.specs.Flattening.{leaves, named_in, flat_of}
+use Rattle.nest_names.specs.GroupPorts.{has_input, has_output, has_port}
+use Rattle.sub_flat.specs.GroupTests.{is_misnamed, has_wrong_name, is_there, misses, misses_group, wire_misses}
 use Rattle.sub_flat.specs.GroupTests.{misbinds}
-use Rattle.sub_flat.specs.GroupTests.{misses_port, main_misses_port, says_out_twice, sets_group}
-use Rattle.sub_flat.specs.declared.scope.Scope.{Scope}
+use Rattle.nest_names.specs.GroupPorts.{says_out_twice}
+use Rattle.sub_flat.specs.GroupTests.{misses_port, main_misses_port, sets_group}
+use Rattle.nest_names.specs.declared.scope.Scope.{Scope}
 use Rattle.sub_flat.proofs.SearchLaws.{place_within}
 use Rattle.language_laws.proofs.NameLaws.{same_bytes}
 use Rattle.language_laws.proofs.PlainNames.{has_flat, has_part, words_on, units, instances, wires}

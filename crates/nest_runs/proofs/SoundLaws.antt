@@ -5,7 +5,7 @@ use Rattle.unit_tree.specs.Printable.{IsPrintable, IsRanged}
 use Rattle.unit_tree.specs.declared.system.System.{System}
 use Rattle.unit_print.proofs.PrintableLaws.{printable_passes, printable_told}
 use Rattle.nest_text.specs.declared.nest.Nest.{Nest}
-use Rattle.sub_flat.specs.Flattening.{flat_of}
+use Rattle.nest_names.specs.Flattening.{flat_of}
 use Rattle.sub_flat.specs.NestRules.{BreaksNest}
 use Rattle.list_laws.proofs.Truths.{lt_told, lt_not_told}
 use Rattle.nest_runs.specs.SoundNests.{IsSound}

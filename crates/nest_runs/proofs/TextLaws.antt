@@ -12,7 +12,7 @@ use Rattle.event_runs.specs.EventRuns.{IsEventTraceOf}
 use Rattle.event_runs.specs.EventTrace.{EventRow}
 use Rattle.nest_text.specs.Nests.{GroupLines, IsGroupOf, IsNestOf, groups_of}
 use Rattle.nest_text.specs.declared.nest.Nest.{Nest}
-use Rattle.sub_flat.specs.Flattening.{flat_of}
+use Rattle.nest_names.specs.Flattening.{flat_of}
 use Rattle.sub_flat.specs.NestRules.{BreaksNest}
 use Rattle.text_accept.specs.Accepting.{IsAcceptedAs}
 use Rattle.text_laws.proofs.ReadBack.{read_back}

@@ -13,11 +13,11 @@ use Rattle.unit_tree.specs.declared.system.Instance.{Instance}
 use Rattle.nest_text.specs.declared.nest.Bind.{Bind}
 use Rattle.nest_text.specs.declared.nest.Group.{Group}
 use Rattle.nest_text.specs.declared.nest.Nest.{Nest}
-use Rattle.sub_flat.specs.Flattening.{of_group, inside, place_at, scope_at, levels, spot_in, ins_in, out_in, step_down, follow, expand, is_component}
-use Rattle.sub_flat.specs.Flattening.{same_group, same_spot, distinct, reach, group_place, instance_among, instances_of}
-use Rattle.sub_flat.specs.declared.scope.Scope.{Scope}
-use Rattle.sub_flat.specs.declared.scope.Spot.{Spot}
-use Rattle.sub_flat.proofs.FlatLaws.{expand_group, step_some}
+use Rattle.nest_names.specs.Flattening.{of_group, inside, place_at, scope_at, levels, spot_in, ins_in, out_in, step_down, follow, expand, is_component}
+use Rattle.nest_names.specs.Flattening.{same_group, same_spot, distinct, reach, group_place, instance_among, instances_of}
+use Rattle.nest_names.specs.declared.scope.Scope.{Scope}
+use Rattle.nest_names.specs.declared.scope.Spot.{Spot}
+use Rattle.nest_names.proofs.FlatLaws.{expand_group, step_some}
 use Rattle.language_laws.proofs.NameLaws.{same_bytes, bytes_of, same_port_of}
 use Rattle.language_laws.proofs.PlainNames.{has_flat, map_has, flat_has}
 use Rattle.run_laws.proofs.PlaceOrders.{same_port_is}

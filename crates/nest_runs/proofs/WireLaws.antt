@@ -12,10 +12,10 @@ use Rattle.unit_tree.specs.declared.system.PortName.{PortName}
 use Rattle.unit_tree.specs.declared.system.System.{System}
 use Rattle.unit_tree.specs.declared.system.Wire.{Wire}
 use Rattle.nest_text.specs.declared.nest.Nest.{Nest}
-use Rattle.sub_flat.specs.Flattening.{instances_of, wires_of, top, scope_of, levels, flat_port, follow, is_component, reach, flat_wire, flat_wires}
-use Rattle.sub_flat.specs.Flattening.{flat_of}
-use Rattle.sub_flat.specs.declared.scope.Scope.{Scope}
-use Rattle.sub_flat.specs.declared.scope.Spot.{Spot}
+use Rattle.nest_names.specs.Flattening.{instances_of, wires_of, top, scope_of, levels, flat_port, follow, is_component, reach, flat_wire, flat_wires}
+use Rattle.nest_names.specs.Flattening.{flat_of}
+use Rattle.nest_names.specs.declared.scope.Scope.{Scope}
+use Rattle.nest_names.specs.declared.scope.Spot.{Spot}
 use Rattle.language_laws.proofs.NameLaws.{is_wired}
 use Rattle.language_laws.proofs.PlainNames.{has_flat, map_has, flat_has}
 use Rattle.list_laws.proofs.Members.{Has, Distinct, has_front, has_behind, has_either, has_map}

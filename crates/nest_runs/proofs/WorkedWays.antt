@@ -1,8 +1,8 @@
 -- The lines of the worked nest, and what values do along them.
 use Rattle.std.proofs.Common.{◌≡◌, Some, refl, ◌∙◌, arith}
 use Rattle.std.specs.Prelude.{codes, List, ℕ}
-use Rattle.sub_flat.specs.Flattening.{inside, top}
-use Rattle.sub_flat.specs.declared.scope.Scope.{Scope}
+use Rattle.nest_names.specs.Flattening.{inside, top}
+use Rattle.nest_names.specs.declared.scope.Scope.{Scope}
 use Rattle.nest_runs.specs.NestPorts.{NestPort, OfComponent, OfGroup, IsScope, IsScopeAt, Connects, LeadsIn, LeadsOut, spot_of}
 use Rattle.nest_runs.specs.NestTrace.{AreCarried, PortValues}
 use Rattle.nest_runs.specs.WorkedNest.{ValuesAreWorked, worked_nest, instance_of, port}

@@ -10,7 +10,7 @@ use Rattle.event_runs.specs.EventRuns.{IsEventTraceOf}
 use Rattle.event_runs.specs.EventTrace.{EventRow}
 use Rattle.nest_text.specs.Nests.{IsNestOf}
 use Rattle.nest_text.specs.declared.nest.Nest.{Nest}
-use Rattle.sub_flat.specs.Flattening.{flat_of, flat_port, follow, levels}
+use Rattle.nest_names.specs.Flattening.{flat_of, flat_port, follow, levels}
 use Rattle.sub_flat.specs.NestRules.{BreaksNest}
 use Rattle.text_accept.specs.Accepting.{IsAcceptedAs}
 use Rattle.nest_runs.specs.SoundNests.{IsSound}

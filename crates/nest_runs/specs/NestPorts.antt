@@ -4,9 +4,9 @@ use Rattle.unit_tree.specs.declared.system.Instance.{Instance}
 use Rattle.unit_tree.specs.declared.system.PortName.{PortName}
 use Rattle.unit_tree.specs.declared.system.Wire.{Wire}
 use Rattle.nest_text.specs.declared.nest.Nest.{Nest}
-use Rattle.sub_flat.specs.Flattening.{top, scope_of, instances_of, wires_of, is_component, flat_port, expand, step_down}
-use Rattle.sub_flat.specs.declared.scope.Scope.{Scope}
-use Rattle.sub_flat.specs.declared.scope.Spot.{Spot}
+use Rattle.nest_names.specs.Flattening.{top, scope_of, instances_of, wires_of, is_component, flat_port, expand, step_down}
+use Rattle.nest_names.specs.declared.scope.Scope.{Scope}
+use Rattle.nest_names.specs.declared.scope.Spot.{Spot}
 
 -- ---- Scopes
 

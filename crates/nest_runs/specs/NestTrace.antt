@@ -19,7 +19,7 @@ use Rattle.event_runs.specs.EventRuns.{event_members_of, event_pace}
 use Rattle.event_runs.specs.EventTrace.{EventRun, EventRow, event_port_fault, event_row_unless, event_successor, first_event_position}
 use Rattle.event_runs.specs.Events.{Signal, Occurs, Absent}
 use Rattle.nest_text.specs.declared.nest.Nest.{Nest}
-use Rattle.sub_flat.specs.Flattening.{leaves, levels, top}
+use Rattle.nest_names.specs.Flattening.{leaves, levels, top}
 use Rattle.nest_runs.specs.NestPorts.{NestPort, OfComponent, Connects, LeadsIn, LeadsOut}
 
 -- ---- What is run

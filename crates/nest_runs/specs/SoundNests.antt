@@ -2,7 +2,7 @@
 use Rattle.std.specs.Prelude.{◌≡◌, ℕ, length}
 use Rattle.unit_tree.specs.WellFormed.{IsWellFormed}
 use Rattle.nest_text.specs.declared.nest.Nest.{Nest}
-use Rattle.sub_flat.specs.Flattening.{flat_of}
+use Rattle.nest_names.specs.Flattening.{flat_of}
 use Rattle.sub_flat.specs.NestRules.{BreaksNest}
 
 -- Each group has its line, no rule of groups is broken, and no rule of the language but perhaps that on cycles.

@@ -10,7 +10,7 @@ use Rattle.unit_tree.specs.declared.system.System.{System}
 use Rattle.unit_tree.specs.declared.unit.Unit.{Unit}
 use Rattle.nest_text.specs.declared.nest.Group.{Group}
 use Rattle.nest_text.specs.declared.nest.Nest.{Nest}
-use Rattle.sub_flat.specs.Flattening.{flat_of, top}
+use Rattle.nest_names.specs.Flattening.{flat_of, top}
 use Rattle.nest_runs.specs.NestPorts.{OfComponent, OfGroup, spot_of}
 use Rattle.nest_runs.specs.NestTrace.{AreCarried, PortValues}
 

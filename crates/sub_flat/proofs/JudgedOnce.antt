@@ -13,7 +13,7 @@ use Rattle.unit_tree.specs.declared.system.System.{System}
 use Rattle.nest_text.specs.declared.nest.Group.{Group}
 use Rattle.nest_text.specs.declared.nest.Nest.{Nest}
 use Rattle.sub_flat.specs.Cycles.{LeadsBack, inner_places}
-use Rattle.sub_flat.specs.Flattening.{flat_of}
+use Rattle.nest_names.specs.Flattening.{flat_of}
 use Rattle.sub_flat.specs.FlatReading.{IsLeast, MissesAt, is_less}
 use Rattle.sub_flat.specs.GroupTests.{is_misnamed, main_misses_port, misses_port}
 use Rattle.sub_flat.specs.Laws.{IsJudgedOnce}

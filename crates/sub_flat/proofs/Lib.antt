@@ -1,11 +1,6 @@
-pub mod FlatLaws
 pub mod JudgeLaws
 pub mod JudgedOnce
-pub mod KeptLaws
 pub mod LongNames
-pub mod NamedLists
 pub mod NestingLaws
 pub mod PutLaws
 pub mod SearchLaws
-pub mod TableLaws
-pub mod WayLaws

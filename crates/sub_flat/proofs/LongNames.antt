@@ -1,6 +1,6 @@
 -- A system with too long a name of an instance has no canonical text.
-use Rattle.std.proofs.Common.{◌≡◌, ◌<◌, ◌∷◌, ◌++◌, ℕ, List, [], Bool, true, false, Some, inl, inr, length, map, refl, sym, ap, ◌∙◌, subst, arith}
-use Rattle.std.specs.Prelude.{◌⊎◌, ◌||◌, nat_lt, slice_get}
+use Rattle.std.proofs.Common.{◌≡◌, ◌<◌, ◌∷◌, ◌++◌, ℕ, List, [], Bool, true, false, inl, inr, length, map, refl, sym, subst, arith}
+use Rattle.std.specs.Prelude.{◌||◌, nat_lt}
 use Rattle.std.specs.List.{AllByRecursion, list_any}
 use Rattle.std.proofs.lemmas.Bool.Decides.{nat_tests}
 use Rattle.list_laws.proofs.Members.{Has, each_has, has_behind, has_front, has_map}
@@ -12,7 +12,6 @@ use Rattle.unit_tree.specs.Parts.{part_forms}
 use Rattle.unit_tree.specs.Printable.{IsPrintable, names_on}
 use Rattle.unit_tree.specs.Tokens.{IsName, IsWord}
 use Rattle.unit_tree.specs.declared.system.Instance.{Instance}
-use Rattle.unit_tree.specs.declared.line_form.LineForm.{LineForm}
 use Rattle.unit_tree.specs.declared.line_form.LineForm.TheVariants as form
 use Rattle.unit_tree.specs.declared.system.System.{System}
 

@@ -10,8 +10,10 @@ use Rattle.unit_tree.specs.declared.system.Instance.{Instance}
 use Rattle.nest_text.specs.declared.nest.Group.{Group}
 use Rattle.nest_text.specs.declared.nest.Nest.{Nest}
 use Rattle.sub_flat.specs.Cycles.{Leads, LeadsBack, inner_places}
-use Rattle.sub_flat.specs.Flattening.{group_place, instances_of}
-use Rattle.sub_flat.specs.Searching.{AreFalling, AreSure, AreWithin, inside_of, level_at}
+use Rattle.nest_names.proofs.NamedLists.{inside_front, inside_last}
+use Rattle.nest_names.specs.Flattening.{group_place, instances_of}
+use Rattle.nest_names.specs.Tables.{inside_of}
+use Rattle.sub_flat.specs.Searching.{AreFalling, AreSure, AreWithin, level_at}
 use Rattle.sub_flat.proofs.SearchLaws.{place_within}
 
 -- ---- Lists by places
@@ -25,15 +27,6 @@ less_or_more (suc m) (suc n) = more (less_or_more m n)
     more : (m < n) ⊎ (n ≤ m) → (suc m < suc n) ⊎ (suc n ≤ suc m)
     more (inl less) = inl (omega (arith, less))
     more (inr not) = inr (omega (arith, not))
-
-pub inside_front : (lists : List (List ℕ)) (one : List ℕ) (place : ℕ) → place < length lists → inside_of (lists ++ one ∷ []) place ≡ inside_of lists place
-inside_front [] one place within = absurd (omega (arith, within))
-inside_front (first ∷ lists) one zero within = refl
-inside_front (first ∷ lists) one (suc place) within = inside_front lists one place (omega (arith, within))
-
-pub inside_last : (lists : List (List ℕ)) (one : List ℕ) → inside_of (lists ++ one ∷ []) (length lists) ≡ one
-inside_last [] one = refl
-inside_last (first ∷ lists) one = inside_last lists one
 
 -- The lists so far are those of the first places.
 pub record ListedSoFar (told : ℕ → List ℕ) (lists : List (List ℕ)) (place : ℕ) : Type 0 where

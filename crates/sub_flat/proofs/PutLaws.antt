@@ -3,9 +3,9 @@ use Rattle.std.proofs.Common.{◌≡◌, ◌≤◌, ◌<◌, ℕ, zero, suc, ◌
 use Rattle.std.specs.List.{flat_map}
 use Rattle.std.proofs.lemmas.List.{at_drop_more, drop_all}
 use Rattle.nest_text.specs.declared.nest.Nest.{Nest}
-use Rattle.sub_flat.specs.Flattening.{flat_wire, flat_wires, instances_of, leaves, named_in, wires_of}
+use Rattle.nest_names.specs.Flattening.{flat_wire, flat_wires, instances_of, leaves, named_in, wires_of}
 use Rattle.sub_flat.specs.FlatReading.{MadeOver, PutsOver, leaves_inside, wires_inside}
-use Rattle.sub_flat.specs.declared.scope.Scope.{Scope}
+use Rattle.nest_names.specs.declared.scope.Scope.{Scope}
 use Rattle.sub_flat.specs.declared.fault.Unflat.{Unflat}
 use Rattle.sub_flat.specs.declared.fault.Unflat.TheVariants as unflat
 

@@ -11,7 +11,7 @@ use Rattle.nest_text.specs.declared.nest.Group.{Group}
 use Rattle.nest_text.specs.declared.nest.Nest.{Nest}
 use Rattle.unit_tree.specs.Ports.{IsAmong}
 use Rattle.sub_flat.specs.Cycles.{Leads, LeadsBack}
-use Rattle.sub_flat.specs.Flattening.{group_place}
+use Rattle.nest_names.specs.Flattening.{group_place}
 use Rattle.sub_flat.specs.Searching.{Finds, IsSeen, Spreads}
 
 -- ---- Members

@@ -3,7 +3,7 @@ use Rattle.std.specs.Prelude.{ℕ, zero, suc, List, Some}
 use Rattle.std.specs.List.{filter_map}
 use Rattle.unit_tree.specs.Ports.{IsAmong}
 use Rattle.nest_text.specs.declared.nest.Nest.{Nest}
-use Rattle.sub_flat.specs.Flattening.{group_place, instances_of}
+use Rattle.nest_names.specs.Flattening.{group_place, instances_of}
 
 -- The places of the groups that the instances of a group are of.
 abbrev pub inner_places : Nest → ℕ → List ℕ

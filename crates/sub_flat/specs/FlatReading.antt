@@ -5,15 +5,15 @@ use Rattle.unit_tree.specs.Printable.{IsPrintable}
 use Rattle.unit_tree.specs.declared.system.Instance.{Instance}
 use Rattle.unit_tree.specs.declared.system.System.{System}
 use Rattle.unit_tree.specs.declared.system.Wire.{Wire}
-use Rattle.sub_flat.specs.Flattening.{flat_of, flat_port, flat_wires, leaves, levels, named_in, scope_of, top}
+use Rattle.nest_names.specs.Flattening.{flat_of, flat_port, flat_wires, leaves, levels, named_in, scope_of, top}
 use Rattle.sub_flat.specs.GroupTests.{main_misses_port}
 use Rattle.sub_flat.specs.NestRules.{AtGroup, BreaksNest, IsRefusedNest, IsTooLarge}
 use Rattle.nest_text.specs.declared.fault.NestFault.{NestFault}
 use Rattle.nest_text.specs.declared.fault.NestFault.TheVariants as fault
 use Rattle.sub_flat.specs.declared.fault.Unflat.{Unflat}
 use Rattle.sub_flat.specs.declared.fault.Unflat.TheVariants as unflat
-use Rattle.sub_flat.specs.declared.scope.Scope.{Scope}
-use Rattle.sub_flat.specs.declared.scope.Spot.{Spot}
+use Rattle.nest_names.specs.declared.scope.Scope.{Scope}
+use Rattle.nest_names.specs.declared.scope.Spot.{Spot}
 use Rattle.sub_flat.specs.declared.judge.GroupRule.{GroupRule}
 use Rattle.sub_flat.specs.declared.judge.GroupRule.TheVariants as rules
 use Rattle.nest_text.specs.declared.nest.Nest.{Nest}

@@ -1,25 +1,20 @@
--- What the rules ask of groups: names, and which ports units and groups have.
-use Rattle.std.specs.Prelude.{ℕ, Bool, false, not, ◌&&◌, ◌||◌, nat_lt, List, map, is_none}
-use Rattle.std.specs.List.{count_by, list_any}
+-- What the rules ask of groups.
+use Rattle.std.specs.Prelude.{ℕ, Bool, false, not, ◌&&◌, ◌||◌, List, map, is_none}
+use Rattle.std.specs.List.{list_any}
 use Rattle.std.specs.Option.{option_map, unwrap_or}
-use Rattle.std.specs.Str.{bytes_eq}
-use Rattle.unit_tree.specs.Names.{input_names, is_among, is_empty, output_names, unit_named}
+use Rattle.unit_tree.specs.Names.{is_among, is_empty}
 use Rattle.unit_tree.specs.declared.system.Instance.{Instance}
 use Rattle.unit_tree.specs.declared.system.PortName.{PortName}
 use Rattle.unit_tree.specs.declared.system.Wire.{Wire}
-use Rattle.unit_tree.specs.declared.unit.Unit.{Unit}
 use Rattle.nest_text.specs.declared.nest.Bind.{Bind}
 use Rattle.nest_text.specs.declared.nest.Group.{Group}
 use Rattle.nest_text.specs.declared.nest.Nest.{Nest}
-use Rattle.sub_flat.specs.Flattening.{group_place, instance_among, of_group}
+use Rattle.nest_names.specs.Flattening.{group_place, instance_among}
+use Rattle.nest_names.specs.GroupPorts.{has_input, has_output, says_out_twice, stands_again}
 use Rattle.sub_flat.specs.declared.asks.Side.{Side}
 use Rattle.sub_flat.specs.declared.asks.Side.TheVariants as sides
 
 -- ---- Names
-
--- The name stands more than once.
-abbrev pub stands_again : List (List ℕ) → List ℕ → Bool
-stands_again names name = nat_lt 1 (count_by (bytes_eq name) names)
 
 abbrev pub has_wrong_name : Nest → Group → Bool
 has_wrong_name nest group =
@@ -29,19 +24,6 @@ abbrev pub is_misnamed : Nest → Group → Bool
 is_misnamed nest group = has_wrong_name nest group || is_empty group.instances
 
 -- ---- Ports
-
--- Whether this unit or group has the port: of a group what its `in`, or `out`, lines name, and of a unit its inputs, or outputs,
--- events too.
-abbrev pub has_port : Nest → (Unit → List (List ℕ)) → (Group → List Bind) → List ℕ → List ℕ → Bool
-has_port nest of_unit binds unit port =
-    unwrap_or (option_map (λ place. is_among (map (λ bind. bind.port) (of_group nest binds place)) port) (group_place nest unit))
-    (unwrap_or (option_map (λ found. is_among (of_unit found) port) (unit_named nest.main.units unit)) false)
-
-abbrev pub has_input : Nest → List ℕ → List ℕ → Bool
-has_input nest unit port = has_port nest input_names (λ group. group.ins) unit port
-
-abbrev pub has_output : Nest → List ℕ → List ℕ → Bool
-has_output nest unit port = has_port nest output_names (λ group. group.outs) unit port
 
 -- Whether the port of an instance is there, by whether its unit has it.
 abbrev pub is_there : (List ℕ → List ℕ → Bool) → List Instance → PortName → Bool
@@ -56,9 +38,6 @@ misses nest has instances port = unwrap_or (option_map (misses_group nest has po
 
 abbrev pub wire_misses : Nest → List Instance → Wire → Bool
 wire_misses nest instances wire = misses nest (has_output nest) instances wire.from || misses nest (has_input nest) instances wire.to
-
-abbrev pub says_out_twice : List Bind → Bool
-says_out_twice binds = list_any (λ bind. stands_again (map (λ other. other.port) binds) bind.port) binds
 
 abbrev pub misbinds : (List ℕ → List ℕ → Bool) → List Instance → Bind → Bool
 misbinds has instances bind = not (is_there has instances bind.inner)

@@ -1,9 +1,6 @@
 pub mod Cycles
 pub mod FlatReading
-pub mod Flattening
 pub mod GroupTests
 pub mod Laws
 pub mod NestRules
-pub mod Reaching
 pub mod Searching
-pub mod Tables

@@ -6,7 +6,7 @@
 --   rule 30   the flat system is too large
 use Rattle.std.specs.Prelude.{◌≡◌, ◌⊎◌, ◌≤◌, ◌<◌, ℕ, length, Some, IsTrue, slice_get}
 use Rattle.unit_tree.specs.Printable.{IsPrintable}
-use Rattle.sub_flat.specs.Flattening.{flat_of}
+use Rattle.nest_names.specs.Flattening.{flat_of}
 use Rattle.sub_flat.specs.Cycles.{ContainsItself}
 use Rattle.sub_flat.specs.GroupTests.{is_misnamed, main_misses_port, misses_port}
 use Rattle.sub_flat.specs.declared.judge.GroupRule.{GroupRule}

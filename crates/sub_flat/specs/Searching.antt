@@ -1,17 +1,13 @@
 -- How groups are searched: what was found, and what is still to be looked at.
-use Rattle.std.specs.Prelude.{◌≡◌, ◌⊎◌, ◌≤◌, ◌<◌, ℕ, ◌+◌, Bool, true, false, not, List, [], length, map, get_or, slice_get}
+use Rattle.std.specs.Prelude.{◌≡◌, ◌⊎◌, ◌≤◌, ◌<◌, ℕ, ◌+◌, Bool, true, false, not, List, length, map, get_or}
 use Rattle.std.specs.List.{count_by}
-use Rattle.std.specs.Option.{unwrap_or}
 use Rattle.unit_tree.specs.Ports.{IsAmong}
 use Rattle.nest_text.specs.declared.nest.Nest.{Nest}
+use Rattle.nest_names.specs.Tables.{inside_of}
 use Rattle.sub_flat.specs.Cycles.{LeadsBack, inner_places}
 use Rattle.sub_flat.specs.declared.cycles.Nesting.{Nesting}
 
 -- ---- Groups by places
-
--- The groups inside one, by a list for each.
-abbrev pub inside_of : List (List ℕ) → ℕ → List ℕ
-inside_of lists place = unwrap_or (slice_get lists place) []
 
 -- No list has a number to which no list belongs.
 abbrev pub AreWithin : List (List ℕ) → Type 0

@@ -4,8 +4,7 @@ ghost use Rattle.std.specs.List.{list_any};
 ghost use Rattle.sub_flat.specs.declared.asks.Side.TheVariants as sides;
 ghost use Rattle.sub_flat.specs.GroupTests.{has_side, has_wrong_name, is_misnamed, main_misses_port, misbinds, misses, misses_port, sets_group, wire_misses};
 
-use crate::names::{GroupNames, NestNames};
-use crate::tables::InstanceNames;
+use nest_names::{GroupNames, InstanceNames, NestNames};
 use nest_text::Bind;
 use unit_tree::{Instance, PortName, Wire};
 

@@ -3,11 +3,12 @@ ghost use Rattle.std.specs.Prelude.{◌≡◌, ◌↔◌, ◌<◌, ◌∷◌, �
 ghost use Rattle.std.specs.List.{cons_option, list_all, list_any};
 ghost use Rattle.unit_tree.specs.Ports.{IsAmong};
 ghost use Rattle.sub_flat.specs.Cycles.{ContainsItself, LeadsBack, inner_places};
-ghost use Rattle.sub_flat.specs.Searching.{AreFalling, AreSure, AreWithin, Finds, IsNesting, Spreads, inside_of, level_at, lists_in};
+ghost use Rattle.nest_names.specs.Tables.{inside_of};
+ghost use Rattle.sub_flat.specs.Searching.{AreFalling, AreSure, AreWithin, Finds, IsNesting, Spreads, level_at, lists_in};
 
 use crate::levels::{level, levels};
-use crate::names::NestNames;
 use fixed_words::NoMemory;
+use nest_names::NestNames;
 use std::alloc::Global;
 
 /// The groups inside each group, by their places, and which groups may contain themselves.

@@ -2,14 +2,15 @@
 ghost use Rattle.std.specs.Prelude.{◌≡◌, ◌∷◌, ◌++◌, [], ◌≤◌, nat_lt, length, map, IfOk, OnOk};
 ghost use Rattle.std.specs.List.{flat_map, list_any};
 ghost use Rattle.sub_flat.specs.FlatReading.{FlatAnswers, IsKeptPrintable, MadeWithin, MakesLeaves, PutsWithin, leaves_inside, wire_between, wires_inside};
-ghost use Rattle.sub_flat.specs.Reaching.{AreKnown};
-ghost use Rattle.sub_flat.specs.Flattening.{flat_port, flat_sample, flat_wire, flat_wires, follow, leaves, levels, named_in, reach, top, wires_of};
+ghost use Rattle.nest_ways.specs.Reaching.{AreKnown};
+ghost use Rattle.nest_names.specs.Flattening.{flat_port, flat_sample, flat_wire, flat_wires, follow, leaves, levels, named_in, reach, top, wires_of};
 
 use crate::fault::Unflat;
-use crate::names::NestNames;
-use crate::scope::{LEVELS, Scope, Spot, flat_name, flat_port, follow, inside, spot_of, top};
-use crate::ways::{Ways, reached};
 use fixed_words::{List, NoMemory};
+use nest_names::{
+    LEVELS, NestNames, Scope, Spot, flat_name, flat_port, follow, inside, spot_of, top,
+};
+use nest_ways::{Guide, Ways, reached};
 use std::alloc::Global;
 use std::mem::replace;
 use unit_plain::copy_system;
@@ -133,12 +134,13 @@ fn put_to(alloc: Global, from: &Spot, to: &[Spot], wires: &mut List<Wire>) -> Re
 }
 
 /// Puts what a connection of a scope becomes behind others.
-fn put_flat_wire(
+fn put_flat_wire<'n>(
     alloc: Global,
-    names: &NestNames<'_>,
-    ways: &Ways<'_>,
+    names: &NestNames<'n>,
+    ways: &Ways<'n>,
+    guide: &mut Guide<'n>,
     scope: &Scope,
-    wire: &Wire,
+    wire: &'n Wire,
     wires: &mut List<Wire>,
 ) -> Result<(), Unflat>
     requires room { length wires.old ≤ 2048 }
@@ -147,15 +149,19 @@ fn put_flat_wire(
 {
     let from = spot_of(alloc, scope, &wire.from)?;
     let from = follow(alloc, names, LEVELS, from)?;
-    let to = reached(alloc, names, ways, scope, &wire.to)?;
+    let Some(to) = reached(alloc, names, ways, guide, scope, &wire.to)? else {
+        drop(from);
+        return Err(Unflat::TooLarge);
+    };
     put_to(alloc, &from, to.as_slice(), wires)
 }
 
 /// Puts what the connections of a scope become behind others.
-fn put_own_wires(
+fn put_own_wires<'n>(
     alloc: Global,
-    names: &NestNames<'_>,
-    ways: &Ways<'_>,
+    names: &NestNames<'n>,
+    ways: &Ways<'n>,
+    guide: &mut Guide<'n>,
     scope: &Scope,
     wires: &mut List<Wire>,
 ) -> Result<(), Unflat>
@@ -164,17 +170,18 @@ fn put_own_wires(
     ensures { PutsWithin 2048 wires.old wires.new (flat_map (flat_wire names.now scope.now) (wires_of names.now scope.now.group)) result }
 {
     for wire in names.wires(scope.group) {
-        put_flat_wire(alloc, names, ways, scope, wire, wires)?;
+        put_flat_wire(alloc, names, ways, guide, scope, wire, wires)?;
     }
     Ok(())
 }
 
 /// Puts the connections inside an instance of a scope behind others.
 #[cycle(wires)]
-fn put_wires_inside(
+fn put_wires_inside<'n>(
     alloc: Global,
-    names: &NestNames<'_>,
-    ways: &Ways<'_>,
+    names: &NestNames<'n>,
+    ways: &Ways<'n>,
+    guide: &mut Guide<'n>,
     depth: usize,
     scope: &Scope,
     instance: &Instance,
@@ -191,15 +198,16 @@ fn put_wires_inside(
         return Ok(());
     };
     let scope = inside(alloc, scope, &instance.name, place)?;
-    put_wires(alloc, names, ways, depth - 1, &scope, wires)
+    put_wires(alloc, names, ways, guide, depth - 1, &scope, wires)
 }
 
 /// Puts the connections in a scope behind others.
 #[cycle(wires)]
-fn put_wires(
+fn put_wires<'n>(
     alloc: Global,
-    names: &NestNames<'_>,
-    ways: &Ways<'_>,
+    names: &NestNames<'n>,
+    ways: &Ways<'n>,
+    guide: &mut Guide<'n>,
     depth: usize,
     scope: &Scope,
     wires: &mut List<Wire>,
@@ -208,9 +216,9 @@ fn put_wires(
     requires known { AreKnown names.now ways.now.scopes ways.now.known.items }
     ensures { PutsWithin 2048 wires.old wires.new (flat_wires names.now depth scope.now) result }
 {
-    put_own_wires(alloc, names, ways, scope, wires)?;
+    put_own_wires(alloc, names, ways, guide, scope, wires)?;
     for instance in names.instances(scope.group) {
-        put_wires_inside(alloc, names, ways, depth, scope, instance, wires)?;
+        put_wires_inside(alloc, names, ways, guide, depth, scope, instance, wires)?;
     }
     Ok(())
 }
@@ -277,9 +285,17 @@ fn named_instances(alloc: Global, names: &NestNames<'_>) -> Result<List<Instance
 fn all_flat_wires(alloc: Global, names: &NestNames<'_>) -> Result<List<Wire>, Unflat>
     ensures { MadeWithin 2048 (flat_wires names.now levels top) result }
 {
-    let ways = Ways::new(alloc, names)?;
+    let (ways, mut guide) = Ways::new(alloc, names)?;
     let mut wires = List::new(alloc);
-    put_wires(alloc, names, &ways, LEVELS, &top(alloc), &mut wires)?;
+    put_wires(
+        alloc,
+        names,
+        &ways,
+        &mut guide,
+        LEVELS,
+        &top(alloc),
+        &mut wires,
+    )?;
     Ok(wires)
 }
 

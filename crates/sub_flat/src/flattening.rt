@@ -5,7 +5,7 @@ ghost use Rattle.sub_flat.specs.FlatReading.{AnswersFlat};
 use crate::fault::Unflat;
 use crate::flat::flat_system;
 use crate::judge::judge;
-use crate::names::NestNames;
+use nest_names::NestNames;
 use nest_text::{Nest, NestFault};
 use std::alloc::Global;
 use unit_tree::System;

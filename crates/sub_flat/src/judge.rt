@@ -6,8 +6,8 @@ ghost use Rattle.sub_flat.specs.Searching.{IsNesting};
 
 use crate::asks::{is_misnamed, main_misses_port, misses_port};
 use crate::cycles::{Nesting, contains_itself};
-use crate::names::{GroupNames, NestNames};
 use fixed_words::NoMemory;
+use nest_names::{GroupNames, NestNames};
 use nest_text::NestFault;
 use std::alloc::Global;
 

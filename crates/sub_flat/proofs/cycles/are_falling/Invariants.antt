@@ -1,6 +1,7 @@
 use Rattle.std.proofs.Common.{ℕ, ◌<◌, ◌≤◌, map}
 use Rattle.unit_tree.specs.Ports.{IsAmong}
-use Rattle.sub_flat.specs.Searching.{inside_of, level_at}
+use Rattle.nest_names.specs.Tables.{inside_of}
+use Rattle.sub_flat.specs.Searching.{level_at}
 use Rattle.sub_flat.proofs.cycles.are_falling.Given as goal
 
 abbrev pub invariant-loop-place : goal.invariant-loop-place

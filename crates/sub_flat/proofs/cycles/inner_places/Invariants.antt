@@ -1,6 +1,6 @@
 use Rattle.std.proofs.Common.{◌≡◌, ◌++◌, drop}
 use Rattle.std.specs.List.{filter_map}
-use Rattle.sub_flat.specs.Flattening.{group_place}
+use Rattle.nest_names.specs.Flattening.{group_place}
 use Rattle.sub_flat.proofs.cycles.inner_places.Given as goal
 
 abbrev pub invariant-loop-instance : goal.invariant-loop-instance

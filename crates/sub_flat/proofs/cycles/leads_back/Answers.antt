@@ -1,5 +1,6 @@
 use Rattle.std.proofs.Common.{◌≡◌, ◌∙◌, ap, length, map, refl, subst, sym, arith}
-use Rattle.sub_flat.specs.Searching.{Spreads, inside_of}
+use Rattle.nest_names.specs.Tables.{inside_of}
+use Rattle.sub_flat.specs.Searching.{Spreads}
 use Rattle.sub_flat.proofs.SearchLaws.{SearchedSoFar, filled, none_left, search_goes_on, search_none, search_told}
 use Rattle.sub_flat.proofs.cycles.leads_back.Goals as goal
 

@@ -1,5 +1,6 @@
 use Rattle.std.proofs.Common.{length, map}
-use Rattle.sub_flat.specs.Searching.{inside_of, work_left}
+use Rattle.nest_names.specs.Tables.{inside_of}
+use Rattle.sub_flat.specs.Searching.{work_left}
 use Rattle.sub_flat.proofs.SearchLaws.{SearchedSoFar}
 use Rattle.sub_flat.proofs.cycles.leads_back.Given as goal
 

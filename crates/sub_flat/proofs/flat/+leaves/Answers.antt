@@ -1,7 +1,7 @@
 use Rattle.std.proofs.Common.{◌∙◌, ap, subst, sym}
 use Rattle.std.specs.List.{flat_map}
 use Rattle.nest_text.proofs.NestAnswers.{handed_on}
-use Rattle.sub_flat.specs.Flattening.{leaves}
+use Rattle.nest_names.specs.Flattening.{leaves}
 use Rattle.sub_flat.specs.FlatReading.{PutsOver, PutsWithin, leaves_inside}
 use Rattle.sub_flat.proofs.PutLaws.{leaves_each, put_end, put_failed}
 use Rattle.sub_flat.proofs.flat.+leaves.Goals as goal

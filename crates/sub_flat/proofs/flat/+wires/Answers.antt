@@ -1,7 +1,7 @@
 use Rattle.std.proofs.Common.{◌∙◌, ◌++◌, ap, append_assoc, subst, sym}
 use Rattle.std.specs.List.{flat_map}
 use Rattle.nest_text.proofs.NestAnswers.{handed_on}
-use Rattle.sub_flat.specs.Flattening.{flat_wire, flat_wires, instances_of, wires_of}
+use Rattle.nest_names.specs.Flattening.{flat_wire, flat_wires, instances_of, wires_of}
 use Rattle.sub_flat.specs.FlatReading.{PutsOver, PutsWithin, wires_inside}
 use Rattle.sub_flat.proofs.PutLaws.{put_behind_failed, put_end, put_failed, put_more_failed, wires_each}
 use Rattle.sub_flat.proofs.flat.+wires.Goals as goal

@@ -1,5 +1,5 @@
 use Rattle.std.proofs.Common.{◌≡◌, ◌++◌, drop, map}
-use Rattle.sub_flat.specs.Flattening.{flat_sample}
+use Rattle.nest_names.specs.Flattening.{flat_sample}
 use Rattle.sub_flat.proofs.flat.flat_samples.Given as goal
 
 abbrev pub invariant-loop-sample : goal.invariant-loop-sample

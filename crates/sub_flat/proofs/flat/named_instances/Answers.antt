@@ -2,7 +2,7 @@ use Rattle.std.proofs.Common.{◌≡◌, ◌∙◌, ap, inr, length, sym, true}
 use Rattle.std.specs.Prelude.{nat_lt}
 use Rattle.std.specs.List.{list_any}
 use Rattle.unit_tree.specs.declared.system.Instance.{Instance}
-use Rattle.sub_flat.specs.Flattening.{flat_of}
+use Rattle.nest_names.specs.Flattening.{flat_of}
 use Rattle.sub_flat.proofs.LongNames.{long_names}
 use Rattle.sub_flat.proofs.flat.named_instances.Goals as goal
 

@@ -1,7 +1,7 @@
 use Rattle.std.proofs.Common.{ap, subst}
 use Rattle.std.specs.List.{flat_map}
 use Rattle.nest_text.proofs.NestAnswers.{handed_on}
-use Rattle.sub_flat.specs.Flattening.{flat_wire, wires_of}
+use Rattle.nest_names.specs.Flattening.{flat_wire, wires_of}
 use Rattle.sub_flat.specs.FlatReading.{PutsOver, PutsWithin}
 use Rattle.sub_flat.proofs.PutLaws.{put_failed}
 use Rattle.sub_flat.proofs.flat.put_own_wires.Goals as goal

@@ -1,6 +1,6 @@
 use Rattle.std.proofs.Common.{drop}
 use Rattle.std.specs.List.{flat_map}
-use Rattle.sub_flat.specs.Flattening.{flat_wire}
+use Rattle.nest_names.specs.Flattening.{flat_wire}
 use Rattle.sub_flat.proofs.PutLaws.{PutSoFar}
 use Rattle.sub_flat.proofs.flat.put_own_wires.Given as goal
 

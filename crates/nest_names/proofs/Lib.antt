@@ -1,0 +1,3 @@
+pub mod FlatLaws
+pub mod NamedLists
+pub mod TableLaws

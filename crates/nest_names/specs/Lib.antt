@@ -1,0 +1,3 @@
+pub mod Flattening
+pub mod GroupPorts
+pub mod Tables

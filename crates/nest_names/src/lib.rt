@@ -1,0 +1,21 @@
+//! Nests by names: tables of what a nest names, and scopes, in which its names stand.
+//!
+//! The layers above use [`NestNames`], which answers as the nest does, [`Scope`] and [`Spot`], and what is followed from scope to scope:
+//! [`follow`] goes down from an output of a group to a component's, [`reach`] from an input to those of components.
+//!
+//! Definitions: `specs/Flattening.antt` (scopes, ports in scopes, and the flat system), `specs/GroupPorts.antt` (which ports units and
+//! groups have) and `specs/Tables.antt` (what tables of names tell).
+#![tactic(auto)]
+
+mod lists;
+mod names;
+mod scope;
+mod tables;
+
+pub use lists::PlacesByName;
+pub use names::{GroupNames, NestNames};
+pub use scope::{
+    LEVELS, Scope, Spot, copied_scope, distinct, flat_name, flat_port, follow, inside, put_bind,
+    reach, same_group, same_port, same_scope, spot_of, top,
+};
+pub use tables::{BindNames, InstanceNames, Places, at, note, noted};

@@ -1,0 +1,296 @@
+//! Scopes of a nest, and ports that are followed from scope to scope.
+ghost use Rattle.std.specs.Prelude.{◌≡◌, ◌∷◌, [], ◌++◌, IfOk, IsTrue, OnOk, bytes_eq, find, map, slice_get, false};
+ghost use Rattle.std.specs.Borrow.{Bor};
+ghost use Rattle.std.specs.Option.{option_map, option_to_list, unwrap_or};
+ghost use Rattle.nest_text.specs.declared.nest.Bind.{Bind as Binds};
+ghost use Rattle.std.specs.List.{flat_map, list_all, list_any};
+ghost use Rattle.nest_names.specs.Flattening.{distinct, expand, flat_port, follow, inside, is_component, reach, same_group, same_spot, spot_in, step_down, top};
+ghost use Rattle.unit_tree.specs.Names.{same_port};
+
+use crate::lists::PlacesByName;
+use crate::names::NestNames;
+use crate::tables::at;
+use fixed_words::{List, NoMemory};
+use nest_text::Bind;
+use std::alloc::Global;
+use unit_tree::{Name, PortName};
+
+/// Where an instance stands: in `main`, or in an instance of a group.
+#[derive(Debug, Drop)]
+pub struct Scope {
+    /// The names of the instances around it, each with a `_` behind it.
+    pub prefix: Name,
+    /// The place of the group; none in `main`.
+    pub group: Option<usize>,
+}
+
+/// How many scopes stand in each other at most.
+pub const LEVELS: usize = 33;
+
+/// The scope of `main`.
+pub fn top(alloc: Global) -> Scope
+    ensures { result ≡ top }
+{
+    Scope {
+        prefix: List::new(alloc),
+        group: None,
+    }
+}
+
+/// A port of an instance that stands in a scope.
+#[derive(Debug, Drop)]
+pub struct Spot {
+    pub scope: Scope,
+    pub port: PortName,
+}
+
+/// Bytes behind others.
+fn joined(alloc: Global, front: &[u8], behind: &[u8]) -> Result<Name, NoMemory>
+    ensures { IfOk result (λ made. made ≡ front.now ++ behind.now) }
+{
+    let mut bytes = Vec::from_slice(alloc, front)?;
+    bytes.extend_from_slice(behind)?;
+    Ok(List::from_vec(bytes))
+}
+
+/// A name in a scope, as a name of the flat system.
+pub fn flat_name(alloc: Global, scope: &Scope, name: &Name) -> Result<Name, NoMemory>
+    ensures { IfOk result (λ made. made ≡ scope.now.prefix ++ name.now) }
+{
+    joined(alloc, scope.prefix.as_slice(), name.as_slice())
+}
+
+fn copied_name(alloc: Global, name: &Name) -> Result<Name, NoMemory>
+    ensures { IfOk result (λ made. made ≡ name.now) }
+{
+    Ok(List::from_slice(alloc, name.as_slice())?)
+}
+
+fn copied_port(alloc: Global, port: &PortName) -> Result<PortName, NoMemory>
+    ensures { IfOk result (λ made. made ≡ port.now) }
+{
+    let instance = copied_name(alloc, &port.instance)?;
+    let port = copied_name(alloc, &port.port)?;
+    Ok(PortName { instance, port })
+}
+
+pub fn copied_scope(alloc: Global, scope: &Scope) -> Result<Scope, NoMemory>
+    ensures { IfOk result (λ made. made ≡ scope.now) }
+{
+    Ok(Scope {
+        prefix: copied_name(alloc, &scope.prefix)?,
+        group: scope.group,
+    })
+}
+
+/// A port in a scope.
+pub fn spot_of(alloc: Global, scope: &Scope, port: &PortName) -> Result<Spot, NoMemory>
+    ensures { IfOk result (λ made. made ≡ record { scope = scope.now; port = port.now }) }
+{
+    let scope = copied_scope(alloc, scope)?;
+    let port = copied_port(alloc, port)?;
+    Ok(Spot { scope, port })
+}
+
+/// The scope inside an instance of the group at a place.
+pub fn inside(alloc: Global, scope: &Scope, name: &Name, place: usize) -> Result<Scope, NoMemory>
+    ensures { IfOk result (λ made. made ≡ inside scope.now name.now place) }
+{
+    let mut bytes = Vec::from_slice(alloc, scope.prefix.as_slice())?;
+    bytes.extend_from_slice(name.as_slice())?;
+    bytes.push(b'_')?;
+    Ok(Scope {
+        prefix: List::from_vec(bytes),
+        group: Some(place),
+    })
+}
+
+/// A port in a scope, as a port of the flat system.
+pub fn flat_port(alloc: Global, spot: &Spot) -> Result<PortName, NoMemory>
+    ensures { IfOk result (λ made. made ≡ flat_port spot.now) }
+{
+    let instance = flat_name(alloc, &spot.scope, &spot.port.instance)?;
+    let port = copied_name(alloc, &spot.port.port)?;
+    Ok(PortName { instance, port })
+}
+
+/// An output of a group, one level down.
+fn step_down(alloc: Global, names: &NestNames<'_>, from: &Spot) -> Result<Option<Spot>, NoMemory>
+    ensures { IfOk result (λ made. made ≡ step_down names.now from.now) }
+{
+    let Some(place) = names.place_at(from.scope.group, from.port.instance.as_slice()) else {
+        return Ok(None);
+    };
+    let Some(bind) = names.out_named(place, from.port.port.as_slice()) else {
+        return Ok(None);
+    };
+    let scope = inside(alloc, &from.scope, &from.port.instance, place)?;
+    let port = copied_port(alloc, &bind.inner)?;
+    Ok(Some(Spot { scope, port }))
+}
+
+/// An output, followed down the `out` lines to a component's, by so many levels at most.
+pub fn follow(
+    alloc: Global,
+    names: &NestNames<'_>,
+    depth: usize,
+    from: Spot,
+) -> Result<Spot, NoMemory>
+    ensures { IfOk result (λ made. made ≡ follow names.now depth from) }
+{
+    if depth == 0 {
+        return Ok(from);
+    }
+    match step_down(alloc, names, &from)? {
+        Some(next) => {
+            drop(from);
+            follow(alloc, names, depth - 1, next)
+        }
+        None => Ok(from),
+    }
+}
+
+fn is_component(names: &NestNames<'_>, spot: &Spot) -> bool
+    ensures { result ≡ is_component names.now spot.now }
+{
+    names
+        .place_at(spot.scope.group, spot.port.instance.as_slice())
+        .is_none()
+}
+
+fn are_components(names: &NestNames<'_>, spots: &[Spot]) -> bool
+    ensures { result ≡ list_all (is_component names.now) spots.now }
+{
+    spots.iter().all(|spot| is_component(names, spot))
+}
+
+/// Puts the inner port of a line behind others, where there is a line.
+pub fn put_bind(
+    alloc: Global,
+    scope: &Scope,
+    bind: Option<&Bind>,
+    spots: &mut List<Spot>,
+) -> Result<(), NoMemory>
+    ensures { OnOk result (spots.new
+        ≡ spots.old ++ map (spot_in scope.now) (option_to_list (option_map (λ (found : Bor Binds). found.now) bind.entry))) }
+{
+    if let Some(bind) = bind {
+        spots.push(spot_of(alloc, scope, &bind.inner)?)?;
+    }
+    Ok(())
+}
+
+/// Puts what an input leads to behind others.
+fn put_expanded(
+    alloc: Global,
+    names: &NestNames<'_>,
+    from: &Spot,
+    spots: &mut List<Spot>,
+) -> Result<(), NoMemory>
+    ensures { OnOk result (spots.new ≡ spots.old ++ expand names.now from.now) }
+{
+    let Some(place) = names.place_at(from.scope.group, from.port.instance.as_slice()) else {
+        spots.push(spot_of(alloc, &from.scope, &from.port)?)?;
+        return Ok(());
+    };
+    let scope = inside(alloc, &from.scope, &from.port.instance, place)?;
+    let ins = names.ins(place);
+    for line in names.ins_named(place, from.port.port.as_slice()) {
+        put_bind(alloc, &scope, at(ins, *line), spots)?;
+    }
+    Ok(())
+}
+
+pub fn same_group(one: Option<usize>, other: Option<usize>) -> bool
+    ensures { result ≡ same_group one other }
+{
+    match (one, other) {
+        (None, None) => true,
+        (Some(one), Some(other)) => one == other,
+        _ => false,
+    }
+}
+
+pub fn same_port(one: &PortName, other: &PortName) -> bool
+    ensures { result ≡ same_port one.now other.now }
+{
+    one.instance.as_slice() == other.instance.as_slice()
+        && one.port.as_slice() == other.port.as_slice()
+}
+
+pub fn same_scope(one: &Scope, other: &Scope) -> bool
+    ensures { IsTrue result → one.now ≡ other.now }
+{
+    one.prefix.as_slice() == other.prefix.as_slice() && same_group(one.group, other.group)
+}
+
+fn same_spot(one: &Spot, other: &Spot) -> bool
+    ensures { result ≡ same_spot one.now other.now }
+{
+    one.scope.prefix.as_slice() == other.scope.prefix.as_slice()
+        && same_group(one.scope.group, other.scope.group)
+        && same_port(&one.port, &other.port)
+}
+
+/// Whether the port at a place is this one.
+fn is_at(spot: &Spot, spots: &[Spot], place: usize) -> bool
+    ensures { result ≡ unwrap_or (option_map (same_spot spot.now) (slice_get spots.now place)) false }
+{
+    match at(spots, place) {
+        Some(other) => same_spot(spot, other),
+        None => false,
+    }
+}
+
+/// Whether a port is at one of the places.
+fn is_kept(spot: &Spot, spots: &[Spot], places: &[usize]) -> bool
+    ensures { result ≡ list_any (λ place. unwrap_or (option_map (same_spot spot.now) (slice_get spots.now place)) false) places.now }
+{
+    places.iter().any(|place| is_at(spot, spots, *place))
+}
+
+/// Each port once, at its first place. Those that are kept are found by their own names, so that few are compared.
+pub fn distinct(alloc: Global, spots: &[Spot]) -> Result<List<Spot>, NoMemory>
+    ensures { IfOk result (λ kept. kept ≡ distinct [] spots.now) }
+{
+    let mut kept = List::new(alloc);
+    let mut places = PlacesByName::new(alloc);
+    for (place, one) in spots.iter().enumerate() {
+        let port = one.port.port.as_slice();
+        if is_kept(one, spots, places.named(port)) {
+            continue;
+        }
+        places.add(alloc, port, place)?;
+        let copy = spot_of(alloc, &one.scope, &one.port)?;
+        kept.push(copy)?;
+    }
+    Ok(kept)
+}
+
+/// What inputs lead to, each port once.
+fn one_level(alloc: Global, names: &NestNames<'_>, spots: &[Spot]) -> Result<List<Spot>, NoMemory>
+    ensures { IfOk result (λ made. made ≡ distinct [] (flat_map (expand names.now) spots.now)) }
+{
+    let mut expanded = List::new(alloc);
+    for spot in spots {
+        put_expanded(alloc, names, spot, &mut expanded)?;
+    }
+    distinct(alloc, expanded.as_slice())
+}
+
+/// The inputs of components that inputs reach, by so many levels at most.
+pub fn reach(
+    alloc: Global,
+    names: &NestNames<'_>,
+    depth: usize,
+    spots: List<Spot>,
+) -> Result<List<Spot>, NoMemory>
+    ensures { IfOk result (λ made. made ≡ reach names.now depth spots) }
+{
+    if depth == 0 || are_components(names, spots.as_slice()) {
+        return Ok(spots);
+    }
+    let next = one_level(alloc, names, spots.as_slice())?;
+    drop(spots);
+    reach(alloc, names, depth - 1, next)
+}

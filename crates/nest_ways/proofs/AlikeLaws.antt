@@ -1,0 +1,50 @@
+-- Scopes that are the same, by tables of the first ones.
+use Rattle.std.proofs.Common.{◌≡◌, ℕ, List, [], ◌∷◌, ◌++◌, length, Option, Some, None, refl, sym, ap, ◌∙◌, subst}
+use Rattle.std.specs.Prelude.{slice_get}
+use Rattle.std.specs.Option.{option_and_then, option_map, option_to_list, unwrap_or}
+use Rattle.list_laws.proofs.Members.{at_push}
+use Rattle.nest_text.specs.declared.nest.Nest.{Nest}
+use Rattle.nest_names.specs.Flattening.{spot_in}
+use Rattle.nest_names.specs.declared.scope.Scope.{Scope}
+use Rattle.nest_names.specs.declared.scope.Spot.{Spot}
+use Rattle.nest_ways.specs.Reaching.{AreAlike, AreAllAlike, IsAlike, ReadsAlike, input_at, ins_of}
+use Rattle.nest_ways.specs.declared.ends.End.{End}
+
+-- ---- Tables
+
+pub alike_itself : (scopes : List Scope) (group offset : ℕ) → IsAlike scopes group offset offset
+alike_itself scopes group offset base scope at of_group = refl
+
+pub alike_more : (scopes : List Scope) (group : ℕ) (firsts firsts' : List ℕ) (offset one : ℕ) → AreAlike scopes group firsts
+    → length firsts ≡ offset → IsAlike scopes group offset one → firsts' ≡ firsts ++ one ∷ [] → AreAlike scopes group firsts'
+alike_more scopes group firsts firsts' offset one are long is more place first there =
+    at_push (IsAlike scopes group) firsts one are (subst (λ n. IsAlike scopes group n one) (sym long) is) place first
+    (sym (ap (λ all. slice_get all place) more) ∙ there)
+
+pub all_alike_more : (scopes : List Scope) (lists lists' : List (List ℕ)) (group : ℕ) (firsts : List ℕ) → AreAllAlike scopes lists
+    → length lists ≡ group → AreAlike scopes group firsts → lists' ≡ lists ++ firsts ∷ [] → AreAllAlike scopes lists'
+all_alike_more scopes lists lists' group firsts are long is more place all there =
+    at_push (AreAlike scopes) lists firsts are (subst (λ n. AreAlike scopes n firsts) (sym long) is) place all
+    (sym (ap (λ those. slice_get those place) more) ∙ there)
+
+pub none_alike : (scopes : List Scope) (group : ℕ) → AreAlike scopes group []
+none_alike scopes group offset first there = let never : None ≡ Some first = there in absurd (cc)
+
+-- ---- Inputs
+
+pub reads_alike : (nest : Nest) (scopes : List Scope) (group : ℕ) (firsts : List ℕ) (base : ℕ) (scope : Scope) → AreAlike scopes group firsts
+    → slice_get scopes base ≡ Some scope → scope.group ≡ Some group → ReadsAlike firsts (input_at nest scopes base)
+reads_alike nest scopes group firsts base scope are at of_group offset first line there =
+    ap
+    (λ found. option_to_list (option_and_then (λ (one : Scope). option_map (spot_in one) (slice_get (ins_of nest one.group) line)) found))
+    (are offset first there base scope at of_group)
+
+-- The input at the first scope that is the same.
+pub first_input : (f : End → List Spot) (firsts : List ℕ) (offset line : ℕ) → ReadsAlike firsts f
+    → f (record { scope = unwrap_or (slice_get firsts offset) offset; line = line }) ≡ f (record { scope = offset; line = line })
+first_input f firsts offset line reads = by (slice_get firsts offset) refl
+  where
+    by : (found : Option ℕ) → slice_get firsts offset ≡ found
+        → f (record { scope = unwrap_or (slice_get firsts offset) offset; line = line }) ≡ f (record { scope = offset; line = line })
+    by None at = ap (λ found. f (record { scope = unwrap_or found offset; line = line })) at
+    by (Some first) at = ap (λ found. f (record { scope = unwrap_or found offset; line = line })) at ∙ sym (reads offset first line at)

@@ -1,0 +1,4 @@
+pub mod AlikeLaws
+pub mod KeptLaws
+pub mod WalkLaws
+pub mod WayLaws

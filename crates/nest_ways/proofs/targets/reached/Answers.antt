@@ -1,0 +1,40 @@
+use Rattle.std.proofs.Common.{◌≡◌, ◌∙◌, ◌<◌, [], ℕ, List, Some, ap, length, map, subst, sym}
+use Rattle.std.specs.List.{flat_map}
+use Rattle.nest_names.specs.Flattening.{distinct, ins_in, place_at, spot_in}
+use Rattle.nest_names.specs.declared.scope.Scope.{Scope}
+use Rattle.nest_names.specs.declared.scope.Spot.{Spot}
+use Rattle.nest_ways.specs.Reaching.{all_ends}
+use Rattle.nest_ways.specs.Walking.{Reaches}
+use Rattle.nest_ways.proofs.WayLaws.{target_reached}
+use Rattle.nest_ways.proofs.targets.reached.Goals as goal
+
+pub returns-in-All : goal.returns-in-All
+returns-in-All c =
+    let nest = c.args.names.now in
+    let scope = c.args.scope.now in
+    let to = c.args.to.now in
+    let place = c.in-Some.place in
+    let spot : Spot = record { scope = scope; port = to } in
+    let all : Scope → List ℕ → List Spot = λ inner port. distinct [] (flat_map (all_ends nest 32) (map (spot_in inner) (ins_in nest inner port))) in
+    let at : place_at nest scope.group to.instance ≡ Some place =
+    sym (ap (place_at nest scope.group) c.as_slice.ensures) ∙ sym c.place_at.ensures ∙ c.in-Some.is in
+    subst (Reaches (all c.in_ok-inner.inner c.as_slice-port.result.now)) c.in-All.is c.in_ok-spots.ensures
+    ∙ ap (all c.in_ok-inner.inner) c.as_slice-port.ensures
+    ∙ ap (λ inner. all inner to.port) c.in_ok-inner.ensures
+    ∙ target_reached nest spot place at
+
+pub returns-in-TooMany : goal.returns-in-TooMany
+returns-in-TooMany c =
+    let nest = c.args.names.now in
+    let scope = c.args.scope.now in
+    let to = c.args.to.now in
+    let place = c.in-Some.place in
+    let spot : Spot = record { scope = scope; port = to } in
+    let all : Scope → List ℕ → List Spot = λ inner port. distinct [] (flat_map (all_ends nest 32) (map (spot_in inner) (ins_in nest inner port))) in
+    let at : place_at nest scope.group to.instance ≡ Some place =
+    sym (ap (place_at nest scope.group) c.as_slice.ensures) ∙ sym c.place_at.ensures ∙ c.in-Some.is in
+    subst (λ (spots : List Spot). 2048 < length spots)
+    (ap (all c.in_ok-inner.inner) c.as_slice-port.ensures
+    ∙ ap (λ inner. all inner to.port) c.in_ok-inner.ensures
+    ∙ target_reached nest spot place at)
+    (subst (Reaches (all c.in_ok-inner.inner c.as_slice-port.result.now)) c.in-TooMany.is c.in_ok-spots.ensures)

@@ -1,0 +1,122 @@
+//! Inputs of components by numbers, each put into a list once.
+ghost use Rattle.std.specs.Prelude.{◌≡◌, ◌++◌, List, Some, IfOk, IsTrue, map, slice_get};
+ghost use Rattle.std.specs.List.{flat_map};
+ghost use Rattle.std.specs.Option.{option_map, unwrap_or};
+ghost use Rattle.nest_ways.specs.Reaching.{PutsOnce, PutsUpTo, ReadsAlike, onward};
+ghost use Rattle.nest_names.specs.declared.scope.Spot.{Spot as Spots};
+ghost use Rattle.nest_text.specs.declared.nest.Bind.{Bind as Binds};
+
+use crate::guide::Guide;
+use fixed_words::{List, NoMemory};
+use nest_names::{at, same_port};
+use nest_text::Bind;
+
+/// An input of a component, as it is reached from a scope.
+#[derive(Clone, Copy, Debug, PartialEq, Eq)]
+pub struct End {
+    /// How many places further on its own scope stands in the list of all scopes.
+    pub scope: u32,
+    /// The place of an `in` line of that scope's group that leads to it.
+    pub line: u32,
+}
+
+/// Whether an input is at a place of others.
+#[inline(always)]
+fn is_at(ends: &[End], place: usize, end: End) -> bool
+    ensures { IsTrue result → slice_get ends.now place ≡ Some end }
+{
+    match at(ends, place) {
+        Some(other) => other.scope == end.scope && other.line == end.line,
+        None => false,
+    }
+}
+
+/// Puts an input behind others, where it isn't among them, and tells its place. It is looked for at a place where it may be, and at the
+/// one that the guide tells.
+#[inline(always)]
+pub(crate) fn put_once(
+    guide: &mut Guide<'_>,
+    guess: usize,
+    end: End,
+    ends: &mut List<End>,
+) -> Result<usize, NoMemory>
+    ensures { IfOk result (λ place. PutsOnce end ends.old ends.new) }
+{
+    if is_at(ends.as_slice(), guess, end) {
+        return Ok(guess);
+    }
+    let place = guide.place_of(end);
+    if is_at(ends.as_slice(), place, end) {
+        return Ok(place);
+    }
+    let place = ends.len();
+    guide.note_place(end, place);
+    ends.push(end)?;
+    Ok(place)
+}
+
+/// The first scope that is the same, by the table of the group from whose scope both are told.
+#[inline(always)]
+pub(crate) fn first_same(firsts: &[u32], offset: u32) -> u32
+    ensures { result ≡ unwrap_or (slice_get firsts.now offset) offset }
+{
+    match firsts.get(offset as usize) {
+        Some(first) => *first,
+        None => offset,
+    }
+}
+
+/// Puts inputs behind others, each as it is reached from a scope that stands so many places before, until there are more than so many.
+/// Tells whether all were put. Most often they stand side by side where they were put before.
+pub(crate) fn put_onward(
+    guide: &mut Guide<'_>,
+    firsts: &[u32],
+    most: usize,
+    offset: u32,
+    inner: &[End],
+    ends: &mut List<End>,
+) -> Result<bool, NoMemory>
+    ensures { IfOk result (λ whole. (input : End → List Spots) → ReadsAlike firsts.now input
+        → PutsUpTo whole (flat_map input ends.new) (flat_map input (ends.old ++ map (onward offset) inner.now))) }
+{
+    let mut guess: usize = 0;
+    for end in inner {
+        if ends.len() > most {
+            return Ok(false);
+        }
+        let Some(scope) = end.scope.checked_add(offset) else {
+            return Ok(false);
+        };
+        let scope = first_same(firsts, scope);
+        let line = end.line;
+        let place = put_once(guide, guess, End { scope, line }, ends)?;
+        guess = place.saturating_add(1);
+    }
+    Ok(true)
+}
+
+/// A line that leads to the same inner port as this: the first one, where the guide knows it.
+pub(crate) fn same_line<'n>(
+    guide: &Guide<'n>,
+    group: usize,
+    ins: &[Bind],
+    bind: &'n Bind,
+    line: usize,
+) -> usize
+    requires { slice_get ins.now line ≡ Some bind.now }
+    ensures { option_map (λ (found : Binds). found.inner) (slice_get ins.now result) ≡ Some bind.now.inner }
+{
+    let Some(first) = guide.line(group, &bind.inner) else {
+        return line;
+    };
+    match at(ins, first) {
+        Some(other) => {
+            if same_port(&other.inner, &bind.inner) {
+                first
+            } else {
+                line
+            }
+        }
+        None => line,
+    }
+}

@@ -1,0 +1,337 @@
+//! What is looked up while inputs of groups are followed. Nothing rests on it: whoever asks it tests what it says.
+use crate::ends::End;
+use fixed_words::{List, NoMemory};
+use nest_names::{NestNames, Places, Scope, copied_scope, inside, note, noted};
+use nest_text::Bind;
+use std::alloc::Global;
+use std::collections::BTreeMap;
+use unit_tree::PortName;
+
+/// Places of lines by their inner ports.
+type Lines<'n> = BTreeMap<(&'n [u8], &'n [u8]), usize>;
+
+/// The most scopes that can be the same: each has a component of its own.
+const MOST_TWINS: usize = 64;
+
+/// What is looked up of a group.
+#[derive(Drop)]
+struct GroupGuide<'n> {
+    /// The place of its first scope in the list of all scopes.
+    first: Option<usize>,
+    /// How many scopes that scope has, with those inside it.
+    size: usize,
+    /// By the names of its instances, how many places further on the scopes inside them are.
+    offsets: Places<'n>,
+    /// The first `in` line for each inner port.
+    lines: Lines<'n>,
+    /// By its inputs, the places of what is known of them.
+    known: Places<'n>,
+    /// Its inputs that lead to more inputs than are kept.
+    long: Places<'n>,
+}
+
+/// What is looked up while inputs are followed.
+#[derive(Drop)]
+pub struct Guide<'n> {
+    groups: Vec<GroupGuide<'n>>,
+    /// For each scope how many `in` lines those before it have.
+    starts: Vec<u32>,
+    /// For each scope the last one before it that is the same.
+    twins: Vec<Option<usize>>,
+    /// For each `in` line of each scope, where the list that is being made may have the input that it leads to.
+    places: Vec<u32>,
+    /// For each `in` line of each scope, where the input of the group that it is the first line of may stand among those that are done.
+    done: Vec<u32>,
+    /// The scope from which the list that is being made is told.
+    base: usize,
+}
+
+/// The number at a place, or 0 where there is none.
+fn number_at(numbers: &[u32], place: usize) -> usize {
+    match numbers.get(place) {
+        Some(number) => *number as usize,
+        None => 0,
+    }
+}
+
+fn put_number(numbers: &mut [u32], place: usize, number: usize) {
+    let Ok(number) = u32::try_from(number) else {
+        return;
+    };
+    if let Some(one) = numbers.get_mut(place) {
+        *one = number;
+    }
+}
+
+fn lines_of<'n>(alloc: Global, binds: &'n [Bind]) -> Result<Lines<'n>, NoMemory> {
+    let mut lines = BTreeMap::new(alloc);
+    for (place, bind) in binds.iter().enumerate() {
+        let inner = (bind.inner.instance.as_slice(), bind.inner.port.as_slice());
+        if lines.get(&inner).is_none() {
+            lines.insert(inner, place)?;
+        }
+    }
+    Ok(lines)
+}
+
+impl<'n> GroupGuide<'n> {
+    fn new(alloc: Global, binds: &'n [Bind]) -> Result<GroupGuide<'n>, NoMemory> {
+        let lines = lines_of(alloc, binds)?;
+        Ok(GroupGuide {
+            first: None,
+            size: 0,
+            offsets: BTreeMap::new(alloc),
+            lines,
+            known: BTreeMap::new(alloc),
+            long: BTreeMap::new(alloc),
+        })
+    }
+}
+
+impl<'n> Guide<'n> {
+    fn new(alloc: Global, names: &NestNames<'n>) -> Result<Guide<'n>, NoMemory> {
+        let mut groups = Vec::new(alloc);
+        for place in 0..names.groups().len() {
+            let group = GroupGuide::new(alloc, names.ins(place))?;
+            groups.push(group)?;
+        }
+        Ok(Guide {
+            groups,
+            starts: Vec::new(alloc),
+            twins: Vec::new(alloc),
+            places: Vec::new(alloc),
+            done: Vec::new(alloc),
+            base: 0,
+        })
+    }
+
+    /// Notes the next of all scopes, of a group with so many `in` lines.
+    fn note_scope(
+        &mut self,
+        group: Option<usize>,
+        scope: usize,
+        lines: usize,
+    ) -> Result<(), NoMemory> {
+        let start = u32::try_from(self.places.len()).unwrap_or(u32::MAX);
+        self.starts.push(start)?;
+        for _ in 0..lines {
+            self.places.push(0)?;
+            self.done.push(0)?;
+        }
+        if let Some(group) = group {
+            if let Some(one) = self.groups.get_mut(group) {
+                if one.first.is_none() {
+                    one.first = Some(scope);
+                }
+            }
+        }
+        Ok(())
+    }
+
+    /// Notes how many scopes a scope of a group has, with those inside it.
+    fn note_size(&mut self, group: Option<usize>, size: usize) {
+        if let Some(group) = group {
+            if let Some(one) = self.groups.get_mut(group) {
+                one.size = size;
+            }
+        }
+    }
+
+    /// Notes how many places further on the scope inside an instance of a group is.
+    fn note_offset(
+        &mut self,
+        group: Option<usize>,
+        name: &'n [u8],
+        offset: usize,
+    ) -> Result<(), NoMemory> {
+        if let Some(group) = group {
+            if let Some(one) = self.groups.get_mut(group) {
+                note(&mut one.offsets, name, offset)?;
+            }
+        }
+        Ok(())
+    }
+
+    /// Notes for each scope the last one before it that is the same.
+    fn note_twins(&mut self, alloc: Global, scopes: &[Scope]) -> Result<(), NoMemory> {
+        let mut last = BTreeMap::new(alloc);
+        for (place, scope) in scopes.iter().enumerate() {
+            let one = (scope.prefix.as_slice(), scope.group.unwrap_or(usize::MAX));
+            self.twins.push(last.get(&one).copied())?;
+            drop(last.insert(one, place)?);
+        }
+        Ok(())
+    }
+
+    /// The last scope before one of a group's first scope that is the same, where it is inside that scope too; each by its offset.
+    fn twin_before(&self, group: usize, offset: usize) -> Option<usize> {
+        let first = self.groups.get(group)?.first?;
+        let place = first.checked_add(offset)?;
+        let twin = (*self.twins.get(place)?)?;
+        twin.checked_sub(first)
+    }
+
+    /// The first scope that is the same as one of a group's first scope, where it is inside that scope too; each by its offset.
+    pub(crate) fn first_twin(&self, group: usize, offset: usize) -> usize {
+        let mut first = offset;
+        for _ in 0..MOST_TWINS {
+            let Some(before) = self.twin_before(group, first) else {
+                return first;
+            };
+            first = before;
+        }
+        first
+    }
+
+    /// How many scopes a scope of a group has, with those inside it.
+    pub(crate) fn size(&self, group: usize) -> usize {
+        match self.groups.get(group) {
+            Some(one) => one.size,
+            None => 0,
+        }
+    }
+
+    /// Notes where an input of a group is among those that are known.
+    pub(crate) fn note_known(
+        &mut self,
+        group: usize,
+        port: &'n [u8],
+        place: usize,
+    ) -> Result<(), NoMemory> {
+        if let Some(one) = self.groups.get_mut(group) {
+            note(&mut one.known, port, place)?;
+        }
+        Ok(())
+    }
+
+    /// Notes that an input of a group leads to more inputs than are kept.
+    pub(crate) fn note_long(&mut self, group: usize, port: &'n [u8]) -> Result<(), NoMemory> {
+        if let Some(one) = self.groups.get_mut(group) {
+            note(&mut one.long, port, 0)?;
+        }
+        Ok(())
+    }
+
+    /// Where an input of a group is among those that are known.
+    pub(crate) fn known(&self, group: usize, port: &[u8]) -> Option<usize> {
+        noted(&self.groups.get(group)?.known, port)
+    }
+
+    /// Whether an input of a group leads to more inputs than are kept.
+    fn is_long(&self, group: usize, port: &[u8]) -> bool {
+        match self.groups.get(group) {
+            Some(one) => noted(&one.long, port).is_some(),
+            None => false,
+        }
+    }
+
+    /// Whether nothing more is to be worked out for an input of a group.
+    pub(crate) fn is_settled(&self, group: usize, port: &[u8]) -> bool {
+        self.known(group, port).is_some() || self.is_long(group, port)
+    }
+
+    /// How many places further on the scope inside an instance of a group is.
+    pub(crate) fn offset(&self, group: usize, name: &[u8]) -> Option<u32> {
+        u32::try_from(noted(&self.groups.get(group)?.offsets, name)?).ok()
+    }
+
+    /// The first `in` line of a group with an inner port.
+    pub(crate) fn line(&self, group: usize, inner: &'n PortName) -> Option<usize> {
+        let inner = (inner.instance.as_slice(), inner.port.as_slice());
+        self.groups.get(group)?.lines.get(&inner).copied()
+    }
+
+    /// Begins a list that is told from a scope.
+    pub(crate) fn begin(&mut self, base: usize) {
+        self.base = base;
+    }
+
+    /// Begins a list that is told from the first scope of a group.
+    pub(crate) fn begin_group(&mut self, group: usize) {
+        self.base = match self.groups.get(group) {
+            Some(one) => one.first.unwrap_or(0),
+            None => 0,
+        };
+    }
+
+    /// The number of an `in` line among those of all scopes.
+    fn number(&self, end: End) -> usize {
+        let scope = self.base.saturating_add(end.scope as usize);
+        number_at(self.starts.as_slice(), scope).saturating_add(end.line as usize)
+    }
+
+    /// Where the list that is being made may have an input.
+    pub(crate) fn place_of(&self, end: End) -> usize {
+        number_at(self.places.as_slice(), self.number(end))
+    }
+
+    /// Notes where the list that is being made has an input.
+    pub(crate) fn note_place(&mut self, end: End, place: usize) {
+        let number = self.number(end);
+        put_number(self.places.as_mut_slice(), number, place);
+    }
+
+    /// Where the input of a group with this first line may stand among those that are done.
+    pub(crate) fn done_at(&self, first: End) -> usize {
+        number_at(self.done.as_slice(), self.number(first))
+    }
+
+    /// Notes where the input of a group with this first line stands among those that are done.
+    pub(crate) fn note_done(&mut self, first: End, place: usize) {
+        let number = self.number(first);
+        put_number(self.done.as_mut_slice(), number, place);
+    }
+}
+
+/// How many `in` lines a scope has.
+fn lines_in(names: &NestNames<'_>, group: Option<usize>) -> usize {
+    match group {
+        Some(place) => names.ins(place).len(),
+        None => 0,
+    }
+}
+
+/// Puts a scope and all inside it behind others, an instance before those inside it.
+fn put_scopes<'n>(
+    alloc: Global,
+    names: &NestNames<'n>,
+    depth: usize,
+    scope: &Scope,
+    guide: &mut Guide<'n>,
+    scopes: &mut List<Scope>,
+) -> Result<(), NoMemory> {
+    let own = scopes.len();
+    guide.note_scope(scope.group, own, lines_in(names, scope.group))?;
+    scopes.push(copied_scope(alloc, scope)?)?;
+    if depth == 0 {
+        return Ok(());
+    }
+    for instance in names.instances(scope.group) {
+        let Some(place) = names.group_place(instance.unit.as_slice()) else {
+            continue;
+        };
+        let inner = inside(alloc, scope, &instance.name, place)?;
+        guide.note_offset(
+            scope.group,
+            instance.name.as_slice(),
+            scopes.len().saturating_sub(own),
+        )?;
+        put_scopes(alloc, names, depth - 1, &inner, guide, scopes)?;
+    }
+    guide.note_size(scope.group, scopes.len().saturating_sub(own));
+    Ok(())
+}
+
+/// All scopes of a nest, up to so many levels, with a guide to them.
+pub(crate) fn guided_scopes<'n>(
+    alloc: Global,
+    names: &NestNames<'n>,
+    levels: usize,
+    top: &Scope,
+) -> Result<(List<Scope>, Guide<'n>), NoMemory> {
+    let mut guide = Guide::new(alloc, names)?;
+    let mut scopes = List::new(alloc);
+    put_scopes(alloc, names, levels, top, &mut guide, &mut scopes)?;
+    guide.note_twins(alloc, scopes.as_slice())?;
+    Ok((scopes, guide))
+}

@@ -1,0 +1,212 @@
+//! All scopes of a nest, and which stands where.
+//!
+//! Scopes of one group have the same scopes inside them, so what is inside one is told by how many places further on it stands. Two of
+//! these may be the same scope, as the names of instances around them may join to one prefix.
+ghost use Rattle.std.specs.Prelude.{◌≡◌, ◌++◌, ◌+◌, ℕ, List, Some, IfOk, IsTrue, map, slice_get};
+ghost use Rattle.std.specs.Option.{option_map};
+ghost use Rattle.nest_names.specs.Flattening.{inside};
+ghost use Rattle.nest_ways.specs.Reaching.{AreAlike, AreAllAlike, IsAlike, LeadsTo};
+
+use crate::guide::Guide;
+use fixed_words::{List, NoMemory};
+use nest_names::{Scope, at, same_group, same_scope};
+use std::alloc::Global;
+use std::marker::Model;
+use unit_tree::Name;
+
+/// All scopes of a nest, an instance before those inside it. Contracts see the list.
+#[derive(Drop)]
+pub struct AllScopes {
+    scopes: List<Scope>,
+    /// For each group, by how many places further on a scope is: by how many the first one is that is the same.
+    firsts: Vec<Vec<u32>>,
+}
+
+impl Model for AllScopes {
+    ghost use Rattle.std.specs.Prelude.{List, map};
+    ghost use Rattle.std.specs.Coded.{codes};
+    ghost use Rattle.nest_names.specs.declared.scope.Scope.{Scope};
+    ghost use Rattle.nest_ways.specs.Reaching.{AreAllAlike};
+
+    ghost Value = { List Scope };
+
+    ghost coded = { Prim.hlevel codes };
+
+    ghost view = { λ all. all.scopes };
+
+    ghost invariant = { λ all. AreAllAlike all.scopes (map (λ one. one.items) all.firsts.items) };
+}
+
+/// Whether the scopes so many and so many places behind a scope are the same.
+fn are_same_from(scopes: &[Scope], base: usize, offset: usize, first: usize) -> bool
+    ensures { IsTrue result → slice_get scopes.now (base + offset) ≡ slice_get scopes.now (base + first) }
+{
+    let Some(one) = base.checked_add(offset) else {
+        return false;
+    };
+    let Some(other) = base.checked_add(first) else {
+        return false;
+    };
+    match (at(scopes, one), at(scopes, other)) {
+        (Some(one), Some(other)) => same_scope(one, other),
+        _ => false,
+    }
+}
+
+/// Whether the scopes so many and so many places behind each scope of the group are the same.
+fn are_alike(scopes: &[Scope], group: usize, offset: usize, first: usize) -> bool
+    ensures { IsTrue result → IsAlike scopes.now group offset first }
+{
+    for (base, scope) in scopes.iter().enumerate() {
+        if !same_group(scope.group, Some(group)) {
+            continue;
+        }
+        if !are_same_from(scopes, base, offset, first) {
+            return false;
+        }
+    }
+    true
+}
+
+/// By how many places further on the first scope is that is the same as one that is so many further on.
+fn first_alike(scopes: &[Scope], guide: &Guide<'_>, group: usize, offset: u32) -> u32
+    ensures { IsAlike scopes.now group offset result }
+{
+    let place = offset as usize;
+    let Ok(first) = u32::try_from(guide.first_twin(group, place)) else {
+        return offset;
+    };
+    if first != offset && are_alike(scopes, group, place, first as usize) {
+        first
+    } else {
+        offset
+    }
+}
+
+/// For each scope inside one of a group, the first one that is the same.
+fn firsts_in(
+    alloc: Global,
+    scopes: &[Scope],
+    guide: &Guide<'_>,
+    group: usize,
+) -> Result<Vec<u32>, NoMemory>
+    ensures { IfOk result (λ made. AreAlike scopes.now group made.items) }
+{
+    let size = u32::try_from(guide.size(group)).unwrap_or(0);
+    let mut firsts = Vec::new(alloc);
+    for offset in 0..size {
+        firsts.push(first_alike(scopes, guide, group, offset))?;
+    }
+    Ok(firsts)
+}
+
+/// For each group, and each scope inside one of the group, the first one that is the same.
+fn firsts_of_groups(
+    alloc: Global,
+    scopes: &[Scope],
+    guide: &Guide<'_>,
+    groups: usize,
+) -> Result<Vec<Vec<u32>>, NoMemory>
+    ensures { IfOk result (λ made. AreAllAlike scopes.now (map (λ one. one.items) made.items)) }
+{
+    let mut lists = Vec::new(alloc);
+    for group in 0..groups {
+        let firsts = firsts_in(alloc, scopes, guide, group)?;
+        lists.push(firsts)?;
+    }
+    Ok(lists)
+}
+
+impl AllScopes {
+    pub(crate) fn new(
+        alloc: Global,
+        scopes: List<Scope>,
+        guide: &Guide<'_>,
+        groups: usize,
+    ) -> Result<AllScopes, NoMemory>
+        ensures { IfOk result (λ all. all ≡ scopes) }
+    {
+        let firsts = firsts_of_groups(alloc, scopes.as_slice(), guide, groups)?;
+        Ok(AllScopes { scopes, firsts })
+    }
+
+    pub(crate) fn as_slice(&self) -> &[Scope]
+        ensures { result.now ≡ self.now }
+    {
+        self.scopes.as_slice()
+    }
+
+    /// For each scope inside one of a group, the first one that is the same.
+    pub(crate) fn firsts(&self, group: usize) -> &[u32]
+        ensures { AreAlike self.now group result.now }
+    {
+        match at(self.firsts.as_slice(), group) {
+            Some(firsts) => firsts.as_slice(),
+            None => &[],
+        }
+    }
+}
+
+/// What is behind a front.
+fn behind<'b>(whole: &'b [u8], front: &[u8]) -> Option<&'b [u8]>
+    ensures { (rest : List ℕ) → option_map (λ found. found.now) result ≡ Some rest → whole.now ≡ front.now ++ rest }
+{
+    whole.strip_prefix(front)
+}
+
+/// Whether a scope is the one inside an instance of another.
+fn is_inside(inner: &Scope, scope: &Scope, name: &Name, place: usize) -> bool
+    ensures { IsTrue result → inner.now ≡ inside scope.now name.now place }
+{
+    let Some(rest) = behind(inner.prefix.as_slice(), scope.prefix.as_slice()) else {
+        return false;
+    };
+    let Some(last) = behind(rest, name.as_slice()) else {
+        return false;
+    };
+    match last {
+        [b'_'] => same_group(inner.group, Some(place)),
+        _ => false,
+    }
+}
+
+/// Whether the scope inside an instance stands so many places behind a scope.
+pub(crate) fn leads_from(
+    scopes: &[Scope],
+    base: usize,
+    offset: usize,
+    scope: &Scope,
+    name: &Name,
+    place: usize,
+) -> bool
+    ensures { IsTrue result → slice_get scopes.now (base + offset) ≡ Some (inside scope.now name.now place) }
+{
+    let Some(onward) = base.checked_add(offset) else {
+        return false;
+    };
+    match at(scopes, onward) {
+        Some(inner) => is_inside(inner, scope, name, place),
+        None => false,
+    }
+}
+
+/// Whether the scope inside an instance of a group stands so many places behind each scope of the group.
+pub(crate) fn leads(
+    scopes: &[Scope],
+    group: usize,
+    name: &Name,
+    place: usize,
+    offset: usize,
+) -> bool
+    ensures { IsTrue result → LeadsTo scopes.now group name.now place offset }
+{
+    for (base, scope) in scopes.iter().enumerate() {
+        if !same_group(scope.group, Some(group)) {
+            continue;
+        }
+        if !leads_from(scopes, base, offset, scope, name, place) {
+            return false;
+        }
+    }
+    true
+}

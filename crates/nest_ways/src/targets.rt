@@ -1,0 +1,169 @@
+//! The inputs of components that the target of a connection reaches.
+ghost use Rattle.std.specs.Prelude.{◌≡◌, ◌++◌, [], ℕ, List, Some, IfOk, IsTrue, map, slice_get};
+ghost use Rattle.std.specs.List.{flat_map};
+ghost use Rattle.nest_names.specs.Flattening.{distinct, ins_in, spot_in};
+ghost use Rattle.nest_ways.specs.Reaching.{AreKnown, PutsUpTo, all_ends, input_at, ins_of, inputs_at};
+ghost use Rattle.nest_ways.specs.Walking.{IsReached, Reaches};
+ghost use Rattle.nest_names.specs.declared.scope.Spot.{Spot as Spots};
+
+use crate::ends::End;
+use crate::guide::Guide;
+use crate::known::Ways;
+use crate::walk::{Inlet, MOST_ENDS, Start, Walk, walk_inlet};
+use fixed_words::{List, NoMemory};
+use nest_names::{
+    LEVELS, NestNames, Scope, Spot, at, distinct, inside, put_bind, reach, same_scope, spot_of,
+};
+use nest_text::Bind;
+use std::alloc::Global;
+use unit_tree::PortName;
+
+/// The `in` lines of a scope of this group.
+fn ins_in<'n>(names: &NestNames<'n>, group: Option<usize>) -> &'n [Bind]
+    ensures { result.now ≡ ins_of names.now group }
+{
+    match group {
+        Some(place) => names.ins(place),
+        None => &[],
+    }
+}
+
+/// Puts the input at a line of a scope behind others.
+fn put_input(
+    alloc: Global,
+    names: &NestNames<'_>,
+    scopes: &[Scope],
+    base: usize,
+    end: End,
+    spots: &mut List<Spot>,
+) -> Result<bool, NoMemory>
+    ensures { IfOk result (λ told. IsTrue told → spots.new ≡ spots.old ++ input_at names.now scopes.now base end) }
+{
+    let Some(place) = base.checked_add(end.scope as usize) else {
+        return Ok(false);
+    };
+    let Some(scope) = at(scopes, place) else {
+        return Ok(false);
+    };
+    let line = at(ins_in(names, scope.group), end.line as usize);
+    put_bind(alloc, scope, line, spots)?;
+    Ok(true)
+}
+
+/// The inputs that are reached from a scope.
+fn inputs(
+    alloc: Global,
+    names: &NestNames<'_>,
+    scopes: &[Scope],
+    base: usize,
+    ends: &[End],
+) -> Result<Option<List<Spot>>, NoMemory>
+    ensures { IfOk result (λ made. (spots : List Spots) → made ≡ Some spots → spots ≡ inputs_at names.now scopes.now base ends.now) }
+{
+    let mut spots = List::new(alloc);
+    for end in ends {
+        if !put_input(alloc, names, scopes, base, *end, &mut spots)? {
+            return Ok(None);
+        }
+    }
+    Ok(Some(spots))
+}
+
+/// The place of a scope.
+fn place_of(scopes: &[Scope], scope: &Scope) -> Option<usize>
+    ensures { (place : ℕ) → result ≡ Some place → slice_get scopes.now place ≡ Some scope.now }
+{
+    for (place, other) in scopes.iter().enumerate() {
+        if same_scope(other, scope) {
+            return Some(place);
+        }
+    }
+    None
+}
+
+/// What a walk came to.
+#[derive(Drop)]
+pub enum Reach {
+    /// All inputs that are reached.
+    All(List<Spot>),
+    /// There are more than a system may have connections.
+    TooMany,
+    /// The walk ended before it came to all of them.
+    Unknown,
+}
+
+/// What a walk came to that has put these inputs.
+fn reach_of(whole: bool, spots: List<Spot>) -> Reach
+    ensures { (put all : List Spots) → PutsUpTo whole put all → spots ≡ distinct [] put → Reaches (distinct [] all) result }
+{
+    if whole {
+        return Reach::All(spots);
+    }
+    let many = spots.len() > MOST_ENDS;
+    drop(spots);
+    if many { Reach::TooMany } else { Reach::Unknown }
+}
+
+/// The inputs of components that an input of a group reaches in a scope.
+fn walk_from<'n>(
+    alloc: Global,
+    names: &NestNames<'n>,
+    ways: &Ways<'n>,
+    guide: &mut Guide<'n>,
+    group: usize,
+    scope: &Scope,
+    port: &'n [u8],
+) -> Result<Reach, NoMemory>
+    requires known { AreKnown names.now ways.now.scopes ways.now.known.items }
+    requires scope { scope.now.group ≡ Some group }
+    ensures { IfOk result
+        (Reaches (distinct [] (flat_map (all_ends names.now 32) (map (spot_in scope.now) (ins_in names.now scope.now port.now))))) }
+{
+    let scopes = ways.scopes.as_slice();
+    let Some(base) = place_of(scopes, scope) else {
+        return Ok(Reach::Unknown);
+    };
+    guide.begin(base);
+    let mut walk = Walk {
+        ends: List::new(alloc),
+        done: Vec::new(alloc),
+    };
+    let inlet = Inlet {
+        scope: 0,
+        group,
+        port,
+        depth: LEVELS - 1,
+    };
+    let whole = walk_inlet(names, ways, Start { base, group }, guide, &mut walk, inlet)?;
+    let Some(spots) = inputs(alloc, names, scopes, base, walk.ends.as_slice())? else {
+        return Ok(Reach::Unknown);
+    };
+    let kept = distinct(alloc, spots.as_slice())?;
+    Ok(reach_of(whole, kept))
+}
+
+/// The inputs of components that an input of a scope reaches, or none where there are more than a system may have connections.
+pub fn reached<'n>(
+    alloc: Global,
+    names: &NestNames<'n>,
+    ways: &Ways<'n>,
+    guide: &mut Guide<'n>,
+    scope: &Scope,
+    to: &'n PortName,
+) -> Result<Option<List<Spot>>, NoMemory>
+    requires { AreKnown names.now ways.now.scopes ways.now.known.items }
+    ensures { IfOk result (IsReached names.now (record { scope = scope.now; port = to.now })) }
+{
+    if let Some(place) = names.place_at(scope.group, to.instance.as_slice()) {
+        let inner = inside(alloc, scope, &to.instance, place)?;
+        let port = to.port.as_slice();
+        match walk_from(alloc, names, ways, guide, place, &inner, port)? {
+            Reach::All(spots) => return Ok(Some(spots)),
+            Reach::TooMany => return Ok(None),
+            Reach::Unknown => {}
+        }
+    }
+    let mut spots = List::new(alloc);
+    spots.push(spot_of(alloc, scope, to)?)?;
+    Ok(Some(reach(alloc, names, LEVELS, spots)?))
+}

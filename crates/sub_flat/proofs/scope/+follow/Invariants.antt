@@ -1,4 +1,0 @@
-use Rattle.sub_flat.proofs.scope.+follow.Given as goal
-
-abbrev pub decreases-follow : goal.decreases-follow
-decreases-follow l = l.depth

@@ -1,4 +1,0 @@
-use Rattle.sub_flat.proofs.scope.+reach.Given as goal
-
-abbrev pub decreases-reach : goal.decreases-reach
-decreases-reach l = l.depth

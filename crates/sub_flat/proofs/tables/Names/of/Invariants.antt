@@ -1,6 +1,0 @@
-use Rattle.std.proofs.Common.{map}
-use Rattle.sub_flat.proofs.TableLaws.{ToldSoFar}
-use Rattle.sub_flat.proofs.tables.Names.of.Given as goal
-
-abbrev pub invariant-loop-place : goal.invariant-loop-place
-invariant-loop-place l = ToldSoFar (map (λ name. name.now) l.names) l.tables l.place

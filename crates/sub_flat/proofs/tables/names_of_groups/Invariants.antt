@@ -1,5 +1,0 @@
-use Rattle.std.proofs.Common.{◌≡◌, ◌++◌, drop, map}
-use Rattle.sub_flat.proofs.tables.names_of_groups.Given as goal
-
-abbrev pub invariant-loop-group : goal.invariant-loop-group
-invariant-loop-group l = map (λ name. name.now) l.names.items ++ map (λ group. group.name) (drop l.group-index l.groups) ≡ map (λ group. group.name) l.groups

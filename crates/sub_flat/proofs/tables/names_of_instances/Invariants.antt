@@ -1,5 +1,0 @@
-use Rattle.std.proofs.Common.{◌≡◌, ◌++◌, drop, map}
-use Rattle.sub_flat.proofs.tables.names_of_instances.Given as goal
-
-abbrev pub invariant-loop-instance : goal.invariant-loop-instance
-invariant-loop-instance l = map (λ name. name.now) l.names.items ++ map (λ instance. instance.name) (drop l.instance-index l.instances) ≡ map (λ instance. instance.name) l.instances
