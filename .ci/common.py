@@ -12,6 +12,9 @@ READ_FAULT = "cosim: read fault\n"
 WRITE_FAULT = "cosim: write fault\n"
 NO_MEMORY = "cosim: no memory\n"
 
+# The row of the table of commands for words without a form.
+OTHER_WORDS = "any other words"
+
 # How much of a line is told, in characters.
 LONGEST_TOLD = 200
 
@@ -76,3 +79,13 @@ def read_mistakes():
     """The table of examples/mistakes: of each text its name, what `check` answers, and its cure."""
     table = read("examples/mistakes/README.md").decode()
     return re.findall(r"^\| \[([\w-]+)\]\(\1\.cosim\) \|.*\| ([^|]+) \| ?([^|]*?) ?\|$", table, re.M)
+
+
+def read_commands():
+    """The table of commands in docs/COMMANDS.md: of each row the command, its options as they are told, and its statuses. The last row
+    is that of other words."""
+    table = re.search(r"^\| words \|.*?\n\n", read("docs/COMMANDS.md").decode(), re.M | re.S)[0]
+    for row in table.rstrip().splitlines()[2:]:
+        words, *_, statuses = re.split(r" (?<!\\)\| ", row.strip("| "))
+        command, _, options = words.strip("`").partition(" ") if words != OTHER_WORDS else (words, "", "")
+        yield command, options.replace("\\|", "|"), [int(status) for status in statuses.split(", ")]
