@@ -61,9 +61,9 @@ upto_none old more = (more, λ kept. refl)
 done_by : (nest : Nest) (scopes : List Scope) (base : ℕ) (old new : List End) (more : List Spot) (inlet : Inlet)
     → SameKept (inputs_at nest scopes base new) (inputs_at nest scopes base old ++ more) → IsDone nest scopes base old inlet
     → IsDone nest scopes base new inlet
-done_by nest scopes base old new more inlet same done scope one at of_group leads =
+done_by nest scopes base old new more inlet same done scope depth one at of_group within leads =
     let before = inputs_at nest scopes base old in
-    same_there (inputs_at nest scopes base new) (before ++ more) one same (in_front one before more (done scope one at of_group leads))
+    same_there (inputs_at nest scopes base new) (before ++ more) one same (in_front one before more (done scope depth one at of_group within leads))
 
 -- What is done stays done where more is put.
 pub done_more : (nest : Nest) (scopes : List Scope) (base group place : ℕ) (old new : Walk) (more : Scope → List Spot) → IsScopeAt scopes place group
@@ -88,69 +88,74 @@ pub known_puts : (nest : Nest) (scopes : List Scope) (all : List Known) (firsts 
     → FindsKnown all inlet.group inlet.port.now known → known.height ≤ inlet.depth
     → ((f : End → List Spot) → ReadsAlike firsts f
     → PutsUpTo whole (flat_map f new) (flat_map f (old ++ map (onward inlet.scope) known.ends)))
-    → (scope : Scope) → slice_get scopes (base + inlet.scope) ≡ Some scope → scope.group ≡ Some inlet.group
-    → PutsUpTo whole (inputs_at nest scopes base new) (inputs_at nest scopes base old ++ ends_of nest inlet.depth scope (lines_of nest inlet))
-known_puts nest scopes all firsts base group inlet known old new whole alike start are found low puts scope at of_group =
+    → (scope : Scope) (depth : ℕ) → slice_get scopes (base + inlet.scope) ≡ Some scope → scope.group ≡ Some inlet.group → inlet.depth ≤ depth
+    → PutsUpTo whole (inputs_at nest scopes base new) (inputs_at nest scopes base old ++ ends_of nest depth scope (lines_of nest inlet))
+known_puts nest scopes all firsts base group inlet known old new whole alike start are found low puts scope depth at of_group within =
     let f = input_at nest scopes base in
     let before = inputs_at nest scopes base old in
     let inner = inputs_at nest scopes (base + inlet.scope) known.ends in
-    let of_port : List ℕ → List Spot = λ port. flat_map (all_ends nest inlet.depth) (map (spot_in scope) (ins_in nest scope port)) in
-    let more = ends_of nest inlet.depth scope (lines_of nest inlet) in
+    let of_port : List ℕ → List Spot = λ port. flat_map (all_ends nest depth) (map (spot_in scope) (ins_in nest scope port)) in
+    let more = ends_of nest depth scope (lines_of nest inlet) in
     let joined : flat_map f (old ++ map (onward inlet.scope) known.ends) ≡ before ++ inner =
     flat_map-append f old (map (onward inlet.scope) known.ends)
     ∙ ap (λ rest. before ++ rest) (onward_at nest scopes base inlet.scope known.ends) in
     let knows : SameKept inner (of_port known.port.now) =
-    are found.2 known found.3 (base + inlet.scope) scope inlet.depth at (of_group ∙ ap (λ n. Some n) (sym found.0)) low in
+    are found.2 known found.3 (base + inlet.scope) scope depth at (of_group ∙ ap (λ n. Some n) (sym found.0)) (omega (arith, low, within)) in
     upto_same whole (flat_map f new) (flat_map f (old ++ map (onward inlet.scope) known.ends)) (before ++ more)
     (puts f (reads_alike nest scopes group firsts base start.scope alike start.there start.of_group))
     (same_then (flat_map f (old ++ map (onward inlet.scope) known.ends)) (before ++ inner) (before ++ more)
     (same_of (flat_map f (old ++ map (onward inlet.scope) known.ends)) (before ++ inner) joined)
     (same_both before before inner more (λ kept. refl)
     (same_then inner (of_port known.port.now) more knows
-    (same_of (of_port known.port.now) more (ap (ends_of nest inlet.depth scope) (same_lines nest scope inlet known.port.now found.1 of_group))))))
+    (same_of (of_port known.port.now) more (ap (ends_of nest depth scope) (same_lines nest scope inlet known.port.now found.1 of_group))))))
 
 -- ---- A line that leads to a component
 
 pub component_puts : (nest : Nest) (scopes : List Scope) (base : ℕ) (inlet : Inlet) (bind : Bind) (end : End) (old new : List End)
     → end.scope ≡ inlet.scope → option_map (λ (one : Bind). one.inner) (slice_get (ins_of nest (Some inlet.group)) end.line) ≡ Some bind.inner
     → place_at nest (Some inlet.group) bind.inner.instance ≡ None → PutsOnce end old new
-    → (scope : Scope) → slice_get scopes (base + inlet.scope) ≡ Some scope → scope.group ≡ Some inlet.group
-    → SameKept (inputs_at nest scopes base new) (inputs_at nest scopes base old ++ ends_of nest inlet.depth scope (bind ∷ []))
-component_puts nest scopes base inlet bind end old new here there component puts scope at of_group =
+    → (scope : Scope) (depth : ℕ) → slice_get scopes (base + inlet.scope) ≡ Some scope → scope.group ≡ Some inlet.group
+    → SameKept (inputs_at nest scopes base new) (inputs_at nest scopes base old ++ ends_of nest depth scope (bind ∷ []))
+component_puts nest scopes base inlet bind end old new here there component puts scope depth at of_group =
     let before = inputs_at nest scopes base old in
     let one = input_at nest scopes base end in
-    let all = ends_of nest inlet.depth scope (bind ∷ []) in
+    let all = ends_of nest depth scope (bind ∷ []) in
     same_then (inputs_at nest scopes base new) (before ++ one) (before ++ all) (put_once_same (input_at nest scopes base) end old new puts)
     (same_of (before ++ one) (before ++ all)
     (ap (λ more. before ++ more)
-    (component_at nest scopes base inlet.group inlet.depth scope bind end (ap (λ n. slice_get scopes (base + n)) here ∙ at) of_group there component)))
+    (component_at nest scopes base inlet.group depth scope bind end (ap (λ n. slice_get scopes (base + n)) here ∙ at) of_group there component)))
 
 -- ---- A line that leads into a group
 
-pub inside_puts : (nest : Nest) (scopes : List Scope) (base place depth : ℕ) (inlet inner : Inlet) (bind : Bind) (old new : Walk) (whole : Bool)
+pub inside_puts : (nest : Nest) (scopes : List Scope) (base place : ℕ) (inlet inner : Inlet) (bind : Bind) (old new : Walk) (whole : Bool)
     → (inlet.depth ≡ 0 → ⊥) → inner.group ≡ place → inner.port.now ≡ bind.inner.port → inner.depth ≡ inlet.depth - 1
     → StandsInside scopes base inlet.scope inner.scope bind.inner.instance place
     → place_at nest (Some inlet.group) bind.inner.instance ≡ Some place
     → WalksOn nest scopes base inner old new whole (lines_of nest inner) → WalksOn nest scopes base inlet old new whole (bind ∷ [])
-inside_puts nest scopes base place depth inlet inner bind old new whole deep group port less stands there walks = record {
-  puts = λ scope at of_group.
-      let within = inside scope bind.inner.instance place in
-      let from = spot_in scope bind in
-      let lines : lines_of nest inner ≡ ins_in nest within bind.inner.port =
-      sym (same_lines nest within inner bind.inner.port (sym port) (ap (λ n. Some n) (sym group))) in
-      let deeper : suc inner.depth ≡ inlet.depth = one_more inlet.depth inner.depth deep less in
-      let all : ends_of nest inner.depth within (lines_of nest inner) ≡ ends_of nest inlet.depth scope (bind ∷ []) =
-      ap (ends_of nest inner.depth within) lines
-      ∙ sym (ends_inside nest scope bind place inner.depth (ap (λ own. place_at nest own bind.inner.instance) of_group ∙ there))
-      ∙ ap (λ d. all_ends nest d from) deeper ∙ sym (append-nil (all_ends nest inlet.depth from)) in
-      subst (λ more. PutsUpTo whole (inputs_at nest scopes base new.ends) (inputs_at nest scopes base old.ends ++ more)) all
-      (walks.puts within (stands scope at) (ap (λ n. Some n) (sym group)));
+inside_puts nest scopes base place inlet inner bind old new whole deep group port less stands there walks = record {
+  puts = λ scope depth at of_group within. by scope depth at of_group within (some_less inlet.depth deep);
   done = walks.done;
 }
   where
-    one_more : (m n : ℕ) → (m ≡ 0 → ⊥) → n ≡ m - 1 → suc n ≡ m
-    one_more zero n some is = absurd (some refl)
-    one_more (suc m) n some is = omega (arith, is)
+    some_less : (depth : ℕ) → (depth ≡ 0 → ⊥) → 1 ≤ depth
+    some_less zero some = absurd (some refl)
+    some_less (suc depth) some = omega arith
+
+    by : (scope : Scope) (depth : ℕ) → slice_get scopes (base + inlet.scope) ≡ Some scope → scope.group ≡ Some inlet.group → inlet.depth ≤ depth
+        → 1 ≤ inlet.depth
+        → PutsUpTo whole (inputs_at nest scopes base new.ends) (inputs_at nest scopes base old.ends ++ ends_of nest depth scope (bind ∷ []))
+    by scope zero at of_group within some = absurd (omega (arith, within, some))
+    by scope (suc depth) at of_group within some =
+        let inside_it = inside scope bind.inner.instance place in
+        let from = spot_in scope bind in
+        let lines : lines_of nest inner ≡ ins_in nest inside_it bind.inner.port =
+        sym (same_lines nest inside_it inner bind.inner.port (sym port) (ap (λ n. Some n) (sym group))) in
+        let all : ends_of nest depth inside_it (lines_of nest inner) ≡ ends_of nest (suc depth) scope (bind ∷ []) =
+        ap (ends_of nest depth inside_it) lines
+        ∙ sym (ends_inside nest scope bind place depth (ap (λ own. place_at nest own bind.inner.instance) of_group ∙ there))
+        ∙ sym (append-nil (all_ends nest (suc depth) from)) in
+        subst (λ more. PutsUpTo whole (inputs_at nest scopes base new.ends) (inputs_at nest scopes base old.ends ++ more)) all
+        (walks.puts inside_it depth (stands scope at) (ap (λ n. Some n) (sym group)) (omega (arith, within, less, some)))
 
 pub falls : (depth : ℕ) → (depth ≡ 0 → ⊥) → 5 * (depth - 1) + 4 < 5 * depth
 falls zero some = absurd (some refl)
@@ -170,7 +175,7 @@ inside_there scopes base outer inner group place name at stands = record {
 pub walks_nothing : (nest : Nest) (scopes : List Scope) (base : ℕ) (inlet : Inlet) (walk : Walk) → AreDone nest scopes base walk
     → WalksOn nest scopes base inlet walk walk true []
 walks_nothing nest scopes base inlet walk done = record {
-  puts = λ scope at of_group.
+  puts = λ scope depth at of_group within.
       same_of (inputs_at nest scopes base walk.ends) (inputs_at nest scopes base walk.ends ++ [])
       (sym (append-nil (inputs_at nest scopes base walk.ends)));
   done = λ told. done;
@@ -186,24 +191,25 @@ pub walks_more : (nest : Nest) (scopes : List Scope) (base : ℕ) (inlet : Inlet
     → WalksOn nest scopes base inlet old now true ones → WalksOn nest scopes base inlet now new whole others → all ≡ ones ++ others
     → WalksOn nest scopes base inlet old new whole all
 walks_more nest scopes base inlet old now new whole ones others all first then_ is = record {
-  puts = λ scope at of_group.
+  puts = λ scope depth at of_group within.
       let f = inputs_at nest scopes base in
-      let g = ends_of nest inlet.depth scope in
-      subst (λ more. PutsUpTo whole (f new.ends) (f old.ends ++ more)) (sym (ap g is ∙ ends_append nest inlet.depth scope ones others))
-      (upto_then whole (f old.ends) (f now.ends) (f new.ends) (g ones) (g others) (first.puts scope at of_group) (then_.puts scope at of_group));
+      let g = ends_of nest depth scope in
+      subst (λ more. PutsUpTo whole (f new.ends) (f old.ends ++ more)) (sym (ap g is ∙ ends_append nest depth scope ones others))
+      (upto_then whole (f old.ends) (f now.ends) (f new.ends) (g ones) (g others) (first.puts scope depth at of_group within)
+      (then_.puts scope depth at of_group within));
   done = then_.done;
 }
 
 pub walks_stop : (nest : Nest) (scopes : List Scope) (base : ℕ) (inlet : Inlet) (old new : Walk) (ones others all : List Bind)
     → WalksOn nest scopes base inlet old new false ones → all ≡ ones ++ others → WalksOn nest scopes base inlet old new false all
 walks_stop nest scopes base inlet old new ones others all walks is = record {
-  puts = λ scope at of_group.
+  puts = λ scope depth at of_group within.
       let f = inputs_at nest scopes base in
-      let g = ends_of nest inlet.depth scope in
+      let g = ends_of nest depth scope in
       subst (PutsUpTo false (f new.ends))
       (append_assoc (f old.ends) (g ones) (g others)
-      ∙ ap (λ more. f old.ends ++ more) (sym (ap g is ∙ ends_append nest inlet.depth scope ones others)))
-      (upto_stop (f new.ends) (f old.ends ++ g ones) (g others) (walks.puts scope at of_group));
+      ∙ ap (λ more. f old.ends ++ more) (sym (ap g is ∙ ends_append nest depth scope ones others)))
+      (upto_stop (f new.ends) (f old.ends ++ g ones) (g others) (walks.puts scope depth at of_group within));
   done = λ told. let never : false ≡ true = told in absurd (cc);
 }
 
@@ -216,7 +222,7 @@ lines_split ins lines place =
 pub walks_none : (nest : Nest) (scopes : List Scope) (base : ℕ) (inlet : Inlet) (walk : Walk) (binds : List Bind)
     → WalksOn nest scopes base inlet walk walk false binds
 walks_none nest scopes base inlet walk binds = record {
-  puts = λ scope at of_group. upto_none (inputs_at nest scopes base walk.ends) (ends_of nest inlet.depth scope binds);
+  puts = λ scope depth at of_group within. upto_none (inputs_at nest scopes base walk.ends) (ends_of nest depth scope binds);
   done = λ told. let never : false ≡ true = told in absurd (cc);
 }
 
@@ -225,27 +231,27 @@ walks_none nest scopes base inlet walk binds = record {
 pub walks_done : (nest : Nest) (scopes : List Scope) (base : ℕ) (inlet : Inlet) (walk : Walk) → AreDone nest scopes base walk
     → FindsDone walk.done.items inlet → WalksOn nest scopes base inlet walk walk true (lines_of nest inlet)
 walks_done nest scopes base inlet walk are finds = record {
-  puts = λ scope at of_group.
+  puts = λ scope depth at of_group within.
       let found = finds.found in
+      let low = finds.depth in
       let lines : lines_of nest found ≡ lines_of nest inlet =
       ap (λ own. filter (λ (bind : Bind). bytes_eq bind.port found.port.now) (ins_of nest (Some own))) finds.group
       ∙ ap (λ name. filter (λ (bind : Bind). bytes_eq bind.port name) (ins_of nest (Some inlet.group))) finds.port in
-      let same : ends_of nest found.depth scope (lines_of nest found) ≡ ends_of nest inlet.depth scope (lines_of nest inlet) =
-      ap (λ d. ends_of nest d scope (lines_of nest found)) finds.depth ∙ ap (ends_of nest inlet.depth scope) lines in
-      same_covered (inputs_at nest scopes base walk.ends) (ends_of nest inlet.depth scope (lines_of nest inlet))
+      same_covered (inputs_at nest scopes base walk.ends) (ends_of nest depth scope (lines_of nest inlet))
       (λ one is.
-      are finds.place found finds.there scope one (ap (λ n. slice_get scopes (base + n)) finds.scope ∙ at)
-      (of_group ∙ ap (λ n. Some n) (sym finds.group)) (subst (IsIn one) (sym same) is));
+      are finds.place found finds.there scope depth one (ap (λ n. slice_get scopes (base + n)) finds.scope ∙ at)
+      (of_group ∙ ap (λ n. Some n) (sym finds.group)) (omega (arith, low, within))
+      (subst (λ those. IsIn one (ends_of nest depth scope those)) (sym lines) is));
   done = λ told. are;
 }
 
 -- An input of which all was put is done.
 pub is_done_now : (nest : Nest) (scopes : List Scope) (base : ℕ) (inlet : Inlet) (old new : Walk)
     → WalksOn nest scopes base inlet old new true (lines_of nest inlet) → IsDone nest scopes base new.ends inlet
-is_done_now nest scopes base inlet old new walks scope one at of_group is =
+is_done_now nest scopes base inlet old new walks scope depth one at of_group within is =
     let before = inputs_at nest scopes base old.ends in
-    let all = ends_of nest inlet.depth scope (lines_of nest inlet) in
-    same_there (inputs_at nest scopes base new.ends) (before ++ all) one (walks.puts scope at of_group) (in_behind one before all is)
+    let all = ends_of nest depth scope (lines_of nest inlet) in
+    same_there (inputs_at nest scopes base new.ends) (before ++ all) one (walks.puts scope depth at of_group within) (in_behind one before all is)
 
 pub done_with : (nest : Nest) (scopes : List Scope) (base : ℕ) (old new : Walk) (inlet : Inlet) → AreDone nest scopes base old
     → IsDone nest scopes base old.ends inlet → new.ends ≡ old.ends → new.done.items ≡ old.done.items ++ inlet ∷ [] → AreDone nest scopes base new
@@ -259,9 +265,9 @@ pub walks_same : (nest : Nest) (scopes : List Scope) (base : ℕ) (inlet : Inlet
     → WalksOn nest scopes base inlet old now true binds → new.ends ≡ now.ends → AreDone nest scopes base new
     → WalksOn nest scopes base inlet old new true binds
 walks_same nest scopes base inlet old now new binds walks same done = record {
-  puts = λ scope at of_group.
-      subst (λ ends. SameKept (inputs_at nest scopes base ends) (inputs_at nest scopes base old.ends ++ ends_of nest inlet.depth scope binds))
-      (sym same) (walks.puts scope at of_group);
+  puts = λ scope depth at of_group within.
+      subst (λ ends. SameKept (inputs_at nest scopes base ends) (inputs_at nest scopes base old.ends ++ ends_of nest depth scope binds))
+      (sym same) (walks.puts scope depth at of_group within);
   done = λ told. done;
 }
 

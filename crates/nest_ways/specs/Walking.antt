@@ -1,5 +1,5 @@
 -- How an input of a group is followed in one scope, however much it leads to.
-use Rattle.std.specs.Prelude.{◌≡◌, ◌<◌, ℕ, ◌+◌, Bool, IsTrue, List, [], ◌∷◌, ◌++◌, length, map, Option, Some, None, slice_get, ⊤}
+use Rattle.std.specs.Prelude.{◌≡◌, ◌≤◌, ◌<◌, ℕ, ◌+◌, Bool, IsTrue, List, [], ◌∷◌, ◌++◌, length, map, Option, Some, None, slice_get, ⊤}
 use Rattle.std.specs.List.{filter, flat_map}
 use Rattle.std.specs.Str.{bytes_eq}
 use Rattle.nest_text.specs.declared.nest.Bind.{Bind}
@@ -37,31 +37,32 @@ lines_of nest inlet = filter (λ bind. bytes_eq bind.port inlet.port.now) (ins_o
 abbrev pub ends_of : Nest → ℕ → Scope → List Bind → List Spot
 ends_of nest depth scope binds = flat_map (all_ends nest depth) (map (spot_in scope) binds)
 
--- All inputs of components that an input of a group leads to were put.
+-- All inputs of components that an input of a group leads to were put, if it is followed as many levels down or more.
 abbrev pub IsDone : Nest → List Scope → ℕ → List End → Inlet → Type 0
 IsDone nest scopes base ends inlet =
-    (scope : Scope) (one : Spot) → slice_get scopes (base + inlet.scope) ≡ Some scope → scope.group ≡ Some inlet.group
-    → IsIn one (ends_of nest inlet.depth scope (lines_of nest inlet)) → IsIn one (inputs_at nest scopes base ends)
+    (scope : Scope) (depth : ℕ) (one : Spot) → slice_get scopes (base + inlet.scope) ≡ Some scope → scope.group ≡ Some inlet.group → inlet.depth ≤ depth
+    → IsIn one (ends_of nest depth scope (lines_of nest inlet)) → IsIn one (inputs_at nest scopes base ends)
 
 abbrev pub AreDone : Nest → List Scope → ℕ → Walk → Type 0
 AreDone nest scopes base walk = (place : ℕ) (inlet : Inlet) → slice_get walk.done.items place ≡ Some inlet → IsDone nest scopes base walk.ends inlet
 
--- The input, as it is followed so many levels further down, is at a place of those that are done.
+-- The input is at a place of those that are done, followed no more levels down.
 pub record FindsDone (done : List Inlet) (inlet : Inlet) : Type 0 where
   pub place : ℕ
   pub found : Inlet
   pub there : slice_get done place ≡ Some found
   pub scope : found.scope ≡ inlet.scope
   pub group : found.group ≡ inlet.group
-  pub depth : found.depth ≡ inlet.depth
+  pub depth : found.depth ≤ inlet.depth
   pub port : found.port.now ≡ inlet.port.now
 
 -- ---- Going on
 
--- From the scope of an input, what its lines lead to was put behind what was there: all of it, and what is done is right; or some of it.
+-- From the scope of an input, what its lines lead to was put behind what was there, if they are followed as many levels down or more: all
+-- of it, and what is done is right; or some of it.
 pub record WalksOn (nest : Nest) (scopes : List Scope) (base : ℕ) (inlet : Inlet) (old new : Walk) (whole : Bool) (binds : List Bind) : Type 0 where
-  pub puts : (scope : Scope) → slice_get scopes (base + inlet.scope) ≡ Some scope → scope.group ≡ Some inlet.group
-      → PutsUpTo whole (inputs_at nest scopes base new.ends) (inputs_at nest scopes base old.ends ++ ends_of nest inlet.depth scope binds)
+  pub puts : (scope : Scope) (depth : ℕ) → slice_get scopes (base + inlet.scope) ≡ Some scope → scope.group ≡ Some inlet.group → inlet.depth ≤ depth
+      → PutsUpTo whole (inputs_at nest scopes base new.ends) (inputs_at nest scopes base old.ends ++ ends_of nest depth scope binds)
   pub done : IsTrue whole → AreDone nest scopes base new
 
 -- ---- What is reached

@@ -28,7 +28,7 @@ pub struct Start {
     pub group: usize,
 }
 
-/// An input of a group in a scope, with how many levels are followed further down.
+/// An input of a group in a scope, with how many levels are followed further down. What is done is done for more levels too.
 #[derive(Clone, Copy)]
 pub struct Inlet<'n> {
     /// How many places further on the scope stands in the list of all scopes.
@@ -53,7 +53,7 @@ fn is_done(done: &[Inlet<'_>], place: usize, inlet: Inlet<'_>) -> bool
         Some(other) => {
             other.scope == inlet.scope
                 && other.group == inlet.group
-                && other.depth == inlet.depth
+                && other.depth <= inlet.depth
                 && other.port == inlet.port
         }
         None => false,

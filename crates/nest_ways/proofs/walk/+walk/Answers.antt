@@ -5,7 +5,7 @@ use Rattle.nest_names.specs.Tables.{items_at}
 use Rattle.nest_ways.specs.Reaching.{FindsKnown, ins_of}
 use Rattle.nest_ways.specs.Walking.{FindsDone, WalksOn, lines_of}
 use Rattle.nest_ways.specs.declared.walk.Inlet.{Inlet}
-use Rattle.nest_ways.proofs.WalkLaws.{falls, inside_puts, inside_there, is_done_now, lines_split, ok_more, walks_done, walks_more, walks_none, walks_stop}
+use Rattle.nest_ways.proofs.WalkLaws.{falls, inside_puts, inside_there, is_done_now, lines_split, ok_more, walks_done, walks_more, walks_none, walks_same, walks_stop}
 use Rattle.nest_ways.proofs.WayLaws.{lines_next}
 use Rattle.nest_ways.proofs.walk.+walk.Goals as goal
 
@@ -52,7 +52,7 @@ walk_inside-returns t c =
     ok_more (λ whole. WalksOn nest scopes base inner old new whole (lines_of nest inner))
     (λ whole. WalksOn nest scopes base inlet old new whole (c.args.bind.now ∷ [])) c.walk_inlet.result c.walk_inlet.ensures
     (λ whole walks.
-    inside_puts nest scopes base c.args.place inlet.depth inlet inner c.args.bind.now old new whole c.if-inlet-eq0.false refl c.as_slice.ensures refl
+    inside_puts nest scopes base c.args.place inlet inner c.args.bind.now old new whole c.if-inlet-eq0.false refl c.as_slice.ensures refl
     (c.scope_inside.ensures c.in-Some.scope c.in-Some.is) c.requires.inside walks)
 
 pub walk_lines-returns-then-not-branch : goal.walk_lines-returns-then-not-branch
@@ -106,3 +106,24 @@ walk_through-note_done-requires-clause-all t c =
     (subst (WalksOn nest scopes base inlet old new true) c.ins_named-lines.ensures
     (subst (λ whole. WalksOn nest scopes base inlet old new whole (items_at ins c.ins_named-lines.result.now)) c.if-not-branch.false
     c.in_ok-walk_lines.ensures))
+
+pub walk_lines-walk_line-requires : goal.walk_lines-walk_line-requires
+walk_lines-walk_line-requires t c =
+    let most = c.decreases in (omega (arith, most), (c.requires.known, (c.requires.start, (c.requires.scope, c.loop-line.invariant.done refl))))
+
+pub walk_through-note_done-requires-clause-done : goal.walk_through-note_done-requires-clause-done
+walk_through-note_done-requires-clause-done t c = c.in_ok-walk_lines.ensures.done c.if-not-branch.false
+
+pub walk_through-returns : goal.walk_through-returns
+walk_through-returns t c =
+    let nest = c.args.names.now in
+    let scopes = c.args.ways.now.scopes in
+    let base = c.args.start.base in
+    let inlet = c.args.inlet in
+    let old = c.args.walk.now in
+    let now = c.walk_lines.new.walk in
+    let ins = ins_of nest (Some inlet.group) in
+    walks_same nest scopes base inlet old now c.note_done.new.walk (lines_of nest inlet)
+    (subst (WalksOn nest scopes base inlet old now true) c.ins_named-lines.ensures
+    (subst (λ whole. WalksOn nest scopes base inlet old now whole (items_at ins c.ins_named-lines.result.now)) c.if-not-branch.false
+    c.in_ok-walk_lines.ensures)) c.in_ok-note_done.ensures.ends c.in_ok-note_done.ensures.done

@@ -1,4 +1,4 @@
-use Rattle.std.proofs.Common.{◌+◌, ◌++◌, List, map, refl, subst}
+use Rattle.std.proofs.Common.{◌+◌, ◌++◌, List, arith, map, refl, subst}
 use Rattle.std.specs.List.{flat_map}
 use Rattle.nest_ways.specs.Reaching.{PutsUpTo, ReadsAlike, inputs_at, onward}
 use Rattle.nest_ways.specs.Walking.{WalksOn, ends_of, lines_of}
@@ -39,5 +39,5 @@ returns c =
           done_more nest ways.scopes base inlet.group (base + inlet.scope) old new (λ scope. ends_of nest inlet.depth scope lines) c.requires.scope refl
           (λ scope at of_group.
           subst (λ w. PutsUpTo w (inputs_at nest ways.scopes base ends) (inputs_at nest ways.scopes base old.ends ++ ends_of nest inlet.depth scope lines)) told
-          (all scope at of_group)) c.requires.done;
+          (all scope inlet.depth at of_group (omega arith))) c.requires.done;
     })

@@ -33,8 +33,8 @@ returns c =
     let puts =
     component_puts nest scopes base inlet bind end old.ends c.put_once.new.ends refl there c.requires.component c.in_ok-put_once.ensures in
     record {
-      puts = puts;
+      puts = λ scope depth at of_group within. puts scope depth at of_group;
       done = λ told.
           done_more nest scopes base inlet.group (base + inlet.scope) old new (λ scope. ends_of nest inlet.depth scope (bind ∷ [])) c.requires.scope refl
-          puts c.requires.done;
+          (λ scope at of_group. puts scope inlet.depth at of_group) c.requires.done;
     }
