@@ -1,4 +1,6 @@
 """Texts at the ends of what the language allows: as deep as there may be, and of nearly 1 MiB in many shapes."""
+import random
+
 
 LONGEST = 1_048_576
 LONGEST_LINE = 1_000
@@ -161,13 +163,17 @@ def long_nests():
         ("many ways to a few more inputs, for some connections", ways_to_inputs(130, 15)),
         ("names that lead to all inputs that there may be", names_to_inputs(2_000, 30_000)),
         ("names that lead to as many inputs as are kept", names_to_inputs(128, 30_000)),
+        ("names in no order that lead to a few more inputs, for some connections", names_in_no_order(130, 30_000, 15)),
+        ("levels of names in no order that lead to a few more inputs, for some connections", levels_of_names(11, 4_600, 130, 15)),
         ("names that lead to inputs in many places", names_in_places(15, 130)),
         ("names that lead to more inputs than there may be, in many places", names_in_places(17, 130)),
         ("two paths to scopes of one name", twin_paths(1_500, 20_000)),
         ("two paths to scopes of one name, with few inputs", twin_paths(100, 20_000)),
+        ("paths of two lengths to scopes of one name, in turns", twins_in_turns(130, 15_000)),
         ("instances of one name", twin_instances(60)),
         ("outputs that are connected", connected_outputs()),
-        ("samples down a chain", samples_down(14)),
+        ("samples down a chain", samples_down(15)),
+        ("samples of many outputs down a chain", outputs_down(15, 35_000)),
         ("samples and connections down a chain that is too deep", samples_down(33)),
     ]
 
@@ -242,6 +248,31 @@ def names_to_inputs(inputs, names):
     return filled(inner, lambda number: f"in x->k.{name_of(number % names)}\n", tail)
 
 
+def shuffled(count, seed):
+    numbers = list(range(count))
+    random.Random(seed).shuffle(numbers)
+    return numbers
+
+
+def names_in_no_order(inputs, names, connections):
+    """As `names_to_inputs`, but names stand in no order, and those that lead to them in another."""
+    inner = "group J\ninstance d:M\nend\n" + leads(inputs, "y") + "group H\ninstance j:J\nend\n"
+    inner += "".join(f"in {name_of(number)}->j.y\n" for number in shuffled(names, 1)) + "group G\ninstance k:H\nend\n"
+    inner += "".join(f"in x->k.{name_of(number)}\n" for number in shuffled(names, 2))
+    return (inner + with_unit(unit_with(inputs)) + "instance g:G\nend\n" + "connect a.y->g.x\n" * connections).encode()
+
+
+def levels_of_names(depth, names, inputs, connections):
+    """Groups in each other, each with many names in no order that lead to those of the one inside, and at the bottom to many inputs."""
+    text = "group J\ninstance d:M\nend\n" + leads(inputs, "y") + "group H0\ninstance k:J\nend\n"
+    text += "".join(f"in {name_of(number)}->k.y\n" for number in range(names))
+    for level in range(1, depth):
+        pairs = zip(shuffled(names, level), shuffled(names, level + depth))
+        text += f"group H{level}\ninstance k:H{level - 1}\nend\n" + "".join(f"in {name_of(one)}->k.{name_of(other)}\n" for one, other in pairs)
+    text += f"group G\ninstance k:H{depth - 1}\nend\n" + "".join(f"in x->k.{name_of(number)}\n" for number in shuffled(names, 0))
+    return (text + with_unit(unit_with(inputs)) + "instance g:G\nend\n" + "connect a.y->g.x\n" * connections).encode()
+
+
 def names_in_places(places, inputs):
     """Instances of a group with many names, each of which leads to many inputs; all are asked for at once."""
     names = 12_000
@@ -264,6 +295,16 @@ def twin_paths(inputs, names):
     wires = "connect a.y->e.x\n" * connections + "connect a.y->e.w\n" * (2_048 - connections * inputs)
     tail = with_unit(unit_with(inputs)) + "instance e:E\nend\n" + wires
     return filled(inner + first + second + both + outer, lambda number: f"in w->f.{name_of(number % names)}\n", tail)
+
+
+def twins_in_turns(inputs, names):
+    """Two ways of unequal length to scopes of one name, each led to in turn, by one of many names and without one."""
+    inner = "group C\ninstance d:M\nend\n" + leads(inputs, "x") + "group P\ninstance b:C\nend\n"
+    inner += "".join(f"in {name_of(number)}->b.x\n" for number in range(names))
+    inner += "group G\ninstance a:P\nend\ninstance a_b:C\nend\n"
+    turns = "".join(f"in x->a.{name_of(number)}\nin x->a_b.x\n" for number in range(names))
+    tail = with_unit(unit_with(inputs)) + "instance g:G\nend\n" + "connect a.y->g.x\n" * (2_048 // inputs)
+    return (inner + turns + tail).encode()
 
 
 def twin_instances(count):
@@ -290,3 +331,12 @@ def samples_down(depth):
         groups += f"group G{number}\ninstance k:G{number - 1}\nend\nin x->k.x\nout y=k.y\n"
     main = NESTED_MAIN + f"instance g:G{depth - 1}\nend\n" + "connect a.y->g.x\n" * 2_048
     return filled(groups + main, lambda number: "sample g.y\n")
+
+
+def outputs_down(depth, outputs):
+    """Samples of many outputs, each of which leads down the same chain of groups."""
+    groups = "group G0\ninstance d:D\nend\nout y=d.p\n"
+    for number in range(1, depth - 1):
+        groups += f"group G{number}\ninstance k:G{number - 1}\nend\nout y=k.y\n"
+    groups += f"group H\ninstance k:G{depth - 2}\nend\n" + "".join(f"out {name_of(number)}=k.y\n" for number in range(outputs))
+    return (groups + ONE_GROUP.replace("g:G", "g:H") + "".join(f"sample g.{name_of(number)}\n" for number in range(outputs))).encode()
