@@ -1,5 +1,5 @@
 -- Scopes that are the same, by tables of the first ones.
-use Rattle.std.proofs.Common.{◌≡◌, ℕ, List, [], ◌∷◌, ◌++◌, length, Option, Some, None, refl, sym, ap, ◌∙◌, subst}
+use Rattle.std.proofs.Common.{◌≡◌, ◌+◌, ℕ, List, [], ◌∷◌, ◌++◌, length, Option, Some, None, refl, sym, ap, ◌∙◌, subst}
 use Rattle.std.specs.Prelude.{slice_get}
 use Rattle.std.specs.Option.{option_and_then, option_map, option_to_list, unwrap_or}
 use Rattle.list_laws.proofs.Members.{at_push}
@@ -48,3 +48,14 @@ first_input f firsts offset line reads = by (slice_get firsts offset) refl
         → f (record { scope = unwrap_or (slice_get firsts offset) offset; line = line }) ≡ f (record { scope = offset; line = line })
     by None at = ap (λ found. f (record { scope = unwrap_or found offset; line = line })) at
     by (Some first) at = ap (λ found. f (record { scope = unwrap_or found offset; line = line })) at ∙ sym (reads offset first line at)
+
+-- The first scope that is the same, by a table.
+pub first_scope : (scopes : List Scope) (group : ℕ) (firsts : List ℕ) (base : ℕ) (scope : Scope) (offset : ℕ) → AreAlike scopes group firsts
+    → slice_get scopes base ≡ Some scope → scope.group ≡ Some group
+    → slice_get scopes (base + unwrap_or (slice_get firsts offset) offset) ≡ slice_get scopes (base + offset)
+first_scope scopes group firsts base scope offset are at of_group = by (slice_get firsts offset) refl
+  where
+    by : (found : Option ℕ) → slice_get firsts offset ≡ found
+        → slice_get scopes (base + unwrap_or (slice_get firsts offset) offset) ≡ slice_get scopes (base + offset)
+    by None there = ap (λ found. slice_get scopes (base + unwrap_or found offset)) there
+    by (Some first) there = ap (λ found. slice_get scopes (base + unwrap_or found offset)) there ∙ sym (are offset first there base scope at of_group)

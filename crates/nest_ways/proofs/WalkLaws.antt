@@ -1,30 +1,29 @@
--- What an input of a group leads to in one scope, line by line.
-use Rattle.std.proofs.Common.{◌≡◌, ◌≤◌, ◌<◌, ℕ, zero, suc, ◌+◌, ◌-◌, ◌*◌, Bool, true, false, List, [], ◌∷◌, ◌++◌, map, length, take, drop}
-use Rattle.std.proofs.Common.{take-append-drop, refl, sym, ap, ◌∙◌, subst, append_assoc, append-nil, arith, bytes_eq, length-append, Some, None}
+-- What an input of a group leads to in one scope, step by step.
+use Rattle.std.proofs.Common.{◌≡◌, ◌≤◌, ◌<◌, ℕ, zero, suc, ◌+◌, ◌*◌, Bool, true, false, List, [], ◌∷◌, ◌++◌, map, length, take}
+use Rattle.std.proofs.Common.{refl, sym, ap, ◌∙◌, subst, append_assoc, append-nil, arith, length-append, Some, None}
 use Rattle.std.proofs.Common.{Result, Ok, Err}
-use Rattle.std.specs.Prelude.{IfOk, slice_get}
-use Rattle.std.specs.List.{filter, filter_map, flat_map}
-use Rattle.std.specs.Option.{option_map}
+use Rattle.std.specs.Prelude.{IfOk, IsTrue, slice_get}
+use Rattle.std.specs.List.{flat_map}
+use Rattle.std.specs.Option.{option_to_list}
 use Rattle.std.proofs.lemmas.Grind.{flat_map-append}
-use Rattle.std.proofs.lemmas.List.{map-append}
-use Rattle.std.proofs.lemmas.List.Elements.{filter_map-append}
+use Rattle.std.proofs.lemmas.Option.{same_Some}
 use Rattle.list_laws.proofs.Members.{at_push}
 use Rattle.nest_text.specs.declared.nest.Bind.{Bind}
 use Rattle.nest_text.specs.declared.nest.Nest.{Nest}
-use Rattle.nest_names.specs.Flattening.{distinct, ins_in, inside, place_at, spot_in}
-use Rattle.nest_names.specs.Tables.{items_at}
+use Rattle.nest_names.specs.Flattening.{distinct, inside}
 use Rattle.nest_names.specs.declared.scope.Scope.{Scope}
 use Rattle.nest_names.specs.declared.scope.Spot.{Spot}
-use Rattle.nest_ways.specs.Reaching.{AreAlike, AreKnown, FindsKnown, IsIn, PutsOnce, PutsUpTo, ReadsAlike, SameKept, all_ends, input_at, ins_of}
-use Rattle.nest_ways.specs.Reaching.{inputs_at, onward}
-use Rattle.nest_ways.specs.Walking.{AreDone, FindsDone, IsDone, IsScopeAt, StandsInside, WalksOn, ends_of, lines_of}
+use Rattle.nest_ways.specs.Reaching.{AreAlike, IsIn, KeepsAll, LeadsHere, LeadsInside, PutsIf, PutsOnce, PutsUpTo, ReadsAlike, SameKept}
+use Rattle.nest_ways.specs.Reaching.{ends_of, input_at, inputs_at, lines_of, onward}
+use Rattle.nest_ways.specs.Walking.{AreDone, IsDone, IsInletAt, IsScopeAt, WalksOn, WalksWhole}
 use Rattle.nest_ways.specs.declared.ends.End.{End}
-use Rattle.nest_ways.specs.declared.known.Known.{Known}
+use Rattle.nest_ways.specs.declared.steps.Inside.{Inside}
+use Rattle.nest_ways.specs.declared.steps.Known.{Known}
 use Rattle.nest_ways.specs.declared.walk.Inlet.{Inlet}
 use Rattle.nest_ways.specs.declared.walk.Walk.{Walk}
 use Rattle.nest_ways.proofs.AlikeLaws.{reads_alike}
 use Rattle.nest_ways.proofs.KeptLaws.{distinct-append, in_behind, in_front, same_both, same_covered, same_there}
-use Rattle.nest_ways.proofs.WayLaws.{component_at, ends_inside, onward_at, put_once_same, same_of, same_then}
+use Rattle.nest_ways.proofs.WayLaws.{component_at, ends_append, leads_ends, onward_at, put_once_same, same_of, same_then}
 
 pub ok_more : {A E : Type 0} (P Q : A → Type 0) (result : Result A E) → IfOk result P → ((value : A) → P value → Q value) → IfOk result Q
 ok_more P Q (Ok value) is more = more value is
@@ -58,139 +57,139 @@ upto_none old more = (more, λ kept. refl)
 
 -- ---- What is done
 
-done_by : (nest : Nest) (scopes : List Scope) (base : ℕ) (old new : List End) (more : List Spot) (inlet : Inlet)
-    → SameKept (inputs_at nest scopes base new) (inputs_at nest scopes base old ++ more) → IsDone nest scopes base old inlet
-    → IsDone nest scopes base new inlet
-done_by nest scopes base old new more inlet same done scope depth one at of_group within leads =
+done_by : (nest : Nest) (scopes : List Scope) (base offset : ℕ) (known : Known) (old new : List End) (more : List Spot)
+    → SameKept (inputs_at nest scopes base new) (inputs_at nest scopes base old ++ more) → IsDone nest scopes base old offset known
+    → IsDone nest scopes base new offset known
+done_by nest scopes base offset known old new more same done scope depth one at of_group within leads =
     let before = inputs_at nest scopes base old in
     same_there (inputs_at nest scopes base new) (before ++ more) one same (in_front one before more (done scope depth one at of_group within leads))
 
 -- What is done stays done where more is put.
-pub done_more : (nest : Nest) (scopes : List Scope) (base group place : ℕ) (old new : Walk) (more : Scope → List Spot) → IsScopeAt scopes place group
-    → new.done.items ≡ old.done.items
+pub done_more : (nest : Nest) (scopes : List Scope) (all : List Known) (base group place : ℕ) (old new : Walk) (more : Scope → List Spot)
+    → IsScopeAt scopes place group → new.done.items ≡ old.done.items
     → ((scope : Scope) → slice_get scopes place ≡ Some scope → scope.group ≡ Some group
     → SameKept (inputs_at nest scopes base new.ends) (inputs_at nest scopes base old.ends ++ more scope))
-    → AreDone nest scopes base old → AreDone nest scopes base new
-done_more nest scopes base group place old new more there still puts are at inlet found =
-    done_by nest scopes base old.ends new.ends (more there.scope) inlet (puts there.scope there.there there.of_group)
-    (are at inlet (sym (ap (λ done. slice_get done at) still) ∙ found))
+    → AreDone nest scopes all base old → AreDone nest scopes all base new
+done_more nest scopes all base group place old new more there still puts are at inlet known found held =
+    done_by nest scopes base inlet.scope known old.ends new.ends (more there.scope) (puts there.scope there.there there.of_group)
+    (are at inlet known (sym (ap (λ done. slice_get done at) still) ∙ found) held)
 
--- ---- Known inputs
+-- ---- Inputs that are kept
 
-same_lines : (nest : Nest) (scope : Scope) (inlet : Inlet) (port : List ℕ) → port ≡ inlet.port.now → scope.group ≡ Some inlet.group
-    → ins_in nest scope port ≡ lines_of nest inlet
-same_lines nest scope inlet port is of_group =
-    ap (λ own. filter (λ (bind : Bind). bytes_eq bind.port port) (ins_of nest own)) of_group
-    ∙ ap (λ name. filter (λ (bind : Bind). bytes_eq bind.port name) (ins_of nest (Some inlet.group))) is
-
-pub known_puts : (nest : Nest) (scopes : List Scope) (all : List Known) (firsts : List ℕ) (base group : ℕ) (inlet : Inlet) (known : Known)
-    (old new : List End) (whole : Bool) → AreAlike scopes group firsts → IsScopeAt scopes base group → AreKnown nest scopes all
-    → FindsKnown all inlet.group inlet.port.now known → known.height ≤ inlet.depth
-    → ((f : End → List Spot) → ReadsAlike firsts f
-    → PutsUpTo whole (flat_map f new) (flat_map f (old ++ map (onward inlet.scope) known.ends)))
-    → (scope : Scope) (depth : ℕ) → slice_get scopes (base + inlet.scope) ≡ Some scope → scope.group ≡ Some inlet.group → inlet.depth ≤ depth
-    → PutsUpTo whole (inputs_at nest scopes base new) (inputs_at nest scopes base old ++ ends_of nest depth scope (lines_of nest inlet))
-known_puts nest scopes all firsts base group inlet known old new whole alike start are found low puts scope depth at of_group within =
+pub kept_puts : (nest : Nest) (scopes : List Scope) (firsts : List ℕ) (base group offset : ℕ) (known : Known) (kept old new : List End) (whole : Bool)
+    → AreAlike scopes group firsts → IsScopeAt scopes base group → KeepsAll nest scopes known kept
+    → ((f : End → List Spot) → ReadsAlike firsts f → PutsUpTo whole (flat_map f new) (flat_map f (old ++ map (onward offset) kept)))
+    → (scope : Scope) (depth : ℕ) → slice_get scopes (base + offset) ≡ Some scope → scope.group ≡ Some known.group → known.height ≤ depth
+    → PutsUpTo whole (inputs_at nest scopes base new)
+    (inputs_at nest scopes base old ++ ends_of nest depth scope (lines_of nest known.group known.port.now))
+kept_puts nest scopes firsts base group offset known kept old new whole alike start keeps puts scope depth at of_group within =
     let f = input_at nest scopes base in
     let before = inputs_at nest scopes base old in
-    let inner = inputs_at nest scopes (base + inlet.scope) known.ends in
-    let of_port : List ℕ → List Spot = λ port. flat_map (all_ends nest depth) (map (spot_in scope) (ins_in nest scope port)) in
-    let more = ends_of nest depth scope (lines_of nest inlet) in
-    let joined : flat_map f (old ++ map (onward inlet.scope) known.ends) ≡ before ++ inner =
-    flat_map-append f old (map (onward inlet.scope) known.ends)
-    ∙ ap (λ rest. before ++ rest) (onward_at nest scopes base inlet.scope known.ends) in
-    let knows : SameKept inner (of_port known.port.now) =
-    are found.2 known found.3 (base + inlet.scope) scope depth at (of_group ∙ ap (λ n. Some n) (sym found.0)) (omega (arith, low, within)) in
-    upto_same whole (flat_map f new) (flat_map f (old ++ map (onward inlet.scope) known.ends)) (before ++ more)
+    let inner = inputs_at nest scopes (base + offset) kept in
+    let more = ends_of nest depth scope (lines_of nest known.group known.port.now) in
+    let put = flat_map f (old ++ map (onward offset) kept) in
+    let joined : put ≡ before ++ inner =
+    flat_map-append f old (map (onward offset) kept) ∙ ap (λ rest. before ++ rest) (onward_at nest scopes base offset kept) in
+    upto_same whole (flat_map f new) put (before ++ more)
     (puts f (reads_alike nest scopes group firsts base start.scope alike start.there start.of_group))
-    (same_then (flat_map f (old ++ map (onward inlet.scope) known.ends)) (before ++ inner) (before ++ more)
-    (same_of (flat_map f (old ++ map (onward inlet.scope) known.ends)) (before ++ inner) joined)
-    (same_both before before inner more (λ kept. refl)
-    (same_then inner (of_port known.port.now) more knows
-    (same_of (of_port known.port.now) more (ap (ends_of nest depth scope) (same_lines nest scope inlet known.port.now found.1 of_group))))))
+    (same_then put (before ++ inner) (before ++ more) (same_of put (before ++ inner) joined)
+    (same_both before before inner more (λ kept. refl) (keeps (base + offset) scope depth at of_group within)))
 
--- ---- A line that leads to a component
+-- ---- A step to a component
 
-pub component_puts : (nest : Nest) (scopes : List Scope) (base : ℕ) (inlet : Inlet) (bind : Bind) (end : End) (old new : List End)
-    → end.scope ≡ inlet.scope → option_map (λ (one : Bind). one.inner) (slice_get (ins_of nest (Some inlet.group)) end.line) ≡ Some bind.inner
-    → place_at nest (Some inlet.group) bind.inner.instance ≡ None → PutsOnce end old new
-    → (scope : Scope) (depth : ℕ) → slice_get scopes (base + inlet.scope) ≡ Some scope → scope.group ≡ Some inlet.group
+pub component_puts : (nest : Nest) (scopes : List Scope) (base offset line : ℕ) (known : Known) (bind : Bind) (end : End) (old new : List End)
+    → end.scope ≡ offset → end.line ≡ line → LeadsHere nest known.group line bind → PutsOnce end old new
+    → (scope : Scope) (depth : ℕ) → slice_get scopes (base + offset) ≡ Some scope → scope.group ≡ Some known.group
     → SameKept (inputs_at nest scopes base new) (inputs_at nest scopes base old ++ ends_of nest depth scope (bind ∷ []))
-component_puts nest scopes base inlet bind end old new here there component puts scope depth at of_group =
+component_puts nest scopes base offset line known bind end old new here is leads puts scope depth at of_group =
     let before = inputs_at nest scopes base old in
     let one = input_at nest scopes base end in
     let all = ends_of nest depth scope (bind ∷ []) in
     same_then (inputs_at nest scopes base new) (before ++ one) (before ++ all) (put_once_same (input_at nest scopes base) end old new puts)
     (same_of (before ++ one) (before ++ all)
     (ap (λ more. before ++ more)
-    (component_at nest scopes base inlet.group depth scope bind end (ap (λ n. slice_get scopes (base + n)) here ∙ at) of_group there component)))
+    (component_at nest scopes base known.group depth line scope bind end (ap (λ n. slice_get scopes (base + n)) here ∙ at) of_group is leads)))
 
--- ---- A line that leads into a group
+-- Nothing was put.
+pub walks_none : (nest : Nest) (scopes : List Scope) (all : List Known) (base offset : ℕ) (known : Known) (walk : Walk) (binds : List Bind)
+    → WalksOn nest scopes all base offset known walk walk false binds
+walks_none nest scopes all base offset known walk binds = record {
+  puts = λ scope depth at of_group within. upto_none (inputs_at nest scopes base walk.ends) (ends_of nest depth scope binds);
+  done = λ told. let never : false ≡ true = told in absurd (cc);
+}
 
-pub inside_puts : (nest : Nest) (scopes : List Scope) (base place : ℕ) (inlet inner : Inlet) (bind : Bind) (old new : Walk) (whole : Bool)
-    → (inlet.depth ≡ 0 → ⊥) → inner.group ≡ place → inner.port.now ≡ bind.inner.port → inner.depth ≡ inlet.depth - 1
-    → StandsInside scopes base inlet.scope inner.scope bind.inner.instance place
-    → place_at nest (Some inlet.group) bind.inner.instance ≡ Some place
-    → WalksOn nest scopes base inner old new whole (lines_of nest inner) → WalksOn nest scopes base inlet old new whole (bind ∷ [])
-inside_puts nest scopes base place inlet inner bind old new whole deep group port less stands there walks = record {
-  puts = λ scope depth at of_group within. by scope depth at of_group within (some_less inlet.depth deep);
-  done = walks.done;
+pub component_walks : (nest : Nest) (scopes : List Scope) (all : List Known) (base offset line : ℕ) (known : Known) (bind : Bind) (end : End)
+    (old new : Walk) (whole : Bool) → IsScopeAt scopes (base + offset) known.group → AreDone nest scopes all base old
+    → end.scope ≡ offset → end.line ≡ line → LeadsHere nest known.group line bind → PutsIf whole end old.ends new.ends
+    → new.done.items ≡ old.done.items → WalksOn nest scopes all base offset known old new whole (bind ∷ [])
+component_walks nest scopes all base offset line known bind end old new true there are here is leads puts still =
+    let by = component_puts nest scopes base offset line known bind end old.ends new.ends here is leads puts in
+    record {
+      puts = λ scope depth at of_group within. by scope depth at of_group;
+      done = λ told.
+          done_more nest scopes all base known.group (base + offset) old new (λ scope. ends_of nest known.height scope (bind ∷ [])) there still
+          (λ scope at of_group. by scope known.height at of_group) are;
+    }
+component_walks nest scopes all base offset line known bind end old new false there are here is leads puts still = record {
+  puts = λ scope depth at of_group within.
+      subst (λ ends. PutsUpTo false (inputs_at nest scopes base ends) (inputs_at nest scopes base old.ends ++ ends_of nest depth scope (bind ∷ [])))
+      (sym puts) (upto_none (inputs_at nest scopes base old.ends) (ends_of nest depth scope (bind ∷ [])));
+  done = λ told. let never : false ≡ true = told in absurd (cc);
+}
+
+-- ---- A step into a group
+
+pub inside_walks : (nest : Nest) (scopes : List Scope) (all : List Known) (base offset : ℕ) (known : Known) (step : Inside) (bind : Bind)
+    (inlet : Inlet) (old new : Walk) (whole : Bool) → inlet.input ≡ step.input
+    → slice_get scopes (base + inlet.scope) ≡ slice_get scopes (base + (offset + step.offset))
+    → LeadsInside nest scopes all known.group known.height step bind → WalksWhole nest scopes all base inlet old new whole
+    → WalksOn nest scopes all base offset known old new whole (bind ∷ [])
+inside_walks nest scopes all base offset known step bind inlet old new whole input same leads walks = record {
+  puts = by;
+  done = inner.done;
 }
   where
-    some_less : (depth : ℕ) → (depth ≡ 0 → ⊥) → 1 ≤ depth
-    some_less zero some = absurd (some refl)
-    some_less (suc depth) some = omega arith
+    inner : WalksOn nest scopes all base inlet.scope leads.inner old new whole (lines_of nest leads.inner.group leads.inner.port.now)
+    inner = walks leads.inner (ap (slice_get all) input ∙ leads.there)
 
-    by : (scope : Scope) (depth : ℕ) → slice_get scopes (base + inlet.scope) ≡ Some scope → scope.group ≡ Some inlet.group → inlet.depth ≤ depth
-        → 1 ≤ inlet.depth
+    by : (scope : Scope) (depth : ℕ) → slice_get scopes (base + offset) ≡ Some scope → scope.group ≡ Some known.group → known.height ≤ depth
         → PutsUpTo whole (inputs_at nest scopes base new.ends) (inputs_at nest scopes base old.ends ++ ends_of nest depth scope (bind ∷ []))
-    by scope zero at of_group within some = absurd (omega (arith, within, some))
-    by scope (suc depth) at of_group within some =
-        let inside_it = inside scope bind.inner.instance place in
-        let from = spot_in scope bind in
-        let lines : lines_of nest inner ≡ ins_in nest inside_it bind.inner.port =
-        sym (same_lines nest inside_it inner bind.inner.port (sym port) (ap (λ n. Some n) (sym group))) in
-        let all : ends_of nest depth inside_it (lines_of nest inner) ≡ ends_of nest (suc depth) scope (bind ∷ []) =
-        ap (ends_of nest depth inside_it) lines
-        ∙ sym (ends_inside nest scope bind place depth (ap (λ own. place_at nest own bind.inner.instance) of_group ∙ there))
-        ∙ sym (append-nil (all_ends nest (suc depth) from)) in
-        subst (λ more. PutsUpTo whole (inputs_at nest scopes base new.ends) (inputs_at nest scopes base old.ends ++ more)) all
-        (walks.puts inside_it depth (stands scope at) (ap (λ n. Some n) (sym group)) (omega (arith, within, less, some)))
-
-pub falls : (depth : ℕ) → (depth ≡ 0 → ⊥) → 5 * (depth - 1) + 4 < 5 * depth
-falls zero some = absurd (some refl)
-falls (suc depth) some = let less : suc depth - 1 ≡ depth = omega arith in omega (arith, less)
+    by scope zero at of_group within = let low = leads.lower in absurd (omega (arith, within, low))
+    by scope (suc depth) at of_group within =
+        let low = leads.lower in
+        let place : base + (offset + step.offset) ≡ base + offset + step.offset = omega arith in
+        subst (λ more. PutsUpTo whole (inputs_at nest scopes base new.ends) (inputs_at nest scopes base old.ends ++ more))
+        (leads_ends nest scopes all known.group known.height step bind scope depth leads of_group)
+        (inner.puts (inside scope bind.inner.instance leads.inner.group) depth
+        (same ∙ ap (slice_get scopes) place ∙ leads.leads (base + offset) scope at of_group) refl (omega (arith, within, low)))
 
 -- The scope inside is one of its group.
-pub inside_there : (scopes : List Scope) (base outer inner group place : ℕ) (name : List ℕ) → IsScopeAt scopes (base + outer) group
-    → StandsInside scopes base outer inner name place → IsScopeAt scopes (base + inner) place
-inside_there scopes base outer inner group place name at stands = record {
-  scope = inside at.scope name place;
-  there = stands at.scope at.there;
-  of_group = refl;
-}
+pub inside_there : (nest : Nest) (scopes : List Scope) (all : List Known) (base offset : ℕ) (known : Known) (step : Inside) (bind : Bind) (inlet : Inlet)
+    → inlet.input ≡ step.input → slice_get scopes (base + inlet.scope) ≡ slice_get scopes (base + (offset + step.offset))
+    → LeadsInside nest scopes all known.group known.height step bind → IsScopeAt scopes (base + offset) known.group → IsInletAt scopes all base inlet
+inside_there nest scopes all base offset known step bind inlet input same leads at one found =
+    let inner_is : leads.inner ≡ one = same_Some leads.inner one (sym leads.there ∙ sym (ap (slice_get all) input) ∙ found) in
+    let place : base + (offset + step.offset) ≡ base + offset + step.offset = omega arith in record {
+      scope = inside at.scope bind.inner.instance leads.inner.group;
+      there = same ∙ ap (slice_get scopes) place ∙ leads.leads (base + offset) at.scope at.there at.of_group;
+      of_group = ap (λ (k : Known). Some k.group) inner_is;
+    }
 
--- ---- Lines in turn
+-- ---- Steps in turn
 
-pub walks_nothing : (nest : Nest) (scopes : List Scope) (base : ℕ) (inlet : Inlet) (walk : Walk) → AreDone nest scopes base walk
-    → WalksOn nest scopes base inlet walk walk true []
-walks_nothing nest scopes base inlet walk done = record {
+pub walks_nothing : (nest : Nest) (scopes : List Scope) (all : List Known) (base offset : ℕ) (known : Known) (walk : Walk) → AreDone nest scopes all base walk
+    → WalksOn nest scopes all base offset known walk walk true []
+walks_nothing nest scopes all base offset known walk done = record {
   puts = λ scope depth at of_group within.
       same_of (inputs_at nest scopes base walk.ends) (inputs_at nest scopes base walk.ends ++ [])
       (sym (append-nil (inputs_at nest scopes base walk.ends)));
   done = λ told. done;
 }
 
-ends_append : (nest : Nest) (depth : ℕ) (scope : Scope) (ones others : List Bind)
-    → ends_of nest depth scope (ones ++ others) ≡ ends_of nest depth scope ones ++ ends_of nest depth scope others
-ends_append nest depth scope ones others =
-    ap (flat_map (all_ends nest depth)) (map-append (spot_in scope) ones others)
-    ∙ flat_map-append (all_ends nest depth) (map (spot_in scope) ones) (map (spot_in scope) others)
-
-pub walks_more : (nest : Nest) (scopes : List Scope) (base : ℕ) (inlet : Inlet) (old now new : Walk) (whole : Bool) (ones others all : List Bind)
-    → WalksOn nest scopes base inlet old now true ones → WalksOn nest scopes base inlet now new whole others → all ≡ ones ++ others
-    → WalksOn nest scopes base inlet old new whole all
-walks_more nest scopes base inlet old now new whole ones others all first then_ is = record {
+pub walks_more : (nest : Nest) (scopes : List Scope) (all : List Known) (base offset : ℕ) (known : Known) (old now new : Walk) (whole : Bool)
+    (ones others both : List Bind) → WalksOn nest scopes all base offset known old now true ones
+    → WalksOn nest scopes all base offset known now new whole others → both ≡ ones ++ others → WalksOn nest scopes all base offset known old new whole both
+walks_more nest scopes all base offset known old now new whole ones others both first then_ is = record {
   puts = λ scope depth at of_group within.
       let f = inputs_at nest scopes base in
       let g = ends_of nest depth scope in
@@ -200,9 +199,10 @@ walks_more nest scopes base inlet old now new whole ones others all first then_ 
   done = then_.done;
 }
 
-pub walks_stop : (nest : Nest) (scopes : List Scope) (base : ℕ) (inlet : Inlet) (old new : Walk) (ones others all : List Bind)
-    → WalksOn nest scopes base inlet old new false ones → all ≡ ones ++ others → WalksOn nest scopes base inlet old new false all
-walks_stop nest scopes base inlet old new ones others all walks is = record {
+pub walks_stop : (nest : Nest) (scopes : List Scope) (all : List Known) (base offset : ℕ) (known : Known) (old new : Walk)
+    (ones others both : List Bind) → WalksOn nest scopes all base offset known old new false ones → both ≡ ones ++ others
+    → WalksOn nest scopes all base offset known old new false both
+walks_stop nest scopes all base offset known old new ones others both walks is = record {
   puts = λ scope depth at of_group within.
       let f = inputs_at nest scopes base in
       let g = ends_of nest depth scope in
@@ -213,65 +213,53 @@ walks_stop nest scopes base inlet old new ones others all walks is = record {
   done = λ told. let never : false ≡ true = told in absurd (cc);
 }
 
--- Lines up to one and those behind it.
-pub lines_split : (ins : List Bind) (lines : List ℕ) (place : ℕ) → items_at ins lines ≡ items_at ins (take place lines) ++ items_at ins (drop place lines)
-lines_split ins lines place =
-    ap (filter_map (slice_get ins)) (sym (take-append-drop place lines)) ∙ filter_map-append (slice_get ins) (take place lines) (drop place lines)
-
--- Nothing was put.
-pub walks_none : (nest : Nest) (scopes : List Scope) (base : ℕ) (inlet : Inlet) (walk : Walk) (binds : List Bind)
-    → WalksOn nest scopes base inlet walk walk false binds
-walks_none nest scopes base inlet walk binds = record {
-  puts = λ scope depth at of_group within. upto_none (inputs_at nest scopes base walk.ends) (ends_of nest depth scope binds);
-  done = λ told. let never : false ≡ true = told in absurd (cc);
-}
-
 -- ---- Inputs that are done
 
-pub walks_done : (nest : Nest) (scopes : List Scope) (base : ℕ) (inlet : Inlet) (walk : Walk) → AreDone nest scopes base walk
-    → FindsDone walk.done.items inlet → WalksOn nest scopes base inlet walk walk true (lines_of nest inlet)
-walks_done nest scopes base inlet walk are finds = record {
+pub walks_done : (nest : Nest) (scopes : List Scope) (all : List Known) (base : ℕ) (inlet : Inlet) (known : Known) (walk : Walk) (place : ℕ)
+    → AreDone nest scopes all base walk → slice_get walk.done.items place ≡ Some inlet → slice_get all inlet.input ≡ Some known
+    → WalksOn nest scopes all base inlet.scope known walk walk true (lines_of nest known.group known.port.now)
+walks_done nest scopes all base inlet known walk place are there found = record {
   puts = λ scope depth at of_group within.
-      let found = finds.found in
-      let low = finds.depth in
-      let lines : lines_of nest found ≡ lines_of nest inlet =
-      ap (λ own. filter (λ (bind : Bind). bytes_eq bind.port found.port.now) (ins_of nest (Some own))) finds.group
-      ∙ ap (λ name. filter (λ (bind : Bind). bytes_eq bind.port name) (ins_of nest (Some inlet.group))) finds.port in
-      same_covered (inputs_at nest scopes base walk.ends) (ends_of nest depth scope (lines_of nest inlet))
-      (λ one is.
-      are finds.place found finds.there scope depth one (ap (λ n. slice_get scopes (base + n)) finds.scope ∙ at)
-      (of_group ∙ ap (λ n. Some n) (sym finds.group)) (omega (arith, low, within))
-      (subst (λ those. IsIn one (ends_of nest depth scope those)) (sym lines) is));
+      same_covered (inputs_at nest scopes base walk.ends) (ends_of nest depth scope (lines_of nest known.group known.port.now))
+      (λ one is. are place inlet known there found scope depth one at of_group within is);
   done = λ told. are;
 }
 
 -- An input of which all was put is done.
-pub is_done_now : (nest : Nest) (scopes : List Scope) (base : ℕ) (inlet : Inlet) (old new : Walk)
-    → WalksOn nest scopes base inlet old new true (lines_of nest inlet) → IsDone nest scopes base new.ends inlet
-is_done_now nest scopes base inlet old new walks scope depth one at of_group within is =
+pub is_done_now : (nest : Nest) (scopes : List Scope) (all : List Known) (base offset : ℕ) (known : Known) (old new : Walk)
+    → WalksOn nest scopes all base offset known old new true (lines_of nest known.group known.port.now) → IsDone nest scopes base new.ends offset known
+is_done_now nest scopes all base offset known old new walks scope depth one at of_group within is =
     let before = inputs_at nest scopes base old.ends in
-    let all = ends_of nest depth scope (lines_of nest inlet) in
-    same_there (inputs_at nest scopes base new.ends) (before ++ all) one (walks.puts scope depth at of_group within) (in_behind one before all is)
+    let leads = ends_of nest depth scope (lines_of nest known.group known.port.now) in
+    same_there (inputs_at nest scopes base new.ends) (before ++ leads) one (walks.puts scope depth at of_group within) (in_behind one before leads is)
 
-pub done_with : (nest : Nest) (scopes : List Scope) (base : ℕ) (old new : Walk) (inlet : Inlet) → AreDone nest scopes base old
-    → IsDone nest scopes base old.ends inlet → new.ends ≡ old.ends → new.done.items ≡ old.done.items ++ inlet ∷ [] → AreDone nest scopes base new
-done_with nest scopes base old new inlet are is ends done place found there =
-    subst (λ all. IsDone nest scopes base all found) (sym ends)
-    (at_push (λ (k : ℕ) (one : Inlet). IsDone nest scopes base old.ends one) old.done.items inlet are is place found
-    (sym (ap (λ all. slice_get all place) done) ∙ there))
+pub done_with : (nest : Nest) (scopes : List Scope) (all : List Known) (base : ℕ) (old new : Walk) (inlet : Inlet) → AreDone nest scopes all base old
+    → ((known : Known) → slice_get all inlet.input ≡ Some known → IsDone nest scopes base old.ends inlet.scope known)
+    → new.ends ≡ old.ends → new.done.items ≡ old.done.items ++ inlet ∷ [] → AreDone nest scopes all base new
+done_with nest scopes all base old new inlet are is ends done place found known there held =
+    subst (λ those. IsDone nest scopes base those found.scope known) (sym ends)
+    (at_push (λ (k : ℕ) (one : Inlet). (known : Known) → slice_get all one.input ≡ Some known → IsDone nest scopes base old.ends one.scope known)
+    old.done.items inlet (λ k one at each. are k one each at) is place found (sym (ap (λ those. slice_get those place) done) ∙ there) known held)
 
 -- The walk after that is the same, but for what is done.
-pub walks_same : (nest : Nest) (scopes : List Scope) (base : ℕ) (inlet : Inlet) (old now new : Walk) (binds : List Bind)
-    → WalksOn nest scopes base inlet old now true binds → new.ends ≡ now.ends → AreDone nest scopes base new
-    → WalksOn nest scopes base inlet old new true binds
-walks_same nest scopes base inlet old now new binds walks same done = record {
+pub walks_same : (nest : Nest) (scopes : List Scope) (all : List Known) (base offset : ℕ) (known : Known) (old now new : Walk) (binds : List Bind)
+    → WalksOn nest scopes all base offset known old now true binds → new.ends ≡ now.ends → AreDone nest scopes all base new
+    → WalksOn nest scopes all base offset known old new true binds
+walks_same nest scopes all base offset known old now new binds walks same done = record {
   puts = λ scope depth at of_group within.
       subst (λ ends. SameKept (inputs_at nest scopes base ends) (inputs_at nest scopes base old.ends ++ ends_of nest depth scope binds))
       (sym same) (walks.puts scope depth at of_group within);
   done = λ told. done;
 }
 
--- ---- What is kept of some
+-- What holds of the input at the place holds of each that is found there.
+pub whole_of : (nest : Nest) (scopes : List Scope) (all : List Known) (base : ℕ) (inlet : Inlet) (known : Known) (old new : Walk) (whole : Bool)
+    → slice_get all inlet.input ≡ Some known
+    → WalksOn nest scopes all base inlet.scope known old new whole (lines_of nest known.group known.port.now)
+    → WalksWhole nest scopes all base inlet old new whole
+whole_of nest scopes all base inlet known old new whole found walks one there =
+    subst (λ (each : Known). WalksOn nest scopes all base inlet.scope each old new whole (lines_of nest each.group each.port.now))
+    (same_Some known one (sym found ∙ there)) walks
 
 pub more_kept : (put all rest : List Spot) → SameKept (put ++ rest) all → length (distinct [] put) ≤ length (distinct [] all)
 more_kept put all rest same =

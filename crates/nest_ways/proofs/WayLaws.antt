@@ -1,22 +1,28 @@
 -- What is known of inputs of groups, line by line.
 use Rattle.std.proofs.Common.{◌≡◌, ◌≤◌, ◌<◌, ℕ, zero, suc, ◌+◌, false, List, [], ◌∷◌, ◌++◌, map, length, take, drop, get_or, inl, inr, refl, sym, ap}
-use Rattle.std.proofs.Common.{◌∙◌, subst, append_assoc, append-nil, take-append-drop, arith, bytes_eq, Option, Some, None}
+use Rattle.std.proofs.Common.{◌∙◌, subst, append_assoc, append-nil, take-append-drop, arith, Option, Some, None}
 use Rattle.std.specs.Prelude.{slice_get}
-use Rattle.std.specs.List.{cons_option, filter, filter_map, flat_map}
+use Rattle.std.specs.List.{AllZip, cons_option, filter_map, flat_map}
 use Rattle.std.specs.Option.{SomeIff, option_and_then, option_map, option_to_list}
 use Rattle.std.proofs.lemmas.Grind.{flat_map-append}
 use Rattle.std.proofs.lemmas.List.{map-append, take_more}
 use Rattle.std.proofs.lemmas.List.Elements.{filter_map-append}
+use Rattle.list_laws.proofs.Members.{at_front, at_push}
+use Rattle.list_laws.proofs.Pairs.{zip_append}
 use Rattle.nest_text.specs.declared.nest.Bind.{Bind}
 use Rattle.nest_text.specs.declared.nest.Nest.{Nest}
 use Rattle.nest_names.specs.Flattening.{distinct, ins_in, inside, place_at, reach, spot_in}
-use Rattle.nest_ways.specs.Reaching.{AreAlike, AreKnown, FindsKnown, IsIn, IsKnown, LeadsTo, Puts, PutsOnce, PutsUpTo, ReadsAlike, SameKept, all_ends}
-use Rattle.nest_ways.specs.Reaching.{input_at, inputs_at, ins_of, onward}
+use Rattle.nest_ways.specs.Reaching.{AreAlike, AreKnown, AreSteps, IsIn, IsKnown, IsStep, KeepsAll, LeadsHere, LeadsInside, Puts, PutsOnce, PutsUpTo}
+use Rattle.nest_ways.specs.Reaching.{ReadsAlike, SameKept, all_ends, ends_of, input_at, inputs_at, ins_of, lines_of, onward}
+use Rattle.nest_ways.specs.Walking.{reached_inside}
 use Rattle.nest_names.specs.Tables.{items_at}
 use Rattle.nest_names.specs.declared.scope.Scope.{Scope}
 use Rattle.nest_names.specs.declared.scope.Spot.{Spot}
 use Rattle.nest_ways.specs.declared.ends.End.{End}
-use Rattle.nest_ways.specs.declared.known.Known.{Known}
+use Rattle.nest_ways.specs.declared.steps.Inside.{Inside}
+use Rattle.nest_ways.specs.declared.steps.Known.{Known}
+use Rattle.nest_ways.specs.declared.steps.Step.{Step}
+use Rattle.nest_ways.specs.declared.steps.Step.TheVariants as step_is
 use Rattle.nest_names.proofs.FlatLaws.{expand_group}
 use Rattle.nest_ways.proofs.AlikeLaws.{reads_alike}
 use Rattle.nest_ways.proofs.KeptLaws.{ends_component, in_behind, in_front, reach_one, same_both, same_covered}
@@ -87,22 +93,26 @@ onward_stop f offset old now inner place so_far =
 
 -- ---- Lines in turn
 
-pub puts_nothing : (nest : Nest) (scopes : List Scope) (group : ℕ) (ends : List End) → Puts nest scopes group 0 ends ends []
-puts_nothing nest scopes group ends base scope depth at is within =
+pub ends_append : (nest : Nest) (depth : ℕ) (scope : Scope) (ones others : List Bind)
+    → ends_of nest depth scope (ones ++ others) ≡ ends_of nest depth scope ones ++ ends_of nest depth scope others
+ends_append nest depth scope ones others =
+    ap (flat_map (all_ends nest depth)) (map-append (spot_in scope) ones others)
+    ∙ flat_map-append (all_ends nest depth) (map (spot_in scope) ones) (map (spot_in scope) others)
+
+pub puts_nothing : (nest : Nest) (scopes : List Scope) (group height : ℕ) (ends : List End) → Puts nest scopes group height ends ends []
+puts_nothing nest scopes group height ends base scope depth at is within =
     same_of (inputs_at nest scopes base ends) (inputs_at nest scopes base ends ++ []) (sym (append-nil (inputs_at nest scopes base ends)))
 
-pub puts_more : (nest : Nest) (scopes : List Scope) (group one other height : ℕ) (old now new : List End) (first then_ all : List Bind)
-    → Puts nest scopes group one old now first → Puts nest scopes group other now new then_ → all ≡ first ++ then_ → one ≤ height → other ≤ height
+pub puts_more : (nest : Nest) (scopes : List Scope) (group height : ℕ) (old now new : List End) (first then_ all : List Bind)
+    → Puts nest scopes group height old now first → Puts nest scopes group height now new then_ → all ≡ first ++ then_
     → Puts nest scopes group height old new all
-puts_more nest scopes group one other height old now new first then_ all puts more is low high base scope depth at of_group within =
+puts_more nest scopes group height old now new first then_ all puts more is base scope depth at of_group within =
     let f = inputs_at nest scopes base in
-    let g : List Bind → List Spot = λ binds. flat_map (all_ends nest depth) (map (spot_in scope) binds) in
-    let joined : g all ≡ g first ++ g then_ =
-    ap g is ∙ ap (flat_map (all_ends nest depth)) (map-append (spot_in scope) first then_)
-    ∙ flat_map-append (all_ends nest depth) (map (spot_in scope) first) (map (spot_in scope) then_) in
-    same_then (f new) (f now ++ g then_) (f old ++ g all) (more base scope depth at of_group (omega (arith, high, within)))
+    let g = ends_of nest depth scope in
+    let joined : g all ≡ g first ++ g then_ = ap g is ∙ ends_append nest depth scope first then_ in
+    same_then (f new) (f now ++ g then_) (f old ++ g all) (more base scope depth at of_group within)
     (same_then (f now ++ g then_) ((f old ++ g first) ++ g then_) (f old ++ g all)
-    (same_both (f now) (f old ++ g first) (g then_) (g then_) (puts base scope depth at of_group (omega (arith, low, within))) (λ kept. refl))
+    (same_both (f now) (f old ++ g first) (g then_) (g then_) (puts base scope depth at of_group within) (λ kept. refl))
     (same_of ((f old ++ g first) ++ g then_) (f old ++ g all)
     (append_assoc (f old) (g first) (g then_) ∙ ap (λ binds. f old ++ binds) (sym joined))))
 
@@ -115,33 +125,32 @@ same_spot_in scope bind (Some one) is =
     let some : Some one.inner ≡ Some bind.inner = is in
     let same : one.inner ≡ bind.inner = cc in ap (λ port. Some (record { scope = scope; port = port })) same
 
-pub component_at : (nest : Nest) (scopes : List Scope) (base group depth : ℕ) (scope : Scope) (bind : Bind) (end : End)
-    → slice_get scopes (base + end.scope) ≡ Some scope → scope.group ≡ Some group
-    → option_map (λ (one : Bind). one.inner) (slice_get (ins_of nest (Some group)) end.line) ≡ Some bind.inner
-    → place_at nest (Some group) bind.inner.instance ≡ None
-    → input_at nest scopes base end ≡ flat_map (all_ends nest depth) (map (spot_in scope) (bind ∷ []))
-component_at nest scopes base group depth scope bind end at of_group there component =
+pub component_at : (nest : Nest) (scopes : List Scope) (base group depth line : ℕ) (scope : Scope) (bind : Bind) (end : End)
+    → slice_get scopes (base + end.scope) ≡ Some scope → scope.group ≡ Some group → end.line ≡ line → LeadsHere nest group line bind
+    → input_at nest scopes base end ≡ ends_of nest depth scope (bind ∷ [])
+component_at nest scopes base group depth line scope bind end at of_group is leads =
     ap
     (λ found.
     option_to_list (option_and_then (λ (one : Scope). option_map (spot_in one) (slice_get (ins_of nest one.group) end.line)) found))
     at
     ∙ ap option_to_list (same_spot_in scope bind (slice_get (ins_of nest scope.group) end.line)
-    (ap (λ own. option_map (λ (one : Bind). one.inner) (slice_get (ins_of nest own) end.line)) of_group ∙ there))
+    (ap (λ own. option_map (λ (one : Bind). one.inner) (slice_get (ins_of nest own) end.line)) of_group
+    ∙ ap (λ at. option_map (λ (one : Bind). one.inner) (slice_get (ins_of nest (Some group)) at)) is
+    ∙ leads.there))
     ∙ sym (append-nil (all_ends nest depth (spot_in scope bind))
-    ∙ ends_component nest depth (spot_in scope bind) (ap (λ own. place_at nest own bind.inner.instance) of_group ∙ component))
+    ∙ ends_component nest depth (spot_in scope bind) (ap (λ own. place_at nest own bind.inner.instance) of_group ∙ leads.component))
 
-pub puts_component : (nest : Nest) (scopes : List Scope) (group : ℕ) (bind : Bind) (end : End) (old new : List End)
-    → (end.scope ≡ 0) → option_map (λ (one : Bind). one.inner) (slice_get (ins_of nest (Some group)) end.line) ≡ Some bind.inner
-    → place_at nest (Some group) bind.inner.instance ≡ None → PutsOnce end old new → Puts nest scopes group 0 old new (bind ∷ [])
-puts_component nest scopes group bind end old new here there component puts base scope depth at of_group within =
+pub puts_component : (nest : Nest) (scopes : List Scope) (group height : ℕ) (bind : Bind) (end : End) (old new : List End)
+    → (end.scope ≡ 0) → LeadsHere nest group end.line bind → PutsOnce end old new → Puts nest scopes group height old new (bind ∷ [])
+puts_component nest scopes group height bind end old new here leads puts base scope depth at of_group within =
     let place : base + end.scope ≡ base = omega (arith, here) in
-    let all = flat_map (all_ends nest depth) (map (spot_in scope) (bind ∷ [])) in
-    same_then (inputs_at nest scopes base new) (inputs_at nest scopes base old ++ input_at nest scopes base end)
-    (inputs_at nest scopes base old ++ all)
-    (put_once_same (input_at nest scopes base) end old new puts)
-    (same_of (inputs_at nest scopes base old ++ input_at nest scopes base end) (inputs_at nest scopes base old ++ all)
-    (ap (λ more. inputs_at nest scopes base old ++ more)
-    (component_at nest scopes base group depth scope bind end (ap (slice_get scopes) place ∙ at) of_group there component)))
+    let f = inputs_at nest scopes base in
+    let one = input_at nest scopes base end in
+    let all = ends_of nest depth scope (bind ∷ []) in
+    same_then (f new) (f old ++ one) (f old ++ all) (put_once_same (input_at nest scopes base) end old new puts)
+    (same_of (f old ++ one) (f old ++ all)
+    (ap (λ more. f old ++ more)
+    (component_at nest scopes base group depth end.line scope bind end (ap (slice_get scopes) place ∙ at) of_group refl leads)))
 
 -- ---- A line that leads into a group
 
@@ -162,35 +171,120 @@ pub ends_inside : (nest : Nest) (scope : Scope) (bind : Bind) (place depth : ℕ
     (map (spot_in (inside scope bind.inner.instance place)) (ins_in nest (inside scope bind.inner.instance place) bind.inner.port))
 ends_inside nest scope bind place depth at = ap (flat_map (all_ends nest depth)) (expand_group nest (spot_in scope bind) place at)
 
-pub puts_inside : (nest : Nest) (scopes : List Scope) (all : List Known) (firsts : List ℕ) (group place offset height : ℕ) (bind : Bind)
-    (known : Known) (old new : List End) → AreAlike scopes group firsts → AreKnown nest scopes all → FindsKnown all place bind.inner.port known → LeadsTo scopes group bind.inner.instance place offset
-    → place_at nest (Some group) bind.inner.instance ≡ Some place
-    → ((f : End → List Spot) → ReadsAlike firsts f → SameKept (flat_map f new) (flat_map f (old ++ map (onward offset) known.ends)))
-    → known.height + 1 ≡ height
-    → Puts nest scopes group height old new (bind ∷ [])
-puts_inside nest scopes all firsts group place offset height bind known old new alike are found leads there puts high base scope zero at of_group within =
-    absurd (omega (arith, high, within))
-puts_inside nest scopes all firsts group place offset height bind known old new alike are found leads there puts high base scope (suc depth) at of_group within =
-    let f = inputs_at nest scopes base in
-    let inner = inside scope bind.inner.instance place in
-    let g : List ℕ → List Spot = λ port. flat_map (all_ends nest depth) (map (spot_in inner) (ins_in nest inner port)) in
-    let ends = all_ends nest (suc depth) (spot_in scope bind) in
-    let is = are found.2 known found.3 in
-    let knows : SameKept (inputs_at nest scopes (base + offset) known.ends) (g known.port.now) =
-    is (base + offset) inner depth (leads base scope at of_group) (ap (λ n. Some n) (sym found.0)) (omega (arith, high, within)) in
-    same_then (f new) (f (old ++ map (onward offset) known.ends)) (f old ++ (ends ++ []))
-    (puts (input_at nest scopes base) (reads_alike nest scopes group firsts base scope alike at of_group))
-    (same_then (f (old ++ map (onward offset) known.ends)) (f old ++ inputs_at nest scopes (base + offset) known.ends) (f old ++ (ends ++ []))
-    (same_of (f (old ++ map (onward offset) known.ends)) (f old ++ inputs_at nest scopes (base + offset) known.ends)
-    (flat_map-append (input_at nest scopes base) old (map (onward offset) known.ends)
-    ∙ ap (λ more. f old ++ more) (onward_at nest scopes base offset known.ends)))
-    (same_both (f old) (f old) (inputs_at nest scopes (base + offset) known.ends) (ends ++ []) (λ kept. refl)
-    (same_then (inputs_at nest scopes (base + offset) known.ends) (g known.port.now) (ends ++ []) knows
-    (same_of (g known.port.now) (ends ++ [])
-    (ap g found.1
-    ∙ sym (append-nil ends ∙ ends_inside nest scope bind place depth (ap (λ own. place_at nest own bind.inner.instance) of_group ∙ there)))))))
+-- What the line leads to is what the input inside leads to.
+pub leads_ends : (nest : Nest) (scopes : List Scope) (all : List Known) (group height : ℕ) (step : Inside) (bind : Bind) (scope : Scope) (depth : ℕ)
+    → (leads : LeadsInside nest scopes all group height step bind) → scope.group ≡ Some group
+    → ends_of nest depth (inside scope bind.inner.instance leads.inner.group) (lines_of nest leads.inner.group leads.inner.port.now)
+    ≡ ends_of nest (suc depth) scope (bind ∷ [])
+leads_ends nest scopes all group height step bind scope depth leads of_group =
+    let place = leads.inner.group in
+    ap (λ port. ends_of nest depth (inside scope bind.inner.instance place) (lines_of nest place port)) leads.port
+    ∙ sym (ends_inside nest scope bind place depth (ap (λ own. place_at nest own bind.inner.instance) of_group ∙ leads.place))
+    ∙ sym (append-nil (all_ends nest (suc depth) (spot_in scope bind)))
 
--- ---- All lines of an input
+pub puts_inside : (nest : Nest) (scopes : List Scope) (all : List Known) (firsts : List ℕ) (group height : ℕ) (step : Inside) (bind : Bind)
+    (kept old new : List End) → AreAlike scopes group firsts → (leads : LeadsInside nest scopes all group height step bind)
+    → KeepsAll nest scopes leads.inner kept
+    → ((f : End → List Spot) → ReadsAlike firsts f → SameKept (flat_map f new) (flat_map f (old ++ map (onward step.offset) kept)))
+    → Puts nest scopes group height old new (bind ∷ [])
+puts_inside nest scopes all firsts group height step bind kept old new alike leads keeps puts base scope zero at of_group within =
+    let low = leads.lower in absurd (omega (arith, low, within))
+puts_inside nest scopes all firsts group height step bind kept old new alike leads keeps puts base scope (suc depth) at of_group within =
+    let f = inputs_at nest scopes base in
+    let offset = step.offset in
+    let there = inputs_at nest scopes (base + offset) kept in
+    let inner = inside scope bind.inner.instance leads.inner.group in
+    let ends = ends_of nest depth inner (lines_of nest leads.inner.group leads.inner.port.now) in
+    let all_of = ends_of nest (suc depth) scope (bind ∷ []) in
+    let low = leads.lower in
+    let knows : SameKept there ends = keeps (base + offset) inner depth (leads.leads base scope at of_group) refl (omega (arith, low, within)) in
+    same_then (f new) (f (old ++ map (onward offset) kept)) (f old ++ all_of)
+    (puts (input_at nest scopes base) (reads_alike nest scopes group firsts base scope alike at of_group))
+    (same_then (f (old ++ map (onward offset) kept)) (f old ++ there) (f old ++ all_of)
+    (same_of (f (old ++ map (onward offset) kept)) (f old ++ there)
+    (flat_map-append (input_at nest scopes base) old (map (onward offset) kept)
+    ∙ ap (λ more. f old ++ more) (onward_at nest scopes base offset kept)))
+    (same_both (f old) (f old) there all_of (λ kept. refl)
+    (same_then there ends all_of knows (same_of ends all_of (leads_ends nest scopes all group height step bind scope depth leads of_group)))))
+
+-- ---- More that is known
+
+step_more : (nest : Nest) (scopes : List Scope) (all behind : List Known) (group low high : ℕ) → low ≤ high → (step : Step) (bind : Bind)
+    → IsStep nest scopes all group low step bind → IsStep nest scopes (all ++ behind) group high step bind
+step_more nest scopes all behind group low high less (step_is.Component line) bind leads = leads
+step_more nest scopes all behind group low high less (step_is.Inside step) bind leads =
+    let lower = leads.lower in record {
+      inner = leads.inner;
+      there = at_front all behind step.input leads.inner leads.there;
+      lower = omega (arith, lower, less);
+      place = leads.place;
+      port = leads.port;
+      leads = leads.leads;
+    }
+
+pub steps_more : (nest : Nest) (scopes : List Scope) (all behind : List Known) (group low high : ℕ) (steps : List Step) (binds : List Bind)
+    → low ≤ high → AreSteps nest scopes all group low steps binds → AreSteps nest scopes (all ++ behind) group high steps binds
+steps_more nest scopes all behind group low high [] [] less are = tt
+steps_more nest scopes all behind group low high [] (bind ∷ binds) less are = absurd are
+steps_more nest scopes all behind group low high (step ∷ steps) [] less are = absurd are
+steps_more nest scopes all behind group low high (step ∷ steps) (bind ∷ binds) less are =
+    (step_more nest scopes all behind group low high less step bind are.0, steps_more nest scopes all behind group low high steps binds less are.1)
+
+-- One step more.
+pub steps_next : (nest : Nest) (scopes : List Scope) (all : List Known) (group low one high : ℕ) (steps steps' : List Step) (step : Step)
+    (binds binds' : List Bind) (bind : Bind) → AreSteps nest scopes all group low steps binds → IsStep nest scopes all group one step bind
+    → low ≤ high → one ≤ high → steps' ≡ steps ++ step ∷ [] → binds' ≡ binds ++ bind ∷ [] → AreSteps nest scopes all group high steps' binds'
+steps_next nest scopes all group low one high steps steps' step binds binds' bind are is less more made led =
+    let R = IsStep nest scopes all group high in
+    let front : AllZip R steps binds =
+    subst (λ those. AreSteps nest scopes those group high steps binds) (append-nil all) (steps_more nest scopes all [] group low high steps binds less are) in
+    let last : R step bind =
+    subst (λ those. IsStep nest scopes those group high step bind) (append-nil all) (step_more nest scopes all [] group one high more step bind is) in
+    subst (λ those. AllZip R those binds') (sym made)
+    (subst (λ those. AllZip R (steps ++ step ∷ []) those) (sym led) (zip_append R steps (step ∷ []) binds (bind ∷ []) front (last, tt)))
+
+pub known_more : (nest : Nest) (scopes : List Scope) (all all' : List Known) (one : Known) → AreKnown nest scopes all
+    → AreSteps nest scopes all one.group one.height one.steps (lines_of nest one.group one.port.now)
+    → ((kept : List End) → one.ends ≡ Some kept → KeepsAll nest scopes one kept) → all' ≡ all ++ one ∷ [] → AreKnown nest scopes all'
+known_more nest scopes all all' one are steps ends more place known there =
+    subst (λ those. IsKnown nest scopes those known) (sym more)
+    (at_push (λ (k : ℕ) (each : Known). IsKnown nest scopes (all ++ one ∷ []) each) all one (λ k each at. still each (are k each at))
+    (still one (record { steps = steps; ends = ends })) place known (sym (ap (λ those. slice_get those place) more) ∙ there))
+  where
+    still : (each : Known) → IsKnown nest scopes all each → IsKnown nest scopes (all ++ one ∷ []) each
+    still each is = record {
+      steps = steps_more nest scopes all (one ∷ []) each.group each.height each.height each.steps (lines_of nest each.group each.port.now) (omega arith) is.steps;
+      ends = is.ends;
+    }
+
+-- ---- All steps of an input
+
+take_none : (count : ℕ) → take {A = Bind} count [] ≡ []
+take_none zero = refl
+take_none (suc count) = refl
+
+-- One line more, where there is one.
+pub line_next : (binds : List Bind) (place : ℕ) → take (place + 1) binds ≡ take place binds ++ option_to_list (slice_get binds place)
+line_next [] place = take_none (place + 1) ∙ sym (ap (λ front. front ++ []) (take_none place))
+line_next (bind ∷ binds) zero = refl
+line_next (bind ∷ binds) (suc place) =
+    let more : suc place + 1 ≡ suc (place + 1) = omega arith in
+    ap (λ count. take count (bind ∷ binds)) more ∙ ap (λ rest. bind ∷ rest) (line_next binds place)
+
+-- Lines up to one, that one, and those behind it.
+pub lines_split : (binds : List Bind) (place : ℕ) → binds ≡ (take place binds ++ option_to_list (slice_get binds place)) ++ drop (place + 1) binds
+lines_split binds place = sym (take-append-drop (place + 1) binds) ∙ ap (λ front. front ++ drop (place + 1) binds) (line_next binds place)
+
+-- There are as many lines as steps.
+pub lines_end : (nest : Nest) (scopes : List Scope) (all : List Known) (group height : ℕ) (steps : List Step) (binds : List Bind) (place : ℕ)
+    → AreSteps nest scopes all group height steps binds → length steps ≤ place → take place binds ≡ binds
+lines_end nest scopes all group height [] [] zero are long = refl
+lines_end nest scopes all group height [] [] (suc place) are long = refl
+lines_end nest scopes all group height [] (bind ∷ binds) place are long = absurd are
+lines_end nest scopes all group height (step ∷ steps) [] place are long = absurd are
+lines_end nest scopes all group height (step ∷ steps) (bind ∷ binds) zero are long = absurd (omega (arith, long))
+lines_end nest scopes all group height (step ∷ steps) (bind ∷ binds) (suc place) are long =
+    ap (λ rest. bind ∷ rest) (lines_end nest scopes all group height steps binds place are.1 (omega (arith, long)))
 
 list_of : {A : Type 0} (found : Option A) → cons_option found [] ≡ option_to_list found
 list_of None = refl
@@ -204,22 +298,9 @@ lines_next ins lines place within =
     ∙ filter_map-append (slice_get ins) (take place lines) (line ∷ [])
     ∙ ap (λ last. items_at ins (take place lines) ++ last) (list_of (slice_get ins line))
 
-pub is_known : (nest : Nest) (scopes : List Scope) (known : Known) (binds : List Bind)
-    → binds ≡ filter (λ bind. bytes_eq bind.port known.port.now) (ins_of nest (Some known.group))
-    → Puts nest scopes known.group known.height [] known.ends binds → IsKnown nest scopes known
-is_known nest scopes known binds is puts base scope depth at of_group within =
-    same_then (inputs_at nest scopes base known.ends) (flat_map (all_ends nest depth) (map (spot_in scope) binds))
-    (flat_map (all_ends nest depth) (map (spot_in scope) (ins_in nest scope known.port.now)))
-    (puts base scope depth at of_group within)
-    (same_of (flat_map (all_ends nest depth) (map (spot_in scope) binds)) (flat_map (all_ends nest depth) (map (spot_in scope) (ins_in nest scope known.port.now)))
-    (ap (λ all. flat_map (all_ends nest depth) (map (spot_in scope) all))
-    (is ∙ ap (λ own. filter (λ bind. bytes_eq bind.port known.port.now) (ins_of nest own)) (sym of_group))))
-
 -- ---- What a target reaches
 
 pub target_reached : (nest : Nest) (spot : Spot) (place : ℕ) → place_at nest spot.scope.group spot.port.instance ≡ Some place
-    → distinct [] (flat_map (all_ends nest 32)
-    (map (spot_in (inside spot.scope spot.port.instance place)) (ins_in nest (inside spot.scope spot.port.instance place) spot.port.port)))
-    ≡ reach nest 33 (spot ∷ [])
+    → reached_inside nest (inside spot.scope spot.port.instance place) place spot.port.port ≡ reach nest 33 (spot ∷ [])
 target_reached nest spot place at =
     sym (reach_one nest 33 spot ∙ ap (λ spots. distinct [] (flat_map (all_ends nest 32) spots)) (expand_group nest spot place at))

@@ -1,15 +1,19 @@
 -- How inputs are followed: what an input of a group leads to is worked out once, for all scopes of the group.
-use Rattle.std.specs.Prelude.{◌≡◌, ◌⊎◌, ◌≤◌, ℕ, zero, suc, ◌+◌, Bool, true, false, List, [], ◌∷◌, ◌++◌, map, Option, Some, slice_get}
-use Rattle.std.specs.List.{flat_map, list_any}
+use Rattle.std.specs.Prelude.{◌≡◌, ◌⊎◌, ◌≤◌, ◌<◌, ℕ, zero, suc, ◌+◌, Bool, true, false, List, [], ◌∷◌, ◌++◌, map, Option, Some, None, slice_get}
+use Rattle.std.specs.List.{AllZip, filter, flat_map, list_any}
 use Rattle.std.specs.Option.{option_and_then, option_map, option_to_list}
+use Rattle.std.specs.Str.{bytes_eq}
 use Rattle.nest_text.specs.declared.nest.Bind.{Bind}
 use Rattle.nest_text.specs.declared.nest.Group.{Group}
 use Rattle.nest_text.specs.declared.nest.Nest.{Nest}
-use Rattle.nest_names.specs.Flattening.{binds_of, distinct, expand, ins_in, inside, same_spot, spot_in}
+use Rattle.nest_names.specs.Flattening.{binds_of, distinct, expand, inside, place_at, same_spot, spot_in}
 use Rattle.nest_names.specs.declared.scope.Scope.{Scope}
 use Rattle.nest_names.specs.declared.scope.Spot.{Spot}
 use Rattle.nest_ways.specs.declared.ends.End.{End}
-use Rattle.nest_ways.specs.declared.known.Known.{Known}
+use Rattle.nest_ways.specs.declared.steps.Inside.{Inside}
+use Rattle.nest_ways.specs.declared.steps.Known.{Known}
+use Rattle.nest_ways.specs.declared.steps.Step.{Step}
+use Rattle.nest_ways.specs.declared.steps.Step.TheVariants as step_is
 
 -- ---- Ports that are kept once
 
@@ -30,10 +34,18 @@ abbrev pub all_ends : Nest → ℕ → Spot → List Spot
 all_ends nest zero spot = spot ∷ []
 all_ends nest (suc depth) spot = flat_map (all_ends nest depth) (expand nest spot)
 
--- ---- Inputs by numbers
-
 abbrev pub ins_of : Nest → Option ℕ → List Bind
 ins_of nest group = binds_of nest (λ (one : Group). one.ins) group
+
+-- The `in` lines of an input of a group.
+abbrev pub lines_of : Nest → ℕ → List ℕ → List Bind
+lines_of nest group port = filter (λ bind. bytes_eq bind.port port) (ins_of nest (Some group))
+
+-- The inputs of components that lines of a scope lead to, one for each way.
+abbrev pub ends_of : Nest → ℕ → Scope → List Bind → List Spot
+ends_of nest depth scope binds = flat_map (all_ends nest depth) (map (spot_in scope) binds)
+
+-- ---- Inputs by numbers
 
 -- The input that stands at the line of the scope so many places behind another one, where there is one.
 abbrev pub input_at : Nest → List Scope → ℕ → End → List Spot
@@ -51,6 +63,11 @@ onward offset end = record { scope = end.scope + offset; line = end.line }
 -- An input was put behind others, or is among them.
 abbrev pub PutsOnce : End → List End → List End → Type 0
 PutsOnce end old new = (new ≡ old ++ end ∷ []) ⊎ ((new ≡ old) × (place : ℕ) × (slice_get old place ≡ Some end))
+
+-- An input was put so, or nothing was.
+abbrev pub PutsIf : Bool → End → List End → List End → Type 0
+PutsIf true end old new = PutsOnce end old new
+PutsIf false end old new = new ≡ old
 
 -- ---- Scopes that are the same
 
@@ -72,29 +89,59 @@ ReadsAlike firsts input =
     (offset first line : ℕ) → slice_get firsts offset ≡ Some first
     → input (record { scope = offset; line = line }) ≡ input (record { scope = first; line = line })
 
+-- The scope inside an instance of the group stands so many places behind each scope of the group.
+abbrev pub LeadsTo : List Scope → ℕ → List ℕ → ℕ → ℕ → Type 0
+LeadsTo scopes group name place offset =
+    (base : ℕ) (scope : Scope) → slice_get scopes base ≡ Some scope → scope.group ≡ Some group
+    → slice_get scopes (base + offset) ≡ Some (inside scope name place)
+
+-- ---- Steps
+
+-- The line of the group leads to an input of a component, as does the line at this place.
+pub record LeadsHere (nest : Nest) (group line : ℕ) (bind : Bind) : Type 0 where
+  pub there : option_map (λ (one : Bind). one.inner) (slice_get (ins_of nest (Some group)) line) ≡ Some bind.inner
+  pub component : place_at nest (Some group) bind.inner.instance ≡ None
+
+-- The line of the group leads to an input of a group inside, which is known, and leads less far down than so many levels.
+pub record LeadsInside (nest : Nest) (scopes : List Scope) (all : List Known) (group height : ℕ) (step : Inside) (bind : Bind) : Type 0 where
+  pub inner : Known
+  pub there : slice_get all step.input ≡ Some inner
+  pub lower : inner.height < height
+  pub place : place_at nest (Some group) bind.inner.instance ≡ Some inner.group
+  pub port : inner.port.now ≡ bind.inner.port
+  pub leads : LeadsTo scopes group bind.inner.instance inner.group step.offset
+
+-- The step is where the line of the group leads.
+abbrev pub IsStep : Nest → List Scope → List Known → ℕ → ℕ → Step → Bind → Type 0
+IsStep nest scopes all group height (step_is.Component line) bind = LeadsHere nest group line bind
+IsStep nest scopes all group height (step_is.Inside step) bind = LeadsInside nest scopes all group height step bind
+
+abbrev pub AreSteps : Nest → List Scope → List Known → ℕ → ℕ → List Step → List Bind → Type 0
+AreSteps nest scopes all group height steps binds = AllZip (IsStep nest scopes all group height) steps binds
+
 -- ---- What is known
 
 -- In each scope of the group, inputs were put that these lines lead to, at most so many levels further down.
 abbrev pub Puts : Nest → List Scope → ℕ → ℕ → List End → List End → List Bind → Type 0
 Puts nest scopes group height old new binds =
     (base : ℕ) (scope : Scope) (depth : ℕ) → slice_get scopes base ≡ Some scope → scope.group ≡ Some group → height ≤ depth
-    → SameKept (inputs_at nest scopes base new) (inputs_at nest scopes base old ++ flat_map (all_ends nest depth) (map (spot_in scope) binds))
+    → SameKept (inputs_at nest scopes base new) (inputs_at nest scopes base old ++ ends_of nest depth scope binds)
 
--- What is known of an input of a group is so in each scope of the group.
-abbrev pub IsKnown : Nest → List Scope → Known → Type 0
-IsKnown nest scopes known =
-    (base : ℕ) (scope : Scope) (depth : ℕ) → slice_get scopes base ≡ Some scope → scope.group ≡ Some known.group → known.height ≤ depth
-    → SameKept (inputs_at nest scopes base known.ends) (flat_map (all_ends nest depth) (map (spot_in scope) (ins_in nest scope known.port.now)))
+-- The inputs that are kept of an input of a group are those that it leads to, in each scope of the group.
+abbrev pub KeepsAll : Nest → List Scope → Known → List End → Type 0
+KeepsAll nest scopes known ends = Puts nest scopes known.group known.height [] ends (lines_of nest known.group known.port.now)
+
+-- What is known of an input of a group: where its lines lead, and the inputs of components, where those are kept.
+pub record IsKnown (nest : Nest) (scopes : List Scope) (all : List Known) (known : Known) : Type 0 where
+  pub steps : AreSteps nest scopes all known.group known.height known.steps (lines_of nest known.group known.port.now)
+  pub ends : (kept : List End) → known.ends ≡ Some kept → KeepsAll nest scopes known kept
 
 abbrev pub AreKnown : Nest → List Scope → List Known → Type 0
-AreKnown nest scopes all = (place : ℕ) (known : Known) → slice_get all place ≡ Some known → IsKnown nest scopes known
+AreKnown nest scopes all = (place : ℕ) (known : Known) → slice_get all place ≡ Some known → IsKnown nest scopes all known
 
--- What is known of the input of this name, of the group at this place.
-abbrev pub FindsKnown : List Known → ℕ → List ℕ → Known → Type 0
-FindsKnown all group port known = (known.group ≡ group) × (known.port.now ≡ port) × (place : ℕ) × (slice_get all place ≡ Some known)
-
--- The scope inside an instance of the group stands so many places behind each scope of the group.
-abbrev pub LeadsTo : List Scope → ℕ → List ℕ → ℕ → ℕ → Type 0
-LeadsTo scopes group name place offset =
-    (base : ℕ) (scope : Scope) → slice_get scopes base ≡ Some scope → scope.group ≡ Some group
-    → slice_get scopes (base + offset) ≡ Some (inside scope name place)
+-- At the place is what is known of the input of this name, of the group at that place.
+pub record FindsKnown (all : List Known) (group : ℕ) (port : List ℕ) (place : ℕ) : Type 0 where
+  pub known : Known
+  pub there : slice_get all place ≡ Some known
+  pub of_group : known.group ≡ group
+  pub named : known.port.now ≡ port

@@ -1,20 +1,19 @@
 -- How an input of a group is followed in one scope, however much it leads to.
-use Rattle.std.specs.Prelude.{◌≡◌, ◌≤◌, ◌<◌, ℕ, ◌+◌, Bool, IsTrue, List, [], ◌∷◌, ◌++◌, length, map, Option, Some, None, slice_get, ⊤}
-use Rattle.std.specs.List.{filter, flat_map}
-use Rattle.std.specs.Str.{bytes_eq}
+use Rattle.std.specs.Prelude.{◌≡◌, ◌≤◌, ◌<◌, ℕ, ◌+◌, ◌-◌, Bool, IsTrue, List, [], ◌∷◌, ◌++◌, length, Option, Some, None, slice_get, ⊤}
 use Rattle.nest_text.specs.declared.nest.Bind.{Bind}
 use Rattle.nest_text.specs.declared.nest.Nest.{Nest}
-use Rattle.nest_names.specs.Flattening.{inside, levels, reach, spot_in}
+use Rattle.nest_names.specs.Flattening.{distinct, levels, reach}
 use Rattle.nest_names.specs.declared.scope.Scope.{Scope}
 use Rattle.nest_names.specs.declared.scope.Spot.{Spot}
-use Rattle.nest_ways.specs.Reaching.{IsIn, PutsUpTo, all_ends, ins_of, inputs_at}
+use Rattle.nest_ways.specs.Reaching.{AreKnown, IsIn, PutsUpTo, ends_of, inputs_at, lines_of}
 use Rattle.nest_ways.specs.declared.ends.End.{End}
+use Rattle.nest_ways.specs.declared.steps.Known.{Known}
 use Rattle.nest_ways.specs.declared.targets.Reach.{Reach}
 use Rattle.nest_ways.specs.declared.targets.Reach.TheVariants as reach_is
 use Rattle.nest_ways.specs.declared.walk.Inlet.{Inlet}
 use Rattle.nest_ways.specs.declared.walk.Walk.{Walk}
 
--- ---- Scopes
+-- ---- Where a walk stands
 
 -- A scope of the group stands at the place.
 pub record IsScopeAt (scopes : List Scope) (place group : ℕ) : Type 0 where
@@ -22,50 +21,59 @@ pub record IsScopeAt (scopes : List Scope) (place group : ℕ) : Type 0 where
   pub there : slice_get scopes place ≡ Some scope
   pub of_group : scope.group ≡ Some group
 
--- So many places behind the base stands the scope inside an instance of the scope that is so many places behind it.
-abbrev pub StandsInside : List Scope → ℕ → ℕ → ℕ → List ℕ → ℕ → Type 0
-StandsInside scopes base outer inner name place =
-    (scope : Scope) → slice_get scopes (base + outer) ≡ Some scope → slice_get scopes (base + inner) ≡ Some (inside scope name place)
+-- So many places behind the base stands a scope of the group of the input.
+abbrev pub IsInletAt : List Scope → List Known → ℕ → Inlet → Type 0
+IsInletAt scopes all base inlet = (known : Known) → slice_get all inlet.input ≡ Some known → IsScopeAt scopes (base + inlet.scope) known.group
 
--- ---- What inputs lead to
+-- ---- What is done
 
--- The `in` lines of an input.
-abbrev pub lines_of : Nest → Inlet → List Bind
-lines_of nest inlet = filter (λ bind. bytes_eq bind.port inlet.port.now) (ins_of nest (Some inlet.group))
+-- All inputs of components that an input of a group leads to were put, if it is followed down to the last of them.
+abbrev pub IsDone : Nest → List Scope → ℕ → List End → ℕ → Known → Type 0
+IsDone nest scopes base ends offset known =
+    (scope : Scope) (depth : ℕ) (one : Spot) → slice_get scopes (base + offset) ≡ Some scope → scope.group ≡ Some known.group → known.height ≤ depth
+    → IsIn one (ends_of nest depth scope (lines_of nest known.group known.port.now)) → IsIn one (inputs_at nest scopes base ends)
 
--- The inputs of components that lines of a scope lead to, one for each way.
-abbrev pub ends_of : Nest → ℕ → Scope → List Bind → List Spot
-ends_of nest depth scope binds = flat_map (all_ends nest depth) (map (spot_in scope) binds)
+abbrev pub AreDone : Nest → List Scope → List Known → ℕ → Walk → Type 0
+AreDone nest scopes all base walk =
+    (place : ℕ) (inlet : Inlet) (known : Known) → slice_get walk.done.items place ≡ Some inlet → slice_get all inlet.input ≡ Some known
+    → IsDone nest scopes base walk.ends inlet.scope known
 
--- All inputs of components that an input of a group leads to were put, if it is followed as many levels down or more.
-abbrev pub IsDone : Nest → List Scope → ℕ → List End → Inlet → Type 0
-IsDone nest scopes base ends inlet =
-    (scope : Scope) (depth : ℕ) (one : Spot) → slice_get scopes (base + inlet.scope) ≡ Some scope → scope.group ≡ Some inlet.group → inlet.depth ≤ depth
-    → IsIn one (ends_of nest depth scope (lines_of nest inlet)) → IsIn one (inputs_at nest scopes base ends)
-
-abbrev pub AreDone : Nest → List Scope → ℕ → Walk → Type 0
-AreDone nest scopes base walk = (place : ℕ) (inlet : Inlet) → slice_get walk.done.items place ≡ Some inlet → IsDone nest scopes base walk.ends inlet
-
--- The input is at a place of those that are done, followed no more levels down.
-pub record FindsDone (done : List Inlet) (inlet : Inlet) : Type 0 where
-  pub place : ℕ
-  pub found : Inlet
-  pub there : slice_get done place ≡ Some found
-  pub scope : found.scope ≡ inlet.scope
-  pub group : found.group ≡ inlet.group
-  pub depth : found.depth ≤ inlet.depth
-  pub port : found.port.now ≡ inlet.port.now
+-- A walk from a scope of the group, by what is known.
+pub record IsWalk (nest : Nest) (scopes : List Scope) (all : List Known) (base group : ℕ) (walk : Walk) : Type 0 where
+  pub known : AreKnown nest scopes all
+  pub start : IsScopeAt scopes base group
+  pub done : AreDone nest scopes all base walk
 
 -- ---- Going on
 
--- From the scope of an input, what its lines lead to was put behind what was there, if they are followed as many levels down or more: all
--- of it, and what is done is right; or some of it.
-pub record WalksOn (nest : Nest) (scopes : List Scope) (base : ℕ) (inlet : Inlet) (old new : Walk) (whole : Bool) (binds : List Bind) : Type 0 where
-  pub puts : (scope : Scope) (depth : ℕ) → slice_get scopes (base + inlet.scope) ≡ Some scope → scope.group ≡ Some inlet.group → inlet.depth ≤ depth
+-- From the scope of an input, what its lines lead to was put behind what was there, if they are followed down to the last: all of it, and
+-- what is done is right; or some of it.
+pub record WalksOn (nest : Nest) (scopes : List Scope) (all : List Known) (base offset : ℕ) (known : Known) (old new : Walk) (whole : Bool)
+    (binds : List Bind) : Type 0 where
+  pub puts : (scope : Scope) (depth : ℕ) → slice_get scopes (base + offset) ≡ Some scope → scope.group ≡ Some known.group → known.height ≤ depth
       → PutsUpTo whole (inputs_at nest scopes base new.ends) (inputs_at nest scopes base old.ends ++ ends_of nest depth scope binds)
-  pub done : IsTrue whole → AreDone nest scopes base new
+  pub done : IsTrue whole → AreDone nest scopes all base new
+
+-- The same of all lines of an input that is known.
+abbrev pub WalksWhole : Nest → List Scope → List Known → ℕ → Inlet → Walk → Walk → Bool → Type 0
+WalksWhole nest scopes all base inlet old new whole =
+    (known : Known) → slice_get all inlet.input ≡ Some known
+    → WalksOn nest scopes all base inlet.scope known old new whole (lines_of nest known.group known.port.now)
 
 -- ---- What is reached
+
+-- The input of this name, of the group, in the scope from which a walk begins; it leads down no further than the levels that there are.
+pub record IsFirst (all : List Known) (group : ℕ) (port : List ℕ) (inlet : Inlet) : Type 0 where
+  pub known : Known
+  pub there : slice_get all inlet.input ≡ Some known
+  pub of_group : known.group ≡ group
+  pub named : known.port.now ≡ port
+  pub low : known.height < levels
+  pub here : inlet.scope ≡ 0
+
+-- The inputs of components that an input of a group reaches in a scope, each once.
+abbrev pub reached_inside : Nest → Scope → ℕ → List ℕ → List Spot
+reached_inside nest scope group port = distinct [] (ends_of nest (levels - 1) scope (lines_of nest group port))
 
 -- All that is reached, or that there is more than there may be. A walk that ended before says nothing.
 abbrev pub Reaches : List Spot → Reach → Type 0

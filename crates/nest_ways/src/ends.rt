@@ -2,7 +2,7 @@
 ghost use Rattle.std.specs.Prelude.{◌≡◌, ◌++◌, List, Some, IfOk, IsTrue, map, slice_get};
 ghost use Rattle.std.specs.List.{flat_map};
 ghost use Rattle.std.specs.Option.{option_map, unwrap_or};
-ghost use Rattle.nest_ways.specs.Reaching.{PutsOnce, PutsUpTo, ReadsAlike, onward};
+ghost use Rattle.nest_ways.specs.Reaching.{PutsIf, PutsOnce, PutsUpTo, ReadsAlike, onward};
 ghost use Rattle.nest_names.specs.declared.scope.Spot.{Spot as Spots};
 ghost use Rattle.nest_text.specs.declared.nest.Bind.{Bind as Binds};
 
@@ -53,6 +53,22 @@ pub(crate) fn put_once(
     guide.note_place(end, place);
     ends.push(end)?;
     Ok(place)
+}
+
+/// Puts an input behind others as [`put_once`] does, where there are no more than so many. Tells whether it was put.
+pub(crate) fn put_within(
+    guide: &mut Guide<'_>,
+    most: usize,
+    end: End,
+    ends: &mut List<End>,
+) -> Result<bool, NoMemory>
+    ensures { IfOk result (λ whole. PutsIf whole end ends.old ends.new) }
+{
+    if ends.len() > most {
+        return Ok(false);
+    }
+    drop(put_once(guide, 0, end, ends)?);
+    Ok(true)
 }
 
 /// The first scope that is the same, by the table of the group from whose scope both are told.

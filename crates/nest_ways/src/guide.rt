@@ -26,8 +26,8 @@ struct GroupGuide<'n> {
     lines: Lines<'n>,
     /// By its inputs, the places of what is known of them.
     known: Places<'n>,
-    /// Its inputs that lead to more inputs than are kept.
-    long: Places<'n>,
+    /// Its inputs of which nothing is known.
+    unknown: Places<'n>,
 }
 
 /// What is looked up while inputs are followed.
@@ -83,7 +83,7 @@ impl<'n> GroupGuide<'n> {
             offsets: BTreeMap::new(alloc),
             lines,
             known: BTreeMap::new(alloc),
-            long: BTreeMap::new(alloc),
+            unknown: BTreeMap::new(alloc),
         })
     }
 }
@@ -204,10 +204,10 @@ impl<'n> Guide<'n> {
         Ok(())
     }
 
-    /// Notes that an input of a group leads to more inputs than are kept.
-    pub(crate) fn note_long(&mut self, group: usize, port: &'n [u8]) -> Result<(), NoMemory> {
+    /// Notes that nothing is known of an input of a group.
+    pub(crate) fn note_unknown(&mut self, group: usize, port: &'n [u8]) -> Result<(), NoMemory> {
         if let Some(one) = self.groups.get_mut(group) {
-            note(&mut one.long, port, 0)?;
+            note(&mut one.unknown, port, 0)?;
         }
         Ok(())
     }
@@ -217,17 +217,17 @@ impl<'n> Guide<'n> {
         noted(&self.groups.get(group)?.known, port)
     }
 
-    /// Whether an input of a group leads to more inputs than are kept.
-    fn is_long(&self, group: usize, port: &[u8]) -> bool {
+    /// Whether nothing is known of an input of a group.
+    fn is_unknown(&self, group: usize, port: &[u8]) -> bool {
         match self.groups.get(group) {
-            Some(one) => noted(&one.long, port).is_some(),
+            Some(one) => noted(&one.unknown, port).is_some(),
             None => false,
         }
     }
 
-    /// Whether nothing more is to be worked out for an input of a group.
+    /// Whether an input of a group was worked out, or tried in vain.
     pub(crate) fn is_settled(&self, group: usize, port: &[u8]) -> bool {
-        self.known(group, port).is_some() || self.is_long(group, port)
+        self.known(group, port).is_some() || self.is_unknown(group, port)
     }
 
     /// How many places further on the scope inside an instance of a group is.

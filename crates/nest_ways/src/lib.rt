@@ -3,9 +3,10 @@
 //! The layer above makes the [`Ways`] of a nest once, and asks for each connection which inputs of components it [`reached`]. That takes
 //! time by the lines that lead there and by the inputs that are reached, however many ways there are from one to the other.
 //!
-//! What an input of a group leads to is the same in each scope of the group, told by how many scopes further on. Where it is little it
-//! is worked out once (`known.rt`), else gone along for each connection (`walk.rt`), which few connections can ask for, since a system
-//! has a limited number of them.
+//! Each input of a group that a connection leads to is looked up once: where its lines lead is kept by numbers (`steps.rt`), the same in
+//! each scope of the group, told by how many scopes further on. Where it leads to few inputs of components, those are kept too (`kept.rt`).
+//! Else its steps are gone along for each connection (`walk.rt`), which few connections can ask for, since a system has a limited number of
+//! them; each input once in each scope.
 //!
 //! Definitions: `specs/Reaching.antt` (inputs by numbers, and what is known of them) and `specs/Walking.antt` (what a walk has put and
 //! what it came to).
@@ -13,8 +14,10 @@
 
 mod ends;
 mod guide;
+mod kept;
 mod known;
 mod scopes;
+mod steps;
 mod targets;
 mod walk;
 

@@ -1,14 +1,14 @@
 //! The inputs of components that the target of a connection reaches.
-ghost use Rattle.std.specs.Prelude.{◌≡◌, ◌++◌, [], ℕ, List, Some, IfOk, IsTrue, map, slice_get};
-ghost use Rattle.std.specs.List.{flat_map};
-ghost use Rattle.nest_names.specs.Flattening.{distinct, ins_in, spot_in};
-ghost use Rattle.nest_ways.specs.Reaching.{AreKnown, PutsUpTo, all_ends, input_at, ins_of, inputs_at};
-ghost use Rattle.nest_ways.specs.Walking.{IsReached, Reaches};
+ghost use Rattle.std.specs.Prelude.{◌≡◌, ◌++◌, [], ℕ, List, Some, IfOk, IsTrue, slice_get};
+ghost use Rattle.nest_names.specs.Flattening.{distinct};
+ghost use Rattle.nest_ways.specs.Reaching.{AreKnown, PutsUpTo, input_at, ins_of, inputs_at};
+ghost use Rattle.nest_ways.specs.Walking.{IsFirst, IsReached, Reaches, reached_inside};
 ghost use Rattle.nest_names.specs.declared.scope.Spot.{Spot as Spots};
 
 use crate::ends::End;
 use crate::guide::Guide;
 use crate::known::Ways;
+use crate::steps::find;
 use crate::walk::{Inlet, MOST_ENDS, Start, Walk, walk_inlet};
 use fixed_words::{List, NoMemory};
 use nest_names::{
@@ -104,6 +104,26 @@ fn reach_of(whole: bool, spots: List<Spot>) -> Reach
     if many { Reach::TooMany } else { Reach::Unknown }
 }
 
+/// What is known of an input of a group, in the scope from which a walk begins.
+fn first_inlet(
+    ways: &Ways<'_>,
+    guide: &Guide<'_>,
+    group: usize,
+    port: &[u8],
+) -> Option<Inlet>
+    ensures { (inlet : _) → result ≡ Some inlet → IsFirst ways.now.known.items group port.now inlet }
+{
+    let place = find(ways.known.as_slice(), guide, group, port)?;
+    let known = at(ways.known.as_slice(), place)?;
+    if known.height >= LEVELS {
+        return None;
+    }
+    let Ok(input) = u32::try_from(place) else {
+        return None;
+    };
+    Some(Inlet { scope: 0, input })
+}
+
 /// The inputs of components that an input of a group reaches in a scope.
 fn walk_from<'n>(
     alloc: Global,
@@ -112,27 +132,23 @@ fn walk_from<'n>(
     guide: &mut Guide<'n>,
     group: usize,
     scope: &Scope,
-    port: &'n [u8],
+    port: &[u8],
 ) -> Result<Reach, NoMemory>
     requires known { AreKnown names.now ways.now.scopes ways.now.known.items }
     requires scope { scope.now.group ≡ Some group }
-    ensures { IfOk result
-        (Reaches (distinct [] (flat_map (all_ends names.now 32) (map (spot_in scope.now) (ins_in names.now scope.now port.now))))) }
+    ensures { IfOk result (Reaches (reached_inside names.now scope.now group port.now)) }
 {
     let scopes = ways.scopes.as_slice();
     let Some(base) = place_of(scopes, scope) else {
+        return Ok(Reach::Unknown);
+    };
+    let Some(inlet) = first_inlet(ways, guide, group, port) else {
         return Ok(Reach::Unknown);
     };
     guide.begin(base);
     let mut walk = Walk {
         ends: List::new(alloc),
         done: Vec::new(alloc),
-    };
-    let inlet = Inlet {
-        scope: 0,
-        group,
-        port,
-        depth: LEVELS - 1,
     };
     let whole = walk_inlet(names, ways, Start { base, group }, guide, &mut walk, inlet)?;
     let Some(spots) = inputs(alloc, names, scopes, base, walk.ends.as_slice())? else {

@@ -1,22 +1,20 @@
 //! What an input of a group leads to in one scope, however much it is.
 //!
-//! Where little is led to, that is known and is put. Else the lines of the input are gone along, and then it is done: where it is led to
-//! again, nothing more is to be put.
-ghost use Rattle.std.specs.Prelude.{◌≡◌, ◌∷◌, ◌+◌, ◌≤◌, [], ℕ, Some, None, IfOk, IsTrue, OnOk, slice_get};
+//! Where it is little, that is kept and is put. Else the steps of the input are gone along, and then it is done: where it is led to again,
+//! nothing more is to be put.
+ghost use Rattle.std.specs.Prelude.{◌≡◌, ◌∷◌, ◌+◌, [], ℕ, Some, IfOk, IsTrue, OnOk, slice_get};
 ghost use Rattle.std.specs.Option.{option_to_list};
-ghost use Rattle.nest_names.specs.Flattening.{place_at};
-ghost use Rattle.nest_names.specs.Tables.{items_at};
-ghost use Rattle.nest_ways.specs.Reaching.{AreKnown, FindsKnown, ins_of};
-ghost use Rattle.nest_ways.specs.Walking.{FindsDone, IsDone, AreDone, IsScopeAt, StandsInside, WalksOn, lines_of};
+ghost use Rattle.nest_text.specs.declared.nest.Bind.{Bind};
+ghost use Rattle.nest_ways.specs.Reaching.{KeepsAll, LeadsHere, LeadsInside, lines_of};
+ghost use Rattle.nest_ways.specs.Walking.{AreDone, IsDone, IsInletAt, IsScopeAt, IsWalk, WalksOn, WalksWhole};
+ghost use Rattle.nest_ways.specs.declared.steps.Known.{Known as Knowns};
 
-use crate::ends::{End, first_same, put_once, put_onward, same_line};
+use crate::ends::{End, first_same, put_onward, put_within};
 use crate::guide::Guide;
-use crate::known::{Known, Ways, find};
-use crate::scopes::leads_from;
+use crate::known::Ways;
+use crate::steps::{Inside, Known, Step};
 use fixed_words::{List, NoMemory};
 use nest_names::{NestNames, at};
-use nest_text::Bind;
-use unit_tree::Name;
 
 /// The most inputs that a target may lead to, since a system has no more connections.
 pub(crate) const MOST_ENDS: usize = 2048;
@@ -28,208 +26,158 @@ pub struct Start {
     pub group: usize,
 }
 
-/// An input of a group in a scope, with how many levels are followed further down. What is done is done for more levels too.
+/// An input of a group in a scope.
 #[derive(Clone, Copy)]
-pub struct Inlet<'n> {
+pub struct Inlet {
     /// How many places further on the scope stands in the list of all scopes.
     pub scope: u32,
-    pub group: usize,
-    pub port: &'n [u8],
-    pub depth: usize,
+    /// The place of the input among those that are known.
+    pub input: u32,
 }
 
 /// The inputs of components that were put so far, and those of groups that are done: all that they lead to was put.
 #[derive(Drop)]
-pub struct Walk<'n> {
+pub struct Walk {
     pub ends: List<End>,
-    pub done: Vec<Inlet<'n>>,
+    pub done: Vec<Inlet>,
 }
 
 /// Whether an input is the one at a place of those that are done.
-fn is_done(done: &[Inlet<'_>], place: usize, inlet: Inlet<'_>) -> bool
-    ensures { IsTrue result → FindsDone done.now inlet.entry }
+fn is_done(done: &[Inlet], place: usize, inlet: Inlet) -> bool
+    ensures { IsTrue result → slice_get done.now place ≡ Some inlet }
 {
     match at(done, place) {
-        Some(other) => {
-            other.scope == inlet.scope
-                && other.group == inlet.group
-                && other.depth <= inlet.depth
-                && other.port == inlet.port
-        }
+        Some(other) => other.scope == inlet.scope && other.input == inlet.input,
         None => false,
     }
 }
 
-/// The number of the first line of an input, for the guide.
-fn first_line(inlet: Inlet<'_>, lines: &[usize]) -> End {
-    let line = match lines.first() {
-        Some(line) => u32::try_from(*line).unwrap_or(0),
-        None => 0,
-    };
-    End {
-        scope: inlet.scope,
-        line,
-    }
-}
-
-/// Puts what is known of an input.
-fn put_known<'n>(
+/// Puts the inputs of components that are kept of an input.
+fn put_kept<'n>(
     names: &NestNames<'n>,
     ways: &Ways<'n>,
     start: Start,
     guide: &mut Guide<'n>,
-    walk: &mut Walk<'n>,
-    inlet: Inlet<'n>,
+    walk: &mut Walk,
+    inlet: Inlet,
     known: &Known<'n>,
+    kept: &[End],
 ) -> Result<bool, NoMemory>
-    requires known { AreKnown names.now ways.now.scopes ways.now.known.items }
-    requires start { IsScopeAt ways.now.scopes start.base start.group }
-    requires scope { IsScopeAt ways.now.scopes (start.base + inlet.scope) inlet.group }
-    requires done { AreDone names.now ways.now.scopes start.base walk.old }
-    requires found { FindsKnown ways.now.known.items inlet.group inlet.port.now known.now }
-    requires height { known.now.height ≤ inlet.depth }
-    ensures { IfOk result (λ whole. WalksOn names.now ways.now.scopes start.base inlet.entry walk.old walk.new whole (lines_of names.now inlet.entry)) }
+    requires walk { IsWalk names.now ways.now.scopes ways.now.known.items start.base start.group walk.old }
+    requires there { IsScopeAt ways.now.scopes (start.base + inlet.scope) known.now.group }
+    requires kept { KeepsAll names.now ways.now.scopes known.now kept.now }
+    ensures { IfOk result (λ whole. WalksOn names.now ways.now.scopes ways.now.known.items start.base inlet.scope known.now walk.old walk.new whole
+        (lines_of names.now known.now.group known.now.port.now)) }
 {
     let firsts = ways.scopes.firsts(start.group);
-    let inner = known.ends.as_slice();
-    put_onward(guide, firsts, MOST_ENDS, inlet.scope, inner, &mut walk.ends)
+    put_onward(guide, firsts, MOST_ENDS, inlet.scope, kept, &mut walk.ends)
 }
 
-/// Puts the input of a component that a line leads to.
+/// Puts the input of a component.
 fn walk_component<'n>(
     names: &NestNames<'n>,
     ways: &Ways<'n>,
     start: Start,
     guide: &mut Guide<'n>,
-    walk: &mut Walk<'n>,
-    inlet: Inlet<'n>,
-    bind: &'n Bind,
-    line: usize,
+    walk: &mut Walk,
+    inlet: Inlet,
+    known: &Known<'n>,
+    line: u32,
 ) -> Result<bool, NoMemory>
-    requires scope { IsScopeAt ways.now.scopes (start.base + inlet.scope) inlet.group }
-    requires done { AreDone names.now ways.now.scopes start.base walk.old }
-    requires line { slice_get (ins_of names.now (Some inlet.group)) line ≡ Some bind.now }
-    requires component { place_at names.now (Some inlet.group) bind.now.inner.instance ≡ None }
-    ensures { IfOk result (λ whole. WalksOn names.now ways.now.scopes start.base inlet.entry walk.old walk.new whole (bind.now ∷ [])) }
+    requires walk { IsWalk names.now ways.now.scopes ways.now.known.items start.base start.group walk.old }
+    requires there { IsScopeAt ways.now.scopes (start.base + inlet.scope) known.now.group }
+    ensures { IfOk result (λ whole. (bind : Bind) → LeadsHere names.now known.now.group line bind
+        → WalksOn names.now ways.now.scopes ways.now.known.items start.base inlet.scope known.now walk.old walk.new whole (bind ∷ [])) }
 {
-    let line = same_line(guide, inlet.group, names.ins(inlet.group), bind, line);
-    let Ok(line) = u32::try_from(line) else {
-        return Ok(false);
-    };
-    if walk.ends.len() > MOST_ENDS {
-        return Ok(false);
-    }
     let scope = inlet.scope;
-    drop(put_once(guide, 0, End { scope, line }, &mut walk.ends)?);
-    Ok(true)
+    put_within(guide, MOST_ENDS, End { scope, line }, &mut walk.ends)
 }
 
-/// By how many places further on the scope inside an instance stands, of the scope of an input.
-fn scope_inside(
-    ways: &Ways<'_>,
-    start: Start,
-    guide: &Guide<'_>,
-    inlet: Inlet<'_>,
-    name: &Name,
-    place: usize,
-) -> Option<u32>
-    ensures { (inner : ℕ) → result ≡ Some inner → StandsInside ways.now.scopes start.base inlet.entry.scope inner name.now place }
+/// By how many places further on a scope stands that stands so many behind another: the first one that is the same.
+fn scope_behind(ways: &Ways<'_>, start: Start, scope: u32, offset: u32) -> Option<u32>
+    requires { IsScopeAt ways.now.scopes start.base start.group }
+    ensures { (inner : ℕ) → result ≡ Some inner
+        → slice_get ways.now.scopes (start.base + inner) ≡ slice_get ways.now.scopes (start.base + (scope + offset)) }
 {
-    let step = guide.offset(inlet.group, name.as_slice())?;
-    let onward = inlet.scope.checked_add(step)?;
-    let inner = first_same(ways.scopes.firsts(start.group), onward);
-    let outer = start.base.checked_add(inlet.scope as usize)?;
-    let scopes = ways.scopes.as_slice();
-    let scope = at(scopes, outer)?;
-    if leads_from(scopes, start.base, inner as usize, scope, name, place) {
-        Some(inner)
-    } else {
-        None
-    }
+    let onward = scope.checked_add(offset)?;
+    Some(first_same(ways.scopes.firsts(start.group), onward))
 }
 
-/// Puts the inputs that a line leads to through a group.
+/// Puts the inputs of components that a step through a group leads to.
 #[cycle(walk)]
 fn walk_inside<'n>(
     names: &NestNames<'n>,
     ways: &Ways<'n>,
     start: Start,
     guide: &mut Guide<'n>,
-    walk: &mut Walk<'n>,
-    inlet: Inlet<'n>,
-    bind: &'n Bind,
+    walk: &mut Walk,
+    inlet: Inlet,
+    known: &Known<'n>,
+    inside: Inside,
+) -> Result<bool, NoMemory>
+    requires walk { IsWalk names.now ways.now.scopes ways.now.known.items start.base start.group walk.old }
+    requires there { IsScopeAt ways.now.scopes (start.base + inlet.scope) known.now.group }
+    requires leads { (bind : Bind) × LeadsInside names.now ways.now.scopes ways.now.known.items known.now.group known.now.height inside bind }
+    ensures { IfOk result (λ whole. (bind : Bind)
+        → LeadsInside names.now ways.now.scopes ways.now.known.items known.now.group known.now.height inside bind
+        → WalksOn names.now ways.now.scopes ways.now.known.items start.base inlet.scope known.now walk.old walk.new whole (bind ∷ [])) }
+{
+    if inside.input >= inlet.input {
+        return Ok(false);
+    }
+    let Some(scope) = scope_behind(ways, start, inlet.scope, inside.offset) else {
+        return Ok(false);
+    };
+    let input = inside.input;
+    walk_inlet(names, ways, start, guide, walk, Inlet { scope, input })
+}
+
+/// Puts the inputs of components that a step leads to.
+#[cycle(walk)]
+fn walk_step<'n>(
+    names: &NestNames<'n>,
+    ways: &Ways<'n>,
+    start: Start,
+    guide: &mut Guide<'n>,
+    walk: &mut Walk,
+    inlet: Inlet,
+    known: &Known<'n>,
     place: usize,
 ) -> Result<bool, NoMemory>
-    requires known { AreKnown names.now ways.now.scopes ways.now.known.items }
-    requires start { IsScopeAt ways.now.scopes start.base start.group }
-    requires scope { IsScopeAt ways.now.scopes (start.base + inlet.scope) inlet.group }
-    requires done { AreDone names.now ways.now.scopes start.base walk.old }
-    requires inside { place_at names.now (Some inlet.group) bind.now.inner.instance ≡ Some place }
-    ensures { IfOk result (λ whole. WalksOn names.now ways.now.scopes start.base inlet.entry walk.old walk.new whole (bind.now ∷ [])) }
+    requires walk { IsWalk names.now ways.now.scopes ways.now.known.items start.base start.group walk.old }
+    requires found { slice_get ways.now.known.items inlet.input ≡ Some known.now }
+    requires there { IsScopeAt ways.now.scopes (start.base + inlet.scope) known.now.group }
+    ensures { IfOk result (λ whole. WalksOn names.now ways.now.scopes ways.now.known.items start.base inlet.scope known.now walk.old walk.new whole
+        (option_to_list (slice_get (lines_of names.now known.now.group known.now.port.now) place))) }
 {
-    if inlet.depth == 0 {
+    let Some(step) = at(known.steps.as_slice(), place) else {
         return Ok(false);
+    };
+    match *step {
+        Step::Component(line) => walk_component(names, ways, start, guide, walk, inlet, known, line),
+        Step::Inside(inside) => walk_inside(names, ways, start, guide, walk, inlet, known, inside),
     }
-    let name = &bind.inner.instance;
-    let Some(scope) = scope_inside(ways, start, guide, inlet, name, place) else {
-        return Ok(false);
-    };
-    let inner = Inlet {
-        scope,
-        group: place,
-        port: bind.inner.port.as_slice(),
-        depth: inlet.depth - 1,
-    };
-    walk_inlet(names, ways, start, guide, walk, inner)
 }
 
-/// Puts the inputs that a line leads to.
+/// Puts the inputs of components that the steps of an input lead to, until there are more than there may be.
 #[cycle(walk)]
-fn walk_line<'n>(
+fn walk_steps<'n>(
     names: &NestNames<'n>,
     ways: &Ways<'n>,
     start: Start,
     guide: &mut Guide<'n>,
-    walk: &mut Walk<'n>,
-    inlet: Inlet<'n>,
-    line: usize,
+    walk: &mut Walk,
+    inlet: Inlet,
+    known: &Known<'n>,
 ) -> Result<bool, NoMemory>
-    requires known { AreKnown names.now ways.now.scopes ways.now.known.items }
-    requires start { IsScopeAt ways.now.scopes start.base start.group }
-    requires scope { IsScopeAt ways.now.scopes (start.base + inlet.scope) inlet.group }
-    requires done { AreDone names.now ways.now.scopes start.base walk.old }
-    ensures { IfOk result (λ whole. WalksOn names.now ways.now.scopes start.base inlet.entry walk.old walk.new whole
-        (option_to_list (slice_get (ins_of names.now (Some inlet.entry.group)) line))) }
+    requires walk { IsWalk names.now ways.now.scopes ways.now.known.items start.base start.group walk.old }
+    requires found { slice_get ways.now.known.items inlet.input ≡ Some known.now }
+    requires there { IsScopeAt ways.now.scopes (start.base + inlet.scope) known.now.group }
+    ensures { IfOk result (λ whole. WalksOn names.now ways.now.scopes ways.now.known.items start.base inlet.scope known.now walk.old walk.new whole
+        (lines_of names.now known.now.group known.now.port.now)) }
 {
-    let Some(bind) = at(names.ins(inlet.group), line) else {
-        return Ok(true);
-    };
-    match names.place_at(Some(inlet.group), bind.inner.instance.as_slice()) {
-        None => walk_component(names, ways, start, guide, walk, inlet, bind, line),
-        Some(place) => walk_inside(names, ways, start, guide, walk, inlet, bind, place),
-    }
-}
-
-/// Puts the inputs that lines of an input lead to, until there are more than there may be.
-#[cycle(walk)]
-fn walk_lines<'n>(
-    names: &NestNames<'n>,
-    ways: &Ways<'n>,
-    start: Start,
-    guide: &mut Guide<'n>,
-    walk: &mut Walk<'n>,
-    inlet: Inlet<'n>,
-    lines: &[usize],
-) -> Result<bool, NoMemory>
-    requires known { AreKnown names.now ways.now.scopes ways.now.known.items }
-    requires start { IsScopeAt ways.now.scopes start.base start.group }
-    requires scope { IsScopeAt ways.now.scopes (start.base + inlet.scope) inlet.group }
-    requires done { AreDone names.now ways.now.scopes start.base walk.old }
-    ensures { IfOk result (λ whole. WalksOn names.now ways.now.scopes start.base inlet.entry walk.old walk.new whole
-        (items_at (ins_of names.now (Some inlet.entry.group)) lines.now)) }
-{
-    for line in lines {
-        if !walk_line(names, ways, start, guide, walk, inlet, *line)? {
+    for place in 0..known.steps.len() {
+        if !walk_step(names, ways, start, guide, walk, inlet, known, place)? {
             return Ok(false);
         }
     }
@@ -242,13 +190,14 @@ fn note_done<'n>(
     ways: &Ways<'n>,
     start: Start,
     guide: &mut Guide<'n>,
-    walk: &mut Walk<'n>,
-    inlet: Inlet<'n>,
+    walk: &mut Walk,
+    inlet: Inlet,
     first: End,
 ) -> Result<(), NoMemory>
-    requires done { AreDone names.now ways.now.scopes start.base walk.old }
-    requires all { IsDone names.now ways.now.scopes start.base walk.old.ends inlet }
-    ensures done { OnOk result (AreDone names.now ways.now.scopes start.base walk.new) }
+    requires done { AreDone names.now ways.now.scopes ways.now.known.items start.base walk.old }
+    requires all { (known : Knowns) → slice_get ways.now.known.items inlet.input ≡ Some known
+        → IsDone names.now ways.now.scopes start.base walk.old.ends inlet.scope known }
+    ensures done { OnOk result (AreDone names.now ways.now.scopes ways.now.known.items start.base walk.new) }
     ensures ends { OnOk result (walk.new.ends ≡ walk.old.ends) }
 {
     guide.note_done(first, walk.done.len());
@@ -256,54 +205,56 @@ fn note_done<'n>(
     Ok(())
 }
 
-/// Puts the inputs that an input leads to by its lines, and notes that it is done.
+/// Puts the inputs of components that an input leads to by its steps, and notes that it is done.
 #[cycle(walk)]
 fn walk_through<'n>(
     names: &NestNames<'n>,
     ways: &Ways<'n>,
     start: Start,
     guide: &mut Guide<'n>,
-    walk: &mut Walk<'n>,
-    inlet: Inlet<'n>,
+    walk: &mut Walk,
+    inlet: Inlet,
+    known: &Known<'n>,
 ) -> Result<bool, NoMemory>
-    requires known { AreKnown names.now ways.now.scopes ways.now.known.items }
-    requires start { IsScopeAt ways.now.scopes start.base start.group }
-    requires scope { IsScopeAt ways.now.scopes (start.base + inlet.scope) inlet.group }
-    requires done { AreDone names.now ways.now.scopes start.base walk.old }
-    ensures { IfOk result (λ whole. WalksOn names.now ways.now.scopes start.base inlet.entry walk.old walk.new whole (lines_of names.now inlet.entry)) }
+    requires walk { IsWalk names.now ways.now.scopes ways.now.known.items start.base start.group walk.old }
+    requires found { slice_get ways.now.known.items inlet.input ≡ Some known.now }
+    requires there { IsScopeAt ways.now.scopes (start.base + inlet.scope) known.now.group }
+    ensures { IfOk result (λ whole. WalksOn names.now ways.now.scopes ways.now.known.items start.base inlet.scope known.now walk.old walk.new whole
+        (lines_of names.now known.now.group known.now.port.now)) }
 {
-    let lines = names.ins_named(inlet.group, inlet.port);
-    let first = first_line(inlet, lines);
+    let first = End {
+        scope: inlet.scope,
+        line: known.first,
+    };
     if is_done(walk.done.as_slice(), guide.done_at(first), inlet) {
         return Ok(true);
     }
-    if !walk_lines(names, ways, start, guide, walk, inlet, lines)? {
+    if !walk_steps(names, ways, start, guide, walk, inlet, known)? {
         return Ok(false);
     }
     note_done(names, ways, start, guide, walk, inlet, first)?;
     Ok(true)
 }
 
-/// Puts the inputs that an input of a group leads to, until there are more than there may be. Tells whether all were put.
+/// Puts the inputs of components that an input of a group leads to, until there are more than there may be. Tells whether all were put.
 #[cycle(walk)]
 pub(crate) fn walk_inlet<'n>(
     names: &NestNames<'n>,
     ways: &Ways<'n>,
     start: Start,
     guide: &mut Guide<'n>,
-    walk: &mut Walk<'n>,
-    inlet: Inlet<'n>,
+    walk: &mut Walk,
+    inlet: Inlet,
 ) -> Result<bool, NoMemory>
-    requires known { AreKnown names.now ways.now.scopes ways.now.known.items }
-    requires start { IsScopeAt ways.now.scopes start.base start.group }
-    requires scope { IsScopeAt ways.now.scopes (start.base + inlet.scope) inlet.group }
-    requires done { AreDone names.now ways.now.scopes start.base walk.old }
-    ensures { IfOk result (λ whole. WalksOn names.now ways.now.scopes start.base inlet.entry walk.old walk.new whole (lines_of names.now inlet.entry)) }
+    requires walk { IsWalk names.now ways.now.scopes ways.now.known.items start.base start.group walk.old }
+    requires there { IsInletAt ways.now.scopes ways.now.known.items start.base inlet }
+    ensures { IfOk result (WalksWhole names.now ways.now.scopes ways.now.known.items start.base inlet walk.old walk.new) }
 {
-    match find(ways.known.as_slice(), guide, inlet.group, inlet.port) {
-        Some(known) if known.height <= inlet.depth => {
-            put_known(names, ways, start, guide, walk, inlet, known)
-        }
-        _ => walk_through(names, ways, start, guide, walk, inlet),
+    let Some(known) = at(ways.known.as_slice(), inlet.input as usize) else {
+        return Ok(false);
+    };
+    match &known.ends {
+        Some(kept) => put_kept(names, ways, start, guide, walk, inlet, known, kept.as_slice()),
+        None => walk_through(names, ways, start, guide, walk, inlet, known),
     }
 }

@@ -3,9 +3,10 @@ ghost use Rattle.std.specs.Prelude.{◌≡◌, ◌∷◌, ◌++◌, [], ◌≤�
 ghost use Rattle.std.specs.List.{flat_map, list_any};
 ghost use Rattle.sub_flat.specs.FlatReading.{FlatAnswers, IsKeptPrintable, MadeWithin, MakesLeaves, PutsWithin, leaves_inside, wire_between, wires_inside};
 ghost use Rattle.nest_ways.specs.Reaching.{AreKnown};
-ghost use Rattle.nest_names.specs.Flattening.{flat_port, flat_sample, flat_wire, flat_wires, follow, leaves, levels, named_in, reach, top, wires_of};
+ghost use Rattle.nest_names.specs.Flattening.{flat_port, flat_wire, flat_wires, follow, leaves, levels, named_in, reach, top, wires_of};
 
 use crate::fault::Unflat;
+use crate::samples::flat_samples;
 use fixed_words::{List, NoMemory};
 use nest_names::{
     LEVELS, NestNames, Scope, Spot, flat_name, flat_port, follow, inside, spot_of, top,
@@ -26,7 +27,7 @@ const LONGEST_NAME: usize = 32;
 /// The most connections of a system.
 const MOST_WIRES: usize = 2048;
 
-fn copied(alloc: Global, name: &Name) -> Result<Name, NoMemory>
+pub(crate) fn copied(alloc: Global, name: &Name) -> Result<Name, NoMemory>
     ensures { IfOk result (λ made. made ≡ name.now) }
 {
     Ok(List::from_slice(alloc, name.as_slice())?)
@@ -221,36 +222,6 @@ fn put_wires<'n>(
         put_wires_inside(alloc, names, ways, guide, depth, scope, instance, wires)?;
     }
     Ok(())
-}
-
-/// A sample of `main`, as a port of a component.
-fn flat_sample(
-    alloc: Global,
-    names: &NestNames<'_>,
-    scope: &Scope,
-    sample: &PortName,
-) -> Result<PortName, NoMemory>
-    ensures { IfOk result (λ made. made ≡ flat_port (follow names.now levels (record { scope = scope.now; port = sample.now }))) }
-{
-    let spot = spot_of(alloc, scope, sample)?;
-    let spot = follow(alloc, names, LEVELS, spot)?;
-    flat_port(alloc, &spot)
-}
-
-/// The samples of `main`, as ports of components.
-fn flat_samples(
-    alloc: Global,
-    names: &NestNames<'_>,
-    samples: &[PortName],
-) -> Result<List<PortName>, NoMemory>
-    ensures { IfOk result (λ made. made ≡ map (flat_sample names.now) samples.now) }
-{
-    let scope = top(alloc);
-    let mut made = List::new(alloc);
-    for sample in samples {
-        made.push(flat_sample(alloc, names, &scope, sample)?)?;
-    }
-    Ok(made)
 }
 
 fn flat_instances(alloc: Global, names: &NestNames<'_>) -> Result<List<Instance>, Unflat>

@@ -17,6 +17,7 @@ mod flattening;
 mod judge;
 mod laws;
 mod levels;
+mod samples;
 
 pub use flattening::flatten;
 pub use laws::nests_are_judged_once;

@@ -1,10 +1,8 @@
-use Rattle.std.proofs.Common.{◌≡◌, ◌∙◌, ◌<◌, [], ℕ, List, Some, ap, length, map, subst, sym}
-use Rattle.std.specs.List.{flat_map}
-use Rattle.nest_names.specs.Flattening.{distinct, ins_in, place_at, spot_in}
+use Rattle.std.proofs.Common.{◌≡◌, ◌∙◌, ◌<◌, ℕ, List, Some, ap, length, subst, sym}
+use Rattle.nest_names.specs.Flattening.{place_at}
 use Rattle.nest_names.specs.declared.scope.Scope.{Scope}
 use Rattle.nest_names.specs.declared.scope.Spot.{Spot}
-use Rattle.nest_ways.specs.Reaching.{all_ends}
-use Rattle.nest_ways.specs.Walking.{Reaches}
+use Rattle.nest_ways.specs.Walking.{Reaches, reached_inside}
 use Rattle.nest_ways.proofs.WayLaws.{target_reached}
 use Rattle.nest_ways.proofs.targets.reached.Goals as goal
 
@@ -15,7 +13,7 @@ returns-in-All c =
     let to = c.args.to.now in
     let place = c.in-Some.place in
     let spot : Spot = record { scope = scope; port = to } in
-    let all : Scope → List ℕ → List Spot = λ inner port. distinct [] (flat_map (all_ends nest 32) (map (spot_in inner) (ins_in nest inner port))) in
+    let all : Scope → List ℕ → List Spot = λ inner port. reached_inside nest inner place port in
     let at : place_at nest scope.group to.instance ≡ Some place =
     sym (ap (place_at nest scope.group) c.as_slice.ensures) ∙ sym c.place_at.ensures ∙ c.in-Some.is in
     subst (Reaches (all c.in_ok-inner.inner c.as_slice-port.result.now)) c.in-All.is c.in_ok-spots.ensures
@@ -30,7 +28,7 @@ returns-in-TooMany c =
     let to = c.args.to.now in
     let place = c.in-Some.place in
     let spot : Spot = record { scope = scope; port = to } in
-    let all : Scope → List ℕ → List Spot = λ inner port. distinct [] (flat_map (all_ends nest 32) (map (spot_in inner) (ins_in nest inner port))) in
+    let all : Scope → List ℕ → List Spot = λ inner port. reached_inside nest inner place port in
     let at : place_at nest scope.group to.instance ≡ Some place =
     sym (ap (place_at nest scope.group) c.as_slice.ensures) ∙ sym c.place_at.ensures ∙ c.in-Some.is in
     subst (λ (spots : List Spot). 2048 < length spots)

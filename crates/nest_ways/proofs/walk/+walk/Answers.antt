@@ -1,42 +1,53 @@
-use Rattle.std.proofs.Common.{◌∷◌, ◌+◌, ◌-◌, [], Some, ap, arith, drop, get_or, refl, subst, take, true, false}
+use Rattle.std.proofs.Common.{◌≡◌, ◌∙◌, ◌∷◌, ◌+◌, ◌++◌, [], Some, ap, arith, drop, refl, subst, sym, take, true, false}
 use Rattle.std.specs.Prelude.{slice_get}
 use Rattle.std.specs.Option.{option_map, option_to_list}
-use Rattle.nest_names.specs.Tables.{items_at}
-use Rattle.nest_ways.specs.Reaching.{FindsKnown, ins_of}
-use Rattle.nest_ways.specs.Walking.{FindsDone, WalksOn, lines_of}
+use Rattle.list_laws.proofs.Pairs.{zip_at}
+use Rattle.nest_text.specs.declared.nest.Bind.{Bind}
+use Rattle.std.proofs.lemmas.Option.{same_Some}
+use Rattle.nest_ways.specs.Reaching.{IsStep, KeepsAll, LeadsHere, LeadsInside, lines_of}
+use Rattle.nest_ways.specs.Walking.{IsDone, WalksOn, WalksWhole}
+use Rattle.nest_ways.specs.declared.steps.Step.TheVariants as step_is
 use Rattle.nest_ways.specs.declared.walk.Inlet.{Inlet}
-use Rattle.nest_ways.proofs.WalkLaws.{falls, inside_puts, inside_there, is_done_now, lines_split, ok_more, walks_done, walks_more, walks_none, walks_same, walks_stop}
-use Rattle.nest_ways.proofs.WayLaws.{lines_next}
+use Rattle.nest_ways.proofs.WalkLaws.{inside_there, inside_walks, is_done_now, ok_more, walks_done, walks_more, walks_none, walks_same, walks_stop, whole_of}
+use Rattle.nest_ways.proofs.WayLaws.{line_next, lines_end, lines_split}
 use Rattle.nest_ways.proofs.walk.+walk.Goals as goal
 
-pub walk_inlet-put_known-requires-clause-found : goal.walk_inlet-put_known-requires-clause-found
-walk_inlet-put_known-requires-clause-found t c =
-    subst (λ all. FindsKnown all c.args.inlet.group c.args.inlet.port.now c.in-Some.known.now) c.as_slice.ensures.value
-    (c.find.ensures c.in-Some.known.now (ap (option_map (λ one. one.now)) c.in-Some.is))
+pub walk_inlet-put_kept-requires-clause-kept : goal.walk_inlet-put_kept-requires-clause-kept
+walk_inlet-put_kept-requires-clause-kept t c =
+    let scopes = c.args.ways.now.scopes in
+    let all = c.args.ways.now.known.items in
+    let known = c.in-Some.known.now in
+    let found : slice_get all c.args.inlet.input ≡ Some known =
+    ap (λ those. slice_get those c.args.inlet.input) (sym c.as_slice.ensures.value) ∙ sym c.at.ensures ∙ ap (option_map (λ one. one.now)) c.in-Some.is in
+    subst (KeepsAll c.args.names.now scopes known) (sym c.as_slice-in-Some-ends.ensures)
+    ((c.requires.walk.known c.args.inlet.input known found).ends c.in-Some-ends.kept c.in-Some-ends.is)
 
-pub walk_inside-returns-then-inlet-eq0 : goal.walk_inside-returns-then-inlet-eq0
-walk_inside-returns-then-inlet-eq0 t c =
-    walks_none c.args.names.now c.args.ways.now.scopes c.args.start.base c.args.inlet c.args.walk.now (c.args.bind.now ∷ [])
+pub walk_inside-returns-then-inside-inlet : goal.walk_inside-returns-then-inside-inlet
+walk_inside-returns-then-inside-inlet t c bind leads =
+    walks_none c.args.names.now c.args.ways.now.scopes c.args.ways.now.known.items c.args.start.base c.args.inlet.scope c.args.known.now c.args.walk.now
+    (bind ∷ [])
 
 pub walk_inside-returns-in_default : goal.walk_inside-returns-in_default
-walk_inside-returns-in_default t c =
-    walks_none c.args.names.now c.args.ways.now.scopes c.args.start.base c.args.inlet c.args.walk.now (c.args.bind.now ∷ [])
+walk_inside-returns-in_default t c bind leads =
+    walks_none c.args.names.now c.args.ways.now.scopes c.args.ways.now.known.items c.args.start.base c.args.inlet.scope c.args.known.now c.args.walk.now
+    (bind ∷ [])
 
 pub walk_inside-walk_inlet-requires : goal.walk_inside-walk_inlet-requires
 walk_inside-walk_inlet-requires t c =
-    let less = falls c.args.inlet.depth c.if-inlet-eq0.false in
+    let nest = c.args.names.now in
+    let scopes = c.args.ways.now.scopes in
+    let all = c.args.ways.now.known.items in
+    let base = c.args.start.base in
+    let offset = c.args.inlet.scope in
+    let known = c.args.known.now in
+    let inner : Inlet = record { scope = c.in-Some.scope; input = c.args.inside.input } in
+    let less = c.if-inside-inlet.false in
     let most = c.decreases in (
       omega (arith, less, most),
       (
-        c.requires.known,
-        (
-          c.requires.start,
-          (
-            inside_there c.args.ways.now.scopes c.args.start.base c.args.inlet.scope c.in-Some.scope c.args.inlet.group c.args.place
-                c.args.bind.now.inner.instance c.requires.scope (c.scope_inside.ensures c.in-Some.scope c.in-Some.is),
-            c.requires.done,
-          ),
-        ),
+        c.requires.walk,
+        inside_there nest scopes all base offset known c.args.inside c.requires.leads.0 inner refl (c.scope_behind.ensures c.in-Some.scope c.in-Some.is)
+            c.requires.leads.1 c.requires.there,
       ),
     )
 
@@ -44,86 +55,204 @@ pub walk_inside-returns : goal.walk_inside-returns
 walk_inside-returns t c =
     let nest = c.args.names.now in
     let scopes = c.args.ways.now.scopes in
+    let all = c.args.ways.now.known.items in
     let base = c.args.start.base in
-    let inlet = c.args.inlet in
-    let inner : Inlet = record { scope = c.in-Some.scope; group = c.args.place; port = c.as_slice.result; depth = inlet.depth - 1 } in
+    let offset = c.args.inlet.scope in
+    let known = c.args.known.now in
+    let step = c.args.inside in
+    let inner : Inlet = record { scope = c.in-Some.scope; input = step.input } in
     let old = c.args.walk.now in
     let new = c.walk_inlet.new.walk in
-    ok_more (λ whole. WalksOn nest scopes base inner old new whole (lines_of nest inner))
-    (λ whole. WalksOn nest scopes base inlet old new whole (c.args.bind.now ∷ [])) c.walk_inlet.result c.walk_inlet.ensures
+    ok_more (WalksWhole nest scopes all base inner old new)
+    (λ whole. (bind : Bind) → LeadsInside nest scopes all known.group known.height step bind
+    → WalksOn nest scopes all base offset known old new whole (bind ∷ [])) c.walk_inlet.result c.walk_inlet.ensures
+    (λ whole walks bind leads.
+    inside_walks nest scopes all base offset known step bind inner old new whole refl (c.scope_behind.ensures c.in-Some.scope c.in-Some.is) leads walks)
+
+pub walk_step-returns-in_default : goal.walk_step-returns-in_default
+walk_step-returns-in_default t c =
+    let known = c.args.known.now in
+    walks_none c.args.names.now c.args.ways.now.scopes c.args.ways.now.known.items c.args.start.base c.args.inlet.scope known c.args.walk.now
+    (option_to_list (slice_get (lines_of c.args.names.now known.group known.port.now) c.args.place))
+
+pub walk_step-walk_inside-requires : goal.walk_step-walk_inside-requires
+walk_step-walk_inside-requires t c =
+    let nest = c.args.names.now in
+    let scopes = c.args.ways.now.scopes in
+    let all = c.args.ways.now.known.items in
+    let base = c.args.start.base in
+    let offset = c.args.inlet.scope in
+    let known = c.args.known.now in
+    let lines = lines_of nest known.group known.port.now in
+    let place = c.args.place in
+    let there : slice_get known.steps place ≡ Some (step_is.Inside c.in-Inside.inside) =
+    ap (λ those. slice_get those place) (sym c.as_slice.ensures) ∙ sym c.at.ensures ∙ ap (option_map (λ one. one.now)) c.in-Some.is
+    ∙ ap (λ step. Some step) c.in-Inside.is in
+    let beside =
+    zip_at (IsStep nest scopes all known.group known.height) known.steps lines place (step_is.Inside c.in-Inside.inside)
+    (c.requires.walk.known c.args.inlet.input known c.requires.found).steps there in
+    let most = c.decreases in (omega (arith, most), (c.requires.walk, (c.requires.there, (beside.other, beside.related))))
+
+pub walk_step-returns-in-Component : goal.walk_step-returns-in-Component
+walk_step-returns-in-Component t c =
+    let nest = c.args.names.now in
+    let scopes = c.args.ways.now.scopes in
+    let all = c.args.ways.now.known.items in
+    let base = c.args.start.base in
+    let offset = c.args.inlet.scope in
+    let known = c.args.known.now in
+    let lines = lines_of nest known.group known.port.now in
+    let place = c.args.place in
+    let there : slice_get known.steps place ≡ Some (step_is.Component c.in-Component.line) =
+    ap (λ those. slice_get those place) (sym c.as_slice.ensures) ∙ sym c.at.ensures ∙ ap (option_map (λ one. one.now)) c.in-Some.is
+    ∙ ap (λ step. Some step) c.in-Component.is in
+    let beside =
+    zip_at (IsStep nest scopes all known.group known.height) known.steps lines place (step_is.Component c.in-Component.line)
+    (c.requires.walk.known c.args.inlet.input known c.requires.found).steps there in
+    ok_more
+    (λ whole. (bind : Bind) → LeadsHere nest known.group c.in-Component.line bind
+    → WalksOn nest scopes all base offset known c.args.walk.now c.walk_component.new.walk whole (bind ∷ []))
+    (λ whole. WalksOn nest scopes all base offset known c.args.walk.now c.walk_component.new.walk whole (option_to_list (slice_get lines place)))
+    c.walk_component.result c.walk_component.ensures
     (λ whole walks.
-    inside_puts nest scopes base c.args.place inlet inner c.args.bind.now old new whole c.if-inlet-eq0.false refl c.as_slice.ensures refl
-    (c.scope_inside.ensures c.in-Some.scope c.in-Some.is) c.requires.inside walks)
+    subst (λ found. WalksOn nest scopes all base offset known c.args.walk.now c.walk_component.new.walk whole (option_to_list found)) (sym beside.is)
+    (walks beside.other beside.related))
 
-pub walk_lines-returns-then-not-branch : goal.walk_lines-returns-then-not-branch
-walk_lines-returns-then-not-branch t c =
+pub walk_step-returns-in-Inside : goal.walk_step-returns-in-Inside
+walk_step-returns-in-Inside t c =
     let nest = c.args.names.now in
     let scopes = c.args.ways.now.scopes in
+    let all = c.args.ways.now.known.items in
     let base = c.args.start.base in
-    let inlet = c.args.inlet in
-    let ins = ins_of nest (Some inlet.group) in
-    let lines = c.args.lines.now in
-    let place = c.loop-line.line-index in
-    let one = option_to_list (slice_get ins (get_or lines place 0)) in
-    let new = c.walk_line.new.walk in
-    let walks =
-    subst (λ whole. WalksOn nest scopes base inlet c.loop-line.walk new whole one) c.if-not-branch.true c.in_ok-walk_line.ensures in
-    walks_stop nest scopes base inlet c.args.walk.now new (items_at ins (take (place + 1) lines)) (items_at ins (drop (place + 1) lines)) (items_at ins lines)
-    (walks_more nest scopes base inlet c.args.walk.now c.loop-line.walk new false (items_at ins (take place lines)) one (items_at ins (take (place + 1) lines))
-    c.loop-line.invariant walks (lines_next ins lines place c.loop-line-test.true)) (lines_split ins lines (place + 1))
+    let offset = c.args.inlet.scope in
+    let known = c.args.known.now in
+    let lines = lines_of nest known.group known.port.now in
+    let place = c.args.place in
+    let there : slice_get known.steps place ≡ Some (step_is.Inside c.in-Inside.inside) =
+    ap (λ those. slice_get those place) (sym c.as_slice.ensures) ∙ sym c.at.ensures ∙ ap (option_map (λ one. one.now)) c.in-Some.is
+    ∙ ap (λ step. Some step) c.in-Inside.is in
+    let beside =
+    zip_at (IsStep nest scopes all known.group known.height) known.steps lines place (step_is.Inside c.in-Inside.inside)
+    (c.requires.walk.known c.args.inlet.input known c.requires.found).steps there in
+    ok_more
+    (λ whole. (bind : Bind) → LeadsInside nest scopes all known.group known.height c.in-Inside.inside bind
+    → WalksOn nest scopes all base offset known c.args.walk.now c.walk_inside.new.walk whole (bind ∷ []))
+    (λ whole. WalksOn nest scopes all base offset known c.args.walk.now c.walk_inside.new.walk whole (option_to_list (slice_get lines place)))
+    c.walk_inside.result c.walk_inside.ensures
+    (λ whole walks.
+    subst (λ found. WalksOn nest scopes all base offset known c.args.walk.now c.walk_inside.new.walk whole (option_to_list found)) (sym beside.is)
+    (walks beside.other beside.related))
 
-pub walk_lines-loop-line-preserved : goal.walk_lines-loop-line-preserved
-walk_lines-loop-line-preserved t c =
+pub walk_steps-walk_step-requires : goal.walk_steps-walk_step-requires
+walk_steps-walk_step-requires t c =
+    let most = c.decreases in (
+      omega (arith, most),
+      (record { known = c.requires.walk.known; start = c.requires.walk.start; done = c.loop-place.invariant.done refl }, (c.requires.found, c.requires.there)),
+    )
+
+pub walk_steps-returns-then-not-branch : goal.walk_steps-returns-then-not-branch
+walk_steps-returns-then-not-branch t c =
     let nest = c.args.names.now in
     let scopes = c.args.ways.now.scopes in
+    let all = c.args.ways.now.known.items in
     let base = c.args.start.base in
-    let inlet = c.args.inlet in
-    let ins = ins_of nest (Some inlet.group) in
-    let lines = c.args.lines.now in
-    let place = c.loop-line.line-index in
-    let one = option_to_list (slice_get ins (get_or lines place 0)) in
-    let new = c.walk_line.new.walk in
+    let offset = c.args.inlet.scope in
+    let known = c.args.known.now in
+    let lines = lines_of nest known.group known.port.now in
+    let place = c.loop-place.place in
+    let one = option_to_list (slice_get lines place) in
+    let old = c.args.walk.now in
+    let new = c.walk_step.new.walk in
     let walks =
-    subst (λ whole. WalksOn nest scopes base inlet c.loop-line.walk new whole one) c.if-not-branch.false c.in_ok-walk_line.ensures in
-    walks_more nest scopes base inlet c.args.walk.now c.loop-line.walk new true (items_at ins (take place lines)) one (items_at ins (take (place + 1) lines))
-    c.loop-line.invariant walks (lines_next ins lines place c.loop-line-test.true)
+    subst (λ whole. WalksOn nest scopes all base offset known c.loop-place.walk new whole one) c.if-not-branch.true c.in_ok-walk_step.ensures in
+    walks_stop nest scopes all base offset known old new (take place lines ++ one) (drop (place + 1) lines) lines
+    (walks_more nest scopes all base offset known old c.loop-place.walk new false (take place lines) one (take place lines ++ one)
+    c.loop-place.invariant walks refl) (lines_split lines place)
+
+pub walk_steps-loop-place-preserved : goal.walk_steps-loop-place-preserved
+walk_steps-loop-place-preserved t c =
+    let nest = c.args.names.now in
+    let scopes = c.args.ways.now.scopes in
+    let all = c.args.ways.now.known.items in
+    let base = c.args.start.base in
+    let offset = c.args.inlet.scope in
+    let known = c.args.known.now in
+    let lines = lines_of nest known.group known.port.now in
+    let place = c.loop-place.place in
+    let one = option_to_list (slice_get lines place) in
+    let old = c.args.walk.now in
+    let new = c.walk_step.new.walk in
+    let walks =
+    subst (λ whole. WalksOn nest scopes all base offset known c.loop-place.walk new whole one) c.if-not-branch.false c.in_ok-walk_step.ensures in
+    walks_more nest scopes all base offset known old c.loop-place.walk new true (take place lines) one (take (place + 1) lines)
+    c.loop-place.invariant walks (line_next lines place)
+
+pub walk_steps-returns : goal.walk_steps-returns
+walk_steps-returns t c =
+    let nest = c.args.names.now in
+    let scopes = c.args.ways.now.scopes in
+    let all = c.args.ways.now.known.items in
+    let base = c.args.start.base in
+    let offset = c.args.inlet.scope in
+    let known = c.args.known.now in
+    let lines = lines_of nest known.group known.port.now in
+    let steps = (c.requires.walk.known c.args.inlet.input known c.requires.found).steps in
+    let long = c.len-place-end.ensures in
+    let past = c.loop-place-test.false in
+    subst (WalksOn nest scopes all base offset known c.args.walk.now c.loop-place.walk true)
+    (lines_end nest scopes all known.group known.height known.steps lines c.loop-place.place steps (omega (arith, long, past))) c.loop-place.invariant
 
 pub walk_through-returns-then-is_done : goal.walk_through-returns-then-is_done
 walk_through-returns-then-is_done t c =
-    walks_done c.args.names.now c.args.ways.now.scopes c.args.start.base c.args.inlet c.args.walk.now c.requires.done
-    (subst (λ all. FindsDone all c.args.inlet) c.as_slice.ensures.value (c.is_done.ensures c.if-is_done.true))
-
-pub walk_through-note_done-requires-clause-all : goal.walk_through-note_done-requires-clause-all
-walk_through-note_done-requires-clause-all t c =
     let nest = c.args.names.now in
     let scopes = c.args.ways.now.scopes in
+    let all = c.args.ways.now.known.items in
     let base = c.args.start.base in
-    let inlet = c.args.inlet in
-    let old = c.args.walk.now in
-    let new = c.walk_lines.new.walk in
-    let ins = ins_of nest (Some inlet.group) in
-    is_done_now nest scopes base inlet old new
-    (subst (WalksOn nest scopes base inlet old new true) c.ins_named-lines.ensures
-    (subst (λ whole. WalksOn nest scopes base inlet old new whole (items_at ins c.ins_named-lines.result.now)) c.if-not-branch.false
-    c.in_ok-walk_lines.ensures))
+    let offset = c.args.inlet.scope in
+    let known = c.args.known.now in
+    walks_done nest scopes all base c.args.inlet known c.args.walk.now c.done_at.result c.requires.walk.done
+    (ap (λ those. slice_get those c.done_at.result) (sym c.as_slice.ensures.value) ∙ c.is_done.ensures c.if-is_done.true) c.requires.found
 
-pub walk_lines-walk_line-requires : goal.walk_lines-walk_line-requires
-walk_lines-walk_line-requires t c =
-    let most = c.decreases in (omega (arith, most), (c.requires.known, (c.requires.start, (c.requires.scope, c.loop-line.invariant.done refl))))
+pub walk_through-returns-then-not-branch : goal.walk_through-returns-then-not-branch
+walk_through-returns-then-not-branch t c =
+    let nest = c.args.names.now in
+    let scopes = c.args.ways.now.scopes in
+    let all = c.args.ways.now.known.items in
+    let base = c.args.start.base in
+    let offset = c.args.inlet.scope in
+    let known = c.args.known.now in
+    let lines = lines_of nest known.group known.port.now in
+    subst (λ whole. WalksOn nest scopes all base offset known c.args.walk.now c.walk_steps.new.walk whole lines) c.if-not-branch.true
+    c.in_ok-walk_steps.ensures
 
 pub walk_through-note_done-requires-clause-done : goal.walk_through-note_done-requires-clause-done
-walk_through-note_done-requires-clause-done t c = c.in_ok-walk_lines.ensures.done c.if-not-branch.false
+walk_through-note_done-requires-clause-done t c =
+    c.in_ok-walk_steps.ensures.done c.if-not-branch.false
+
+pub walk_through-note_done-requires-clause-all : goal.walk_through-note_done-requires-clause-all
+walk_through-note_done-requires-clause-all t c one found =
+    let nest = c.args.names.now in
+    let scopes = c.args.ways.now.scopes in
+    let all = c.args.ways.now.known.items in
+    let base = c.args.start.base in
+    let offset = c.args.inlet.scope in
+    let known = c.args.known.now in
+    let lines = lines_of nest known.group known.port.now in
+    let new = c.walk_steps.new.walk in
+    subst (IsDone nest scopes base new.ends offset) (same_Some known one (sym c.requires.found ∙ found))
+    (is_done_now nest scopes all base offset known c.args.walk.now new
+    (subst (λ whole. WalksOn nest scopes all base offset known c.args.walk.now new whole lines) c.if-not-branch.false c.in_ok-walk_steps.ensures))
 
 pub walk_through-returns : goal.walk_through-returns
 walk_through-returns t c =
     let nest = c.args.names.now in
     let scopes = c.args.ways.now.scopes in
+    let all = c.args.ways.now.known.items in
     let base = c.args.start.base in
-    let inlet = c.args.inlet in
-    let old = c.args.walk.now in
-    let now = c.walk_lines.new.walk in
-    let ins = ins_of nest (Some inlet.group) in
-    walks_same nest scopes base inlet old now c.note_done.new.walk (lines_of nest inlet)
-    (subst (WalksOn nest scopes base inlet old now true) c.ins_named-lines.ensures
-    (subst (λ whole. WalksOn nest scopes base inlet old now whole (items_at ins c.ins_named-lines.result.now)) c.if-not-branch.false
-    c.in_ok-walk_lines.ensures)) c.in_ok-note_done.ensures.ends c.in_ok-note_done.ensures.done
+    let offset = c.args.inlet.scope in
+    let known = c.args.known.now in
+    let lines = lines_of nest known.group known.port.now in
+    let now = c.walk_steps.new.walk in
+    walks_same nest scopes all base offset known c.args.walk.now now c.note_done.new.walk lines
+    (subst (λ whole. WalksOn nest scopes all base offset known c.args.walk.now now whole lines) c.if-not-branch.false c.in_ok-walk_steps.ensures)
+    c.in_ok-note_done.ensures.ends c.in_ok-note_done.ensures.done

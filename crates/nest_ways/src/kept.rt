@@ -1,0 +1,70 @@
+//! The inputs of components that an input of a group leads to, where they are few: the same in each scope of its group.
+ghost use Rattle.std.specs.Prelude.{◌≡◌, ◌∷◌, [], ℕ, List, Some, IfOk, IsTrue};
+ghost use Rattle.nest_text.specs.declared.nest.Bind.{Bind};
+ghost use Rattle.nest_text.specs.declared.nest.Nest.{Nest};
+ghost use Rattle.nest_ways.specs.Reaching.{AreKnown, AreSteps, IsStep, Puts};
+
+use crate::ends::{End, put_onward, put_within};
+use crate::guide::Guide;
+use crate::scopes::AllScopes;
+use crate::steps::{Known, Step};
+use fixed_words::{List, NoMemory};
+use nest_names::at;
+use std::alloc::Global;
+
+/// The most inputs that are kept of one input. One that leads to more can be the target of few connections, since a system has no more
+/// than 2,048.
+const MOST_KEPT: usize = 128;
+
+/// Puts the inputs of components that a step of an input of a group leads to, where they are known to be few.
+fn put_step(
+    scopes: &AllScopes,
+    known: &[Known<'_>],
+    guide: &mut Guide<'_>,
+    group: usize,
+    step: Step,
+    ends: &mut List<End>,
+) -> Result<bool, NoMemory>
+    ensures { IfOk result (λ whole. (nest : Nest) (height : ℕ) (bind : Bind) → AreKnown nest scopes.now known.now
+        → IsStep nest scopes.now known.now group height step bind → IsTrue whole → Puts nest scopes.now group height ends.old ends.new (bind ∷ [])) }
+{
+    match step {
+        Step::Component(line) => put_within(guide, MOST_KEPT, End { scope: 0, line }, ends),
+        Step::Inside(inside) => {
+            let Some(inner) = at(known, inside.input as usize) else {
+                return Ok(false);
+            };
+            let Some(kept) = &inner.ends else {
+                return Ok(false);
+            };
+            let firsts = scopes.firsts(group);
+            put_onward(guide, firsts, MOST_KEPT, inside.offset, kept.as_slice(), ends)
+        }
+    }
+}
+
+/// The inputs of components that the steps of an input of a group lead to, where they are few.
+pub(crate) fn kept_ends(
+    alloc: Global,
+    scopes: &AllScopes,
+    known: &[Known<'_>],
+    guide: &mut Guide<'_>,
+    group: usize,
+    steps: &[Step],
+) -> Result<Option<List<End>>, NoMemory>
+    ensures { IfOk result (λ made. (ends : List _) → made ≡ Some ends → (nest : Nest) (height : ℕ) (binds : List Bind)
+        → AreKnown nest scopes.now known.now → AreSteps nest scopes.now known.now group height steps.now binds
+        → Puts nest scopes.now group height [] ends binds) }
+{
+    guide.begin_group(group);
+    let mut ends = List::new(alloc);
+    for step in steps {
+        if !put_step(scopes, known, guide, group, *step, &mut ends)? {
+            return Ok(None);
+        }
+    }
+    if ends.len() > MOST_KEPT {
+        return Ok(None);
+    }
+    Ok(Some(ends))
+}

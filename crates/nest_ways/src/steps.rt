@@ -1,0 +1,174 @@
+//! Where the lines of inputs of groups lead, by numbers, so that each name is looked up once.
+ghost use Rattle.std.specs.Prelude.{◌≡◌, ℕ, List, None, Some, IfOk, slice_get};
+ghost use Rattle.nest_names.specs.Flattening.{place_at};
+ghost use Rattle.nest_names.specs.declared.scope.Scope.{Scope};
+ghost use Rattle.nest_ways.specs.Reaching.{AreKnown, AreSteps, FindsKnown, IsStep, ins_of, lines_of};
+ghost use Rattle.nest_ways.specs.declared.steps.Known.{Known as Knowns};
+
+use crate::ends::{End, same_line};
+use crate::guide::Guide;
+use crate::scopes::{AllScopes, leads};
+use fixed_words::{List, NoMemory};
+use nest_names::{NestNames, at};
+use nest_text::Bind;
+use std::alloc::Global;
+
+/// Through an instance of a group, to an input of the group inside it.
+#[derive(Clone, Copy, Debug, PartialEq, Eq)]
+pub struct Inside {
+    /// How many places further on the scope inside stands in the list of all scopes.
+    pub offset: u32,
+    /// The place of the input among those that are known.
+    pub input: u32,
+}
+
+/// Where an `in` line of a group leads.
+#[derive(Clone, Copy, Debug, PartialEq, Eq)]
+pub enum Step {
+    /// To an input of a component: the one to which the line at this place of the group leads, the first one that does.
+    Component(u32),
+    /// To an input of a group.
+    Inside(Inside),
+}
+
+/// What is known of an input of a group.
+#[derive(Drop)]
+pub struct Known<'n> {
+    pub group: usize,
+    pub port: &'n [u8],
+    /// The place of its first line among the `in` lines of the group, for the guide.
+    pub first: u32,
+    /// How many levels further down the inputs of components are, at most, that it leads to.
+    pub height: usize,
+    /// Where its lines lead.
+    pub steps: List<Step>,
+    /// The inputs of components that it leads to, where they are few.
+    pub ends: Option<List<End>>,
+}
+
+/// A step, and how many levels further down the inputs of components are, at most, that it leads to.
+#[derive(Clone, Copy)]
+pub(crate) struct Descent {
+    step: Step,
+    height: usize,
+}
+
+/// The place of what is known of an input of a group.
+pub(crate) fn find(
+    known: &[Known<'_>],
+    guide: &Guide<'_>,
+    group: usize,
+    port: &[u8],
+) -> Option<usize>
+    ensures { (place : ℕ) → result ≡ Some place → FindsKnown known.now group port.now place }
+{
+    let place = guide.known(group, port)?;
+    let one = at(known, place)?;
+    if one.group == group && one.port == port {
+        return Some(place);
+    }
+    None
+}
+
+/// Where a line leads that leads to a component.
+fn component_step<'n>(
+    names: &NestNames<'n>,
+    guide: &Guide<'n>,
+    group: usize,
+    bind: &'n Bind,
+    line: usize,
+) -> Option<Descent>
+    requires line { slice_get (ins_of names.now (Some group)) line ≡ Some bind.now }
+    requires component { place_at names.now (Some group) bind.now.inner.instance ≡ None }
+    ensures { (made : _) (scopes : List Scope) (known : List Knowns) → result ≡ Some made
+        → IsStep names.now scopes known group made.height made.step bind.now }
+{
+    let line = same_line(guide, group, names.ins(group), bind, line);
+    let Ok(line) = u32::try_from(line) else {
+        return None;
+    };
+    let step = Step::Component(line);
+    Some(Descent { step, height: 0 })
+}
+
+/// Where a line leads that leads into a group.
+fn inside_step<'n>(
+    names: &NestNames<'n>,
+    scopes: &AllScopes,
+    known: &[Known<'n>],
+    guide: &Guide<'n>,
+    group: usize,
+    bind: &'n Bind,
+    place: usize,
+) -> Option<Descent>
+    requires inside { place_at names.now (Some group) bind.now.inner.instance ≡ Some place }
+    ensures { (made : _) → result ≡ Some made → IsStep names.now scopes.now known.now group made.height made.step bind.now }
+{
+    let name = &bind.inner.instance;
+    let input = find(known, guide, place, bind.inner.port.as_slice())?;
+    let inner = at(known, input)?;
+    let offset = guide.offset(group, name.as_slice())?;
+    if !leads(scopes.as_slice(), group, name, place, offset as usize) {
+        return None;
+    }
+    let height = inner.height.checked_add(1)?;
+    let Ok(input) = u32::try_from(input) else {
+        return None;
+    };
+    let step = Step::Inside(Inside { offset, input });
+    Some(Descent { step, height })
+}
+
+/// Where a line of a group leads.
+fn step_of<'n>(
+    names: &NestNames<'n>,
+    scopes: &AllScopes,
+    known: &[Known<'n>],
+    guide: &Guide<'n>,
+    group: usize,
+    bind: &'n Bind,
+    line: usize,
+) -> Option<Descent>
+    requires { slice_get (ins_of names.now (Some group)) line ≡ Some bind.now }
+    ensures { (made : _) → result ≡ Some made → IsStep names.now scopes.now known.now group made.height made.step bind.now }
+{
+    match names.place_at(Some(group), bind.inner.instance.as_slice()) {
+        None => component_step(names, guide, group, bind, line),
+        Some(place) => inside_step(names, scopes, known, guide, group, bind, place),
+    }
+}
+
+/// Where the lines of an input lead, and how many levels further down the inputs of components are, at most.
+#[derive(Drop)]
+pub(crate) struct Steps {
+    pub(crate) steps: List<Step>,
+    pub(crate) height: usize,
+}
+
+/// Where the lines of an input lead, where that is known of the inputs inside.
+pub(crate) fn steps_of<'n>(
+    alloc: Global,
+    names: &NestNames<'n>,
+    scopes: &AllScopes,
+    known: &[Known<'n>],
+    guide: &Guide<'n>,
+    group: usize,
+    port: &[u8],
+) -> Result<Option<Steps>, NoMemory>
+    ensures { IfOk result (λ made. (found : _) → made ≡ Some found
+        → AreSteps names.now scopes.now known.now group found.height found.steps (lines_of names.now group port.now)) }
+{
+    let mut steps = List::new(alloc);
+    let mut height: usize = 0;
+    for line in names.ins_named(group, port) {
+        let Some(bind) = at(names.ins(group), *line) else {
+            return Ok(None);
+        };
+        let Some(next) = step_of(names, scopes, known, guide, group, bind, *line) else {
+            return Ok(None);
+        };
+        steps.push(next.step)?;
+        height = height.max(next.height);
+    }
+    Ok(Some(Steps { steps, height }))
+}

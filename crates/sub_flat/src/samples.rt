@@ -1,0 +1,99 @@
+//! The samples of `main`, as ports of components. Each port is followed once, however often it is sampled.
+ghost use Rattle.std.specs.Prelude.{◌≡◌, ◌++◌, List, Some, IfOk, map};
+ghost use Rattle.std.specs.Option.{option_map};
+ghost use Rattle.nest_names.specs.Flattening.{flat_port, flat_sample, follow, levels};
+ghost use Rattle.unit_tree.specs.declared.system.PortName.{PortName as Ports};
+
+use crate::flat::copied;
+use fixed_words::{List, NoMemory};
+use nest_names::{LEVELS, NestNames, Scope, at, flat_port, follow, same_port, spot_of, top};
+use std::alloc::Global;
+use std::collections::BTreeMap;
+use unit_tree::PortName;
+
+/// The places of samples by their ports. Nothing rests on it: whoever asks it tests what it says.
+type Places<'n> = BTreeMap<(&'n [u8], &'n [u8]), usize>;
+
+fn parts_of(port: &PortName) -> (&[u8], &[u8]) {
+    (port.instance.as_slice(), port.port.as_slice())
+}
+
+/// What the sample at a place became, where it is the same as this one.
+fn made_at<'m>(
+    samples: &[PortName],
+    made: &'m [PortName],
+    place: usize,
+    sample: &PortName,
+) -> Option<&'m PortName>
+    ensures { (f : Ports → Ports) (rest : List Ports) (one : Ports) → made.now ++ rest ≡ map f samples.now
+        → option_map (λ found. found.now) result ≡ Some one → one ≡ f sample.now }
+{
+    let before = at(samples, place)?;
+    let one = at(made, place)?;
+    if same_port(before, sample) {
+        Some(one)
+    } else {
+        None
+    }
+}
+
+fn copied_port(alloc: Global, port: &PortName) -> Result<PortName, NoMemory>
+    ensures { IfOk result (λ made. made ≡ port.now) }
+{
+    let instance = copied(alloc, &port.instance)?;
+    let port = copied(alloc, &port.port)?;
+    Ok(PortName { instance, port })
+}
+
+/// A sample of `main`, as a port of a component.
+fn flat_sample(
+    alloc: Global,
+    names: &NestNames<'_>,
+    scope: &Scope,
+    sample: &PortName,
+) -> Result<PortName, NoMemory>
+    ensures { IfOk result (λ made. made ≡ flat_port (follow names.now levels (record { scope = scope.now; port = sample.now }))) }
+{
+    let spot = spot_of(alloc, scope, sample)?;
+    let spot = follow(alloc, names, LEVELS, spot)?;
+    flat_port(alloc, &spot)
+}
+
+/// A sample of `main`, as a port of a component: what the same one became, where it stands before.
+fn next_sample<'n>(
+    alloc: Global,
+    names: &NestNames<'_>,
+    samples: &'n [PortName],
+    made: &[PortName],
+    places: &mut Places<'n>,
+    sample: &'n PortName,
+) -> Result<PortName, NoMemory>
+    requires { (rest : List Ports) × (made.now ++ rest ≡ map (flat_sample names.now) samples.now) }
+    ensures { IfOk result (λ one. one ≡ flat_sample names.now sample.now) }
+{
+    let place = places.get(&parts_of(sample)).copied();
+    if let Some(place) = place {
+        if let Some(one) = made_at(samples, made, place, sample) {
+            return copied_port(alloc, one);
+        }
+    }
+    drop(places.insert(parts_of(sample), made.len())?);
+    flat_sample(alloc, names, &top(alloc), sample)
+}
+
+/// The samples of `main`, as ports of components.
+pub(crate) fn flat_samples(
+    alloc: Global,
+    names: &NestNames<'_>,
+    samples: &[PortName],
+) -> Result<List<PortName>, NoMemory>
+    ensures { IfOk result (λ made. made ≡ map (flat_sample names.now) samples.now) }
+{
+    let mut places = BTreeMap::new(alloc);
+    let mut made = List::new(alloc);
+    for sample in samples {
+        let one = next_sample(alloc, names, samples, made.as_slice(), &mut places, sample)?;
+        made.push(one)?;
+    }
+    Ok(made)
+}
