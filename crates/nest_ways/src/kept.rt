@@ -38,7 +38,14 @@ fn put_step(
                 return Ok(false);
             };
             let firsts = scopes.firsts(group);
-            put_onward(guide, firsts, MOST_KEPT, inside.offset, kept.as_slice(), ends)
+            put_onward(
+                guide,
+                firsts,
+                MOST_KEPT,
+                inside.offset,
+                kept.as_slice(),
+                ends,
+            )
         }
     }
 }

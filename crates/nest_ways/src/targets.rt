@@ -105,12 +105,7 @@ fn reach_of(whole: bool, spots: List<Spot>) -> Reach
 }
 
 /// What is known of an input of a group, in the scope from which a walk begins.
-fn first_inlet(
-    ways: &Ways<'_>,
-    guide: &Guide<'_>,
-    group: usize,
-    port: &[u8],
-) -> Option<Inlet>
+fn first_inlet(ways: &Ways<'_>, guide: &Guide<'_>, group: usize, port: &[u8]) -> Option<Inlet>
     ensures { (inlet : _) → result ≡ Some inlet → IsFirst ways.now.known.items group port.now inlet }
 {
     let place = find(ways.known.as_slice(), guide, group, port)?;

@@ -154,7 +154,9 @@ fn walk_step<'n>(
         return Ok(false);
     };
     match *step {
-        Step::Component(line) => walk_component(names, ways, start, guide, walk, inlet, known, line),
+        Step::Component(line) => walk_component(
+            names, ways, start, guide, walk, inlet, known, line,
+        ),
         Step::Inside(inside) => walk_inside(names, ways, start, guide, walk, inlet, known, inside),
     }
 }
@@ -254,7 +256,16 @@ pub(crate) fn walk_inlet<'n>(
         return Ok(false);
     };
     match &known.ends {
-        Some(kept) => put_kept(names, ways, start, guide, walk, inlet, known, kept.as_slice()),
+        Some(kept) => put_kept(
+            names,
+            ways,
+            start,
+            guide,
+            walk,
+            inlet,
+            known,
+            kept.as_slice(),
+        ),
         None => walk_through(names, ways, start, guide, walk, inlet, known),
     }
 }
