@@ -1,10 +1,9 @@
 -- What an input of a group leads to in one scope, step by step.
-use Rattle.std.proofs.Common.{◌≡◌, ◌≤◌, ◌<◌, ℕ, zero, suc, ◌+◌, ◌*◌, Bool, true, false, List, [], ◌∷◌, ◌++◌, map, length, take}
-use Rattle.std.proofs.Common.{refl, sym, ap, ◌∙◌, subst, append_assoc, append-nil, arith, length-append, Some, None}
+use Rattle.std.proofs.Common.{◌≡◌, ◌≤◌, ℕ, zero, suc, ◌+◌, Bool, true, false, List, [], ◌∷◌, ◌++◌, map, length}
+use Rattle.std.proofs.Common.{refl, sym, ap, ◌∙◌, subst, append_assoc, append-nil, arith, length-append, Some}
 use Rattle.std.proofs.Common.{Result, Ok, Err}
-use Rattle.std.specs.Prelude.{IfOk, IsTrue, slice_get}
+use Rattle.std.specs.Prelude.{IfOk, slice_get}
 use Rattle.std.specs.List.{flat_map}
-use Rattle.std.specs.Option.{option_to_list}
 use Rattle.std.proofs.lemmas.Grind.{flat_map-append}
 use Rattle.std.proofs.lemmas.Option.{same_Some}
 use Rattle.list_laws.proofs.Members.{at_push}
@@ -13,7 +12,7 @@ use Rattle.nest_text.specs.declared.nest.Nest.{Nest}
 use Rattle.nest_names.specs.Flattening.{distinct, inside}
 use Rattle.nest_names.specs.declared.scope.Scope.{Scope}
 use Rattle.nest_names.specs.declared.scope.Spot.{Spot}
-use Rattle.nest_ways.specs.Reaching.{AreAlike, IsIn, KeepsAll, LeadsHere, LeadsInside, PutsIf, PutsOnce, PutsUpTo, ReadsAlike, SameKept}
+use Rattle.nest_ways.specs.Reaching.{AreAlike, KeepsAll, LeadsHere, LeadsInside, PutsIf, PutsOnce, PutsUpTo, ReadsAlike, SameKept}
 use Rattle.nest_ways.specs.Reaching.{ends_of, input_at, inputs_at, lines_of, onward}
 use Rattle.nest_ways.specs.Walking.{AreDone, IsDone, IsInletAt, IsScopeAt, WalksOn, WalksWhole}
 use Rattle.nest_ways.specs.declared.ends.End.{End}

@@ -1,5 +1,4 @@
-use Rattle.std.proofs.Common.{◌≡◌, ◌∙◌, ◌∷◌, ◌+◌, [], Some, ap, get_or, subst, sym, take}
-use Rattle.std.specs.Prelude.{slice_get}
+use Rattle.std.proofs.Common.{◌≡◌, ◌∷◌, ◌+◌, [], get_or, subst, sym, take}
 use Rattle.std.proofs.lemmas.Option.{get_or_from_slice_get, same_Some}
 use Rattle.list_laws.proofs.Members.{at_place, take_next}
 use Rattle.list_laws.proofs.Pairs.{zip_at}
