@@ -1,7 +1,6 @@
 """Texts at the ends of what the language allows: as deep as there may be, and of nearly 1 MiB in many shapes."""
 import random
 
-
 LONGEST = 1_048_576
 LONGEST_LINE = 1_000
 
