@@ -170,6 +170,10 @@ def long_nests():
         ("two paths to scopes of one name, with few inputs", twin_paths(100, 20_000)),
         ("paths of two lengths to scopes of one name, in turns", twins_in_turns(130, 15_000)),
         ("instances of one name", twin_instances(60)),
+        ("one connection more than there may be, to lines in many places", one_too_many(60, None)),
+        ("one connection more than there may be, to names in many places", one_too_many(60, 40_000)),
+        ("lines that lead to as many inputs as are kept, of a few more", kept_again(0, 100_000)),
+        ("names that lead to as many inputs as are kept, of a few more", kept_again(42_000, 42_000)),
         ("outputs that are connected", connected_outputs()),
         ("samples down a chain", samples_down(15)),
         ("samples of many outputs down a chain", outputs_down(15, 35_000)),
@@ -313,6 +317,27 @@ def twin_instances(count):
     inner += "".join(f"in {name_of(number)}->c.x\n" for number in range(names)) + "group G\ninstance b:B\nend\n"
     tail = with_unit(unit_with(3)) + "instance g:G\nend\n" + "connect a.y->g.x\n" * 682
     return filled(inner, lambda number: f"in x->b.{name_of(number % names)}\n", tail)
+
+
+def one_too_many(places, names):
+    """As many connections as there may be, and one to an input that leads to lines, or to many names, in each of many places."""
+    inner = "group J\ninstance d:D\nend\nin x->d.u\n"
+    if names:
+        inner += "".join(f"in {name_of(number)}->d.u\n" for number in range(names))
+    inner += "group H\ninstance k:J\nend\n"
+    outer = "group G\n" + "".join(f"instance h{place}:H\nend\nin x->h{place}.x\n" for place in range(places))
+    wires = "connect a.y->b.u\n" * 2_048 + "connect a.y->g.x\n"
+    tail = outer + ONE_GROUP + "instance b:D\nend\n" + wires
+    return filled(inner, lambda number: f"in x->k.{name_of(number % names) if names else 'x'}\n", tail)
+
+
+def kept_again(names, lines):
+    """Lines of an input, or many names that each have one, that lead to 128 inputs, of 129 that the input leads to."""
+    inner = "group J\ninstance d:M\nend\n" + leads(128, "y") + "".join(f"in w->d.{name_of(number)}\n" for number in shuffled(128, 3))
+    inner += f"in z->d.{name_of(128)}\ngroup H\ninstance k:J\nend\nin y->k.y\nin w->k.w\nin z->k.z\n"
+    inner += "".join(f"in {name_of(number)}->k.w\n" for number in range(names)) + "group G\ninstance j:H\nend\nin x->j.y\n"
+    tail = "in x->j.z\n" + with_unit(unit_with(129)) + "instance g:G\nend\n" + "connect a.y->g.x\n" * 15
+    return filled(inner, lambda number: f"in x->j.{name_of(number % names) if names else 'w'}\n", tail)
 
 
 def connected_outputs():

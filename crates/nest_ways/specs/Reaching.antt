@@ -21,7 +21,7 @@ use Rattle.nest_ways.specs.declared.steps.Step.TheVariants as step_is
 abbrev pub SameKept : List Spot → List Spot → Type 0
 SameKept one other = (kept : List Spot) → distinct kept one ≡ distinct kept other
 
--- These ports and maybe others are the ones that are kept; or these alone.
+-- True: of what was put the same are kept as of all. False: they are with some rest behind it.
 abbrev pub PutsUpTo : Bool → List Spot → List Spot → Type 0
 PutsUpTo true put all = SameKept put all
 PutsUpTo false put all = (rest : List Spot) × SameKept (put ++ rest) all
@@ -97,7 +97,7 @@ LeadsTo scopes group name place offset =
 
 -- ---- Steps
 
--- The line of the group leads to an input of a component, as does the line at this place.
+-- The line of the group leads to an input of a component, and the line at this place has the same inner port.
 pub record LeadsHere (nest : Nest) (group line : ℕ) (bind : Bind) : Type 0 where
   pub there : option_map (λ (one : Bind). one.inner) (slice_get (ins_of nest (Some group)) line) ≡ Some bind.inner
   pub component : place_at nest (Some group) bind.inner.instance ≡ None

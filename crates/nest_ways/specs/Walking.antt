@@ -5,7 +5,7 @@ use Rattle.nest_text.specs.declared.nest.Nest.{Nest}
 use Rattle.nest_names.specs.Flattening.{distinct, levels, reach}
 use Rattle.nest_names.specs.declared.scope.Scope.{Scope}
 use Rattle.nest_names.specs.declared.scope.Spot.{Spot}
-use Rattle.nest_ways.specs.Reaching.{AreKnown, IsIn, PutsUpTo, ends_of, inputs_at, lines_of}
+use Rattle.nest_ways.specs.Reaching.{AreKnown, FindsKnown, IsIn, PutsUpTo, ends_of, inputs_at, lines_of}
 use Rattle.nest_ways.specs.declared.ends.End.{End}
 use Rattle.nest_ways.specs.declared.steps.Known.{Known}
 use Rattle.nest_ways.specs.declared.targets.Reach.{Reach}
@@ -64,18 +64,15 @@ WalksWhole nest scopes all base inlet old new whole =
 
 -- The input of this name, of the group, in the scope from which a walk begins; it leads down no further than the levels that there are.
 pub record IsFirst (all : List Known) (group : ℕ) (port : List ℕ) (inlet : Inlet) : Type 0 where
-  pub known : Known
-  pub there : slice_get all inlet.input ≡ Some known
-  pub of_group : known.group ≡ group
-  pub named : known.port.now ≡ port
-  pub low : known.height < levels
+  pub finds : FindsKnown all group port inlet.input
+  pub low : finds.known.height < levels
   pub here : inlet.scope ≡ 0
 
 -- The inputs of components that an input of a group reaches in a scope, each once.
 abbrev pub reached_inside : Nest → Scope → ℕ → List ℕ → List Spot
 reached_inside nest scope group port = distinct [] (ends_of nest (levels - 1) scope (lines_of nest group port))
 
--- All that is reached, or that there is more than there may be. A walk that ended before says nothing.
+-- All that is reached, or that there is more than there may be. Where nothing was known, or a walk ended before, nothing is said.
 abbrev pub Reaches : List Spot → Reach → Type 0
 Reaches all (reach_is.All spots) = spots ≡ all
 Reaches all reach_is.TooMany = 2048 < length all

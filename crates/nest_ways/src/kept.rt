@@ -14,7 +14,7 @@ use std::alloc::Global;
 
 /// The most inputs that are kept of one input. One that leads to more can be the target of few connections, since a system has no more
 /// than 2,048.
-const MOST_KEPT: usize = 128;
+pub(crate) const MOST_KEPT: usize = 128;
 
 /// Puts the inputs of components that a step of an input of a group leads to, where they are known to be few.
 fn put_step(

@@ -1,5 +1,5 @@
 //! What is known of the inputs of groups that connections lead to: each is worked out once, for all scopes of its group.
-ghost use Rattle.std.specs.Prelude.{◌≡◌, IfOk, OnOk};
+ghost use Rattle.std.specs.Prelude.{IfOk, OnOk};
 ghost use Rattle.nest_ways.specs.Reaching.{AreKnown};
 
 use crate::guide::{Guide, guided_scopes};
@@ -11,8 +11,9 @@ use nest_names::{LEVELS, NestNames, at, top};
 use std::alloc::Global;
 use unit_tree::Wire;
 
-/// The most connections whose targets are worked out beforehand: the flat system has at least one for each.
-const MOST_TARGETS: usize = 2048;
+/// The most connections whose targets are worked out beforehand. The flat system has one or more for each, so that no more are asked for:
+/// at the last of these it is too large.
+const MOST_TARGETS: usize = 2049;
 
 /// The first line of an input, for the guide.
 fn first_line(names: &NestNames<'_>, group: usize, port: &[u8]) -> u32 {

@@ -5,8 +5,8 @@
 //!
 //! Each input of a group that a connection leads to is looked up once: where its lines lead is kept by numbers (`steps.rt`), the same in
 //! each scope of the group, told by how many scopes further on. Where it leads to few inputs of components, those are kept too (`kept.rt`).
-//! Else its steps are gone along for each connection (`walk.rt`), which few connections can ask for, since a system has a limited number of
-//! them; each input once in each scope.
+//! A connection is served by what is kept of its target; else by a walk (`walk.rt`), which comes to each input once in each scope. Few
+//! connections can ask for one, since a system has a limited number of them.
 //!
 //! Definitions: `specs/Reaching.antt` (inputs by numbers, and what is known of them) and `specs/Walking.antt` (what a walk has put and
 //! what it came to).

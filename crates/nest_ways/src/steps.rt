@@ -2,7 +2,7 @@
 ghost use Rattle.std.specs.Prelude.{◌≡◌, ℕ, List, None, Some, IfOk, slice_get};
 ghost use Rattle.nest_names.specs.Flattening.{place_at};
 ghost use Rattle.nest_names.specs.declared.scope.Scope.{Scope};
-ghost use Rattle.nest_ways.specs.Reaching.{AreKnown, AreSteps, FindsKnown, IsStep, ins_of, lines_of};
+ghost use Rattle.nest_ways.specs.Reaching.{AreSteps, FindsKnown, IsStep, ins_of, lines_of};
 ghost use Rattle.nest_ways.specs.declared.steps.Known.{Known as Knowns};
 
 use crate::ends::{End, same_line};

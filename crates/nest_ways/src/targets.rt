@@ -7,6 +7,7 @@ ghost use Rattle.nest_names.specs.declared.scope.Spot.{Spot as Spots};
 
 use crate::ends::End;
 use crate::guide::Guide;
+use crate::kept::MOST_KEPT;
 use crate::known::Ways;
 use crate::steps::find;
 use crate::walk::{Inlet, MOST_ENDS, Start, Walk, walk_inlet};
@@ -88,7 +89,7 @@ pub enum Reach {
     All(List<Spot>),
     /// There are more than a system may have connections.
     TooMany,
-    /// The walk ended before it came to all of them.
+    /// Nothing is known of the input, or the walk ended before it came to all of them.
     Unknown,
 }
 
@@ -145,7 +146,8 @@ fn walk_from<'n>(
         ends: List::new(alloc),
         done: Vec::new(alloc),
     };
-    let whole = walk_inlet(names, ways, Start { base, group }, guide, &mut walk, inlet)?;
+    let start = Start { base, group };
+    let whole = walk_inlet(names, ways, start, guide, &mut walk, inlet, MOST_KEPT)?;
     let Some(spots) = inputs(alloc, names, scopes, base, walk.ends.as_slice())? else {
         return Ok(Reach::Unknown);
     };

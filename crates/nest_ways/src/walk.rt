@@ -1,6 +1,6 @@
 //! What an input of a group leads to in one scope, however much it is.
 //!
-//! Where it is little, that is kept and is put. Else the steps of the input are gone along, and then it is done: where it is led to again,
+//! Where it is little, that is kept and is put; else the steps of the input are gone along. Then it is done: where it is led to again,
 //! nothing more is to be put.
 ghost use Rattle.std.specs.Prelude.{◌≡◌, ◌∷◌, ◌+◌, [], ℕ, Some, IfOk, IsTrue, OnOk, slice_get};
 ghost use Rattle.std.specs.Option.{option_to_list};
@@ -18,6 +18,10 @@ use nest_names::{NestNames, at};
 
 /// The most inputs that a target may lead to, since a system has no more connections.
 pub(crate) const MOST_ENDS: usize = 2048;
+
+/// The most inputs of components that are put where an input inside keeps them. Where it keeps more, its steps are gone along, so that what
+/// many inputs lead to is not put for each of them.
+const MOST_PUT: usize = 64;
 
 /// A scope from which others are told, and its group.
 #[derive(Clone, Copy)]
@@ -129,7 +133,8 @@ fn walk_inside<'n>(
         return Ok(false);
     };
     let input = inside.input;
-    walk_inlet(names, ways, start, guide, walk, Inlet { scope, input })
+    let inner = Inlet { scope, input };
+    walk_inlet(names, ways, start, guide, walk, inner, MOST_PUT)
 }
 
 /// Puts the inputs of components that a step leads to.
@@ -186,6 +191,41 @@ fn walk_steps<'n>(
     Ok(true)
 }
 
+/// Puts the inputs of components that an input leads to: those that it keeps, where they are no more than so many, or else by its steps.
+#[cycle(walk)]
+fn walk_known<'n>(
+    names: &NestNames<'n>,
+    ways: &Ways<'n>,
+    start: Start,
+    guide: &mut Guide<'n>,
+    walk: &mut Walk,
+    inlet: Inlet,
+    known: &Known<'n>,
+    most: usize,
+) -> Result<bool, NoMemory>
+    requires walk { IsWalk names.now ways.now.scopes ways.now.known.items start.base start.group walk.old }
+    requires found { slice_get ways.now.known.items inlet.input ≡ Some known.now }
+    requires there { IsScopeAt ways.now.scopes (start.base + inlet.scope) known.now.group }
+    ensures { IfOk result (λ whole. WalksOn names.now ways.now.scopes ways.now.known.items start.base inlet.scope known.now walk.old walk.new whole
+        (lines_of names.now known.now.group known.now.port.now)) }
+{
+    match &known.ends {
+        Some(kept) if kept.len() <= most => {
+            put_kept(
+                names,
+                ways,
+                start,
+                guide,
+                walk,
+                inlet,
+                known,
+                kept.as_slice(),
+            )
+        }
+        _ => walk_steps(names, ways, start, guide, walk, inlet, known),
+    }
+}
+
 /// Notes an input of which all was put.
 fn note_done<'n>(
     names: &NestNames<'n>,
@@ -207,7 +247,7 @@ fn note_done<'n>(
     Ok(())
 }
 
-/// Puts the inputs of components that an input leads to by its steps, and notes that it is done.
+/// Puts the inputs of components that an input leads to, where it is not done, and notes that it is.
 #[cycle(walk)]
 fn walk_through<'n>(
     names: &NestNames<'n>,
@@ -217,6 +257,7 @@ fn walk_through<'n>(
     walk: &mut Walk,
     inlet: Inlet,
     known: &Known<'n>,
+    most: usize,
 ) -> Result<bool, NoMemory>
     requires walk { IsWalk names.now ways.now.scopes ways.now.known.items start.base start.group walk.old }
     requires found { slice_get ways.now.known.items inlet.input ≡ Some known.now }
@@ -231,14 +272,15 @@ fn walk_through<'n>(
     if is_done(walk.done.as_slice(), guide.done_at(first), inlet) {
         return Ok(true);
     }
-    if !walk_steps(names, ways, start, guide, walk, inlet, known)? {
+    if !walk_known(names, ways, start, guide, walk, inlet, known, most)? {
         return Ok(false);
     }
     note_done(names, ways, start, guide, walk, inlet, first)?;
     Ok(true)
 }
 
-/// Puts the inputs of components that an input of a group leads to, until there are more than there may be. Tells whether all were put.
+/// Puts the inputs of components that an input of a group leads to, until there are more than there may be: those that it keeps, where they
+/// are no more than so many. Tells whether all were put.
 #[cycle(walk)]
 pub(crate) fn walk_inlet<'n>(
     names: &NestNames<'n>,
@@ -247,6 +289,7 @@ pub(crate) fn walk_inlet<'n>(
     guide: &mut Guide<'n>,
     walk: &mut Walk,
     inlet: Inlet,
+    most: usize,
 ) -> Result<bool, NoMemory>
     requires walk { IsWalk names.now ways.now.scopes ways.now.known.items start.base start.group walk.old }
     requires there { IsInletAt ways.now.scopes ways.now.known.items start.base inlet }
@@ -255,17 +298,5 @@ pub(crate) fn walk_inlet<'n>(
     let Some(known) = at(ways.known.as_slice(), inlet.input as usize) else {
         return Ok(false);
     };
-    match &known.ends {
-        Some(kept) => put_kept(
-            names,
-            ways,
-            start,
-            guide,
-            walk,
-            inlet,
-            known,
-            kept.as_slice(),
-        ),
-        None => walk_through(names, ways, start, guide, walk, inlet, known),
-    }
+    walk_through(names, ways, start, guide, walk, inlet, known, most)
 }

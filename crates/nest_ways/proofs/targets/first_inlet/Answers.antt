@@ -2,6 +2,7 @@ use Rattle.std.proofs.Common.{◌≡◌, ◌∙◌, Some, ap, arith, refl, subst
 use Rattle.std.specs.Prelude.{slice_get}
 use Rattle.std.specs.Option.{option_map}
 use Rattle.std.proofs.lemmas.Option.{same_Some}
+use Rattle.nest_ways.specs.Reaching.{FindsKnown}
 use Rattle.nest_ways.specs.Walking.{IsFirst}
 use Rattle.nest_ways.specs.declared.steps.Known.{Known}
 use Rattle.nest_ways.specs.declared.walk.Inlet.{Inlet}
@@ -20,11 +21,10 @@ returns c inlet is =
     let same : finds.known ≡ known = same_Some finds.known known (sym found ∙ there) in
     let height = ap (λ (k : Known). k.height) same in
     let low = c.if-known-ge-LEVELS.false in
-    subst (IsFirst all c.args.group c.args.port.now) (same_Some first inlet is) (record {
+    let here : FindsKnown all c.args.group c.args.port.now c.in-Ok.input = record {
       known = finds.known;
       there = ap (slice_get all) c.in-Ok.ensures.1 ∙ found;
       of_group = finds.of_group;
       named = finds.named;
-      low = omega (arith, height, low);
-      here = refl;
-    })
+    } in
+    subst (IsFirst all c.args.group c.args.port.now) (same_Some first inlet is) (record { finds = here; low = omega (arith, height, low); here = refl })

@@ -14,10 +14,10 @@ walk_inlet-requires-clause-there c known found =
     let first = c.first_inlet.ensures inlet c.in-Some-first_inlet.is in
     let here = first.here in
     let place : base + inlet.scope ≡ base = omega (arith, here) in
-    let same : first.known ≡ known = same_Some first.known known (sym first.there ∙ found) in record {
+    let same : first.finds.known ≡ known = same_Some first.finds.known known (sym first.finds.there ∙ found) in record {
       scope = c.args.scope.now;
       there = ap (slice_get scopes) place ∙ ap (λ those. slice_get those base) (sym c.as_slice-scopes.ensures) ∙ c.place_of.ensures base c.in-Some.is;
-      of_group = c.requires.scope ∙ ap (λ n. Some n) (sym first.of_group) ∙ ap (λ (k : Known). Some k.group) same;
+      of_group = c.requires.scope ∙ ap (λ n. Some n) (sym first.finds.of_group) ∙ ap (λ (k : Known). Some k.group) same;
     }
 
 pub returns : goal.returns
@@ -36,12 +36,12 @@ returns c =
     let place : base + inlet.scope ≡ base = omega (arith, here) in
     let at : slice_get scopes (base + inlet.scope) ≡ Some scope =
     ap (slice_get scopes) place ∙ ap (λ those. slice_get those base) (sym c.as_slice-scopes.ensures) ∙ c.place_of.ensures base c.in-Some.is in
-    let walks = c.in_ok-whole.ensures first.known first.there in
-    let puts = walks.puts scope 32 at (c.requires.scope ∙ ap (λ n. Some n) (sym first.of_group)) (omega (arith, low)) in
+    let walks = c.in_ok-whole.ensures first.finds.known first.finds.there in
+    let puts = walks.puts scope 32 at (c.requires.scope ∙ ap (λ n. Some n) (sym first.finds.of_group)) (omega (arith, low)) in
     let put : PutsUpTo whole (f ends) (ends_of nest 32 scope (lines_of nest c.args.group c.args.port.now)) =
-    subst (λ group. PutsUpTo whole (f ends) (ends_of nest 32 scope (lines_of nest group c.args.port.now))) first.of_group
-    (subst (λ port. PutsUpTo whole (f ends) (ends_of nest 32 scope (lines_of nest first.known.group port))) first.named
-    (subst (λ old. PutsUpTo whole (f ends) (f old ++ ends_of nest 32 scope (lines_of nest first.known.group first.known.port.now))) c.new.ensures puts)) in
+    subst (λ group. PutsUpTo whole (f ends) (ends_of nest 32 scope (lines_of nest group c.args.port.now))) first.finds.of_group
+    (subst (λ port. PutsUpTo whole (f ends) (ends_of nest 32 scope (lines_of nest first.finds.known.group port))) first.finds.named
+    (subst (λ old. PutsUpTo whole (f ends) (f old ++ ends_of nest 32 scope (lines_of nest first.finds.known.group first.finds.known.port.now))) c.new.ensures puts)) in
     let spots : c.in-Some-2.spots ≡ f ends =
     c.in_ok-spots.ensures c.in-Some-2.spots c.in-Some-2.is
     ∙ ap (λ those. inputs_at nest those base c.as_slice.result.now) c.as_slice-scopes.ensures

@@ -12,15 +12,11 @@ use Rattle.nest_ways.proofs.WalkLaws.{inside_there, inside_walks, is_done_now, o
 use Rattle.nest_ways.proofs.WayLaws.{line_next, lines_end, lines_split}
 use Rattle.nest_ways.proofs.walk.+walk.Goals as goal
 
-pub walk_inlet-put_kept-requires-clause-kept : goal.walk_inlet-put_kept-requires-clause-kept
-walk_inlet-put_kept-requires-clause-kept t c =
-    let scopes = c.args.ways.now.scopes in
-    let all = c.args.ways.now.known.items in
-    let known = c.in-Some.known.now in
-    let found : slice_get all c.args.inlet.input ≡ Some known =
-    ap (λ those. slice_get those c.args.inlet.input) (sym c.as_slice.ensures.value) ∙ sym c.at.ensures ∙ ap (option_map (λ one. one.now)) c.in-Some.is in
-    subst (KeepsAll c.args.names.now scopes known) (sym c.as_slice-in-Some-ends.ensures)
-    ((c.requires.walk.known c.args.inlet.input known found).ends c.in-Some-ends.kept c.in-Some-ends.is)
+pub walk_known-put_kept-requires-clause-kept : goal.walk_known-put_kept-requires-clause-kept
+walk_known-put_kept-requires-clause-kept t c =
+    let known = c.args.known.now in
+    subst (KeepsAll c.args.names.now c.args.ways.now.scopes known) (sym c.as_slice.ensures)
+    ((c.requires.walk.known c.args.inlet.input known c.requires.found).ends c.in-Some.kept c.in-Some.is)
 
 pub walk_inside-returns-then-inside-inlet : goal.walk_inside-returns-then-inside-inlet
 walk_inside-returns-then-inside-inlet t c bind leads =
@@ -222,12 +218,12 @@ walk_through-returns-then-not-branch t c =
     let offset = c.args.inlet.scope in
     let known = c.args.known.now in
     let lines = lines_of nest known.group known.port.now in
-    subst (λ whole. WalksOn nest scopes all base offset known c.args.walk.now c.walk_steps.new.walk whole lines) c.if-not-branch.true
-    c.in_ok-walk_steps.ensures
+    subst (λ whole. WalksOn nest scopes all base offset known c.args.walk.now c.walk_known.new.walk whole lines) c.if-not-branch.true
+    c.in_ok-walk_known.ensures
 
 pub walk_through-note_done-requires-clause-done : goal.walk_through-note_done-requires-clause-done
 walk_through-note_done-requires-clause-done t c =
-    c.in_ok-walk_steps.ensures.done c.if-not-branch.false
+    c.in_ok-walk_known.ensures.done c.if-not-branch.false
 
 pub walk_through-note_done-requires-clause-all : goal.walk_through-note_done-requires-clause-all
 walk_through-note_done-requires-clause-all t c one found =
@@ -238,10 +234,10 @@ walk_through-note_done-requires-clause-all t c one found =
     let offset = c.args.inlet.scope in
     let known = c.args.known.now in
     let lines = lines_of nest known.group known.port.now in
-    let new = c.walk_steps.new.walk in
+    let new = c.walk_known.new.walk in
     subst (IsDone nest scopes base new.ends offset) (same_Some known one (sym c.requires.found ∙ found))
     (is_done_now nest scopes all base offset known c.args.walk.now new
-    (subst (λ whole. WalksOn nest scopes all base offset known c.args.walk.now new whole lines) c.if-not-branch.false c.in_ok-walk_steps.ensures))
+    (subst (λ whole. WalksOn nest scopes all base offset known c.args.walk.now new whole lines) c.if-not-branch.false c.in_ok-walk_known.ensures))
 
 pub walk_through-returns : goal.walk_through-returns
 walk_through-returns t c =
@@ -252,7 +248,7 @@ walk_through-returns t c =
     let offset = c.args.inlet.scope in
     let known = c.args.known.now in
     let lines = lines_of nest known.group known.port.now in
-    let now = c.walk_steps.new.walk in
+    let now = c.walk_known.new.walk in
     walks_same nest scopes all base offset known c.args.walk.now now c.note_done.new.walk lines
-    (subst (λ whole. WalksOn nest scopes all base offset known c.args.walk.now now whole lines) c.if-not-branch.false c.in_ok-walk_steps.ensures)
+    (subst (λ whole. WalksOn nest scopes all base offset known c.args.walk.now now whole lines) c.if-not-branch.false c.in_ok-walk_known.ensures)
     c.in_ok-note_done.ensures.ends c.in_ok-note_done.ensures.done
