@@ -171,9 +171,9 @@ def long_nests():
         ("paths of two lengths to scopes of one name, in turns", twins_in_turns(130, 15_000)),
         ("instances of one name", twin_instances(60)),
         ("one connection more than there may be, to lines in many places", one_too_many(60, None)),
-        ("one connection more than there may be, to names in many places", one_too_many(60, 40_000)),
-        ("lines that lead to as many inputs as are kept, of a few more", kept_again(0, 100_000)),
-        ("names that lead to as many inputs as are kept, of a few more", kept_again(42_000, 42_000)),
+        ("one connection more than there may be, to names in many places", one_too_many(60, 37_000)),
+        ("lines that lead to as many inputs as are kept, of a few more", kept_again(0)),
+        ("names that lead to as many inputs as are kept, of a few more", kept_again(36_800)),
         ("outputs that are connected", connected_outputs()),
         ("samples down a chain", samples_down(15)),
         ("samples of many outputs down a chain", outputs_down(15, 35_000)),
@@ -331,7 +331,7 @@ def one_too_many(places, names):
     return filled(inner, lambda number: f"in x->k.{name_of(number % names) if names else 'x'}\n", tail)
 
 
-def kept_again(names, lines):
+def kept_again(names):
     """Lines of an input, or many names that each have one, that lead to 128 inputs, of 129 that the input leads to."""
     inner = "group J\ninstance d:M\nend\n" + leads(128, "y") + "".join(f"in w->d.{name_of(number)}\n" for number in shuffled(128, 3))
     inner += f"in z->d.{name_of(128)}\ngroup H\ninstance k:J\nend\nin y->k.y\nin w->k.w\nin z->k.z\n"
