@@ -174,9 +174,16 @@ def long_nests():
         ("one connection more than there may be, to names in many places", one_too_many(60, 37_000)),
         ("lines that lead to as many inputs as are kept, of a few more", kept_again(0)),
         ("names that lead to as many inputs as are kept, of a few more", kept_again(36_800)),
+        ("names that lead to half of these, in two places", names_kept(64, 15, 0)),
+        ("names that lead to a few more than half, in two places", names_kept(65, 15, 0)),
+        ("names that lead to half of these, in two places, and then in too many", names_kept(64, 15, 32)),
+        ("names that lead to three inputs, in 61 places", names_kept(3, 5, 61)),
+        ("names on many levels that lead to as many inputs as are kept, in as many places", kept_on_levels(12)),
+        ("lines of a group in as many scopes as there may be", lines_in_scopes()),
         ("outputs that are connected", connected_outputs()),
         ("samples down a chain", samples_down(15)),
         ("samples of many outputs down a chain", outputs_down(15, 35_000)),
+        ("samples of many outputs of many groups down chains", outputs_of_places(15, 50)),
         ("samples and connections down a chain that is too deep", samples_down(33)),
     ]
 
@@ -340,6 +347,49 @@ def kept_again(names):
     return filled(inner, lambda number: f"in x->j.{name_of(number % names) if names else 'w'}\n", tail)
 
 
+def names_kept(inputs, connections, places):
+    """Many names that lead to so many inputs, and one input that leads to each name and to a few inputs more: it is connected in two places,
+    and then, where there are some, in many at once."""
+    inner = "group C\ninstance d:M\nend\n" + leads(inputs, "y") + f"in v->d.{name_of(inputs)}\n"
+    inner += "".join(f"in w->d.{name_of(number)}\n" for number in shuffled(inputs, 3))
+    inner += "group H\ninstance k:C\nend\nin y->k.y\nin v->k.v\n"
+    middle = "group J\ninstance k:H\nend\nin z->k.y\nin z->k.v\n"
+    outer = "group G\ninstance a:J\nend\ninstance b:J\nend\n"
+    outer += "".join(f"in {name_of(number)}->a.z\nin {name_of(number)}->b.z\n" for number in range(connections))
+    wires = "".join(f"connect a.y->g.{name_of(number)}\n" for number in range(connections))
+    instances = "instance g:G\nend\n"
+    if places:
+        outer += "group F\n" + "".join(f"instance j{place}:J\nend\nin x->j{place}.z\n" for place in range(places))
+        instances += "instance f:F\nend\n"
+        wires += "connect a.y->f.x\n" * (2_048 // (places * (inputs + 1)) + 1)
+    tail = outer + with_unit(unit_with(inputs + 1)) + instances + wires
+    names = (LONGEST - len(inner + middle + tail)) // 28
+    own = "".join(f"in {name_of(number)}->k.w\n" for number in range(names))
+    return (inner + own + middle + "".join(f"in z->k.{name_of(number)}\n" for number in range(names)) + tail).encode()
+
+
+def kept_on_levels(depth):
+    """Groups in each other, each with names of its own that lead by those of the one inside to as many inputs as are kept."""
+    front = "group C\ninstance d:M\nend\n" + leads(128, "w")
+    tail = "".join(f"instance j{place}:J\nend\n" for place in range(63)) + "connect a.y->j0.z\n"
+    names = (LONGEST - 20_000) // (16 * depth + 13)
+    text = front
+    for level in range(depth):
+        text += f"group H{level}\ninstance k:{f'H{level - 1}' if level else 'C'}\nend\n"
+        text += "".join(f"in {name_of(number)}->k.{name_of(number) if level else 'w'}\n" for number in range(names))
+    text += f"group J\ninstance k:H{depth - 1}\nend\n" + "".join(f"in z->k.{name_of(number)}\n" for number in range(names))
+    return (text + with_unit(unit_with(128)) + tail).encode()
+
+
+def lines_in_scopes():
+    """Lines of a group that stands in as many chains of groups as there may be."""
+    groups = "group C\ninstance d:D\nend\nin x->d.u\n"
+    for number in range(2, 14):
+        groups += f"group G{number}\ninstance k:G{number - 1}\nend\nin x->k.x\n"
+    main = NESTED_MAIN + "".join(f"instance j{place}:G13\nend\n" for place in range(63)) + "connect a.y->j0.x\n"
+    return filled(groups + "group G1\ninstance k:C\nend\n", lambda number: "in x->k.x\n", main)
+
+
 def connected_outputs():
     """Many outputs, through two groups, and as many connections from them as there may be."""
     inner = "group H\ninstance d:D\nend\n" + "".join(f"out {name_of(number)}=d.p\n" for number in range(25_000))
@@ -364,3 +414,14 @@ def outputs_down(depth, outputs):
         groups += f"group G{number}\ninstance k:G{number - 1}\nend\nout y=k.y\n"
     groups += f"group H\ninstance k:G{depth - 2}\nend\n" + "".join(f"out {name_of(number)}=k.y\n" for number in range(outputs))
     return (groups + ONE_GROUP.replace("g:G", "g:H") + "".join(f"sample g.{name_of(number)}\n" for number in range(outputs))).encode()
+
+
+def outputs_of_places(depth, places):
+    """Samples of many outputs of many instances of a group, each of which leads down a chain of groups of its own."""
+    groups = "group G0\ninstance d:D\nend\nout y=d.p\n"
+    for number in range(1, depth - 1):
+        groups += f"group G{number}\ninstance k:G{number - 1}\nend\nout y=k.y\n"
+    outputs = 1_500
+    groups += f"group H\ninstance k:G{depth - 2}\nend\n" + "".join(f"out {name_of(number)}=k.y\n" for number in range(outputs))
+    main = NESTED_MAIN + "".join(f"instance j{place}:H\nend\n" for place in range(places))
+    return filled(groups + main, lambda number: f"sample j{number % places}.{name_of(number // places)}\n")

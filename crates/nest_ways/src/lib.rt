@@ -1,7 +1,7 @@
 //! Where the targets of the connections of a nest lead.
 //!
 //! The layer above makes the [`Ways`] of a nest once, and asks for each connection which inputs of components it [`reached`]. That takes
-//! time by the lines that lead there and by the inputs that are reached, however many ways there are from one to the other.
+//! time by the lines of the inputs between, in each place where their group stands, however many ways there are through them.
 //!
 //! Each input of a group that a connection leads to is looked up once: where its lines lead is kept by numbers (`steps.rt`), the same in
 //! each scope of the group, told by how many scopes further on. Where it leads to few inputs of components, those are kept too (`kept.rt`).

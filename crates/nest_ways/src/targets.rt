@@ -5,12 +5,12 @@ ghost use Rattle.nest_ways.specs.Reaching.{AreKnown, PutsUpTo, input_at, ins_of,
 ghost use Rattle.nest_ways.specs.Walking.{IsFirst, IsReached, Reaches, reached_inside};
 ghost use Rattle.nest_names.specs.declared.scope.Spot.{Spot as Spots};
 
-use crate::ends::End;
+use crate::ends::{End, MOST_ENDS};
 use crate::guide::Guide;
 use crate::kept::MOST_KEPT;
 use crate::known::Ways;
 use crate::steps::find;
-use crate::walk::{Inlet, MOST_ENDS, Start, Walk, walk_inlet};
+use crate::walk::{Inlet, Start, Walk, walk_inlet};
 use fixed_words::{List, NoMemory};
 use nest_names::{
     LEVELS, NestNames, Scope, Spot, at, distinct, inside, put_bind, reach, same_scope, spot_of,

@@ -1,7 +1,7 @@
 //! What an input of a group leads to in one scope, however much it is.
 //!
-//! Where it is little, that is kept and is put; else the steps of the input are gone along. Then it is done: where it is led to again,
-//! nothing more is to be put.
+//! What is kept of the input is put, where that is no more than it has steps; else its steps are gone along. Then it is done: where it is
+//! led to again, nothing more is to be put. So a walk takes time by the lines of the inputs that it comes to, each once in each scope.
 ghost use Rattle.std.specs.Prelude.{◌≡◌, ◌∷◌, ◌+◌, [], ℕ, Some, IfOk, IsTrue, OnOk, slice_get};
 ghost use Rattle.std.specs.Option.{option_to_list};
 ghost use Rattle.nest_text.specs.declared.nest.Bind.{Bind};
@@ -9,19 +9,12 @@ ghost use Rattle.nest_ways.specs.Reaching.{KeepsAll, LeadsHere, LeadsInside, lin
 ghost use Rattle.nest_ways.specs.Walking.{AreDone, IsDone, IsInletAt, IsScopeAt, IsWalk, WalksOn, WalksWhole};
 ghost use Rattle.nest_ways.specs.declared.steps.Known.{Known as Knowns};
 
-use crate::ends::{End, first_same, put_onward, put_within};
+use crate::ends::{End, MOST_ENDS, first_same, put_onward, put_within};
 use crate::guide::Guide;
 use crate::known::Ways;
 use crate::steps::{Inside, Known, Step};
 use fixed_words::{List, NoMemory};
 use nest_names::{NestNames, at};
-
-/// The most inputs that a target may lead to, since a system has no more connections.
-pub(crate) const MOST_ENDS: usize = 2048;
-
-/// The most inputs of components that are put where an input inside keeps them. Where it keeps more, its steps are gone along, so that what
-/// many inputs lead to is not put for each of them.
-const MOST_PUT: usize = 64;
 
 /// A scope from which others are told, and its group.
 #[derive(Clone, Copy)]
@@ -133,8 +126,7 @@ fn walk_inside<'n>(
         return Ok(false);
     };
     let input = inside.input;
-    let inner = Inlet { scope, input };
-    walk_inlet(names, ways, start, guide, walk, inner, MOST_PUT)
+    walk_inlet(names, ways, start, guide, walk, Inlet { scope, input }, 0)
 }
 
 /// Puts the inputs of components that a step leads to.
@@ -191,7 +183,8 @@ fn walk_steps<'n>(
     Ok(true)
 }
 
-/// Puts the inputs of components that an input leads to: those that it keeps, where they are no more than so many, or else by its steps.
+/// Puts the inputs of components that an input leads to: those that it keeps, where they are no more than so many or than its steps, or
+/// else by its steps. So it puts no more than it has lines, but for the target of a connection.
 #[cycle(walk)]
 fn walk_known<'n>(
     names: &NestNames<'n>,
@@ -210,7 +203,7 @@ fn walk_known<'n>(
         (lines_of names.now known.now.group known.now.port.now)) }
 {
     match &known.ends {
-        Some(kept) if kept.len() <= most => {
+        Some(kept) if kept.len() <= most.max(known.steps.len()) => {
             put_kept(
                 names,
                 ways,
@@ -249,7 +242,7 @@ fn note_done<'n>(
 
 /// Puts the inputs of components that an input leads to, where it is not done, and notes that it is.
 #[cycle(walk)]
-fn walk_through<'n>(
+fn walk_once<'n>(
     names: &NestNames<'n>,
     ways: &Ways<'n>,
     start: Start,
@@ -280,7 +273,7 @@ fn walk_through<'n>(
 }
 
 /// Puts the inputs of components that an input of a group leads to, until there are more than there may be: those that it keeps, where they
-/// are no more than so many. Tells whether all were put.
+/// are no more than so many or than its steps. Tells whether all were put.
 #[cycle(walk)]
 pub(crate) fn walk_inlet<'n>(
     names: &NestNames<'n>,
@@ -298,5 +291,5 @@ pub(crate) fn walk_inlet<'n>(
     let Some(known) = at(ways.known.as_slice(), inlet.input as usize) else {
         return Ok(false);
     };
-    walk_through(names, ways, start, guide, walk, inlet, known, most)
+    walk_once(names, ways, start, guide, walk, inlet, known, most)
 }

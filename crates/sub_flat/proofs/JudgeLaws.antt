@@ -9,7 +9,12 @@ use Rattle.nest_text.specs.declared.fault.NestFault.{NestFault}
 use Rattle.nest_text.specs.declared.fault.NestFault.TheVariants as fault
 use Rattle.nest_text.specs.declared.nest.Group.{Group}
 use Rattle.nest_text.specs.declared.nest.Nest.{Nest}
-use Rattle.sub_flat.specs.FlatReading.{AnswersFlat, FlatAnswers, IsLeast, IsRefusedBy, JudgesLeast, JudgesNest, MissesAt, Refuses, RefusesLeast, is_less}
+use Rattle.sub_flat.specs.FlatReading.{AnswersFlat, FlatAnswers, IsKeptPrintable, IsLeast, IsRefusedBy, JudgesLeast, JudgesNest, JudgesParts, MakesParts, MissesAt, Refuses, RefusesLeast, is_less, refusal_of, with_parts}
+use Rattle.sub_flat.specs.declared.fault.Unflat.{Unflat}
+use Rattle.sub_flat.specs.declared.fault.Unflat.TheVariants as unflat
+use Rattle.sub_flat.specs.declared.flat.FlatParts.{FlatParts}
+use Rattle.nest_names.specs.Flattening.{flat_of}
+use Rattle.unit_tree.specs.Printable.{IsPrintable}
 use Rattle.sub_flat.specs.GroupTests.{main_misses_port}
 use Rattle.sub_flat.specs.NestRules.{AtGroup, BreaksGroup, BreaksNest, IsRefusedNest, IsTooLarge}
 use Rattle.sub_flat.proofs.NestingLaws.{less_or_more}
@@ -270,17 +275,60 @@ ports_judged nest (Ok kept) names nesting is = kept_rules nest names nesting is
 
 -- ---- Flattening
 
-pub flat_answered : (nest named : Nest) (flat : System) → named ≡ nest → ((line rule : ℕ) → BreaksNest named line rule → rule ≡ 30)
-    → FlatAnswers named (Ok flat) → AnswersFlat nest (Ok flat)
-flat_answered nest named flat same judged is =
-    subst (λ one. AnswersFlat one (Ok flat)) same (is.0, λ line rule broken. told line rule broken (judged line rule broken))
+flat_answered : (nest : Nest) (flat : System) → ((line rule : ℕ) → BreaksNest nest line rule → rule ≡ 30) → FlatAnswers nest (Ok flat)
+    → AnswersFlat nest (Ok flat)
+flat_answered nest flat judged is = (is.0, λ line rule broken. told line rule broken (judged line rule broken))
   where
-    told : (line rule : ℕ) → BreaksNest named line rule → rule ≡ 30 → ⊥
+    told : (line rule : ℕ) → BreaksNest nest line rule → rule ≡ 30 → ⊥
     told line rule (inl (same, at)) thirty = omega (arith, same, thirty)
     told line rule (inr (inl (same, at))) thirty = omega (arith, same, thirty)
     told line rule (inr (inr (inl (same, at)))) thirty = omega (arith, same, thirty)
     told line rule (inr (inr (inr broken))) thirty = is.1 broken.1
 
-pub too_large : (nest named : Nest) → named ≡ nest → ((line rule : ℕ) → BreaksNest named line rule → rule ≡ 30) → IsTooLarge named
-    → IsRefusedNest nest nest.main_line 30
-too_large nest named same judged large = subst (λ one. IsRefusedNest one one.main_line 30) same (size_refused named judged large)
+-- A nest whose flat system, or one of its parts, is too large.
+flat_refused : (nest : Nest) (why : Unflat) → ((line rule : ℕ) → BreaksNest nest line rule → rule ≡ 30) → FlatAnswers nest (Err why)
+    → IsRefusedBy nest (refusal_of nest.main_line why)
+flat_refused nest unflat.TooLarge judged large = size_refused nest judged large
+flat_refused nest unflat.NoMemory judged is = tt
+
+pub parts_judged : (nest named : Nest) (parts : FlatParts) → named ≡ nest → ((line rule : ℕ) → BreaksNest named line rule → rule ≡ 30)
+    → MakesParts named (Ok parts) → JudgesParts nest (Ok parts)
+parts_judged nest named parts same judged made = subst (λ one. JudgesParts one (Ok parts)) same (made, judged)
+
+pub parts_refused : (nest named : Nest) (why : Unflat) → named ≡ nest → ((line rule : ℕ) → BreaksNest named line rule → rule ≡ 30)
+    → MakesParts named (Err why) → IsRefusedBy nest (refusal_of nest.main_line why)
+parts_refused nest named unflat.TooLarge same judged large =
+    subst (λ one. IsRefusedNest one one.main_line 30) same (size_refused named judged large)
+parts_refused nest named unflat.NoMemory same judged made = tt
+
+-- A system whose parts are within their limits is too large where it isn't printable.
+large_parts : (nest : Nest) (parts : FlatParts) (kept : Result System Unflat) → MakesParts nest (Ok parts)
+    → IsKeptPrintable (with_parts nest.main parts) kept → FlatAnswers nest kept
+large_parts nest parts (Ok flat) made is = (is.0 ∙ made.0, λ large. by large)
+  where
+    few : (64 < length (flat_of nest).instances) → ⊥
+    few large = let low = subst (λ (all : System). length all.instances ≤ 64) made.0 made.1 in omega (arith, large, low)
+
+    narrow : (2048 < length (flat_of nest).wires) → ⊥
+    narrow large = let low = subst (λ (all : System). length all.wires ≤ 2048) made.0 made.2 in omega (arith, large, low)
+
+    by : IsTooLarge nest → ⊥
+    by (inl large) = few large
+    by (inr (inl large)) = narrow large
+    by (inr (inr unprintable)) = unprintable (subst IsPrintable made.0 is.1)
+large_parts nest parts (Err unflat.TooLarge) made unprintable =
+    inr (inr (λ printable. unprintable (subst IsPrintable (sym made.0) printable)))
+large_parts nest parts (Err unflat.NoMemory) made is = tt
+
+pub whole_answered : (nest : Nest) (main flat : System) (parts : FlatParts) → nest.main ≡ main → JudgesParts nest (Ok parts)
+    → IsKeptPrintable (with_parts main parts) (Ok flat) → AnswersFlat nest (Ok flat)
+whole_answered nest main flat parts same judged is =
+    flat_answered nest flat judged.1
+    (large_parts nest parts (Ok flat) judged.0 (subst (λ one. IsKeptPrintable (with_parts one parts) (Ok flat)) (sym same) is))
+
+pub whole_refused : (nest : Nest) (main : System) (main_line : ℕ) (parts : FlatParts) (why : Unflat) → nest.main ≡ main → nest.main_line ≡ main_line
+    → JudgesParts nest (Ok parts) → IsKeptPrintable (with_parts main parts) (Err why) → IsRefusedBy nest (refusal_of main_line why)
+whole_refused nest main main_line parts why same line judged is =
+    subst (λ number. IsRefusedBy nest (refusal_of number why)) line
+    (flat_refused nest why judged.1
+    (large_parts nest parts (Err why) judged.0 (subst (λ one. IsKeptPrintable (with_parts one parts) (Err why)) (sym same) is)))

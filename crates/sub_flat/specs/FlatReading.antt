@@ -12,6 +12,7 @@ use Rattle.nest_text.specs.declared.fault.NestFault.{NestFault}
 use Rattle.nest_text.specs.declared.fault.NestFault.TheVariants as fault
 use Rattle.sub_flat.specs.declared.fault.Unflat.{Unflat}
 use Rattle.sub_flat.specs.declared.fault.Unflat.TheVariants as unflat
+use Rattle.sub_flat.specs.declared.flat.FlatParts.{FlatParts}
 use Rattle.nest_names.specs.declared.scope.Scope.{Scope}
 use Rattle.nest_names.specs.declared.scope.Spot.{Spot}
 use Rattle.sub_flat.specs.declared.judge.GroupRule.{GroupRule}
@@ -62,6 +63,16 @@ MakesLeaves nest (Ok made) = (made ≡ leaves nest levels top) × (length made �
 MakesLeaves nest (Err unflat.TooLarge) = IsTooLarge nest
 MakesLeaves nest (Err unflat.NoMemory) = ⊤
 
+-- A system with other components, connections and samples.
+abbrev pub with_parts : System → FlatParts → System
+with_parts main parts = record main { instances = parts.instances; wires = parts.wires; samples = parts.samples }
+
+-- The parts of the flat system, which are no more than there may be; or that it is too large.
+abbrev pub MakesParts : Nest → Result FlatParts Unflat → Type 0
+MakesParts nest (Ok parts) = (with_parts nest.main parts ≡ flat_of nest) × (length parts.instances ≤ 64) × (length parts.wires ≤ 2048)
+MakesParts nest (Err unflat.TooLarge) = IsTooLarge nest
+MakesParts nest (Err unflat.NoMemory) = ⊤
+
 -- The flat system, or that it is too large.
 abbrev pub FlatAnswers : Nest → Result System Unflat → Type 0
 FlatAnswers nest (Ok flat) = (flat ≡ flat_of nest) × (IsTooLarge nest → ⊥)
@@ -101,6 +112,11 @@ Refuses number least (Err fault.NoMemory) = ⊥
 abbrev pub MissesAt : Nest → ℕ → Type 0
 MissesAt nest line = AtGroup nest rules.Ports line ⊎ (IsTrue (main_misses_port nest) × (line ≡ nest.main_line))
 
+-- The refusal of a nest whose flat system is too large, at the line `main`.
+abbrev pub refusal_of : ℕ → Unflat → NestFault
+refusal_of main_line unflat.TooLarge = fault.Line main_line 30
+refusal_of main_line unflat.NoMemory = fault.NoMemory
+
 -- The nest breaks no rule of groups, or is refused by the least.
 abbrev pub IsRefusedBy : Nest → NestFault → Type 0
 IsRefusedBy nest (fault.Line line rule) = IsRefusedNest nest line rule
@@ -109,6 +125,11 @@ IsRefusedBy nest fault.NoMemory = ⊤
 abbrev pub JudgesNest : {X : Type 0} → Nest → Result X NestFault → Type 0
 JudgesNest nest (Ok kept) = (line rule : ℕ) → BreaksNest nest line rule → rule ≡ 30
 JudgesNest nest (Err why) = IsRefusedBy nest why
+
+-- The parts of the flat system of a nest that breaks none of the rules 27 to 29, and is not too large for its parts; or what it breaks.
+abbrev pub JudgesParts : Nest → Result FlatParts NestFault → Type 0
+JudgesParts nest (Ok parts) = MakesParts nest (Ok parts) × ((line rule : ℕ) → BreaksNest nest line rule → rule ≡ 30)
+JudgesParts nest (Err why) = IsRefusedBy nest why
 
 -- The answer of flattening: the flat system of a nest that breaks no rule, or the least rule that it breaks, at the least line. Want of
 -- memory says nothing.

@@ -1,7 +1,7 @@
 //! The flat system of a nest, up to what it may have.
 ghost use Rattle.std.specs.Prelude.{◌≡◌, ◌∷◌, ◌++◌, [], ◌≤◌, nat_lt, length, map, IfOk, OnOk};
 ghost use Rattle.std.specs.List.{flat_map, list_any};
-ghost use Rattle.sub_flat.specs.FlatReading.{FlatAnswers, IsKeptPrintable, MadeWithin, MakesLeaves, PutsWithin, leaves_inside, wire_between, wires_inside};
+ghost use Rattle.sub_flat.specs.FlatReading.{IsKeptPrintable, MadeWithin, MakesLeaves, MakesParts, PutsWithin, leaves_inside, wire_between, wires_inside, with_parts};
 ghost use Rattle.nest_ways.specs.Reaching.{AreKnown};
 ghost use Rattle.nest_names.specs.Flattening.{flat_port, flat_wire, flat_wires, follow, leaves, levels, named_in, reach, top, wires_of};
 
@@ -14,7 +14,6 @@ use nest_names::{
 use nest_ways::{Guide, Ways, reached};
 use std::alloc::Global;
 use std::mem::replace;
-use unit_plain::copy_system;
 use unit_print::is_printable;
 use unit_tree::{Instance, Name, PortName, Setting, System, Wire};
 
@@ -270,21 +269,43 @@ fn all_flat_wires(alloc: Global, names: &NestNames<'_>) -> Result<List<Wire>, Un
     Ok(wires)
 }
 
-/// A system with other instances, connections and samples.
-fn with_parts(
-    alloc: Global,
-    main: &System,
-    instances: List<Instance>,
-    wires: List<Wire>,
-    samples: List<PortName>,
-) -> Result<System, NoMemory>
-    ensures { IfOk result (λ made. made ≡ record main.now { instances = instances; wires = wires; samples = samples }) }
+/// What the flat system of a nest has in place of the components, connections and samples of `main`.
+#[derive(Drop)]
+pub struct FlatParts {
+    pub instances: List<Instance>,
+    pub wires: List<Wire>,
+    pub samples: List<PortName>,
+}
+
+/// The parts of the flat system of a nest, which are no more than there may be.
+pub(crate) fn flat_parts(alloc: Global, names: &NestNames<'_>) -> Result<FlatParts, Unflat>
+    ensures { MakesParts names.now result }
 {
-    let mut made = copy_system(alloc, main)?;
+    let instances = named_instances(alloc, names)?;
+    let wires = all_flat_wires(alloc, names)?;
+    let main = &names.nest().main;
+    let samples = flat_samples(alloc, names, main.samples.as_slice())?;
+    Ok(FlatParts {
+        instances,
+        wires,
+        samples,
+    })
+}
+
+/// A system with other components, connections and samples.
+fn with_parts(main: System, parts: FlatParts) -> System
+    ensures { result ≡ with_parts main parts }
+{
+    let FlatParts {
+        instances,
+        wires,
+        samples,
+    } = parts;
+    let mut made = main;
     drop(replace(&mut made.instances, instances));
     drop(replace(&mut made.wires, wires));
     drop(replace(&mut made.samples, samples));
-    Ok(made)
+    made
 }
 
 /// The system, where it is printable.
@@ -298,14 +319,9 @@ fn if_printable(alloc: Global, system: System) -> Result<System, Unflat>
     Err(Unflat::TooLarge)
 }
 
-/// The flat system of a nest.
-pub(crate) fn flat_system(alloc: Global, names: &NestNames<'_>) -> Result<System, Unflat>
-    ensures { FlatAnswers names.now result }
+/// The flat system of a nest: `main` with these parts in place of its own.
+pub(crate) fn flat_system(alloc: Global, main: System, parts: FlatParts) -> Result<System, Unflat>
+    ensures { IsKeptPrintable (with_parts main parts) result }
 {
-    let instances = named_instances(alloc, names)?;
-    let wires = all_flat_wires(alloc, names)?;
-    let main = &names.nest().main;
-    let samples = flat_samples(alloc, names, main.samples.as_slice())?;
-    let flat = with_parts(alloc, main, instances, wires, samples)?;
-    if_printable(alloc, flat)
+    if_printable(alloc, with_parts(main, parts))
 }

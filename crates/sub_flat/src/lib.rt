@@ -1,7 +1,7 @@
 //! Nests made flat: groups of components as one system of components.
 //!
-//! [`flatten`] gives the flat system of a nest, or tells the least rule of groups that it breaks, at the least line. The layer above
-//! uses it behind [`nest_text::read_nest`].
+//! [`flatten`] gives the flat system of a nest, or tells the least rule of groups that it breaks, at the least line; [`into_flat`] makes
+//! it of the nest itself. The layer above uses it behind [`nest_text::read_nest`].
 //!
 //! Names and scopes are those of `nest_names`, and where connections lead is worked out by `nest_ways`.
 //!
@@ -19,7 +19,7 @@ mod laws;
 mod levels;
 mod samples;
 
-pub use flattening::flatten;
+pub use flattening::{flatten, into_flat};
 pub use laws::nests_are_judged_once;
 
 #[cfg(test)]

@@ -1,19 +1,28 @@
-use super::flatten;
+use super::{flatten, into_flat};
 use nest_text::{NestFault, read_nest};
 use std::alloc::Global;
 use std::test::Fail;
+use unit_tree::System;
 
-/// How many instances and connections the flat system of a nested text has.
-fn flat(alloc: Global, text: &[u8]) -> Result<(usize, usize), NestFault> {
+/// Instances and connections of a system.
+type Counts = (usize, usize);
+
+fn counts(system: &System) -> Counts {
+    (system.instances.len(), system.wires.len())
+}
+
+/// How many instances and connections the flat system of a nested text has, made of a copy of its `main` and of `main` itself.
+fn flat(alloc: Global, text: &[u8]) -> Result<(Counts, Counts), NestFault> {
     let nest = read_nest(alloc, text)?;
     if nest.lines.len() != nest.groups.len() {
         return Err(NestFault::NoMemory);
     }
     let flat = flatten(alloc, &nest)?;
-    Ok((flat.instances.len(), flat.wires.len()))
+    let made = into_flat(alloc, nest)?;
+    Ok((counts(&flat), counts(&made)))
 }
 
-fn refused(line: u32, rule: u8) -> Result<(usize, usize), NestFault> {
+fn refused(line: u32, rule: u8) -> Result<(Counts, Counts), NestFault> {
     Err(NestFault::Line { line, rule })
 }
 
@@ -42,7 +51,7 @@ fn nests_are_made_flat(rt: HostRuntime) -> Result<(), Fail> {
     )?;
     text.extend_from_slice(PORTS)?;
     text.extend_from_slice(b"instance g : G\nend\nconnect a.y -> g.v\nsample g.y\n")?;
-    assert_eq!(rt; flat(alloc, text.as_slice())?, (2, 1));
+    assert_eq!(rt; flat(alloc, text.as_slice())?, ((2, 1), (2, 1)));
     Ok(())
 }
 

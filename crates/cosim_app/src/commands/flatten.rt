@@ -11,7 +11,7 @@ use crate::commands::print::canonical;
 use cosim_call::Stopped;
 use nest_text::{Nest, NestFault, read_nest};
 use std::alloc::Global;
-use sub_flat::flatten;
+use sub_flat::into_flat;
 
 /// The nest that a text says.
 fn nest_in(alloc: Global, text: &[u8]) -> Result<Nest, Stopped>
@@ -25,11 +25,11 @@ fn nest_in(alloc: Global, text: &[u8]) -> Result<Nest, Stopped>
 }
 
 /// The canonical text of the flat system of a nest.
-fn flat_text(alloc: Global, nest: &Nest) -> Result<Vec<u8>, Stopped>
-    requires { length nest.now.lines ≡ length nest.now.groups }
-    ensures { FindsFlat nest.now result }
+fn flat_text(alloc: Global, nest: Nest) -> Result<Vec<u8>, Stopped>
+    requires { length nest.lines ≡ length nest.groups }
+    ensures { FindsFlat nest result }
 {
-    match flatten(alloc, nest) {
+    match into_flat(alloc, nest) {
         Ok(flat) => Ok(canonical(alloc, &flat)?),
         Err(NestFault::Line { line, rule }) => Err(Stopped::Refused { line, rule }),
         Err(NestFault::NoMemory) => Err(Stopped::NoMemory),
@@ -42,7 +42,7 @@ pub(crate) fn make(alloc: Global, text: &[u8]) -> Result<Vec<u8>, Stopped>
     ensures { Makes (Answers Flatten text.now) result }
 {
     let nest = nest_in(alloc, text)?;
-    let flat = flat_text(alloc, &nest)?;
+    let flat = flat_text(alloc, nest)?;
     accept(alloc, &flat)?;
     Ok(flat)
 }

@@ -198,8 +198,8 @@ walk_steps-returns t c =
     subst (WalksOn nest scopes all base offset known c.args.walk.now c.loop-place.walk true)
     (lines_end nest scopes all known.group known.height known.steps lines c.loop-place.place steps (omega (arith, long, past))) c.loop-place.invariant
 
-pub walk_through-returns-then-is_done : goal.walk_through-returns-then-is_done
-walk_through-returns-then-is_done t c =
+pub walk_once-returns-then-is_done : goal.walk_once-returns-then-is_done
+walk_once-returns-then-is_done t c =
     let nest = c.args.names.now in
     let scopes = c.args.ways.now.scopes in
     let all = c.args.ways.now.known.items in
@@ -209,8 +209,8 @@ walk_through-returns-then-is_done t c =
     walks_done nest scopes all base c.args.inlet known c.args.walk.now c.done_at.result c.requires.walk.done
     (ap (λ those. slice_get those c.done_at.result) (sym c.as_slice.ensures.value) ∙ c.is_done.ensures c.if-is_done.true) c.requires.found
 
-pub walk_through-returns-then-not-branch : goal.walk_through-returns-then-not-branch
-walk_through-returns-then-not-branch t c =
+pub walk_once-returns-then-not-branch : goal.walk_once-returns-then-not-branch
+walk_once-returns-then-not-branch t c =
     let nest = c.args.names.now in
     let scopes = c.args.ways.now.scopes in
     let all = c.args.ways.now.known.items in
@@ -221,12 +221,12 @@ walk_through-returns-then-not-branch t c =
     subst (λ whole. WalksOn nest scopes all base offset known c.args.walk.now c.walk_known.new.walk whole lines) c.if-not-branch.true
     c.in_ok-walk_known.ensures
 
-pub walk_through-note_done-requires-clause-done : goal.walk_through-note_done-requires-clause-done
-walk_through-note_done-requires-clause-done t c =
+pub walk_once-note_done-requires-clause-done : goal.walk_once-note_done-requires-clause-done
+walk_once-note_done-requires-clause-done t c =
     c.in_ok-walk_known.ensures.done c.if-not-branch.false
 
-pub walk_through-note_done-requires-clause-all : goal.walk_through-note_done-requires-clause-all
-walk_through-note_done-requires-clause-all t c one found =
+pub walk_once-note_done-requires-clause-all : goal.walk_once-note_done-requires-clause-all
+walk_once-note_done-requires-clause-all t c one found =
     let nest = c.args.names.now in
     let scopes = c.args.ways.now.scopes in
     let all = c.args.ways.now.known.items in
@@ -239,8 +239,8 @@ walk_through-note_done-requires-clause-all t c one found =
     (is_done_now nest scopes all base offset known c.args.walk.now new
     (subst (λ whole. WalksOn nest scopes all base offset known c.args.walk.now new whole lines) c.if-not-branch.false c.in_ok-walk_known.ensures))
 
-pub walk_through-returns : goal.walk_through-returns
-walk_through-returns t c =
+pub walk_once-returns : goal.walk_once-returns
+walk_once-returns t c =
     let nest = c.args.names.now in
     let scopes = c.args.ways.now.scopes in
     let all = c.args.ways.now.known.items in

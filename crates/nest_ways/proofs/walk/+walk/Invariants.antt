@@ -15,8 +15,8 @@ decreases-walk_steps l = 6 * l.inlet.input + 2
 abbrev pub decreases-walk_known : goal.decreases-walk_known
 decreases-walk_known l = 6 * l.inlet.input + 3
 
-abbrev pub decreases-walk_through : goal.decreases-walk_through
-decreases-walk_through l = 6 * l.inlet.input + 4
+abbrev pub decreases-walk_once : goal.decreases-walk_once
+decreases-walk_once l = 6 * l.inlet.input + 4
 
 abbrev pub decreases-walk_inlet : goal.decreases-walk_inlet
 decreases-walk_inlet l = 6 * l.inlet.input + 5
