@@ -1,5 +1,5 @@
 -- One level of what is followed, and of what is reached.
-use Rattle.std.proofs.Common.{◌≡◌, ℕ, zero, suc, ◌-◌, Bool, true, false, List, [], refl, ap, ◌∙◌, Some, arith, ◌<◌, ◌+◌, ◌++◌, ◌∷◌, length, map, drop, get_or, sym, append_assoc, bytes_eq}
+use Rattle.std.proofs.Common.{◌≡◌, ℕ, zero, suc, ◌-◌, Bool, true, false, List, [], refl, ap, ◌∙◌, None, Some, arith, ◌<◌, ◌+◌, ◌++◌, ◌∷◌, length, map, drop, get_or, sym, append_assoc, bytes_eq}
 use Rattle.std.specs.Prelude.{◌&&◌, if◌then◌else◌, slice_get}
 use Rattle.std.specs.Cmp.Lexicographic.{nat_list_eq_equiv}
 use Rattle.std.proofs.lemmas.List.{at_drop_more}
@@ -11,6 +11,8 @@ use Rattle.nest_text.specs.declared.nest.Nest.{Nest}
 use Rattle.nest_names.specs.Tables.{items_at}
 use Rattle.nest_names.proofs.NamedLists.{any_at, any_named}
 use Rattle.nest_names.specs.Flattening.{binds_of, distinct, expand, follow, ins_in, inside, is_component, out_in, place_at, reach, same_group, same_spot, spot_in, step_down}
+use Rattle.unit_tree.specs.declared.system.PortName.{PortName}
+use Rattle.nest_names.specs.declared.scope.Below.{Below}
 use Rattle.nest_names.specs.declared.scope.Scope.{Scope}
 use Rattle.nest_names.specs.declared.scope.Spot.{Spot}
 
@@ -26,11 +28,19 @@ step_some nest spot place bind at is =
     (option_map (inside spot.scope spot.port.instance) found)) at
     ∙ ap (option_map (spot_in (inside spot.scope spot.port.instance place))) is
 
+-- Where an output leads, one level down.
+abbrev pub below_in : Scope → PortName → Below → Spot
+below_in scope port below = record { scope = inside scope port.instance below.place; port = below.line.now.inner }
+
 pub follow_more : (nest : Nest) (depth : ℕ) (spot next : Spot) → (depth ≡ 0 → ⊥) → step_down nest spot ≡ Some next
     → follow nest depth spot ≡ follow nest (depth - 1) next
 follow_more nest zero spot next some is = absurd (some refl)
 follow_more nest (suc depth) spot next some is =
     ap (λ found. unwrap_or (option_map (follow nest depth) found) spot) is ∙ ap (λ less. follow nest less next) (one_less depth)
+
+pub follow_here : (nest : Nest) (depth : ℕ) (spot : Spot) → step_down nest spot ≡ None → follow nest depth spot ≡ spot
+follow_here nest zero spot none = refl
+follow_here nest (suc depth) spot none = ap (λ found. unwrap_or (option_map (follow nest depth) found) spot) none
 
 pub reach_more : (nest : Nest) (depth : ℕ) (spots : List Spot) → (depth ≡ 0 → ⊥) → list_all (is_component nest) spots ≡ false
     → reach nest depth spots ≡ reach nest (depth - 1) (distinct [] (flat_map (expand nest) spots))

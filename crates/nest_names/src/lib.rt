@@ -15,7 +15,7 @@ mod tables;
 pub use lists::PlacesByName;
 pub use names::{GroupNames, NestNames};
 pub use scope::{
-    LEVELS, Scope, Spot, copied_scope, distinct, flat_name, flat_port, follow, inside, put_bind,
-    reach, same_group, same_port, same_scope, spot_of, top,
+    LEVELS, Scope, Spot, copied_name, copied_port, copied_scope, distinct, flat_name, flat_port,
+    follow, inside, put_bind, reach, same_group, same_port, same_scope, spot_of, top,
 };
 pub use tables::{BindNames, InstanceNames, Places, at, note, noted};

@@ -60,13 +60,13 @@ pub fn flat_name(alloc: Global, scope: &Scope, name: &Name) -> Result<Name, NoMe
     joined(alloc, scope.prefix.as_slice(), name.as_slice())
 }
 
-fn copied_name(alloc: Global, name: &Name) -> Result<Name, NoMemory>
+pub fn copied_name(alloc: Global, name: &Name) -> Result<Name, NoMemory>
     ensures { IfOk result (λ made. made ≡ name.now) }
 {
     Ok(List::from_slice(alloc, name.as_slice())?)
 }
 
-fn copied_port(alloc: Global, port: &PortName) -> Result<PortName, NoMemory>
+pub fn copied_port(alloc: Global, port: &PortName) -> Result<PortName, NoMemory>
     ensures { IfOk result (λ made. made ≡ port.now) }
 {
     let instance = copied_name(alloc, &port.instance)?;
@@ -83,26 +83,41 @@ pub fn copied_scope(alloc: Global, scope: &Scope) -> Result<Scope, NoMemory>
     })
 }
 
+/// A port in a scope, which is kept as it is.
+fn port_in(alloc: Global, scope: Scope, port: &PortName) -> Result<Spot, NoMemory>
+    ensures { IfOk result (λ made. made ≡ record { scope = scope; port = port.now }) }
+{
+    let port = copied_port(alloc, port)?;
+    Ok(Spot { scope, port })
+}
+
 /// A port in a scope.
 pub fn spot_of(alloc: Global, scope: &Scope, port: &PortName) -> Result<Spot, NoMemory>
     ensures { IfOk result (λ made. made ≡ record { scope = scope.now; port = port.now }) }
 {
     let scope = copied_scope(alloc, scope)?;
-    let port = copied_port(alloc, port)?;
-    Ok(Spot { scope, port })
+    port_in(alloc, scope, port)
 }
 
-/// The scope inside an instance of the group at a place.
-pub fn inside(alloc: Global, scope: &Scope, name: &Name, place: usize) -> Result<Scope, NoMemory>
-    ensures { IfOk result (λ made. made ≡ inside scope.now name.now place) }
+/// The scope inside an instance of the group at a place, in place of the one around it.
+fn entered(scope: Scope, name: &Name, place: usize) -> Result<Scope, NoMemory>
+    ensures { IfOk result (λ made. made ≡ inside scope name.now place) }
 {
-    let mut bytes = Vec::from_slice(alloc, scope.prefix.as_slice())?;
+    let mut bytes = scope.prefix.into_vec();
     bytes.extend_from_slice(name.as_slice())?;
     bytes.push(b'_')?;
     Ok(Scope {
         prefix: List::from_vec(bytes),
         group: Some(place),
     })
+}
+
+/// The scope inside an instance of the group at a place.
+pub fn inside(alloc: Global, scope: &Scope, name: &Name, place: usize) -> Result<Scope, NoMemory>
+    ensures { IfOk result (λ made. made ≡ inside scope.now name.now place) }
+{
+    let scope = copied_scope(alloc, scope)?;
+    entered(scope, name, place)
 }
 
 /// A port in a scope, as a port of the flat system.
@@ -114,19 +129,23 @@ pub fn flat_port(alloc: Global, spot: &Spot) -> Result<PortName, NoMemory>
     Ok(PortName { instance, port })
 }
 
+/// Where an output of a group leads, one level down.
+#[derive(Clone, Copy)]
+struct Below<'n> {
+    /// The place of the group.
+    place: usize,
+    /// Its `out` line.
+    line: &'n Bind,
+}
+
 /// An output of a group, one level down.
-fn step_down(alloc: Global, names: &NestNames<'_>, from: &Spot) -> Result<Option<Spot>, NoMemory>
-    ensures { IfOk result (λ made. made ≡ step_down names.now from.now) }
+fn step_down<'n>(names: &NestNames<'n>, scope: &Scope, port: &PortName) -> Option<Below<'n>>
+    ensures { option_map (λ below. record { scope = inside scope.now port.now.instance below.place; port = below.line.now.inner }) result
+        ≡ step_down names.now (record { scope = scope.now; port = port.now }) }
 {
-    let Some(place) = names.place_at(from.scope.group, from.port.instance.as_slice()) else {
-        return Ok(None);
-    };
-    let Some(bind) = names.out_named(place, from.port.port.as_slice()) else {
-        return Ok(None);
-    };
-    let scope = inside(alloc, &from.scope, &from.port.instance, place)?;
-    let port = copied_port(alloc, &bind.inner)?;
-    Ok(Some(Spot { scope, port }))
+    let place = names.place_at(scope.group, port.instance.as_slice())?;
+    let line = names.out_named(place, port.port.as_slice())?;
+    Some(Below { place, line })
 }
 
 /// An output, followed down the `out` lines to a component's, by so many levels at most.
@@ -134,19 +153,20 @@ pub fn follow(
     alloc: Global,
     names: &NestNames<'_>,
     depth: usize,
-    from: Spot,
+    scope: Scope,
+    port: &PortName,
 ) -> Result<Spot, NoMemory>
-    ensures { IfOk result (λ made. made ≡ follow names.now depth from) }
+    ensures { IfOk result (λ made. made ≡ follow names.now depth (record { scope = scope; port = port.now })) }
 {
     if depth == 0 {
-        return Ok(from);
+        return port_in(alloc, scope, port);
     }
-    match step_down(alloc, names, &from)? {
-        Some(next) => {
-            drop(from);
-            follow(alloc, names, depth - 1, next)
+    match step_down(names, &scope, port) {
+        Some(below) => {
+            let scope = entered(scope, &port.instance, below.place)?;
+            follow(alloc, names, depth - 1, scope, &below.line.inner)
         }
-        None => Ok(from),
+        None => port_in(alloc, scope, port),
     }
 }
 

@@ -9,13 +9,14 @@ use crate::fault::Unflat;
 use crate::samples::flat_samples;
 use fixed_words::{List, NoMemory};
 use nest_names::{
-    LEVELS, NestNames, Scope, Spot, flat_name, flat_port, follow, inside, spot_of, top,
+    LEVELS, NestNames, Scope, Spot, copied_name, copied_scope, flat_name, flat_port, follow,
+    inside, top,
 };
 use nest_ways::{Guide, Ways, reached};
 use std::alloc::Global;
 use std::mem::replace;
 use unit_print::is_printable;
-use unit_tree::{Instance, Name, PortName, Setting, System, Wire};
+use unit_tree::{Instance, PortName, Setting, System, Wire};
 
 /// The most instances of a system.
 const MOST_INSTANCES: usize = 64;
@@ -26,19 +27,13 @@ const LONGEST_NAME: usize = 32;
 /// The most connections of a system.
 const MOST_WIRES: usize = 2048;
 
-pub(crate) fn copied(alloc: Global, name: &Name) -> Result<Name, NoMemory>
-    ensures { IfOk result (λ made. made ≡ name.now) }
-{
-    Ok(List::from_slice(alloc, name.as_slice())?)
-}
-
 fn copied_settings(alloc: Global, settings: &[Setting]) -> Result<List<Setting>, NoMemory>
     ensures { IfOk result (λ made. made ≡ settings.now) }
 {
     let mut made = List::new(alloc);
     for setting in settings {
         made.push(Setting {
-            name: copied(alloc, &setting.name)?,
+            name: copied_name(alloc, &setting.name)?,
             value: setting.value,
         })?;
     }
@@ -50,7 +45,7 @@ fn named_in(alloc: Global, scope: &Scope, instance: &Instance) -> Result<Instanc
     ensures { IfOk result (λ made. made ≡ named_in scope.now instance.now) }
 {
     let name = flat_name(alloc, scope, &instance.name)?;
-    let unit = copied(alloc, &instance.unit)?;
+    let unit = copied_name(alloc, &instance.unit)?;
     let settings = copied_settings(alloc, instance.settings.as_slice())?;
     Ok(Instance {
         name,
@@ -147,8 +142,8 @@ fn put_flat_wire<'n>(
     requires known { AreKnown names.now ways.now.scopes ways.now.known.items }
     ensures { PutsWithin 2048 wires.old wires.new (flat_wire names.now scope.now wire.now) result }
 {
-    let from = spot_of(alloc, scope, &wire.from)?;
-    let from = follow(alloc, names, LEVELS, from)?;
+    let around = copied_scope(alloc, scope)?;
+    let from = follow(alloc, names, LEVELS, around, &wire.from)?;
     let Some(to) = reached(alloc, names, ways, guide, scope, &wire.to)? else {
         drop(from);
         return Err(Unflat::TooLarge);

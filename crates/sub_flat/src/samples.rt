@@ -1,12 +1,11 @@
 //! The samples of `main`, as ports of components. Each port is followed once, however often it is sampled.
 ghost use Rattle.std.specs.Prelude.{◌≡◌, ◌++◌, List, Some, IfOk, map};
 ghost use Rattle.std.specs.Option.{option_map};
-ghost use Rattle.nest_names.specs.Flattening.{flat_port, flat_sample, follow, levels};
+ghost use Rattle.nest_names.specs.Flattening.{flat_sample};
 ghost use Rattle.unit_tree.specs.declared.system.PortName.{PortName as Ports};
 
-use crate::flat::copied;
 use fixed_words::{List, NoMemory};
-use nest_names::{LEVELS, NestNames, Scope, at, flat_port, follow, same_port, spot_of, top};
+use nest_names::{LEVELS, NestNames, at, copied_port, flat_port, follow, same_port, top};
 use std::alloc::Global;
 use std::collections::BTreeMap;
 use unit_tree::PortName;
@@ -37,25 +36,15 @@ fn made_at<'m>(
     }
 }
 
-fn copied_port(alloc: Global, port: &PortName) -> Result<PortName, NoMemory>
-    ensures { IfOk result (λ made. made ≡ port.now) }
-{
-    let instance = copied(alloc, &port.instance)?;
-    let port = copied(alloc, &port.port)?;
-    Ok(PortName { instance, port })
-}
-
 /// A sample of `main`, as a port of a component.
 fn flat_sample(
     alloc: Global,
     names: &NestNames<'_>,
-    scope: &Scope,
     sample: &PortName,
 ) -> Result<PortName, NoMemory>
-    ensures { IfOk result (λ made. made ≡ flat_port (follow names.now levels (record { scope = scope.now; port = sample.now }))) }
+    ensures { IfOk result (λ made. made ≡ flat_sample names.now sample.now) }
 {
-    let spot = spot_of(alloc, scope, sample)?;
-    let spot = follow(alloc, names, LEVELS, spot)?;
+    let spot = follow(alloc, names, LEVELS, top(alloc), sample)?;
     flat_port(alloc, &spot)
 }
 
@@ -78,7 +67,7 @@ fn next_sample<'n>(
         }
     }
     drop(places.insert(parts_of(sample), made.len())?);
-    flat_sample(alloc, names, &top(alloc), sample)
+    flat_sample(alloc, names, sample)
 }
 
 /// The samples of `main`, as ports of components.
