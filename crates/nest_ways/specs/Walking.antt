@@ -11,6 +11,7 @@ use Rattle.nest_ways.specs.declared.steps.Known.{Known}
 use Rattle.nest_ways.specs.declared.targets.Reach.{Reach}
 use Rattle.nest_ways.specs.declared.targets.Reach.TheVariants as reach_is
 use Rattle.nest_ways.specs.declared.walk.Inlet.{Inlet}
+use Rattle.nest_ways.specs.declared.walk.Start.{Start}
 use Rattle.nest_ways.specs.declared.walk.Walk.{Walk}
 
 -- ---- Where a walk stands
@@ -59,6 +60,19 @@ abbrev pub WalksWhole : Nest → List Scope → List Known → ℕ → Inlet →
 WalksWhole nest scopes all base inlet old new whole =
     (known : Known) → slice_get all inlet.input ≡ Some known
     → WalksOn nest scopes all base inlet.scope known old new whole (lines_of nest known.group known.port.now)
+
+-- ---- The same from a start
+
+-- So many places behind that of the start stands a scope of the group.
+abbrev pub IsBehind : Start → ℕ → ℕ → Type 0
+IsBehind start offset group = IsScopeAt start.ways.now.scopes (start.base + offset) group
+
+abbrev pub IsWalkFrom : Start → Walk → Type 0
+IsWalkFrom start walk = IsWalk start.names.now start.ways.now.scopes start.ways.now.known.items start.base start.group walk
+
+abbrev pub GoesOn : Start → ℕ → Known → Walk → Walk → Bool → List Bind → Type 0
+GoesOn start offset known old new whole binds =
+    WalksOn start.names.now start.ways.now.scopes start.ways.now.known.items start.base offset known old new whole binds
 
 -- ---- What is reached
 

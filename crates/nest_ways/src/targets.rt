@@ -20,7 +20,7 @@ use std::alloc::Global;
 use unit_tree::PortName;
 
 /// The `in` lines of a scope of this group.
-fn ins_in<'n>(names: &NestNames<'n>, group: Option<usize>) -> &'n [Bind]
+fn ins_of<'n>(names: &NestNames<'n>, group: Option<usize>) -> &'n [Bind]
     ensures { result.now ≡ ins_of names.now group }
 {
     match group {
@@ -46,7 +46,7 @@ fn put_input(
     let Some(scope) = at(scopes, place) else {
         return Ok(false);
     };
-    let line = at(ins_in(names, scope.group), end.line as usize);
+    let line = at(ins_of(names, scope.group), end.line as usize);
     put_bind(alloc, scope, line, spots)?;
     Ok(true)
 }
@@ -146,8 +146,13 @@ fn walk_from<'n>(
         ends: List::new(alloc),
         done: Vec::new(alloc),
     };
-    let start = Start { base, group };
-    let whole = walk_inlet(names, ways, start, guide, &mut walk, inlet, MOST_KEPT)?;
+    let start = Start {
+        names,
+        ways,
+        base,
+        group,
+    };
+    let whole = walk_inlet(start, guide, &mut walk, inlet, MOST_KEPT)?;
     let Some(spots) = inputs(alloc, names, scopes, base, walk.ends.as_slice())? else {
         return Ok(Reach::Unknown);
     };

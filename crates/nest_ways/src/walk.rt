@@ -6,7 +6,7 @@ ghost use Rattle.std.specs.Prelude.{◌≡◌, ◌∷◌, ◌+◌, [], ℕ, Some
 ghost use Rattle.std.specs.Option.{option_to_list};
 ghost use Rattle.nest_text.specs.declared.nest.Bind.{Bind};
 ghost use Rattle.nest_ways.specs.Reaching.{KeepsAll, LeadsHere, LeadsInside, lines_of};
-ghost use Rattle.nest_ways.specs.Walking.{AreDone, IsDone, IsInletAt, IsScopeAt, IsWalk, WalksOn, WalksWhole};
+ghost use Rattle.nest_ways.specs.Walking.{AreDone, GoesOn, IsBehind, IsDone, IsInletAt, IsScopeAt, IsWalkFrom, WalksWhole};
 ghost use Rattle.nest_ways.specs.declared.steps.Known.{Known as Knowns};
 
 use crate::ends::{End, MOST_ENDS, first_same, put_onward, put_within};
@@ -16,9 +16,11 @@ use crate::steps::{Inside, Known, Step};
 use fixed_words::{List, NoMemory};
 use nest_names::{NestNames, at};
 
-/// A scope from which others are told, and its group.
+/// A scope from which others are told, its group, and what is known of the inputs of groups.
 #[derive(Clone, Copy)]
-pub struct Start {
+pub struct Start<'a, 'n> {
+    pub names: &'a NestNames<'n>,
+    pub ways: &'a Ways<'n>,
     pub base: usize,
     pub group: usize,
 }
@@ -51,132 +53,120 @@ fn is_done(done: &[Inlet], place: usize, inlet: Inlet) -> bool
 
 /// Puts the inputs of components that are kept of an input.
 fn put_kept<'n>(
-    names: &NestNames<'n>,
-    ways: &Ways<'n>,
-    start: Start,
+    start: Start<'_, 'n>,
     guide: &mut Guide<'n>,
     walk: &mut Walk,
     inlet: Inlet,
     known: &Known<'n>,
     kept: &[End],
 ) -> Result<bool, NoMemory>
-    requires walk { IsWalk names.now ways.now.scopes ways.now.known.items start.base start.group walk.old }
-    requires there { IsScopeAt ways.now.scopes (start.base + inlet.scope) known.now.group }
-    requires kept { KeepsAll names.now ways.now.scopes known.now kept.now }
-    ensures { IfOk result (λ whole. WalksOn names.now ways.now.scopes ways.now.known.items start.base inlet.scope known.now walk.old walk.new whole
-        (lines_of names.now known.now.group known.now.port.now)) }
+    requires walk { IsWalkFrom start walk.old }
+    requires there { IsBehind start inlet.scope known.now.group }
+    requires kept { KeepsAll start.names.now start.ways.now.scopes known.now kept.now }
+    ensures { IfOk result (λ whole. GoesOn start inlet.scope known.now walk.old walk.new whole
+        (lines_of start.names.now known.now.group known.now.port.now)) }
 {
-    let firsts = ways.scopes.firsts(start.group);
+    let firsts = start.ways.scopes.firsts(start.group);
     put_onward(guide, firsts, MOST_ENDS, inlet.scope, kept, &mut walk.ends)
 }
 
 /// Puts the input of a component.
 fn walk_component<'n>(
-    names: &NestNames<'n>,
-    ways: &Ways<'n>,
-    start: Start,
+    start: Start<'_, 'n>,
     guide: &mut Guide<'n>,
     walk: &mut Walk,
     inlet: Inlet,
     known: &Known<'n>,
     line: u32,
 ) -> Result<bool, NoMemory>
-    requires walk { IsWalk names.now ways.now.scopes ways.now.known.items start.base start.group walk.old }
-    requires there { IsScopeAt ways.now.scopes (start.base + inlet.scope) known.now.group }
-    ensures { IfOk result (λ whole. (bind : Bind) → LeadsHere names.now known.now.group line bind
-        → WalksOn names.now ways.now.scopes ways.now.known.items start.base inlet.scope known.now walk.old walk.new whole (bind ∷ [])) }
+    requires walk { IsWalkFrom start walk.old }
+    requires there { IsBehind start inlet.scope known.now.group }
+    ensures { IfOk result (λ whole. (bind : Bind) → LeadsHere start.names.now known.now.group line bind
+        → GoesOn start inlet.scope known.now walk.old walk.new whole (bind ∷ [])) }
 {
     let scope = inlet.scope;
     put_within(guide, MOST_ENDS, End { scope, line }, &mut walk.ends)
 }
 
 /// By how many places further on a scope stands that stands so many behind another: the first one that is the same.
-fn scope_behind(ways: &Ways<'_>, start: Start, scope: u32, offset: u32) -> Option<u32>
-    requires { IsScopeAt ways.now.scopes start.base start.group }
+fn scope_behind(start: Start<'_, '_>, scope: u32, offset: u32) -> Option<u32>
+    requires { IsScopeAt start.ways.now.scopes start.base start.group }
     ensures { (inner : ℕ) → result ≡ Some inner
-        → slice_get ways.now.scopes (start.base + inner) ≡ slice_get ways.now.scopes (start.base + (scope + offset)) }
+        → slice_get start.ways.now.scopes (start.base + inner) ≡ slice_get start.ways.now.scopes (start.base + (scope + offset)) }
 {
     let onward = scope.checked_add(offset)?;
-    Some(first_same(ways.scopes.firsts(start.group), onward))
+    Some(first_same(start.ways.scopes.firsts(start.group), onward))
 }
 
 /// Puts the inputs of components that a step through a group leads to.
 #[cycle(walk)]
 fn walk_inside<'n>(
-    names: &NestNames<'n>,
-    ways: &Ways<'n>,
-    start: Start,
+    start: Start<'_, 'n>,
     guide: &mut Guide<'n>,
     walk: &mut Walk,
     inlet: Inlet,
     known: &Known<'n>,
     inside: Inside,
 ) -> Result<bool, NoMemory>
-    requires walk { IsWalk names.now ways.now.scopes ways.now.known.items start.base start.group walk.old }
-    requires there { IsScopeAt ways.now.scopes (start.base + inlet.scope) known.now.group }
-    requires leads { (bind : Bind) × LeadsInside names.now ways.now.scopes ways.now.known.items known.now.group known.now.height inside bind }
+    requires walk { IsWalkFrom start walk.old }
+    requires there { IsBehind start inlet.scope known.now.group }
+    requires leads { (bind : Bind) × LeadsInside start.names.now start.ways.now.scopes start.ways.now.known.items known.now.group known.now.height inside bind }
     ensures { IfOk result (λ whole. (bind : Bind)
-        → LeadsInside names.now ways.now.scopes ways.now.known.items known.now.group known.now.height inside bind
-        → WalksOn names.now ways.now.scopes ways.now.known.items start.base inlet.scope known.now walk.old walk.new whole (bind ∷ [])) }
+        → LeadsInside start.names.now start.ways.now.scopes start.ways.now.known.items known.now.group known.now.height inside bind
+        → GoesOn start inlet.scope known.now walk.old walk.new whole (bind ∷ [])) }
 {
     if inside.input >= inlet.input {
         return Ok(false);
     }
-    let Some(scope) = scope_behind(ways, start, inlet.scope, inside.offset) else {
+    let Some(scope) = scope_behind(start, inlet.scope, inside.offset) else {
         return Ok(false);
     };
     let input = inside.input;
-    walk_inlet(names, ways, start, guide, walk, Inlet { scope, input }, 0)
+    walk_inlet(start, guide, walk, Inlet { scope, input }, 0)
 }
 
 /// Puts the inputs of components that a step leads to.
 #[cycle(walk)]
 fn walk_step<'n>(
-    names: &NestNames<'n>,
-    ways: &Ways<'n>,
-    start: Start,
+    start: Start<'_, 'n>,
     guide: &mut Guide<'n>,
     walk: &mut Walk,
     inlet: Inlet,
     known: &Known<'n>,
     place: usize,
 ) -> Result<bool, NoMemory>
-    requires walk { IsWalk names.now ways.now.scopes ways.now.known.items start.base start.group walk.old }
-    requires found { slice_get ways.now.known.items inlet.input ≡ Some known.now }
-    requires there { IsScopeAt ways.now.scopes (start.base + inlet.scope) known.now.group }
-    ensures { IfOk result (λ whole. WalksOn names.now ways.now.scopes ways.now.known.items start.base inlet.scope known.now walk.old walk.new whole
-        (option_to_list (slice_get (lines_of names.now known.now.group known.now.port.now) place))) }
+    requires walk { IsWalkFrom start walk.old }
+    requires found { slice_get start.ways.now.known.items inlet.input ≡ Some known.now }
+    requires there { IsBehind start inlet.scope known.now.group }
+    ensures { IfOk result (λ whole. GoesOn start inlet.scope known.now walk.old walk.new whole
+        (option_to_list (slice_get (lines_of start.names.now known.now.group known.now.port.now) place))) }
 {
     let Some(step) = at(known.steps.as_slice(), place) else {
         return Ok(false);
     };
     match *step {
-        Step::Component(line) => walk_component(
-            names, ways, start, guide, walk, inlet, known, line,
-        ),
-        Step::Inside(inside) => walk_inside(names, ways, start, guide, walk, inlet, known, inside),
+        Step::Component(line) => walk_component(start, guide, walk, inlet, known, line),
+        Step::Inside(inside) => walk_inside(start, guide, walk, inlet, known, inside),
     }
 }
 
 /// Puts the inputs of components that the steps of an input lead to, until there are more than there may be.
 #[cycle(walk)]
 fn walk_steps<'n>(
-    names: &NestNames<'n>,
-    ways: &Ways<'n>,
-    start: Start,
+    start: Start<'_, 'n>,
     guide: &mut Guide<'n>,
     walk: &mut Walk,
     inlet: Inlet,
     known: &Known<'n>,
 ) -> Result<bool, NoMemory>
-    requires walk { IsWalk names.now ways.now.scopes ways.now.known.items start.base start.group walk.old }
-    requires found { slice_get ways.now.known.items inlet.input ≡ Some known.now }
-    requires there { IsScopeAt ways.now.scopes (start.base + inlet.scope) known.now.group }
-    ensures { IfOk result (λ whole. WalksOn names.now ways.now.scopes ways.now.known.items start.base inlet.scope known.now walk.old walk.new whole
-        (lines_of names.now known.now.group known.now.port.now)) }
+    requires walk { IsWalkFrom start walk.old }
+    requires found { slice_get start.ways.now.known.items inlet.input ≡ Some known.now }
+    requires there { IsBehind start inlet.scope known.now.group }
+    ensures { IfOk result (λ whole. GoesOn start inlet.scope known.now walk.old walk.new whole
+        (lines_of start.names.now known.now.group known.now.port.now)) }
 {
     for place in 0..known.steps.len() {
-        if !walk_step(names, ways, start, guide, walk, inlet, known, place)? {
+        if !walk_step(start, guide, walk, inlet, known, place)? {
             return Ok(false);
         }
     }
@@ -187,52 +177,39 @@ fn walk_steps<'n>(
 /// else by its steps. So it puts no more than it has lines, but for the target of a connection.
 #[cycle(walk)]
 fn walk_known<'n>(
-    names: &NestNames<'n>,
-    ways: &Ways<'n>,
-    start: Start,
+    start: Start<'_, 'n>,
     guide: &mut Guide<'n>,
     walk: &mut Walk,
     inlet: Inlet,
     known: &Known<'n>,
     most: usize,
 ) -> Result<bool, NoMemory>
-    requires walk { IsWalk names.now ways.now.scopes ways.now.known.items start.base start.group walk.old }
-    requires found { slice_get ways.now.known.items inlet.input ≡ Some known.now }
-    requires there { IsScopeAt ways.now.scopes (start.base + inlet.scope) known.now.group }
-    ensures { IfOk result (λ whole. WalksOn names.now ways.now.scopes ways.now.known.items start.base inlet.scope known.now walk.old walk.new whole
-        (lines_of names.now known.now.group known.now.port.now)) }
+    requires walk { IsWalkFrom start walk.old }
+    requires found { slice_get start.ways.now.known.items inlet.input ≡ Some known.now }
+    requires there { IsBehind start inlet.scope known.now.group }
+    ensures { IfOk result (λ whole. GoesOn start inlet.scope known.now walk.old walk.new whole
+        (lines_of start.names.now known.now.group known.now.port.now)) }
 {
     match &known.ends {
         Some(kept) if kept.len() <= most.max(known.steps.len()) => {
-            put_kept(
-                names,
-                ways,
-                start,
-                guide,
-                walk,
-                inlet,
-                known,
-                kept.as_slice(),
-            )
+            put_kept(start, guide, walk, inlet, known, kept.as_slice())
         }
-        _ => walk_steps(names, ways, start, guide, walk, inlet, known),
+        _ => walk_steps(start, guide, walk, inlet, known),
     }
 }
 
 /// Notes an input of which all was put.
 fn note_done<'n>(
-    names: &NestNames<'n>,
-    ways: &Ways<'n>,
-    start: Start,
+    start: Start<'_, 'n>,
     guide: &mut Guide<'n>,
     walk: &mut Walk,
     inlet: Inlet,
     first: End,
 ) -> Result<(), NoMemory>
-    requires done { AreDone names.now ways.now.scopes ways.now.known.items start.base walk.old }
-    requires all { (known : Knowns) → slice_get ways.now.known.items inlet.input ≡ Some known
-        → IsDone names.now ways.now.scopes start.base walk.old.ends inlet.scope known }
-    ensures done { OnOk result (AreDone names.now ways.now.scopes ways.now.known.items start.base walk.new) }
+    requires done { AreDone start.names.now start.ways.now.scopes start.ways.now.known.items start.base walk.old }
+    requires all { (known : Knowns) → slice_get start.ways.now.known.items inlet.input ≡ Some known
+        → IsDone start.names.now start.ways.now.scopes start.base walk.old.ends inlet.scope known }
+    ensures done { OnOk result (AreDone start.names.now start.ways.now.scopes start.ways.now.known.items start.base walk.new) }
     ensures ends { OnOk result (walk.new.ends ≡ walk.old.ends) }
 {
     guide.note_done(first, walk.done.len());
@@ -243,20 +220,18 @@ fn note_done<'n>(
 /// Puts the inputs of components that an input leads to, where it is not done, and notes that it is.
 #[cycle(walk)]
 fn walk_once<'n>(
-    names: &NestNames<'n>,
-    ways: &Ways<'n>,
-    start: Start,
+    start: Start<'_, 'n>,
     guide: &mut Guide<'n>,
     walk: &mut Walk,
     inlet: Inlet,
     known: &Known<'n>,
     most: usize,
 ) -> Result<bool, NoMemory>
-    requires walk { IsWalk names.now ways.now.scopes ways.now.known.items start.base start.group walk.old }
-    requires found { slice_get ways.now.known.items inlet.input ≡ Some known.now }
-    requires there { IsScopeAt ways.now.scopes (start.base + inlet.scope) known.now.group }
-    ensures { IfOk result (λ whole. WalksOn names.now ways.now.scopes ways.now.known.items start.base inlet.scope known.now walk.old walk.new whole
-        (lines_of names.now known.now.group known.now.port.now)) }
+    requires walk { IsWalkFrom start walk.old }
+    requires found { slice_get start.ways.now.known.items inlet.input ≡ Some known.now }
+    requires there { IsBehind start inlet.scope known.now.group }
+    ensures { IfOk result (λ whole. GoesOn start inlet.scope known.now walk.old walk.new whole
+        (lines_of start.names.now known.now.group known.now.port.now)) }
 {
     let first = End {
         scope: inlet.scope,
@@ -265,10 +240,10 @@ fn walk_once<'n>(
     if is_done(walk.done.as_slice(), guide.done_at(first), inlet) {
         return Ok(true);
     }
-    if !walk_known(names, ways, start, guide, walk, inlet, known, most)? {
+    if !walk_known(start, guide, walk, inlet, known, most)? {
         return Ok(false);
     }
-    note_done(names, ways, start, guide, walk, inlet, first)?;
+    note_done(start, guide, walk, inlet, first)?;
     Ok(true)
 }
 
@@ -276,20 +251,18 @@ fn walk_once<'n>(
 /// are no more than so many or than its steps. Tells whether all were put.
 #[cycle(walk)]
 pub(crate) fn walk_inlet<'n>(
-    names: &NestNames<'n>,
-    ways: &Ways<'n>,
-    start: Start,
+    start: Start<'_, 'n>,
     guide: &mut Guide<'n>,
     walk: &mut Walk,
     inlet: Inlet,
     most: usize,
 ) -> Result<bool, NoMemory>
-    requires walk { IsWalk names.now ways.now.scopes ways.now.known.items start.base start.group walk.old }
-    requires there { IsInletAt ways.now.scopes ways.now.known.items start.base inlet }
-    ensures { IfOk result (WalksWhole names.now ways.now.scopes ways.now.known.items start.base inlet walk.old walk.new) }
+    requires walk { IsWalkFrom start walk.old }
+    requires there { IsInletAt start.ways.now.scopes start.ways.now.known.items start.base inlet }
+    ensures { IfOk result (WalksWhole start.names.now start.ways.now.scopes start.ways.now.known.items start.base inlet walk.old walk.new) }
 {
-    let Some(known) = at(ways.known.as_slice(), inlet.input as usize) else {
+    let Some(known) = at(start.ways.known.as_slice(), inlet.input as usize) else {
         return Ok(false);
     };
-    walk_once(names, ways, start, guide, walk, inlet, known, most)
+    walk_once(start, guide, walk, inlet, known, most)
 }

@@ -11,7 +11,7 @@ use std::collections::BTreeMap;
 use unit_tree::PortName;
 
 /// The places of samples by their ports. Nothing rests on it: whoever asks it tests what it says.
-type Places<'n> = BTreeMap<(&'n [u8], &'n [u8]), usize>;
+type PlacesByPort<'n> = BTreeMap<(&'n [u8], &'n [u8]), usize>;
 
 fn parts_of(port: &PortName) -> (&[u8], &[u8]) {
     (port.instance.as_slice(), port.port.as_slice())
@@ -54,7 +54,7 @@ fn next_sample<'n>(
     names: &NestNames<'_>,
     samples: &'n [PortName],
     made: &[PortName],
-    places: &mut Places<'n>,
+    places: &mut PlacesByPort<'n>,
     sample: &'n PortName,
 ) -> Result<PortName, NoMemory>
     requires { (rest : List Ports) × (made.now ++ rest ≡ map (flat_sample names.now) samples.now) }

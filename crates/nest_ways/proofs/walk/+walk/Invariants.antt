@@ -23,5 +23,5 @@ decreases-walk_inlet l = 6 * l.inlet.input + 5
 
 abbrev pub invariant-walk_steps-loop-place : goal.invariant-walk_steps-loop-place
 invariant-walk_steps-loop-place l =
-    WalksOn l.names l.ways.scopes l.ways.known.items l.start.base l.inlet.scope l.known l.initial.walk l.walk true
-    (take l.place (lines_of l.names l.known.group l.known.port.now))
+    WalksOn l.start.names.now l.start.ways.now.scopes l.start.ways.now.known.items l.start.base l.inlet.scope l.known l.initial.walk l.walk true
+    (take l.place (lines_of l.start.names.now l.known.group l.known.port.now))

@@ -10,9 +10,9 @@ use Rattle.nest_ways.proofs.walk.put_kept.Goals as goal
 
 pub returns : goal.returns
 returns c =
-    let nest = c.args.names.now in
-    let scopes = c.args.ways.now.scopes in
-    let all = c.args.ways.now.known.items in
+    let nest = c.args.start.names.now in
+    let scopes = c.args.start.ways.now.scopes in
+    let all = c.args.start.ways.now.known.items in
     let base = c.args.start.base in
     let offset = c.args.inlet.scope in
     let known = c.args.known.now in
