@@ -152,7 +152,7 @@ fn walk_from<'n>(
         base,
         group,
     };
-    let whole = walk_inlet(start, guide, &mut walk, inlet, MOST_KEPT)?;
+    let whole = walk_inlet(&start, guide, &mut walk, inlet, MOST_KEPT)?;
     let Some(spots) = inputs(alloc, names, scopes, base, walk.ends.as_slice())? else {
         return Ok(Reach::Unknown);
     };

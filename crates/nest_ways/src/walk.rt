@@ -17,7 +17,6 @@ use fixed_words::{List, NoMemory};
 use nest_names::{NestNames, at};
 
 /// A scope from which others are told, its group, and what is known of the inputs of groups.
-#[derive(Clone, Copy)]
 pub struct Start<'a, 'n> {
     pub names: &'a NestNames<'n>,
     pub ways: &'a Ways<'n>,
@@ -53,18 +52,18 @@ fn is_done(done: &[Inlet], place: usize, inlet: Inlet) -> bool
 
 /// Puts the inputs of components that are kept of an input.
 fn put_kept<'n>(
-    start: Start<'_, 'n>,
+    start: &Start<'_, 'n>,
     guide: &mut Guide<'n>,
     walk: &mut Walk,
     inlet: Inlet,
     known: &Known<'n>,
     kept: &[End],
 ) -> Result<bool, NoMemory>
-    requires walk { IsWalkFrom start walk.old }
-    requires there { IsBehind start inlet.scope known.now.group }
-    requires kept { KeepsAll start.names.now start.ways.now.scopes known.now kept.now }
-    ensures { IfOk result (λ whole. GoesOn start inlet.scope known.now walk.old walk.new whole
-        (lines_of start.names.now known.now.group known.now.port.now)) }
+    requires walk { IsWalkFrom start.now walk.old }
+    requires there { IsBehind start.now inlet.scope known.now.group }
+    requires kept { KeepsAll start.now.names.now start.now.ways.now.scopes known.now kept.now }
+    ensures { IfOk result (λ whole. GoesOn start.now inlet.scope known.now walk.old walk.new whole
+        (lines_of start.now.names.now known.now.group known.now.port.now)) }
 {
     let firsts = start.ways.scopes.firsts(start.group);
     put_onward(guide, firsts, MOST_ENDS, inlet.scope, kept, &mut walk.ends)
@@ -72,27 +71,27 @@ fn put_kept<'n>(
 
 /// Puts the input of a component.
 fn walk_component<'n>(
-    start: Start<'_, 'n>,
+    start: &Start<'_, 'n>,
     guide: &mut Guide<'n>,
     walk: &mut Walk,
     inlet: Inlet,
     known: &Known<'n>,
     line: u32,
 ) -> Result<bool, NoMemory>
-    requires walk { IsWalkFrom start walk.old }
-    requires there { IsBehind start inlet.scope known.now.group }
-    ensures { IfOk result (λ whole. (bind : Bind) → LeadsHere start.names.now known.now.group line bind
-        → GoesOn start inlet.scope known.now walk.old walk.new whole (bind ∷ [])) }
+    requires walk { IsWalkFrom start.now walk.old }
+    requires there { IsBehind start.now inlet.scope known.now.group }
+    ensures { IfOk result (λ whole. (bind : Bind) → LeadsHere start.now.names.now known.now.group line bind
+        → GoesOn start.now inlet.scope known.now walk.old walk.new whole (bind ∷ [])) }
 {
     let scope = inlet.scope;
     put_within(guide, MOST_ENDS, End { scope, line }, &mut walk.ends)
 }
 
 /// By how many places further on a scope stands that stands so many behind another: the first one that is the same.
-fn scope_behind(start: Start<'_, '_>, scope: u32, offset: u32) -> Option<u32>
-    requires { IsScopeAt start.ways.now.scopes start.base start.group }
+fn scope_behind(start: &Start<'_, '_>, scope: u32, offset: u32) -> Option<u32>
+    requires { IsScopeAt start.now.ways.now.scopes start.now.base start.now.group }
     ensures { (inner : ℕ) → result ≡ Some inner
-        → slice_get start.ways.now.scopes (start.base + inner) ≡ slice_get start.ways.now.scopes (start.base + (scope + offset)) }
+        → slice_get start.now.ways.now.scopes (start.now.base + inner) ≡ slice_get start.now.ways.now.scopes (start.now.base + (scope + offset)) }
 {
     let onward = scope.checked_add(offset)?;
     Some(first_same(start.ways.scopes.firsts(start.group), onward))
@@ -101,19 +100,19 @@ fn scope_behind(start: Start<'_, '_>, scope: u32, offset: u32) -> Option<u32>
 /// Puts the inputs of components that a step through a group leads to.
 #[cycle(walk)]
 fn walk_inside<'n>(
-    start: Start<'_, 'n>,
+    start: &Start<'_, 'n>,
     guide: &mut Guide<'n>,
     walk: &mut Walk,
     inlet: Inlet,
     known: &Known<'n>,
     inside: Inside,
 ) -> Result<bool, NoMemory>
-    requires walk { IsWalkFrom start walk.old }
-    requires there { IsBehind start inlet.scope known.now.group }
-    requires leads { (bind : Bind) × LeadsInside start.names.now start.ways.now.scopes start.ways.now.known.items known.now.group known.now.height inside bind }
+    requires walk { IsWalkFrom start.now walk.old }
+    requires there { IsBehind start.now inlet.scope known.now.group }
+    requires leads { (bind : Bind) × LeadsInside start.now.names.now start.now.ways.now.scopes start.now.ways.now.known.items known.now.group known.now.height inside bind }
     ensures { IfOk result (λ whole. (bind : Bind)
-        → LeadsInside start.names.now start.ways.now.scopes start.ways.now.known.items known.now.group known.now.height inside bind
-        → GoesOn start inlet.scope known.now walk.old walk.new whole (bind ∷ [])) }
+        → LeadsInside start.now.names.now start.now.ways.now.scopes start.now.ways.now.known.items known.now.group known.now.height inside bind
+        → GoesOn start.now inlet.scope known.now walk.old walk.new whole (bind ∷ [])) }
 {
     if inside.input >= inlet.input {
         return Ok(false);
@@ -128,18 +127,18 @@ fn walk_inside<'n>(
 /// Puts the inputs of components that a step leads to.
 #[cycle(walk)]
 fn walk_step<'n>(
-    start: Start<'_, 'n>,
+    start: &Start<'_, 'n>,
     guide: &mut Guide<'n>,
     walk: &mut Walk,
     inlet: Inlet,
     known: &Known<'n>,
     place: usize,
 ) -> Result<bool, NoMemory>
-    requires walk { IsWalkFrom start walk.old }
-    requires found { slice_get start.ways.now.known.items inlet.input ≡ Some known.now }
-    requires there { IsBehind start inlet.scope known.now.group }
-    ensures { IfOk result (λ whole. GoesOn start inlet.scope known.now walk.old walk.new whole
-        (option_to_list (slice_get (lines_of start.names.now known.now.group known.now.port.now) place))) }
+    requires walk { IsWalkFrom start.now walk.old }
+    requires found { slice_get start.now.ways.now.known.items inlet.input ≡ Some known.now }
+    requires there { IsBehind start.now inlet.scope known.now.group }
+    ensures { IfOk result (λ whole. GoesOn start.now inlet.scope known.now walk.old walk.new whole
+        (option_to_list (slice_get (lines_of start.now.names.now known.now.group known.now.port.now) place))) }
 {
     let Some(step) = at(known.steps.as_slice(), place) else {
         return Ok(false);
@@ -153,17 +152,17 @@ fn walk_step<'n>(
 /// Puts the inputs of components that the steps of an input lead to, until there are more than there may be.
 #[cycle(walk)]
 fn walk_steps<'n>(
-    start: Start<'_, 'n>,
+    start: &Start<'_, 'n>,
     guide: &mut Guide<'n>,
     walk: &mut Walk,
     inlet: Inlet,
     known: &Known<'n>,
 ) -> Result<bool, NoMemory>
-    requires walk { IsWalkFrom start walk.old }
-    requires found { slice_get start.ways.now.known.items inlet.input ≡ Some known.now }
-    requires there { IsBehind start inlet.scope known.now.group }
-    ensures { IfOk result (λ whole. GoesOn start inlet.scope known.now walk.old walk.new whole
-        (lines_of start.names.now known.now.group known.now.port.now)) }
+    requires walk { IsWalkFrom start.now walk.old }
+    requires found { slice_get start.now.ways.now.known.items inlet.input ≡ Some known.now }
+    requires there { IsBehind start.now inlet.scope known.now.group }
+    ensures { IfOk result (λ whole. GoesOn start.now inlet.scope known.now walk.old walk.new whole
+        (lines_of start.now.names.now known.now.group known.now.port.now)) }
 {
     for place in 0..known.steps.len() {
         if !walk_step(start, guide, walk, inlet, known, place)? {
@@ -177,18 +176,18 @@ fn walk_steps<'n>(
 /// else by its steps. So it puts no more than it has lines, but for the target of a connection.
 #[cycle(walk)]
 fn walk_known<'n>(
-    start: Start<'_, 'n>,
+    start: &Start<'_, 'n>,
     guide: &mut Guide<'n>,
     walk: &mut Walk,
     inlet: Inlet,
     known: &Known<'n>,
     most: usize,
 ) -> Result<bool, NoMemory>
-    requires walk { IsWalkFrom start walk.old }
-    requires found { slice_get start.ways.now.known.items inlet.input ≡ Some known.now }
-    requires there { IsBehind start inlet.scope known.now.group }
-    ensures { IfOk result (λ whole. GoesOn start inlet.scope known.now walk.old walk.new whole
-        (lines_of start.names.now known.now.group known.now.port.now)) }
+    requires walk { IsWalkFrom start.now walk.old }
+    requires found { slice_get start.now.ways.now.known.items inlet.input ≡ Some known.now }
+    requires there { IsBehind start.now inlet.scope known.now.group }
+    ensures { IfOk result (λ whole. GoesOn start.now inlet.scope known.now walk.old walk.new whole
+        (lines_of start.now.names.now known.now.group known.now.port.now)) }
 {
     match &known.ends {
         Some(kept) if kept.len() <= most.max(known.steps.len()) => {
@@ -200,16 +199,16 @@ fn walk_known<'n>(
 
 /// Notes an input of which all was put.
 fn note_done<'n>(
-    start: Start<'_, 'n>,
+    start: &Start<'_, 'n>,
     guide: &mut Guide<'n>,
     walk: &mut Walk,
     inlet: Inlet,
     first: End,
 ) -> Result<(), NoMemory>
-    requires done { AreDone start.names.now start.ways.now.scopes start.ways.now.known.items start.base walk.old }
-    requires all { (known : Knowns) → slice_get start.ways.now.known.items inlet.input ≡ Some known
-        → IsDone start.names.now start.ways.now.scopes start.base walk.old.ends inlet.scope known }
-    ensures done { OnOk result (AreDone start.names.now start.ways.now.scopes start.ways.now.known.items start.base walk.new) }
+    requires done { AreDone start.now.names.now start.now.ways.now.scopes start.now.ways.now.known.items start.now.base walk.old }
+    requires all { (known : Knowns) → slice_get start.now.ways.now.known.items inlet.input ≡ Some known
+        → IsDone start.now.names.now start.now.ways.now.scopes start.now.base walk.old.ends inlet.scope known }
+    ensures done { OnOk result (AreDone start.now.names.now start.now.ways.now.scopes start.now.ways.now.known.items start.now.base walk.new) }
     ensures ends { OnOk result (walk.new.ends ≡ walk.old.ends) }
 {
     guide.note_done(first, walk.done.len());
@@ -220,18 +219,18 @@ fn note_done<'n>(
 /// Puts the inputs of components that an input leads to, where it is not done, and notes that it is.
 #[cycle(walk)]
 fn walk_once<'n>(
-    start: Start<'_, 'n>,
+    start: &Start<'_, 'n>,
     guide: &mut Guide<'n>,
     walk: &mut Walk,
     inlet: Inlet,
     known: &Known<'n>,
     most: usize,
 ) -> Result<bool, NoMemory>
-    requires walk { IsWalkFrom start walk.old }
-    requires found { slice_get start.ways.now.known.items inlet.input ≡ Some known.now }
-    requires there { IsBehind start inlet.scope known.now.group }
-    ensures { IfOk result (λ whole. GoesOn start inlet.scope known.now walk.old walk.new whole
-        (lines_of start.names.now known.now.group known.now.port.now)) }
+    requires walk { IsWalkFrom start.now walk.old }
+    requires found { slice_get start.now.ways.now.known.items inlet.input ≡ Some known.now }
+    requires there { IsBehind start.now inlet.scope known.now.group }
+    ensures { IfOk result (λ whole. GoesOn start.now inlet.scope known.now walk.old walk.new whole
+        (lines_of start.now.names.now known.now.group known.now.port.now)) }
 {
     let first = End {
         scope: inlet.scope,
@@ -251,15 +250,15 @@ fn walk_once<'n>(
 /// are no more than so many or than its steps. Tells whether all were put.
 #[cycle(walk)]
 pub(crate) fn walk_inlet<'n>(
-    start: Start<'_, 'n>,
+    start: &Start<'_, 'n>,
     guide: &mut Guide<'n>,
     walk: &mut Walk,
     inlet: Inlet,
     most: usize,
 ) -> Result<bool, NoMemory>
-    requires walk { IsWalkFrom start walk.old }
-    requires there { IsInletAt start.ways.now.scopes start.ways.now.known.items start.base inlet }
-    ensures { IfOk result (WalksWhole start.names.now start.ways.now.scopes start.ways.now.known.items start.base inlet walk.old walk.new) }
+    requires walk { IsWalkFrom start.now walk.old }
+    requires there { IsInletAt start.now.ways.now.scopes start.now.ways.now.known.items start.now.base inlet }
+    ensures { IfOk result (WalksWhole start.now.names.now start.now.ways.now.scopes start.now.ways.now.known.items start.now.base inlet walk.old walk.new) }
 {
     let Some(known) = at(start.ways.known.as_slice(), inlet.input as usize) else {
         return Ok(false);

@@ -15,25 +15,25 @@ use Rattle.nest_ways.proofs.walk.+walk.Goals as goal
 pub walk_known-put_kept-requires-clause-kept : goal.walk_known-put_kept-requires-clause-kept
 walk_known-put_kept-requires-clause-kept t c =
     let known = c.args.known.now in
-    subst (KeepsAll c.args.start.names.now c.args.start.ways.now.scopes known) (sym c.as_slice.ensures)
+    subst (KeepsAll c.args.start.now.names.now c.args.start.now.ways.now.scopes known) (sym c.as_slice.ensures)
     ((c.requires.walk.known c.args.inlet.input known c.requires.found).ends c.in-Some.kept c.in-Some.is)
 
 pub walk_inside-returns-then-inside-inlet : goal.walk_inside-returns-then-inside-inlet
 walk_inside-returns-then-inside-inlet t c bind leads =
-    walks_none c.args.start.names.now c.args.start.ways.now.scopes c.args.start.ways.now.known.items c.args.start.base c.args.inlet.scope c.args.known.now c.args.walk.now
+    walks_none c.args.start.now.names.now c.args.start.now.ways.now.scopes c.args.start.now.ways.now.known.items c.args.start.now.base c.args.inlet.scope c.args.known.now c.args.walk.now
     (bind ∷ [])
 
 pub walk_inside-returns-in_default : goal.walk_inside-returns-in_default
 walk_inside-returns-in_default t c bind leads =
-    walks_none c.args.start.names.now c.args.start.ways.now.scopes c.args.start.ways.now.known.items c.args.start.base c.args.inlet.scope c.args.known.now c.args.walk.now
+    walks_none c.args.start.now.names.now c.args.start.now.ways.now.scopes c.args.start.now.ways.now.known.items c.args.start.now.base c.args.inlet.scope c.args.known.now c.args.walk.now
     (bind ∷ [])
 
 pub walk_inside-walk_inlet-requires : goal.walk_inside-walk_inlet-requires
 walk_inside-walk_inlet-requires t c =
-    let nest = c.args.start.names.now in
-    let scopes = c.args.start.ways.now.scopes in
-    let all = c.args.start.ways.now.known.items in
-    let base = c.args.start.base in
+    let nest = c.args.start.now.names.now in
+    let scopes = c.args.start.now.ways.now.scopes in
+    let all = c.args.start.now.ways.now.known.items in
+    let base = c.args.start.now.base in
     let offset = c.args.inlet.scope in
     let known = c.args.known.now in
     let inner : Inlet = record { scope = c.in-Some.scope; input = c.args.inside.input } in
@@ -49,10 +49,10 @@ walk_inside-walk_inlet-requires t c =
 
 pub walk_inside-returns : goal.walk_inside-returns
 walk_inside-returns t c =
-    let nest = c.args.start.names.now in
-    let scopes = c.args.start.ways.now.scopes in
-    let all = c.args.start.ways.now.known.items in
-    let base = c.args.start.base in
+    let nest = c.args.start.now.names.now in
+    let scopes = c.args.start.now.ways.now.scopes in
+    let all = c.args.start.now.ways.now.known.items in
+    let base = c.args.start.now.base in
     let offset = c.args.inlet.scope in
     let known = c.args.known.now in
     let step = c.args.inside in
@@ -68,15 +68,15 @@ walk_inside-returns t c =
 pub walk_step-returns-in_default : goal.walk_step-returns-in_default
 walk_step-returns-in_default t c =
     let known = c.args.known.now in
-    walks_none c.args.start.names.now c.args.start.ways.now.scopes c.args.start.ways.now.known.items c.args.start.base c.args.inlet.scope known c.args.walk.now
-    (option_to_list (slice_get (lines_of c.args.start.names.now known.group known.port.now) c.args.place))
+    walks_none c.args.start.now.names.now c.args.start.now.ways.now.scopes c.args.start.now.ways.now.known.items c.args.start.now.base c.args.inlet.scope known c.args.walk.now
+    (option_to_list (slice_get (lines_of c.args.start.now.names.now known.group known.port.now) c.args.place))
 
 pub walk_step-walk_inside-requires : goal.walk_step-walk_inside-requires
 walk_step-walk_inside-requires t c =
-    let nest = c.args.start.names.now in
-    let scopes = c.args.start.ways.now.scopes in
-    let all = c.args.start.ways.now.known.items in
-    let base = c.args.start.base in
+    let nest = c.args.start.now.names.now in
+    let scopes = c.args.start.now.ways.now.scopes in
+    let all = c.args.start.now.ways.now.known.items in
+    let base = c.args.start.now.base in
     let offset = c.args.inlet.scope in
     let known = c.args.known.now in
     let lines = lines_of nest known.group known.port.now in
@@ -91,10 +91,10 @@ walk_step-walk_inside-requires t c =
 
 pub walk_step-returns-in-Component : goal.walk_step-returns-in-Component
 walk_step-returns-in-Component t c =
-    let nest = c.args.start.names.now in
-    let scopes = c.args.start.ways.now.scopes in
-    let all = c.args.start.ways.now.known.items in
-    let base = c.args.start.base in
+    let nest = c.args.start.now.names.now in
+    let scopes = c.args.start.now.ways.now.scopes in
+    let all = c.args.start.now.ways.now.known.items in
+    let base = c.args.start.now.base in
     let offset = c.args.inlet.scope in
     let known = c.args.known.now in
     let lines = lines_of nest known.group known.port.now in
@@ -116,10 +116,10 @@ walk_step-returns-in-Component t c =
 
 pub walk_step-returns-in-Inside : goal.walk_step-returns-in-Inside
 walk_step-returns-in-Inside t c =
-    let nest = c.args.start.names.now in
-    let scopes = c.args.start.ways.now.scopes in
-    let all = c.args.start.ways.now.known.items in
-    let base = c.args.start.base in
+    let nest = c.args.start.now.names.now in
+    let scopes = c.args.start.now.ways.now.scopes in
+    let all = c.args.start.now.ways.now.known.items in
+    let base = c.args.start.now.base in
     let offset = c.args.inlet.scope in
     let known = c.args.known.now in
     let lines = lines_of nest known.group known.port.now in
@@ -148,10 +148,10 @@ walk_steps-walk_step-requires t c =
 
 pub walk_steps-returns-then-not-branch : goal.walk_steps-returns-then-not-branch
 walk_steps-returns-then-not-branch t c =
-    let nest = c.args.start.names.now in
-    let scopes = c.args.start.ways.now.scopes in
-    let all = c.args.start.ways.now.known.items in
-    let base = c.args.start.base in
+    let nest = c.args.start.now.names.now in
+    let scopes = c.args.start.now.ways.now.scopes in
+    let all = c.args.start.now.ways.now.known.items in
+    let base = c.args.start.now.base in
     let offset = c.args.inlet.scope in
     let known = c.args.known.now in
     let lines = lines_of nest known.group known.port.now in
@@ -167,10 +167,10 @@ walk_steps-returns-then-not-branch t c =
 
 pub walk_steps-loop-place-preserved : goal.walk_steps-loop-place-preserved
 walk_steps-loop-place-preserved t c =
-    let nest = c.args.start.names.now in
-    let scopes = c.args.start.ways.now.scopes in
-    let all = c.args.start.ways.now.known.items in
-    let base = c.args.start.base in
+    let nest = c.args.start.now.names.now in
+    let scopes = c.args.start.now.ways.now.scopes in
+    let all = c.args.start.now.ways.now.known.items in
+    let base = c.args.start.now.base in
     let offset = c.args.inlet.scope in
     let known = c.args.known.now in
     let lines = lines_of nest known.group known.port.now in
@@ -185,10 +185,10 @@ walk_steps-loop-place-preserved t c =
 
 pub walk_steps-returns : goal.walk_steps-returns
 walk_steps-returns t c =
-    let nest = c.args.start.names.now in
-    let scopes = c.args.start.ways.now.scopes in
-    let all = c.args.start.ways.now.known.items in
-    let base = c.args.start.base in
+    let nest = c.args.start.now.names.now in
+    let scopes = c.args.start.now.ways.now.scopes in
+    let all = c.args.start.now.ways.now.known.items in
+    let base = c.args.start.now.base in
     let offset = c.args.inlet.scope in
     let known = c.args.known.now in
     let lines = lines_of nest known.group known.port.now in
@@ -200,10 +200,10 @@ walk_steps-returns t c =
 
 pub walk_once-returns-then-is_done : goal.walk_once-returns-then-is_done
 walk_once-returns-then-is_done t c =
-    let nest = c.args.start.names.now in
-    let scopes = c.args.start.ways.now.scopes in
-    let all = c.args.start.ways.now.known.items in
-    let base = c.args.start.base in
+    let nest = c.args.start.now.names.now in
+    let scopes = c.args.start.now.ways.now.scopes in
+    let all = c.args.start.now.ways.now.known.items in
+    let base = c.args.start.now.base in
     let offset = c.args.inlet.scope in
     let known = c.args.known.now in
     walks_done nest scopes all base c.args.inlet known c.args.walk.now c.done_at.result c.requires.walk.done
@@ -211,10 +211,10 @@ walk_once-returns-then-is_done t c =
 
 pub walk_once-returns-then-not-branch : goal.walk_once-returns-then-not-branch
 walk_once-returns-then-not-branch t c =
-    let nest = c.args.start.names.now in
-    let scopes = c.args.start.ways.now.scopes in
-    let all = c.args.start.ways.now.known.items in
-    let base = c.args.start.base in
+    let nest = c.args.start.now.names.now in
+    let scopes = c.args.start.now.ways.now.scopes in
+    let all = c.args.start.now.ways.now.known.items in
+    let base = c.args.start.now.base in
     let offset = c.args.inlet.scope in
     let known = c.args.known.now in
     let lines = lines_of nest known.group known.port.now in
@@ -227,10 +227,10 @@ walk_once-note_done-requires-clause-done t c =
 
 pub walk_once-note_done-requires-clause-all : goal.walk_once-note_done-requires-clause-all
 walk_once-note_done-requires-clause-all t c one found =
-    let nest = c.args.start.names.now in
-    let scopes = c.args.start.ways.now.scopes in
-    let all = c.args.start.ways.now.known.items in
-    let base = c.args.start.base in
+    let nest = c.args.start.now.names.now in
+    let scopes = c.args.start.now.ways.now.scopes in
+    let all = c.args.start.now.ways.now.known.items in
+    let base = c.args.start.now.base in
     let offset = c.args.inlet.scope in
     let known = c.args.known.now in
     let lines = lines_of nest known.group known.port.now in
@@ -241,10 +241,10 @@ walk_once-note_done-requires-clause-all t c one found =
 
 pub walk_once-returns : goal.walk_once-returns
 walk_once-returns t c =
-    let nest = c.args.start.names.now in
-    let scopes = c.args.start.ways.now.scopes in
-    let all = c.args.start.ways.now.known.items in
-    let base = c.args.start.base in
+    let nest = c.args.start.now.names.now in
+    let scopes = c.args.start.now.ways.now.scopes in
+    let all = c.args.start.now.ways.now.known.items in
+    let base = c.args.start.now.base in
     let offset = c.args.inlet.scope in
     let known = c.args.known.now in
     let lines = lines_of nest known.group known.port.now in

@@ -10,10 +10,10 @@ use Rattle.nest_ways.proofs.walk.put_kept.Goals as goal
 
 pub returns : goal.returns
 returns c =
-    let nest = c.args.start.names.now in
-    let scopes = c.args.start.ways.now.scopes in
-    let all = c.args.start.ways.now.known.items in
-    let base = c.args.start.base in
+    let nest = c.args.start.now.names.now in
+    let scopes = c.args.start.now.ways.now.scopes in
+    let all = c.args.start.now.ways.now.known.items in
+    let base = c.args.start.now.base in
     let offset = c.args.inlet.scope in
     let known = c.args.known.now in
     let kept = c.args.kept.now in
@@ -27,7 +27,7 @@ returns c =
     → PutsUpTo whole (flat_map input ends) (flat_map input (old.ends ++ map (onward offset) kept)))
     (λ whole. WalksOn nest scopes all base offset known old new whole lines) c.put_onward.result c.put_onward.ensures
     (λ whole puts.
-    let goes = kept_puts nest scopes firsts base c.args.start.group offset known kept old.ends ends whole c.firsts-firsts.ensures c.requires.walk.start c.requires.kept puts in
+    let goes = kept_puts nest scopes firsts base c.args.start.now.group offset known kept old.ends ends whole c.firsts-firsts.ensures c.requires.walk.start c.requires.kept puts in
     record {
       puts = goes;
       done = λ told.

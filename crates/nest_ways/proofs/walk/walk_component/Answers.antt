@@ -9,10 +9,10 @@ use Rattle.nest_ways.proofs.walk.walk_component.Goals as goal
 
 pub returns : goal.returns
 returns c =
-    let nest = c.args.start.names.now in
-    let scopes = c.args.start.ways.now.scopes in
-    let all = c.args.start.ways.now.known.items in
-    let base = c.args.start.base in
+    let nest = c.args.start.now.names.now in
+    let scopes = c.args.start.now.ways.now.scopes in
+    let all = c.args.start.now.ways.now.known.items in
+    let base = c.args.start.now.base in
     let offset = c.args.inlet.scope in
     let known = c.args.known.now in
     let line = c.args.line in
