@@ -86,13 +86,13 @@ pub record IsFirst (all : List Known) (group : ℕ) (port : List ℕ) (inlet : I
 abbrev pub reached_inside : Nest → Scope → ℕ → List ℕ → List Spot
 reached_inside nest scope group port = distinct [] (ends_of nest (levels - 1) scope (lines_of nest group port))
 
--- All that is reached, or that there is more than there may be. Where nothing was known, or a walk ended before, nothing is said.
-abbrev pub Reaches : List Spot → Reach → Type 0
-Reaches all (reach_is.All spots) = spots ≡ all
-Reaches all reach_is.TooMany = 2048 < length all
-Reaches all reach_is.Unknown = ⊤
+-- All that is reached, or that there is more than so much. Where nothing was known, or a walk ended before, nothing is said.
+abbrev pub Reaches : ℕ → List Spot → Reach → Type 0
+Reaches most all (reach_is.All spots) = spots ≡ all
+Reaches most all reach_is.TooMany = most < length all
+Reaches most all reach_is.Unknown = ⊤
 
--- The inputs of components that an input reaches, or that there are more than there may be.
-abbrev pub IsReached : Nest → Spot → Option (List Spot) → Type 0
-IsReached nest spot (Some spots) = spots ≡ reach nest levels (spot ∷ [])
-IsReached nest spot None = 2048 < length (reach nest levels (spot ∷ []))
+-- The inputs of components that an input reaches, or that there are more than so many.
+abbrev pub IsReached : Nest → ℕ → Spot → Option (List Spot) → Type 0
+IsReached nest most spot (Some spots) = spots ≡ reach nest levels (spot ∷ [])
+IsReached nest most spot None = most < length (reach nest levels (spot ∷ []))

@@ -11,9 +11,6 @@ use fixed_words::{List, NoMemory};
 use nest_names::{at, same_port};
 use nest_text::Bind;
 
-/// The most inputs that a target may lead to, since a system has no more connections.
-pub(crate) const MOST_ENDS: usize = 2048;
-
 /// An input of a component, as it is reached from a scope.
 #[derive(Clone, Copy, Debug, PartialEq, Eq)]
 pub struct End {

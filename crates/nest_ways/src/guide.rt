@@ -63,6 +63,23 @@ fn put_number(numbers: &mut [u32], place: usize, number: usize) {
     }
 }
 
+/// So many numbers, each 0.
+fn zeros(alloc: Global, count: usize) -> Result<Vec<u32>, NoMemory> {
+    let mut numbers = Vec::with_capacity(alloc, count)?;
+    for _ in 0..count {
+        numbers.push(0)?;
+    }
+    Ok(numbers)
+}
+
+/// How many `in` lines a scope has.
+fn lines_in(names: &NestNames<'_>, group: Option<usize>) -> usize {
+    match group {
+        Some(place) => names.ins(place).len(),
+        None => 0,
+    }
+}
+
 fn lines_of<'n>(alloc: Global, binds: &'n [Bind]) -> Result<Lines<'n>, NoMemory> {
     let mut lines = BTreeMap::new(alloc);
     for (place, bind) in binds.iter().enumerate() {
@@ -105,19 +122,8 @@ impl<'n> Guide<'n> {
         })
     }
 
-    /// Notes the next of all scopes, of a group with so many `in` lines.
-    fn note_scope(
-        &mut self,
-        group: Option<usize>,
-        scope: usize,
-        lines: usize,
-    ) -> Result<(), NoMemory> {
-        let start = u32::try_from(self.places.len()).unwrap_or(u32::MAX);
-        self.starts.push(start)?;
-        for _ in 0..lines {
-            self.places.push(0)?;
-            self.done.push(0)?;
-        }
+    /// Notes the next of all scopes.
+    fn note_scope(&mut self, group: Option<usize>, scope: usize) {
         if let Some(group) = group {
             if let Some(one) = self.groups.get_mut(group) {
                 if one.first.is_none() {
@@ -125,6 +131,22 @@ impl<'n> Guide<'n> {
                 }
             }
         }
+    }
+
+    /// Notes where the `in` lines of each scope begin, and makes room for as many numbers as there are.
+    fn note_lines(
+        &mut self,
+        alloc: Global,
+        names: &NestNames<'n>,
+        scopes: &[Scope],
+    ) -> Result<(), NoMemory> {
+        let mut lines: usize = 0;
+        for scope in scopes {
+            self.starts.push(u32::try_from(lines).unwrap_or(u32::MAX))?;
+            lines = lines.saturating_add(lines_in(names, scope.group));
+        }
+        self.places = zeros(alloc, lines)?;
+        self.done = zeros(alloc, lines)?;
         Ok(())
     }
 
@@ -283,14 +305,6 @@ impl<'n> Guide<'n> {
     }
 }
 
-/// How many `in` lines a scope has.
-fn lines_in(names: &NestNames<'_>, group: Option<usize>) -> usize {
-    match group {
-        Some(place) => names.ins(place).len(),
-        None => 0,
-    }
-}
-
 /// Puts a scope and all inside it behind others, an instance before those inside it.
 fn put_scopes<'n>(
     alloc: Global,
@@ -301,7 +315,7 @@ fn put_scopes<'n>(
     scopes: &mut List<Scope>,
 ) -> Result<(), NoMemory> {
     let own = scopes.len();
-    guide.note_scope(scope.group, own, lines_in(names, scope.group))?;
+    guide.note_scope(scope.group, own);
     scopes.push(copied_scope(alloc, scope)?)?;
     if depth == 0 {
         return Ok(());
@@ -332,6 +346,7 @@ pub(crate) fn guided_scopes<'n>(
     let mut guide = Guide::new(alloc, names)?;
     let mut scopes = List::new(alloc);
     put_scopes(alloc, names, levels, top, &mut guide, &mut scopes)?;
+    guide.note_lines(alloc, names, scopes.as_slice())?;
     guide.note_twins(alloc, scopes.as_slice())?;
     Ok((scopes, guide))
 }

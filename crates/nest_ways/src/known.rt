@@ -2,7 +2,6 @@
 ghost use Rattle.std.specs.Prelude.{IfOk, OnOk};
 ghost use Rattle.nest_ways.specs.Reaching.{AreKnown};
 
-use crate::ends::MOST_ENDS;
 use crate::guide::{Guide, guided_scopes};
 use crate::kept::kept_ends;
 use crate::scopes::AllScopes;
@@ -12,9 +11,12 @@ use nest_names::{LEVELS, NestNames, at, top};
 use std::alloc::Global;
 use unit_tree::Wire;
 
+/// The most connections of a system.
+pub const MOST_WIRES: usize = 2048;
+
 /// The most connections whose targets are worked out beforehand, in the order in which they are asked for. Where all ports of groups are
 /// there, the flat system has one or more for each, so that no more are asked for: at the last of these it is too large.
-const MOST_TARGETS: usize = MOST_ENDS + 1;
+const MOST_TARGETS: usize = MOST_WIRES + 1;
 
 /// The first line of an input, for the guide.
 fn first_line(names: &NestNames<'_>, group: usize, port: &[u8]) -> u32 {

@@ -22,5 +22,5 @@ mod targets;
 mod walk;
 
 pub use guide::Guide;
-pub use known::Ways;
+pub use known::{MOST_WIRES, Ways};
 pub use targets::reached;

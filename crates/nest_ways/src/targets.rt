@@ -5,9 +5,8 @@ ghost use Rattle.nest_ways.specs.Reaching.{AreKnown, PutsUpTo, input_at, ins_of,
 ghost use Rattle.nest_ways.specs.Walking.{IsFirst, IsReached, Reaches, reached_inside};
 ghost use Rattle.nest_names.specs.declared.scope.Spot.{Spot as Spots};
 
-use crate::ends::{End, MOST_ENDS};
+use crate::ends::End;
 use crate::guide::Guide;
-use crate::kept::MOST_KEPT;
 use crate::known::Ways;
 use crate::steps::find;
 use crate::walk::{Inlet, Start, Walk, walk_inlet};
@@ -87,20 +86,20 @@ fn place_of(scopes: &[Scope], scope: &Scope) -> Option<usize>
 pub enum Reach {
     /// All inputs that are reached.
     All(List<Spot>),
-    /// There are more than a system may have connections.
+    /// There are more than there may be.
     TooMany,
     /// Nothing is known of the input, or the walk ended before it came to all of them.
     Unknown,
 }
 
 /// What a walk came to that has put these inputs.
-fn reach_of(whole: bool, spots: List<Spot>) -> Reach
-    ensures { (put all : List Spots) → PutsUpTo whole put all → spots ≡ distinct [] put → Reaches (distinct [] all) result }
+fn reach_of(whole: bool, spots: List<Spot>, most: usize) -> Reach
+    ensures { (put all : List Spots) → PutsUpTo whole put all → spots ≡ distinct [] put → Reaches most (distinct [] all) result }
 {
     if whole {
         return Reach::All(spots);
     }
-    let many = spots.len() > MOST_ENDS;
+    let many = spots.len() > most;
     drop(spots);
     if many { Reach::TooMany } else { Reach::Unknown }
 }
@@ -120,7 +119,7 @@ fn first_inlet(ways: &Ways<'_>, guide: &Guide<'_>, group: usize, port: &[u8]) ->
     Some(Inlet { scope: 0, input })
 }
 
-/// The inputs of components that an input of a group reaches in a scope.
+/// The inputs of components that an input of a group reaches in a scope, where they are no more than so many.
 fn walk_from<'n>(
     alloc: Global,
     names: &NestNames<'n>,
@@ -129,10 +128,11 @@ fn walk_from<'n>(
     group: usize,
     scope: &Scope,
     port: &[u8],
+    most: usize,
 ) -> Result<Reach, NoMemory>
     requires known { AreKnown names.now ways.now.scopes ways.now.known.items }
     requires scope { scope.now.group ≡ Some group }
-    ensures { IfOk result (Reaches (reached_inside names.now scope.now group port.now)) }
+    ensures { IfOk result (Reaches most (reached_inside names.now scope.now group port.now)) }
 {
     let scopes = ways.scopes.as_slice();
     let Some(base) = place_of(scopes, scope) else {
@@ -151,16 +151,17 @@ fn walk_from<'n>(
         ways,
         base,
         group,
+        most,
     };
-    let whole = walk_inlet(&start, guide, &mut walk, inlet, MOST_KEPT)?;
+    let whole = walk_inlet(&start, guide, &mut walk, inlet)?;
     let Some(spots) = inputs(alloc, names, scopes, base, walk.ends.as_slice())? else {
         return Ok(Reach::Unknown);
     };
     let kept = distinct(alloc, spots.as_slice())?;
-    Ok(reach_of(whole, kept))
+    Ok(reach_of(whole, kept, most))
 }
 
-/// The inputs of components that an input of a scope reaches, or none where there are more than a system may have connections.
+/// The inputs of components that an input of a scope reaches, or none where there are more than so many.
 pub fn reached<'n>(
     alloc: Global,
     names: &NestNames<'n>,
@@ -168,14 +169,15 @@ pub fn reached<'n>(
     guide: &mut Guide<'n>,
     scope: &Scope,
     to: &'n PortName,
+    most: usize,
 ) -> Result<Option<List<Spot>>, NoMemory>
     requires { AreKnown names.now ways.now.scopes ways.now.known.items }
-    ensures { IfOk result (IsReached names.now (record { scope = scope.now; port = to.now })) }
+    ensures { IfOk result (IsReached names.now most (record { scope = scope.now; port = to.now })) }
 {
     if let Some(place) = names.place_at(scope.group, to.instance.as_slice()) {
         let inner = inside(alloc, scope, &to.instance, place)?;
         let port = to.port.as_slice();
-        match walk_from(alloc, names, ways, guide, place, &inner, port)? {
+        match walk_from(alloc, names, ways, guide, place, &inner, port, most)? {
             Reach::All(spots) => return Ok(Some(spots)),
             Reach::TooMany => return Ok(None),
             Reach::Unknown => {}

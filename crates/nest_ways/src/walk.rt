@@ -1,7 +1,7 @@
 //! What an input of a group leads to in one scope, however much it is.
 //!
-//! What is kept of the input is put, where that is no more than it has steps; else its steps are gone along. Then it is done: where it is
-//! led to again, nothing more is to be put. So a walk takes time by the lines of the inputs that it comes to, each once in each scope.
+//! What is kept of an input is put, where it has several steps; else its steps are gone along. Then it is done: where it is led to again,
+//! nothing more is to be put. So a walk comes to each input once in each scope, and takes time by its lines or by what is kept of it.
 ghost use Rattle.std.specs.Prelude.{◌≡◌, ◌∷◌, ◌+◌, [], ℕ, Some, IfOk, IsTrue, OnOk, slice_get};
 ghost use Rattle.std.specs.Option.{option_to_list};
 ghost use Rattle.nest_text.specs.declared.nest.Bind.{Bind};
@@ -9,7 +9,7 @@ ghost use Rattle.nest_ways.specs.Reaching.{KeepsAll, LeadsHere, LeadsInside, lin
 ghost use Rattle.nest_ways.specs.Walking.{AreDone, GoesOn, IsBehind, IsDone, IsInletAt, IsScopeAt, IsWalkFrom, WalksWhole};
 ghost use Rattle.nest_ways.specs.declared.steps.Known.{Known as Knowns};
 
-use crate::ends::{End, MOST_ENDS, first_same, put_onward, put_within};
+use crate::ends::{End, first_same, put_onward, put_within};
 use crate::guide::Guide;
 use crate::known::Ways;
 use crate::steps::{Inside, Known, Step};
@@ -22,6 +22,8 @@ pub struct Start<'a, 'n> {
     pub ways: &'a Ways<'n>,
     pub base: usize,
     pub group: usize,
+    /// The most inputs of components that may be reached.
+    pub most: usize,
 }
 
 /// An input of a group in a scope.
@@ -66,7 +68,7 @@ fn put_kept<'n>(
         (lines_of start.now.names.now known.now.group known.now.port.now)) }
 {
     let firsts = start.ways.scopes.firsts(start.group);
-    put_onward(guide, firsts, MOST_ENDS, inlet.scope, kept, &mut walk.ends)
+    put_onward(guide, firsts, start.most, inlet.scope, kept, &mut walk.ends)
 }
 
 /// Puts the input of a component.
@@ -84,7 +86,7 @@ fn walk_component<'n>(
         → GoesOn start.now inlet.scope known.now walk.old walk.new whole (bind ∷ [])) }
 {
     let scope = inlet.scope;
-    put_within(guide, MOST_ENDS, End { scope, line }, &mut walk.ends)
+    put_within(guide, start.most, End { scope, line }, &mut walk.ends)
 }
 
 /// By how many places further on a scope stands that stands so many behind another: the first one that is the same.
@@ -121,7 +123,7 @@ fn walk_inside<'n>(
         return Ok(false);
     };
     let input = inside.input;
-    walk_inlet(start, guide, walk, Inlet { scope, input }, 0)
+    walk_inlet(start, guide, walk, Inlet { scope, input })
 }
 
 /// Puts the inputs of components that a step leads to.
@@ -172,8 +174,8 @@ fn walk_steps<'n>(
     Ok(true)
 }
 
-/// Puts the inputs of components that an input leads to: those that it keeps, where they are no more than so many or than its steps, or
-/// else by its steps. So it puts no more than it has lines, but for the target of a connection.
+/// Puts the inputs of components that an input leads to: those that it keeps, or else by its steps. A single step is gone along too, since
+/// it mostly leads to what is done: many inputs can lead to one, and each of these keeps as much as that.
 #[cycle(walk)]
 fn walk_known<'n>(
     start: &Start<'_, 'n>,
@@ -181,7 +183,6 @@ fn walk_known<'n>(
     walk: &mut Walk,
     inlet: Inlet,
     known: &Known<'n>,
-    most: usize,
 ) -> Result<bool, NoMemory>
     requires walk { IsWalkFrom start.now walk.old }
     requires found { slice_get start.now.ways.now.known.items inlet.input ≡ Some known.now }
@@ -190,7 +191,7 @@ fn walk_known<'n>(
         (lines_of start.now.names.now known.now.group known.now.port.now)) }
 {
     match &known.ends {
-        Some(kept) if kept.len() <= most.max(known.steps.len()) => {
+        Some(kept) if known.steps.len() > 1 => {
             put_kept(start, guide, walk, inlet, known, kept.as_slice())
         }
         _ => walk_steps(start, guide, walk, inlet, known),
@@ -224,7 +225,6 @@ fn walk_once<'n>(
     walk: &mut Walk,
     inlet: Inlet,
     known: &Known<'n>,
-    most: usize,
 ) -> Result<bool, NoMemory>
     requires walk { IsWalkFrom start.now walk.old }
     requires found { slice_get start.now.ways.now.known.items inlet.input ≡ Some known.now }
@@ -239,22 +239,20 @@ fn walk_once<'n>(
     if is_done(walk.done.as_slice(), guide.done_at(first), inlet) {
         return Ok(true);
     }
-    if !walk_known(start, guide, walk, inlet, known, most)? {
+    if !walk_known(start, guide, walk, inlet, known)? {
         return Ok(false);
     }
     note_done(start, guide, walk, inlet, first)?;
     Ok(true)
 }
 
-/// Puts the inputs of components that an input of a group leads to, until there are more than there may be: those that it keeps, where they
-/// are no more than so many or than its steps. Tells whether all were put.
+/// Puts the inputs of components that an input of a group leads to, until there are more than there may be. Tells whether all were put.
 #[cycle(walk)]
 pub(crate) fn walk_inlet<'n>(
     start: &Start<'_, 'n>,
     guide: &mut Guide<'n>,
     walk: &mut Walk,
     inlet: Inlet,
-    most: usize,
 ) -> Result<bool, NoMemory>
     requires walk { IsWalkFrom start.now walk.old }
     requires there { IsInletAt start.now.ways.now.scopes start.now.ways.now.known.items start.now.base inlet }
@@ -263,5 +261,5 @@ pub(crate) fn walk_inlet<'n>(
     let Some(known) = at(start.ways.known.as_slice(), inlet.input as usize) else {
         return Ok(false);
     };
-    walk_once(start, guide, walk, inlet, known, most)
+    walk_once(start, guide, walk, inlet, known)
 }

@@ -1,6 +1,6 @@
 -- The rules of groups, judged one after the other.
 use Rattle.std.proofs.Common.{◌≡◌, ◌≤◌, ◌<◌, ℕ, ◌+◌, Bool, true, false, List, length, inl, inr, Option, Some, None, Result, Ok, Err, IsTrue, refl, sym, ap, subst, ◌∙◌, arith, get_or}
-use Rattle.std.specs.Prelude.{◌⊎◌, ◌↔◌, if◌then◌else◌, slice_get}
+use Rattle.std.specs.Prelude.{◌⊎◌, ◌↔◌, if◌then◌else◌, slice_get, ⊤}
 use Rattle.std.proofs.lemmas.Bool.Decides.{nat_tests}
 use Rattle.std.proofs.lemmas.Option.{slice_get-get_or, slice_get_within}
 use Rattle.list_laws.proofs.Members.{read_at}
@@ -9,7 +9,7 @@ use Rattle.nest_text.specs.declared.fault.NestFault.{NestFault}
 use Rattle.nest_text.specs.declared.fault.NestFault.TheVariants as fault
 use Rattle.nest_text.specs.declared.nest.Group.{Group}
 use Rattle.nest_text.specs.declared.nest.Nest.{Nest}
-use Rattle.sub_flat.specs.FlatReading.{AnswersFlat, FlatAnswers, IsKeptPrintable, IsLeast, IsRefusedBy, JudgesLeast, JudgesNest, JudgesParts, MakesParts, MissesAt, Refuses, RefusesLeast, is_less, refusal_of, with_parts}
+use Rattle.sub_flat.specs.FlatReading.{AnswersFlat, IsKeptPrintable, IsLeast, IsRefusedBy, JudgesLeast, JudgesNest, JudgesParts, MakesParts, MissesAt, Refuses, RefusesLeast, is_less, refusal_of, with_parts}
 use Rattle.sub_flat.specs.declared.fault.Unflat.{Unflat}
 use Rattle.sub_flat.specs.declared.fault.Unflat.TheVariants as unflat
 use Rattle.sub_flat.specs.declared.flat.FlatParts.{FlatParts}
@@ -274,6 +274,12 @@ ports_judged nest (Err fault.NoMemory) names nesting is = tt
 ports_judged nest (Ok kept) names nesting is = kept_rules nest names nesting is
 
 -- ---- Flattening
+
+-- The flat system, or that it is too large.
+abbrev FlatAnswers : Nest → Result System Unflat → Type 0
+FlatAnswers nest (Ok flat) = (flat ≡ flat_of nest) × (IsTooLarge nest → ⊥)
+FlatAnswers nest (Err unflat.TooLarge) = IsTooLarge nest
+FlatAnswers nest (Err unflat.NoMemory) = ⊤
 
 flat_answered : (nest : Nest) (flat : System) → ((line rule : ℕ) → BreaksNest nest line rule → rule ≡ 30) → FlatAnswers nest (Ok flat)
     → AnswersFlat nest (Ok flat)

@@ -73,12 +73,6 @@ MakesParts nest (Ok parts) = (with_parts nest.main parts ≡ flat_of nest) × (l
 MakesParts nest (Err unflat.TooLarge) = IsTooLarge nest
 MakesParts nest (Err unflat.NoMemory) = ⊤
 
--- The flat system, or that it is too large.
-abbrev pub FlatAnswers : Nest → Result System Unflat → Type 0
-FlatAnswers nest (Ok flat) = (flat ≡ flat_of nest) × (IsTooLarge nest → ⊥)
-FlatAnswers nest (Err unflat.TooLarge) = IsTooLarge nest
-FlatAnswers nest (Err unflat.NoMemory) = ⊤
-
 -- The least line at which something holds, or that it holds at none.
 abbrev pub IsLeast : (ℕ → Type 0) → Option ℕ → Type 0
 IsLeast HoldsAt None = (line : ℕ) → HoldsAt line → ⊥

@@ -12,7 +12,7 @@ use nest_names::{
     LEVELS, NestNames, Scope, Spot, copied_name, copied_scope, flat_name, flat_port, follow,
     inside, top,
 };
-use nest_ways::{Guide, Ways, reached};
+use nest_ways::{Guide, MOST_WIRES, Ways, reached};
 use std::alloc::Global;
 use std::mem::replace;
 use unit_print::is_printable;
@@ -23,9 +23,6 @@ const MOST_INSTANCES: usize = 64;
 
 /// The most bytes of a name.
 const LONGEST_NAME: usize = 32;
-
-/// The most connections of a system.
-const MOST_WIRES: usize = 2048;
 
 fn copied_settings(alloc: Global, settings: &[Setting]) -> Result<List<Setting>, NoMemory>
     ensures { IfOk result (λ made. made ≡ settings.now) }
@@ -144,7 +141,8 @@ fn put_flat_wire<'n>(
 {
     let around = copied_scope(alloc, scope)?;
     let from = follow(alloc, names, LEVELS, around, &wire.from)?;
-    let Some(to) = reached(alloc, names, ways, guide, scope, &wire.to)? else {
+    let room = MOST_WIRES - wires.len();
+    let Some(to) = reached(alloc, names, ways, guide, scope, &wire.to, room)? else {
         drop(from);
         return Err(Unflat::TooLarge);
     };
@@ -234,8 +232,8 @@ fn has_long_name(instances: &[Instance]) -> bool
         .any(|instance| instance.name.len() > LONGEST_NAME)
 }
 
-/// The components of the flat system, where none has too long a name. So no more than sixteen scopes stand in each other where
-/// connections are followed.
+/// The components of the flat system, where none has too long a name. Where no instance has an empty one, as in a text, no more than
+/// sixteen scopes stand in each other then.
 fn named_instances(alloc: Global, names: &NestNames<'_>) -> Result<List<Instance>, Unflat>
     ensures { MakesLeaves names.now result }
 {

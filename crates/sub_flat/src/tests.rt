@@ -4,25 +4,25 @@ use std::alloc::Global;
 use std::test::Fail;
 use unit_tree::System;
 
-/// Instances and connections of a system.
-type Counts = (usize, usize);
+/// How many instances and connections a flat system has, or why there is none.
+type Counts = Result<(usize, usize), NestFault>;
 
-fn counts(system: &System) -> Counts {
-    (system.instances.len(), system.wires.len())
+fn counts(flat: Result<System, NestFault>) -> Counts {
+    let system = flat?;
+    Ok((system.instances.len(), system.wires.len()))
 }
 
-/// How many instances and connections the flat system of a nested text has, made of a copy of its `main` and of `main` itself.
+/// What comes of a nested text, made flat of a copy of its `main` and of `main` itself.
 fn flat(alloc: Global, text: &[u8]) -> Result<(Counts, Counts), NestFault> {
     let nest = read_nest(alloc, text)?;
     if nest.lines.len() != nest.groups.len() {
         return Err(NestFault::NoMemory);
     }
-    let flat = flatten(alloc, &nest)?;
-    let made = into_flat(alloc, nest)?;
-    Ok((counts(&flat), counts(&made)))
+    let copied = counts(flatten(alloc, &nest));
+    Ok((copied, counts(into_flat(alloc, nest))))
 }
 
-fn refused(line: u32, rule: u8) -> Result<(Counts, Counts), NestFault> {
+fn refused(line: u32, rule: u8) -> Counts {
     Err(NestFault::Line { line, rule })
 }
 
@@ -51,7 +51,7 @@ fn nests_are_made_flat(rt: HostRuntime) -> Result<(), Fail> {
     )?;
     text.extend_from_slice(PORTS)?;
     text.extend_from_slice(b"instance g : G\nend\nconnect a.y -> g.v\nsample g.y\n")?;
-    assert_eq!(rt; flat(alloc, text.as_slice())?, ((2, 1), (2, 1)));
+    assert_eq!(rt; flat(alloc, text.as_slice())?, (Ok((2, 1)), Ok((2, 1))));
     Ok(())
 }
 
@@ -85,7 +85,8 @@ fn the_least_rule_is_told(rt: HostRuntime) -> Result<(), Fail> {
         let mut text = Vec::from_slice(alloc, groups)?;
         text.extend_from_slice(PORTS)?;
         text.extend_from_slice(b"instance g : G\nend\n")?;
-        assert_eq!(rt; flat(alloc, text.as_slice()), refused(*line, *rule));
+        let told = refused(*line, *rule);
+        assert_eq!(rt; flat(alloc, text.as_slice())?, (told, told));
     }
     Ok(())
 }

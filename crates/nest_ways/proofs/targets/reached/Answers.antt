@@ -16,7 +16,7 @@ returns-in-All c =
     let all : Scope → List ℕ → List Spot = λ inner port. reached_inside nest inner place port in
     let at : place_at nest scope.group to.instance ≡ Some place =
     sym (ap (place_at nest scope.group) c.as_slice.ensures) ∙ sym c.place_at.ensures ∙ c.in-Some.is in
-    subst (Reaches (all c.in_ok-inner.inner c.as_slice-port.result.now)) c.in-All.is c.in_ok-spots.ensures
+    subst (Reaches c.args.most (all c.in_ok-inner.inner c.as_slice-port.result.now)) c.in-All.is c.in_ok-spots.ensures
     ∙ ap (all c.in_ok-inner.inner) c.as_slice-port.ensures
     ∙ ap (λ inner. all inner to.port) c.in_ok-inner.ensures
     ∙ target_reached nest spot place at
@@ -31,8 +31,8 @@ returns-in-TooMany c =
     let all : Scope → List ℕ → List Spot = λ inner port. reached_inside nest inner place port in
     let at : place_at nest scope.group to.instance ≡ Some place =
     sym (ap (place_at nest scope.group) c.as_slice.ensures) ∙ sym c.place_at.ensures ∙ c.in-Some.is in
-    subst (λ (spots : List Spot). 2048 < length spots)
+    subst (λ (spots : List Spot). c.args.most < length spots)
     (ap (all c.in_ok-inner.inner) c.as_slice-port.ensures
     ∙ ap (λ inner. all inner to.port) c.in_ok-inner.ensures
     ∙ target_reached nest spot place at)
-    (subst (Reaches (all c.in_ok-inner.inner c.as_slice-port.result.now)) c.in-TooMany.is c.in_ok-spots.ensures)
+    (subst (Reaches c.args.most (all c.in_ok-inner.inner c.as_slice-port.result.now)) c.in-TooMany.is c.in_ok-spots.ensures)
