@@ -17,6 +17,7 @@ use fixed_words::{List, NoMemory};
 use nest_names::{NestNames, at};
 
 /// A scope from which others are told, its group, and what is known of the inputs of groups.
+#[derive(Clone, Copy)]
 pub struct Start<'a, 'n> {
     pub names: &'a NestNames<'n>,
     pub ways: &'a Ways<'n>,
