@@ -1,8 +1,12 @@
 """Texts at the ends of what the language allows: as deep as there may be, and of nearly 1 MiB in many shapes."""
 import random
+import string
 
 LONGEST = 1_048_576
+# A text that is filled leaves room for the line `main` before it.
+FILLED = LONGEST - len("main\n")
 LONGEST_LINE = 1_000
+IN_NAMES = string.ascii_letters + string.digits + "_"
 
 COUNTER = """cosim 1
 unit Counter
@@ -44,7 +48,7 @@ def deep_texts():
     return [(name, COUNTER.format(line).encode()) for name, line in lines.items()]
 
 
-def filled(head, line, tail="", longest=LONGEST):
+def filled(head, line, tail="", longest=FILLED):
     """A text of so many lines that it is nearly as long as may be; each line by its number."""
     parts, size = [head], len(head) + len(tail)
     for number in range(longest):
@@ -63,6 +67,13 @@ def name_of(number, width=0):
         number, letter = divmod(number, 26)
         letters = chr(ord("a") + letter) + letters
     return "N" + "_" * max(0, width - 1 - len(letters)) + letters
+
+
+def short_name(number):
+    """A name of three characters for a number. Words of the language begin with small letters."""
+    number, last = divmod(number, len(IN_NAMES))
+    first, middle = divmod(number, len(IN_NAMES))
+    return string.ascii_uppercase[first] + IN_NAMES[middle] + IN_NAMES[last]
 
 
 def in_lines(first, part, rest, longest=LONGEST_LINE - 40):
@@ -179,11 +190,16 @@ def long_nests():
         ("names that lead to half of these, in two places, and then in too many", names_kept(64, 15, 32)),
         ("names that lead to three inputs, in 61 places", names_kept(3, 5, 61)),
         ("names on many levels that lead to as many inputs as are kept, in as many places", kept_on_levels(12)),
+        ("a tree of names that lead to three inputs, in 61 places", trees_of_names(3, 61, 12, 11)),
+        ("a tree of names that lead to three inputs, in 43 places", trees_of_names(3, 43, 13, 15)),
+        ("a tree of names that lead to 33 inputs, in four places", trees_of_names(33, 4, 10, 15)),
+        ("names that lead by two lines to as many inputs as are kept, of a few more", names_by_two_lines(15, 0)),
+        ("names that lead by two lines to as many inputs as are kept, of a few more, and then in too many places", names_by_two_lines(7, 20)),
         ("lines of a group in as many scopes as there may be", lines_in_scopes()),
         ("outputs that are connected", connected_outputs()),
         ("samples down a chain", samples_down(15)),
         ("samples of many outputs down a chain", outputs_down(15, 35_000)),
-        ("samples of many outputs of many groups down chains", outputs_of_places(15, 50)),
+        ("samples of many outputs of many groups down chains", outputs_of_places(14, 50)),
         ("samples and connections down a chain that is too deep", samples_down(33)),
     ]
 
@@ -372,13 +388,61 @@ def kept_on_levels(depth):
     """Groups in each other, each with names of its own that lead by those of the one inside to as many inputs as are kept."""
     front = "group C\ninstance d:M\nend\n" + leads(128, "w")
     tail = "".join(f"instance j{place}:J\nend\n" for place in range(63)) + "connect a.y->j0.z\n"
-    names = (LONGEST - 20_000) // (16 * depth + 13)
+    names = (LONGEST - 6_000) // (14 * depth + 12)
     text = front
     for level in range(depth):
         text += f"group H{level}\ninstance k:{f'H{level - 1}' if level else 'C'}\nend\n"
-        text += "".join(f"in {name_of(number)}->k.{name_of(number) if level else 'w'}\n" for number in range(names))
-    text += f"group J\ninstance k:H{depth - 1}\nend\n" + "".join(f"in z->k.{name_of(number)}\n" for number in range(names))
+        text += "".join(f"in {short_name(number)}->k.{short_name(number) if level else 'w'}\n" for number in range(names))
+    text += f"group J\ninstance k:H{depth - 1}\nend\n" + "".join(f"in z->k.{short_name(number)}\n" for number in range(names))
     return (text + with_unit(unit_with(128)) + tail).encode()
+
+
+def layer(around, names, inner, seed):
+    """A group around another, with names that lead by two lines each to names of the other one, in no order."""
+    order = shuffled(len(inner), seed)
+    lines = [f"in {name}->k.{inner[order[(2 * number + turn) % len(inner)]]}\n" for number, name in enumerate(names) for turn in range(2)]
+    random.Random(seed).shuffle(lines)
+    return f"group T{around + 1}\ninstance k:{f'T{around}' if around >= 0 else 'C'}\nend\n" + "".join(lines)
+
+
+def trees_of_names(inputs, places, depth, connections):
+    """Names that lead by two lines each to others inside, on so many levels, and at last to so many inputs; in so many places, all of which
+    are led to by some connections: by each to more inputs than are kept, and to no more in all than there may be."""
+    widths = [40 * 2**level for level in range(depth)]
+    while sum(widths) * 28 + widths[-1] * places * 12 // 2**(depth - 1) > LONGEST - 20_000:
+        widths = [min(width, max(widths) - 100) for width in widths]
+    names = [[short_name(number) for number in range(width)] for width in widths]
+    text = "group C\ninstance d:M\nend\n" + leads(inputs, "w")
+    inner = ["w"]
+    for level, here in enumerate(reversed(names)):
+        text += layer(level - 1, here, inner, level)
+        inner = here
+    text += "group G\n" + "".join(f"instance {place_name(place)}:T{depth - 1}\nend\n" for place in range(places))
+    text += "".join(f"in x->{place_name(place)}.{name}\n" for name in inner for place in range(places))
+    tail = with_unit(unit_with(inputs)) + "instance g:G\nend\n" + "connect a.y->g.x\n" * connections
+    return (text + tail).encode()
+
+
+def names_by_two_lines(connections, places):
+    """Many names that lead by two lines each to as many inputs as are kept, and one input that leads to each of them and to one input more:
+    some connections lead to it, and then, where there are some, one leads to it in many places."""
+    text = "group C\ninstance d:M\nend\n" + leads(128, "w") + f"in v->d.{name_of(128)}\ngroup H\ninstance k:C\nend\nin v->k.v\n"
+    tail = with_unit(unit_with(129)) + "instance g:J\nend\n" + "connect a.y->g.z\n" * connections
+    group = ""
+    if places:
+        group = "group F\n" + "".join(f"instance j{place}:J\nend\nin x->j{place}.z\n" for place in range(places))
+        tail += "instance f:F\nend\nconnect a.y->f.x\n"
+    names = (LONGEST - len(text + group + tail) - 60) // 36
+    text += "".join(f"in {short_name(number)}->k.w\n" * 2 for number in range(names)) + "group J\ninstance k:H\nend\nin z->k.v\n"
+    text += "".join(f"in z->k.{short_name(number)}\n" for number in range(names))
+    return (text + group + tail).encode()
+
+
+def place_name(place):
+    """A name of one letter or two for a place, other than `a`, `h` and `t`."""
+    letters = [letter for letter in string.ascii_letters if letter not in "aht"]
+    first, last = divmod(place, len(letters))
+    return "_" * first + letters[last]
 
 
 def lines_in_scopes():

@@ -8,5 +8,5 @@ returns-then-many c put all puts is =
     let some = subst (λ whole. PutsUpTo whole put all) c.if-whole.false puts in
     let less = more_kept put all some.0 some.1 in
     let long = ap length is in
-    let told = c.len-many.ensures in
+    let told = c.len.ensures in
     let many = c.if-many.true in omega (arith, less, long, told, many)
