@@ -6,6 +6,9 @@ LONGEST = 1_048_576
 # A text that is filled leaves room for the line `main` before it.
 FILLED = LONGEST - len("main\n")
 LONGEST_LINE = 1_000
+# The most inputs of components that flattening keeps of an input of a group, and the most connections that can lead to more.
+KEPT = 64
+MORE = 2_048 // (KEPT + 1)
 IN_NAMES = string.ascii_letters + string.digits + "_"
 
 COUNTER = """cosim 1
@@ -169,32 +172,32 @@ def long_nests():
         ("groups in many places, with many ways each", places_with_ways(60)),
         ("many ways to all inputs that there may be", ways_to_inputs(2_000, 1)),
         ("many ways to more inputs than there may be", ways_to_inputs(2_100, 1)),
-        ("many ways to many inputs, for some connections", ways_to_inputs(128, 16)),
-        ("many ways to a few more inputs, for some connections", ways_to_inputs(130, 15)),
+        ("many ways to many inputs, for some connections", ways_to_inputs(KEPT, 32)),
+        ("many ways to a few more inputs, for some connections", ways_to_inputs(KEPT + 2, MORE)),
         ("names that lead to all inputs that there may be", names_to_inputs(2_000, 30_000)),
-        ("names that lead to as many inputs as are kept", names_to_inputs(128, 30_000)),
-        ("names in no order that lead to a few more inputs, for some connections", names_in_no_order(130, 30_000, 15)),
-        ("levels of names in no order that lead to a few more inputs, for some connections", levels_of_names(11, 4_600, 130, 15)),
-        ("names that lead to inputs in many places", names_in_places(15, 130)),
-        ("names that lead to more inputs than there may be, in many places", names_in_places(17, 130)),
+        ("names that lead to as many inputs as are kept", names_to_inputs(KEPT, 30_000)),
+        ("names in no order that lead to a few more inputs, for some connections", names_in_no_order(KEPT + 2, 30_000, MORE)),
+        ("levels of names in no order that lead to a few more inputs, for some connections", levels_of_names(11, 4_600, KEPT + 2, MORE)),
+        ("names that lead to inputs in many places", names_in_places(MORE, KEPT + 2)),
+        ("names that lead to more inputs than there may be, in many places", names_in_places(MORE + 2, KEPT + 2)),
         ("two paths to scopes of one name", twin_paths(1_500, 20_000)),
         ("two paths to scopes of one name, with few inputs", twin_paths(100, 20_000)),
-        ("paths of two lengths to scopes of one name, in turns", twins_in_turns(130, 15_000)),
+        ("paths of two lengths to scopes of one name, in turns", twins_in_turns(KEPT + 2, 15_000)),
         ("instances of one name", twin_instances(60)),
         ("one connection more than there may be, to lines in many places", one_too_many(60, None)),
         ("one connection more than there may be, to names in many places", one_too_many(60, 37_000)),
         ("lines that lead to as many inputs as are kept, of a few more", kept_again(0)),
         ("names that lead to as many inputs as are kept, of a few more", kept_again(36_800)),
-        ("names that lead to half of these, in two places", names_kept(64, 15, 0)),
-        ("names that lead to a few more than half, in two places", names_kept(65, 15, 0)),
-        ("names that lead to half of these, in two places, and then in too many", names_kept(64, 15, 32)),
+        ("names that lead to half of these, in two places", names_kept(KEPT // 2, MORE // 2, 0)),
+        ("names that lead to a few more than half, in two places", names_kept(KEPT // 2 + 1, MORE // 2, 0)),
+        ("names that lead to half of these, in two places, and then in too many", names_kept(KEPT // 2, MORE // 2, 63)),
         ("names that lead to three inputs, in 61 places", names_kept(3, 5, 61)),
         ("names on many levels that lead to as many inputs as are kept, in as many places", kept_on_levels(12)),
         ("a tree of names that lead to three inputs, in 61 places", trees_of_names(3, 61, 12, 11)),
         ("a tree of names that lead to three inputs, in 43 places", trees_of_names(3, 43, 13, 15)),
-        ("a tree of names that lead to 33 inputs, in four places", trees_of_names(33, 4, 10, 15)),
-        ("names that lead by two lines to as many inputs as are kept, of a few more", names_by_two_lines(15, 0)),
-        ("names that lead by two lines to as many inputs as are kept, of a few more, and then in too many places", names_by_two_lines(7, 20)),
+        ("a tree of names that lead to half as many inputs as are kept, in two places", trees_of_names(KEPT // 2 + 1, 2, 12, MORE)),
+        ("names that lead by two lines to as many inputs as are kept, of a few more", names_by_two_lines(MORE, 0)),
+        ("names that lead by two lines to as many inputs as are kept, of a few more, and then in too many places", names_by_two_lines(MORE // 2, 60)),
         ("lines of a group in as many scopes as there may be", lines_in_scopes()),
         ("outputs that are connected", connected_outputs()),
         ("samples down a chain", samples_down(15)),
@@ -355,11 +358,11 @@ def one_too_many(places, names):
 
 
 def kept_again(names):
-    """Lines of an input, or many names that each have one, that lead to 128 inputs, of 129 that the input leads to."""
-    inner = "group J\ninstance d:M\nend\n" + leads(128, "y") + "".join(f"in w->d.{name_of(number)}\n" for number in shuffled(128, 3))
-    inner += f"in z->d.{name_of(128)}\ngroup H\ninstance k:J\nend\nin y->k.y\nin w->k.w\nin z->k.z\n"
+    """Lines of an input, or many names that each have one, that lead to as many inputs as are kept, of one more that the input leads to."""
+    inner = "group J\ninstance d:M\nend\n" + leads(KEPT, "y") + "".join(f"in w->d.{name_of(number)}\n" for number in shuffled(KEPT, 3))
+    inner += f"in z->d.{name_of(KEPT)}\ngroup H\ninstance k:J\nend\nin y->k.y\nin w->k.w\nin z->k.z\n"
     inner += "".join(f"in {name_of(number)}->k.w\n" for number in range(names)) + "group G\ninstance j:H\nend\nin x->j.y\n"
-    tail = "in x->j.z\n" + with_unit(unit_with(129)) + "instance g:G\nend\n" + "connect a.y->g.x\n" * 15
+    tail = "in x->j.z\n" + with_unit(unit_with(KEPT + 1)) + "instance g:G\nend\n" + "connect a.y->g.x\n" * MORE
     return filled(inner, lambda number: f"in x->j.{name_of(number % names) if names else 'w'}\n", tail)
 
 
@@ -386,7 +389,7 @@ def names_kept(inputs, connections, places):
 
 def kept_on_levels(depth):
     """Groups in each other, each with names of its own that lead by those of the one inside to as many inputs as are kept."""
-    front = "group C\ninstance d:M\nend\n" + leads(128, "w")
+    front = "group C\ninstance d:M\nend\n" + leads(KEPT, "w")
     tail = "".join(f"instance j{place}:J\nend\n" for place in range(63)) + "connect a.y->j0.z\n"
     names = (LONGEST - 6_000) // (14 * depth + 12)
     text = front
@@ -394,7 +397,7 @@ def kept_on_levels(depth):
         text += f"group H{level}\ninstance k:{f'H{level - 1}' if level else 'C'}\nend\n"
         text += "".join(f"in {short_name(number)}->k.{short_name(number) if level else 'w'}\n" for number in range(names))
     text += f"group J\ninstance k:H{depth - 1}\nend\n" + "".join(f"in z->k.{short_name(number)}\n" for number in range(names))
-    return (text + with_unit(unit_with(128)) + tail).encode()
+    return (text + with_unit(unit_with(KEPT)) + tail).encode()
 
 
 def layer(around, names, inner, seed):
@@ -426,8 +429,8 @@ def trees_of_names(inputs, places, depth, connections):
 def names_by_two_lines(connections, places):
     """Many names that lead by two lines each to as many inputs as are kept, and one input that leads to each of them and to one input more:
     some connections lead to it, and then, where there are some, one leads to it in many places."""
-    text = "group C\ninstance d:M\nend\n" + leads(128, "w") + f"in v->d.{name_of(128)}\ngroup H\ninstance k:C\nend\nin v->k.v\n"
-    tail = with_unit(unit_with(129)) + "instance g:J\nend\n" + "connect a.y->g.z\n" * connections
+    text = "group C\ninstance d:M\nend\n" + leads(KEPT, "w") + f"in v->d.{name_of(KEPT)}\ngroup H\ninstance k:C\nend\nin v->k.v\n"
+    tail = with_unit(unit_with(KEPT + 1)) + "instance g:J\nend\n" + "connect a.y->g.z\n" * connections
     group = ""
     if places:
         group = "group F\n" + "".join(f"instance j{place}:J\nend\nin x->j{place}.z\n" for place in range(places))
