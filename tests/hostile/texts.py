@@ -114,12 +114,21 @@ def long_texts():
         ("inputs that are connected", connected(unit)),
         ("assignments", filled(f"{unit}state n:Int8=0\nstep\n", lambda number: "n:=n\n", f"end\n{end}")),
         ("assignments with long sums", filled(f"{unit}state n:Int8=0\nstep\n", lambda number: f"n:=n{'+n' * 490}\n", f"end\n{end}")),
+        ("sums of products in as many units as there may be", units_with(f"n:=n{'+n*n' * 30}\n")),
         ("deep expressions", filled(f"{unit}state n:Int8=0\nstep\n", lambda n: f"n:={nested('min(n,', ')', 31)}\n", f"end\n{end}")),
         ("blocks", filled(f"{unit}step\n", lambda number: "if true\n" * 14 + "end\n" * 14, f"end\n{end}")),
         ("empty lines", filled("cosim 1\n", lambda number: "\n")),
         ("comments", filled("cosim 1\n", lambda number: "#" * 999 + "\n")),
         ("one byte a line", filled("cosim 1\n", lambda number: "x\n")),
     ]
+
+
+def units_with(line):
+    """A text that is accepted: as many units as there may be instances, each with as many such lines as there is room for."""
+    lines = line * ((FILLED - 8_000) // (64 * len(line)))
+    names = [name_of(number) for number in range(64)]
+    units = "".join(f"unit {name}\nstate n:Int64=0\noutput y:Int64=n\nstep\n{lines}end\nend\n" for name in names)
+    return ("cosim 1\n" + units + "".join(f"instance {name}:{name}\nend\n" for name in names) + "stop 0\nlongest 1\n").encode()
 
 
 def settings(unit):
