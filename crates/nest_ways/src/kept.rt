@@ -13,7 +13,7 @@ use nest_names::at;
 use std::alloc::Global;
 
 /// The most inputs that are kept of one input. One that leads to more can be the target of few connections, since a system has no more
-/// than 2,048. Many thousands can lead to as many, and each keeps its own list, so that more would take much memory.
+/// than 2,048. Each of the inputs of groups has a list of its own, and there may be 75,000, so that longer ones would take much memory.
 const MOST_KEPT: usize = 64;
 
 /// Puts the inputs of components that a step of an input of a group leads to, where they are known to be few.

@@ -119,7 +119,7 @@ fn first_inlet(ways: &Ways<'_>, guide: &Guide<'_>, group: usize, port: &[u8]) ->
     Some(Inlet { scope: 0, input })
 }
 
-/// The inputs of components that an input of a group reaches in a scope, where they are no more than so many.
+/// The inputs of components that an input of a group reaches in a scope. Where they are more than so many, that may be all that is told.
 fn walk_from<'n>(
     alloc: Global,
     names: &NestNames<'n>,
@@ -161,7 +161,7 @@ fn walk_from<'n>(
     Ok(reach_of(whole, kept, most))
 }
 
-/// The inputs of components that an input of a scope reaches, or none where there are more than so many.
+/// The inputs of components that an input of a scope reaches. Where they are more than so many there may be none.
 pub fn reached<'n>(
     alloc: Global,
     names: &NestNames<'n>,

@@ -1,7 +1,7 @@
 //! What an input of a group leads to in one scope, however much it is.
 //!
-//! What is kept of an input is put, where it has several steps; else its steps are gone along. Then it is done: where it is led to again,
-//! nothing more is to be put. So a walk comes to each input once in each scope, and takes time by its lines or by what is kept of it.
+//! What is kept of an input is put; where nothing is kept, its steps are gone along. Then it is done: where it is led to again, nothing more
+//! is to be put. So a walk comes to each input once in each scope at most, and takes time by its lines or by what is kept of it.
 ghost use Rattle.std.specs.Prelude.{◌≡◌, ◌∷◌, ◌+◌, [], ℕ, Some, IfOk, IsTrue, OnOk, slice_get};
 ghost use Rattle.std.specs.Option.{option_to_list};
 ghost use Rattle.nest_text.specs.declared.nest.Bind.{Bind};
@@ -175,8 +175,7 @@ fn walk_steps<'n>(
     Ok(true)
 }
 
-/// Puts the inputs of components that an input leads to: those that it keeps, or else by its steps. A single step is gone along too, since
-/// it mostly leads to what is done: many inputs can lead to one, and each of these keeps as much as that.
+/// Puts the inputs of components that an input leads to: those that it keeps, or else by its steps.
 #[cycle(walk)]
 fn walk_known<'n>(
     start: &Start<'_, 'n>,
@@ -192,10 +191,8 @@ fn walk_known<'n>(
         (lines_of start.now.names.now known.now.group known.now.port.now)) }
 {
     match &known.ends {
-        Some(kept) if known.steps.len() > 1 => {
-            put_kept(start, guide, walk, inlet, known, kept.as_slice())
-        }
-        _ => walk_steps(start, guide, walk, inlet, known),
+        Some(kept) => put_kept(start, guide, walk, inlet, known, kept.as_slice()),
+        None => walk_steps(start, guide, walk, inlet, known),
     }
 }
 
