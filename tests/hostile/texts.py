@@ -203,8 +203,11 @@ def long_nests():
         ("names that lead to three inputs, in 61 places", names_kept(3, 5, 61)),
         ("names on many levels that lead to as many inputs as are kept, in as many places", kept_on_levels(12)),
         ("a tree of names that lead to three inputs, in 61 places", trees_of_names(3, 61, 12, 11)),
-        ("a tree of names that lead to three inputs, in 43 places", trees_of_names(3, 43, 13, 15)),
+        ("a tree of names that lead to three inputs, in 22 places", trees_of_names(3, 22, 13, MORE)),
         ("a tree of names that lead to half as many inputs as are kept, in two places", trees_of_names(KEPT // 2 + 1, 2, 12, MORE)),
+        ("chains of names that lead to two inputs, in 33 places", chains_of_names(2, 33, 13, MORE)),
+        ("chains of names that lead to a quarter as many inputs as are kept, in four places", chains_of_names(KEPT // 4 + 1, 4, 13, 30)),
+        ("chains of names that lead to as many inputs as are kept, in two places", chains_of_names(KEPT, 2, 13, 16)),
         ("names that lead by two lines to as many inputs as are kept, of a few more", names_by_two_lines(MORE, 0)),
         ("names that lead by two lines to as many inputs as are kept, of a few more, and then in too many places", names_by_two_lines(MORE // 2, 60)),
         ("lines of a group in as many scopes as there may be", lines_in_scopes()),
@@ -212,6 +215,7 @@ def long_nests():
         ("samples down a chain", samples_down(15)),
         ("samples of many outputs down a chain", outputs_down(15, 35_000)),
         ("samples of many outputs of many groups down chains", outputs_of_places(14, 50)),
+        ("samples of names of 60 groups, down levels of names", outputs_on_levels(13, 60)),
         ("samples and connections down a chain that is too deep", samples_down(33)),
     ]
 
@@ -409,30 +413,46 @@ def kept_on_levels(depth):
     return (text + with_unit(unit_with(KEPT)) + tail).encode()
 
 
-def layer(around, names, inner, seed):
-    """A group around another, with names that lead by two lines each to names of the other one, in no order."""
-    order = shuffled(len(inner), seed)
-    lines = [f"in {name}->k.{inner[order[(2 * number + turn) % len(inner)]]}\n" for number, name in enumerate(names) for turn in range(2)]
-    random.Random(seed).shuffle(lines)
-    return f"group T{around + 1}\ninstance k:{f'T{around}' if around >= 0 else 'C'}\nend\n" + "".join(lines)
+def level_of_names(level, names, inner, lines):
+    """A group around another, with names that lead by so many lines each to names of the other one, in no order."""
+    order = shuffled(len(inner), level)
+    led = [inner[order[place % len(inner)]] for place in range(lines * len(names))]
+    text = [f"in {name}->k.{to}\n" for name, to in zip(names * lines, led)]
+    random.Random(level).shuffle(text)
+    return f"group T{level}\ninstance k:{f'T{level - 1}' if level else 'C'}\nend\n" + "".join(text)
+
+
+def names_on_levels(inputs, places, widths, lines, connections):
+    """Names that lead by so many lines each to others inside, and at last to so many inputs; the outermost of them, in so many places, are led
+    to by some connections: by each to more inputs than are kept, and to no more in all than there may be."""
+    text = "group C\ninstance d:M\nend\n" + leads(inputs, "w")
+    inner = ["w"]
+    for level, width in enumerate(reversed(widths)):
+        names = [short_name(number) for number in range(width)]
+        text += level_of_names(level, names, inner, lines)
+        inner = names
+    outermost = len(widths) - 1
+    text += "group G\n" + "".join(f"instance {place_name(place)}:T{outermost}\nend\n" for place in range(places))
+    starts = [f"in x->{place_name(place)}.{name}\n" for name in inner for place in range(places)]
+    random.Random(places).shuffle(starts)
+    tail = with_unit(unit_with(inputs)) + "instance g:G\nend\n" + "connect a.y->g.x\n" * connections
+    return (text + "".join(starts) + tail).encode()
 
 
 def trees_of_names(inputs, places, depth, connections):
-    """Names that lead by two lines each to others inside, on so many levels, and at last to so many inputs; in so many places, all of which
-    are led to by some connections: by each to more inputs than are kept, and to no more in all than there may be."""
-    widths = [40 * 2**level for level in range(depth)]
-    while sum(widths) * 28 + widths[-1] * places * 12 // 2**(depth - 1) > LONGEST - 20_000:
-        widths = [min(width, max(widths) - 100) for width in widths]
-    names = [[short_name(number) for number in range(width)] for width in widths]
-    text = "group C\ninstance d:M\nend\n" + leads(inputs, "w")
-    inner = ["w"]
-    for level, here in enumerate(reversed(names)):
-        text += layer(level - 1, here, inner, level)
-        inner = here
-    text += "group G\n" + "".join(f"instance {place_name(place)}:T{depth - 1}\nend\n" for place in range(places))
-    text += "".join(f"in x->{place_name(place)}.{name}\n" for name in inner for place in range(places))
-    tail = with_unit(unit_with(inputs)) + "instance g:G\nend\n" + "connect a.y->g.x\n" * connections
-    return (text + tail).encode()
+    """Names each of which leads to two others inside, on so many levels, from 40 of them on; no level is wider than there is room for."""
+    widest = 40 * 2**depth
+    while True:
+        widths = [min(40 * 2**level, widest) for level in range(depth)]
+        if sum(widths) * 28 + 40 * places * 13 < LONGEST - 20_000:
+            return names_on_levels(inputs, places, widths, 2, connections)
+        widest -= 100
+
+
+def chains_of_names(inputs, places, depth, connections):
+    """As many names on each of so many levels, each of which leads to one other inside."""
+    width = (LONGEST - 20_000) // (14 * depth + 13 * places)
+    return names_on_levels(inputs, places, [width] * depth, 1, connections)
 
 
 def names_by_two_lines(connections, places):
@@ -490,6 +510,20 @@ def outputs_down(depth, outputs):
         groups += f"group G{number}\ninstance k:G{number - 1}\nend\nout y=k.y\n"
     groups += f"group H\ninstance k:G{depth - 2}\nend\n" + "".join(f"out {name_of(number)}=k.y\n" for number in range(outputs))
     return (groups + ONE_GROUP.replace("g:G", "g:H") + "".join(f"sample g.{name_of(number)}\n" for number in range(outputs))).encode()
+
+
+def outputs_on_levels(depth, places):
+    """Samples of the outputs of so many groups, each of which leads down levels of names by names of its own."""
+    width = (LONGEST - 20_000) // (15 * depth + 13 * places)
+    names = [short_name(number) for number in range(width)]
+    text = "group C\ninstance d:D\nend\nout y=d.p\n"
+    for level in range(depth):
+        inner = [names[place] for place in shuffled(width, level)] if level else ["y"] * width
+        text += f"group T{level}\ninstance k:{f'T{level - 1}' if level else 'C'}\nend\n"
+        text += "".join(f"out {name}=k.{to}\n" for name, to in zip(names, inner))
+    instances = "".join(f"instance {place_name(place)}:T{depth - 1}\nend\n" for place in range(places))
+    samples = "".join(f"sample {place_name(place)}.{name}\n" for place in range(places) for name in names)
+    return (text + NESTED_MAIN + instances + samples).encode()
 
 
 def outputs_of_places(depth, places):
