@@ -199,7 +199,7 @@ def long_nests():
         ("names that lead to as many inputs as are kept, of a few more", kept_again(36_800)),
         ("names that lead to half of these, in two places", names_kept(KEPT // 2, MORE // 2, 0)),
         ("names that lead to a few more than half, in two places", names_kept(KEPT // 2 + 1, MORE // 2, 0)),
-        ("names that lead to half of these, in two places, and then in too many", names_kept(KEPT // 2, MORE // 2, 63)),
+        ("names that lead to half of these, in two places, and then in too many", names_kept(KEPT // 2, MORE // 2, 61)),
         ("names that lead to three inputs, in 61 places", names_kept(3, 5, 61)),
         ("names on many levels that lead to as many inputs as are kept, in as many places", kept_on_levels(12)),
         ("a tree of names that lead to three inputs, in 61 places", trees_of_names(3, 61, 12, 11)),
