@@ -7,7 +7,7 @@ LONGEST = 1_048_576
 FILLED = LONGEST - len("main\n")
 LONGEST_LINE = 1_000
 # The most inputs of components that flattening keeps of an input of a group, and the most connections that can lead to more.
-KEPT = 64
+KEPT = 128
 MORE = 2_048 // (KEPT + 1)
 IN_NAMES = string.ascii_letters + string.digits + "_"
 
@@ -181,7 +181,7 @@ def long_nests():
         ("groups in many places, with many ways each", places_with_ways(60)),
         ("many ways to all inputs that there may be", ways_to_inputs(2_000, 1)),
         ("many ways to more inputs than there may be", ways_to_inputs(2_100, 1)),
-        ("many ways to many inputs, for some connections", ways_to_inputs(KEPT, 32)),
+        ("many ways to many inputs, for some connections", ways_to_inputs(KEPT, 2_048 // KEPT)),
         ("many ways to a few more inputs, for some connections", ways_to_inputs(KEPT + 2, MORE)),
         ("names that lead to all inputs that there may be", names_to_inputs(2_000, 30_000)),
         ("names that lead to as many inputs as are kept", names_to_inputs(KEPT, 30_000)),
@@ -201,15 +201,22 @@ def long_nests():
         ("names that lead to a few more than half, in two places", names_kept(KEPT // 2 + 1, MORE // 2, 0)),
         ("names that lead to half of these, in two places, and then in too many", names_kept(KEPT // 2, MORE // 2, 61)),
         ("names that lead to three inputs, in 61 places", names_kept(3, 5, 61)),
-        ("names on many levels that lead to as many inputs as are kept, in as many places", kept_on_levels(12)),
+        ("names on many levels that lead to as many inputs as are kept, in as many places", kept_on_levels(12, 1)),
+        ("names on many levels that lead by two lines to as many inputs as are kept, in as many places", kept_on_levels(12, 2)),
         ("a tree of names that lead to three inputs, in 61 places", trees_of_names(3, 61, 12, 11)),
-        ("a tree of names that lead to three inputs, in 22 places", trees_of_names(3, 22, 13, MORE)),
+        ("a tree of names that lead to three inputs, in 43 places", trees_of_names(3, 43, 13, MORE)),
         ("a tree of names that lead to half as many inputs as are kept, in two places", trees_of_names(KEPT // 2 + 1, 2, 12, MORE)),
-        ("chains of names that lead to two inputs, in 33 places", chains_of_names(2, 33, 13, MORE)),
-        ("chains of names that lead to a quarter as many inputs as are kept, in four places", chains_of_names(KEPT // 4 + 1, 4, 13, 30)),
-        ("chains of names that lead to as many inputs as are kept, in two places", chains_of_names(KEPT, 2, 13, 16)),
+        ("chains of names that lead to three inputs, in 43 places", chains_of_names(3, 43, 13, MORE)),
+        ("chains of names that lead to a quarter as many inputs as are kept, in four places", chains_of_names(KEPT // 4 + 1, 4, 13, MORE)),
+        ("chains of names that lead to as many inputs as are kept, in two places", chains_of_names(KEPT, 2, 13, MORE // 2)),
         ("names that lead by two lines to as many inputs as are kept, of a few more", names_by_two_lines(MORE, 0)),
         ("names that lead by two lines to as many inputs as are kept, of a few more, and then in too many places", names_by_two_lines(MORE // 2, 60)),
+        ("names that lead to as many inputs as are kept, of twins in seven places", twin_places(7, 8, 1)),
+        ("names that lead by two lines to as many inputs as are kept, of twins in seven places", twin_places(7, 8, 2)),
+        ("names on levels that lead in no order to as many inputs as are kept, of twins in seven places", twin_levels(7, 8, 4)),
+        ("trees of names that lead by two lines each to 72 inputs of twins, in nine places", twin_trees(9, 7, 72, 2)),
+        ("trees of names that lead by five lines each to 40 inputs of twins, in twelve places", twin_trees(12, 5, 40, 5)),
+        ("trees of names that lead by two lines each to 16 inputs, in nine places", twin_trees(9, 1, 16, 2)),
         ("lines of a group in as many scopes as there may be", lines_in_scopes()),
         ("outputs that are connected", connected_outputs()),
         ("samples down a chain", samples_down(15)),
@@ -400,15 +407,15 @@ def names_kept(inputs, connections, places):
     return (inner + own + middle + "".join(f"in z->k.{name_of(number)}\n" for number in range(names)) + tail).encode()
 
 
-def kept_on_levels(depth):
-    """Groups in each other, each with names of its own that lead by those of the one inside to as many inputs as are kept."""
+def kept_on_levels(depth, lines):
+    """Groups in each other, each with names of its own that lead, by so many lines to one of the group inside, to as many inputs as are kept."""
     front = "group C\ninstance d:M\nend\n" + leads(KEPT, "w")
     tail = "".join(f"instance j{place}:J\nend\n" for place in range(63)) + "connect a.y->j0.z\n"
-    names = (LONGEST - 6_000) // (14 * depth + 12)
+    names = (LONGEST - 6_000) // (14 * depth * lines + 12)
     text = front
     for level in range(depth):
         text += f"group H{level}\ninstance k:{f'H{level - 1}' if level else 'C'}\nend\n"
-        text += "".join(f"in {short_name(number)}->k.{short_name(number) if level else 'w'}\n" for number in range(names))
+        text += "".join(f"in {short_name(number)}->k.{short_name(number) if level else 'w'}\n" * lines for number in range(names))
     text += f"group J\ninstance k:H{depth - 1}\nend\n" + "".join(f"in z->k.{short_name(number)}\n" for number in range(names))
     return (text + with_unit(unit_with(KEPT)) + tail).encode()
 
@@ -468,6 +475,85 @@ def names_by_two_lines(connections, places):
     text += "".join(f"in {short_name(number)}->k.w\n" * 2 for number in range(names)) + "group J\ninstance k:H\nend\nin z->k.v\n"
     text += "".join(f"in z->k.{short_name(number)}\n" for number in range(names))
     return (text + group + tail).encode()
+
+
+def twins(inner):
+    """Instances of a group whose names are underscores, and inputs that lead to as many inputs of theirs as are kept, each in an order of its
+    own, and one that leads to one more. Where such instances stand in others, names join to the same ones, and scopes in one place are those
+    in others. The orders, and the text."""
+    inputs = KEPT // inner
+    text = "group J\ninstance d:M\nend\n" + "".join(f"in {name_of(number)}->d.{name_of(number)}\n" for number in range(inputs + 1))
+    text += "group H\n" + "".join(f"instance {'_' * twin}:J\nend\n" for twin in range(1, inner + 1))
+    leading = [(twin, number) for twin in range(1, inner + 1) for number in range(inputs)]
+    orders = "bcdefgijklmnopqrsuv"
+    for seed, order in enumerate(orders):
+        random.Random(seed).shuffle(leading)
+        text += "".join(f"in {order}->{'_' * twin}.{name_of(number)}\n" for twin, number in leading)
+    return orders, text + f"in A->_.{name_of(inputs)}\n"
+
+
+def twins_connected(places, inner):
+    """Instances of S whose names are underscores, whose inputs `z` are all led to by some connections: as many as there may be. The text has
+    more components than names for them."""
+    inputs = KEPT // inner
+    text = "group G\n" + "".join(f"instance {'_' * twin}:S\nend\nin x->{'_' * twin}.z\n" for twin in range(1, places + 1))
+    connections = 2_048 // ((places + inner - 1) * inputs + places)
+    return text + with_unit(unit_with(inputs + 1)) + "instance g:G\nend\n" + "connect a.y->g.x\n" * connections
+
+
+def twin_places(places, inner, lines):
+    """Many names that lead by so many lines each to the inputs of twins, in so many places."""
+    orders, text = twins(inner)
+    text += "group T\ninstance _:H\nend\nin A->_.A\n"
+    outer = "group S\ninstance _:T\nend\nin z->_.A\n"
+    tail = twins_connected(places, inner)
+    names = (LONGEST - len(text + outer + tail)) // (12 * lines + 12)
+    text += "".join(f"in {short_name(number)}->_.{orders[(number + line) % len(orders)]}\n" for number in range(names) for line in range(lines))
+    return (text + outer + "".join(f"in z->_.{short_name(number)}\n" for number in range(names)) + tail).encode()
+
+
+def twin_levels(places, inner, levels):
+    """As `twin_places`, but names stand on so many levels, and each leads to one of the next level too, in no order, so that what is known of
+    them is far from what is known of those that walks come to before and behind them."""
+    orders, text = twins(inner)
+    tail = twins_connected(places, inner)
+    names = [short_name(number) for number in range((LONGEST - len(text + tail) - 1_000) // (38 * levels))]
+    led, inside, more = [orders[number % len(orders)] for number in range(len(names))], "H", "in z->_.A\n"
+    for level in range(levels):
+        text += f"group T{level}\ninstance _:{inside}\nend\nin A->_.A\nin b->_.b\n"
+        text += ("in z->_.z\n" if level > 1 else "") + (more if level else "")
+        pairs = zip(shuffled(len(names), level), shuffled(len(names), level + levels))
+        text += "".join(f"in {names[own]}->_.{led[other]}\nin {names[own]}->_.b\n" for own, other in pairs)
+        led, inside = names, f"T{level}"
+        more = "in z->_.A\n" + "".join(f"in z->_.{names[number]}\n" for number in shuffled(len(names), level + 2 * levels))
+    return (text + f"group S\ninstance _:{inside}\nend\nin z->_.z\n" + more + tail).encode()
+
+
+def twin_trees(places, inner, inputs, steps):
+    """Names on five levels, each of which leads by so many lines to names of the next level, in no order, and at last by two lines to so many
+    inputs of twins; some connections lead to those of the first level in each of so many places, and so to more than are kept."""
+    rows = -(-inputs // inner)
+    leading = [(twin, number) for number in range(rows) for twin in range(1, inner + 1)][:inputs]
+    random.Random(inputs).shuffle(leading)
+    text = "group J\ninstance d:M\nend\n" + "".join(f"in {name_of(number)}->d.{name_of(number)}\n" for number in range(rows + 1))
+    text += "group H\n" + "".join(f"instance {'_' * twin}:J\nend\n" for twin in range(1, inner + 1))
+    text += "".join(f"in w->{'_' * twin}.{name_of(number)}\n" for twin, number in leading) + f"in z->_.{name_of(rows)}\n"
+    names = (LONGEST - len(text) - 8_000) // (14 * steps * sum(steps**level for level in range(4)) + 24 * steps**4 + places * (11 + places))
+    led, inside = ["w"], "H"
+    for level in reversed(range(5)):
+        own = [short_name(number) for number in shuffled(names * steps**level, level)]
+        lines = [name for name in own for _ in range(steps if level < 4 else 2)]
+        order = shuffled(len(lines), level + 5)
+        text += f"group T{level}\ninstance _:{inside}\nend\nin z->_.z\n"
+        text += "".join(f"in {name}->_.{led[order[place] % len(led)]}\n" for place, name in enumerate(lines))
+        led, inside = own, f"T{level}"
+    text += "group G\n" + "".join(f"instance {'_' * place}:T0\nend\n" for place in range(1, places + 1))
+    starts = [f"in x->{'_' * place}.{name}\n" for place in range(1, places + 1) for name in led]
+    random.Random(places).shuffle(starts)
+    reached = (places + inner - 1) * rows
+    more = max(KEPT + 1 - reached, 0)
+    text += "".join(starts) + "".join(f"in x->{'_' * place}.z\n" for place in range(1, more + 1))
+    return (text + with_unit(unit_with(rows + 1)) + "instance g:G\nend\n" + "connect a.y->g.x\n" * (2_048 // (reached + more))).encode()
 
 
 def place_name(place):

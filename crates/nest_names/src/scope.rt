@@ -1,5 +1,5 @@
 //! Scopes of a nest, and ports that are followed from scope to scope.
-ghost use Rattle.std.specs.Prelude.{◌≡◌, ◌∷◌, [], ◌++◌, IfOk, IsTrue, OnOk, bytes_eq, find, map, slice_get, false};
+ghost use Rattle.std.specs.Prelude.{◌≡◌, [], ◌++◌, IfOk, IsTrue, OnOk, map, slice_get, false};
 ghost use Rattle.std.specs.Borrow.{Bor};
 ghost use Rattle.std.specs.Option.{option_map, option_to_list, unwrap_or};
 ghost use Rattle.nest_text.specs.declared.nest.Bind.{Bind as Binds};
@@ -60,12 +60,14 @@ pub fn flat_name(alloc: Global, scope: &Scope, name: &Name) -> Result<Name, NoMe
     joined(alloc, scope.prefix.as_slice(), name.as_slice())
 }
 
+/// The same name.
 pub fn copied_name(alloc: Global, name: &Name) -> Result<Name, NoMemory>
     ensures { IfOk result (λ made. made ≡ name.now) }
 {
     Ok(List::from_slice(alloc, name.as_slice())?)
 }
 
+/// The same port.
 pub fn copied_port(alloc: Global, port: &PortName) -> Result<PortName, NoMemory>
     ensures { IfOk result (λ made. made ≡ port.now) }
 {
@@ -74,6 +76,7 @@ pub fn copied_port(alloc: Global, port: &PortName) -> Result<PortName, NoMemory>
     Ok(PortName { instance, port })
 }
 
+/// The same scope.
 pub fn copied_scope(alloc: Global, scope: &Scope) -> Result<Scope, NoMemory>
     ensures { IfOk result (λ made. made ≡ scope.now) }
 {

@@ -1,5 +1,5 @@
 -- What an input of a group leads to in one scope, step by step.
-use Rattle.std.proofs.Common.{◌≡◌, ◌≤◌, ℕ, zero, suc, ◌+◌, Bool, true, false, List, [], ◌∷◌, ◌++◌, map, length}
+use Rattle.std.proofs.Common.{◌≡◌, ◌≤◌, ℕ, ◌+◌, Bool, true, false, List, [], ◌∷◌, ◌++◌, map, length}
 use Rattle.std.proofs.Common.{refl, sym, ap, ◌∙◌, subst, append_assoc, append-nil, arith, length-append, Some}
 use Rattle.std.proofs.Common.{Result, Ok, Err}
 use Rattle.std.specs.Prelude.{IfOk, slice_get}
@@ -9,7 +9,7 @@ use Rattle.std.proofs.lemmas.Option.{same_Some}
 use Rattle.list_laws.proofs.Members.{at_push}
 use Rattle.nest_text.specs.declared.nest.Bind.{Bind}
 use Rattle.nest_text.specs.declared.nest.Nest.{Nest}
-use Rattle.nest_names.specs.Flattening.{distinct, inside}
+use Rattle.nest_names.specs.Flattening.{distinct}
 use Rattle.nest_names.specs.declared.scope.Scope.{Scope}
 use Rattle.nest_names.specs.declared.scope.Spot.{Spot}
 use Rattle.nest_ways.specs.Reaching.{AreAlike, KeepsAll, LeadsHere, LeadsInside, PutsIf, PutsOnce, PutsUpTo, ReadsAlike, SameKept}
@@ -22,7 +22,7 @@ use Rattle.nest_ways.specs.declared.walk.Inlet.{Inlet}
 use Rattle.nest_ways.specs.declared.walk.Walk.{Walk}
 use Rattle.nest_ways.proofs.AlikeLaws.{reads_alike}
 use Rattle.nest_ways.proofs.KeptLaws.{distinct-append, in_behind, in_front, same_both, same_covered, same_there}
-use Rattle.nest_ways.proofs.WayLaws.{component_at, ends_append, leads_ends, onward_at, put_once_same, same_of, same_then}
+use Rattle.nest_ways.proofs.WayLaws.{component_at, ends_append, onward_at, put_once_same, same_of, same_then}
 
 pub ok_more : {A E : Type 0} (P Q : A → Type 0) (result : Result A E) → IfOk result P → ((value : A) → P value → Q value) → IfOk result Q
 ok_more P Q (Ok value) is more = more value is
@@ -153,14 +153,11 @@ inside_walks nest scopes all base offset known step bind inlet old new whole inp
 
     by : (scope : Scope) (depth : ℕ) → slice_get scopes (base + offset) ≡ Some scope → scope.group ≡ Some known.group → known.height ≤ depth
         → PutsUpTo whole (inputs_at nest scopes base new.ends) (inputs_at nest scopes base old.ends ++ ends_of nest depth scope (bind ∷ []))
-    by scope zero at of_group within = let low = leads.lower in absurd (omega (arith, within, low))
-    by scope (suc depth) at of_group within =
-        let low = leads.lower in
+    by scope depth at of_group within =
+        let alike = leads.leads (base + offset) scope depth at of_group within in
         let place : base + (offset + step.offset) ≡ base + offset + step.offset = omega arith in
-        subst (λ more. PutsUpTo whole (inputs_at nest scopes base new.ends) (inputs_at nest scopes base old.ends ++ more))
-        (leads_ends nest scopes all known.group known.height step bind scope depth leads of_group)
-        (inner.puts (inside scope bind.inner.instance leads.inner.group) depth
-        (same ∙ ap (slice_get scopes) place ∙ leads.leads (base + offset) scope at of_group) refl (omega (arith, within, low)))
+        subst (λ more. PutsUpTo whole (inputs_at nest scopes base new.ends) (inputs_at nest scopes base old.ends ++ more)) (sym alike.same)
+        (inner.puts alike.onward alike.left (same ∙ ap (slice_get scopes) place ∙ alike.there) alike.of_group alike.within)
 
 -- The scope inside is one of its group.
 pub inside_there : (nest : Nest) (scopes : List Scope) (all : List Known) (base offset : ℕ) (known : Known) (step : Inside) (bind : Bind) (inlet : Inlet)
@@ -168,10 +165,11 @@ pub inside_there : (nest : Nest) (scopes : List Scope) (all : List Known) (base 
     → LeadsInside nest scopes all known.group known.height step bind → IsScopeAt scopes (base + offset) known.group → IsInletAt scopes all base inlet
 inside_there nest scopes all base offset known step bind inlet input same leads at one found =
     let inner_is : leads.inner ≡ one = same_Some leads.inner one (sym leads.there ∙ sym (ap (slice_get all) input) ∙ found) in
-    let place : base + (offset + step.offset) ≡ base + offset + step.offset = omega arith in record {
-      scope = inside at.scope bind.inner.instance leads.inner.group;
-      there = same ∙ ap (slice_get scopes) place ∙ leads.leads (base + offset) at.scope at.there at.of_group;
-      of_group = ap (λ (k : Known). Some k.group) inner_is;
+    let place : base + (offset + step.offset) ≡ base + offset + step.offset = omega arith in
+    let alike = leads.leads (base + offset) at.scope known.height at.there at.of_group (omega arith) in record {
+      scope = alike.onward;
+      there = same ∙ ap (slice_get scopes) place ∙ alike.there;
+      of_group = alike.of_group ∙ ap (λ (k : Known). Some k.group) inner_is;
     }
 
 -- ---- Steps in turn

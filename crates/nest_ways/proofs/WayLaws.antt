@@ -7,13 +7,14 @@ use Rattle.std.specs.Option.{SomeIff, option_and_then, option_map, option_to_lis
 use Rattle.std.proofs.lemmas.Grind.{flat_map-append}
 use Rattle.std.proofs.lemmas.List.{map-append, take_more}
 use Rattle.std.proofs.lemmas.List.Elements.{filter_map-append}
+use Rattle.std.proofs.lemmas.Option.{same_Some}
 use Rattle.list_laws.proofs.Members.{at_front, at_push}
 use Rattle.list_laws.proofs.Pairs.{zip_append}
 use Rattle.nest_text.specs.declared.nest.Bind.{Bind}
 use Rattle.nest_text.specs.declared.nest.Nest.{Nest}
 use Rattle.nest_names.specs.Flattening.{distinct, ins_in, inside, place_at, reach, spot_in}
-use Rattle.nest_ways.specs.Reaching.{AreAlike, AreKnown, AreSteps, IsIn, IsKnown, IsStep, KeepsAll, LeadsHere, LeadsInside, Puts, PutsOnce, PutsUpTo}
-use Rattle.nest_ways.specs.Reaching.{ReadsAlike, SameKept, all_ends, ends_of, input_at, inputs_at, ins_of, lines_of, onward}
+use Rattle.nest_ways.specs.Reaching.{AreAlike, AreKnown, AreSteps, IsIn, IsKnown, IsPast, IsStep, KeepsAll, LeadsAlike, LeadsHere, LeadsInside, LeadsTo}
+use Rattle.nest_ways.specs.Reaching.{Puts, PutsOnce, PutsUpTo, ReadsAlike, SameKept, all_ends, ends_of, input_at, inputs_at, ins_of, lines_of, onward}
 use Rattle.nest_ways.specs.Walking.{reached_inside}
 use Rattle.nest_names.specs.Tables.{items_at}
 use Rattle.nest_names.specs.declared.scope.Scope.{Scope}
@@ -36,6 +37,13 @@ same_then ones others more first then_ kept = first kept ∙ then_ kept
 -- The value that is told where there is one.
 pub some_is : {A : Type 0} (P : Type 0) (value : A) (result : Option A) (found : A) → result ≡ Some found → SomeIff result P value → found ≡ value
 some_is P value result found is told = (subst (λ one. SomeIff one P value) is told).1
+
+pub only_one : {A : Type 0} (items : List A) (one : A) → length items ≡ 1 → slice_get items 0 ≡ Some one → items ≡ one ∷ []
+only_one [] one long there = let never : None ≡ Some one = there in absurd (cc)
+only_one (item ∷ []) one long there =
+    let some : Some item ≡ Some one = there in
+    let same : item ≡ one = cc in ap (λ first. first ∷ []) same
+only_one (item ∷ (other ∷ items)) one long there = absurd (omega (arith, long))
 
 -- ---- Inputs that are put once
 
@@ -172,32 +180,96 @@ pub ends_inside : (nest : Nest) (scope : Scope) (bind : Bind) (place depth : ℕ
 ends_inside nest scope bind place depth at = ap (flat_map (all_ends nest depth)) (expand_group nest (spot_in scope bind) place at)
 
 -- What the line leads to is what the input inside leads to.
-pub leads_ends : (nest : Nest) (scopes : List Scope) (all : List Known) (group height : ℕ) (step : Inside) (bind : Bind) (scope : Scope) (depth : ℕ)
-    → (leads : LeadsInside nest scopes all group height step bind) → scope.group ≡ Some group
-    → ends_of nest depth (inside scope bind.inner.instance leads.inner.group) (lines_of nest leads.inner.group leads.inner.port.now)
-    ≡ ends_of nest (suc depth) scope (bind ∷ [])
-leads_ends nest scopes all group height step bind scope depth leads of_group =
-    let place = leads.inner.group in
-    ap (λ port. ends_of nest depth (inside scope bind.inner.instance place) (lines_of nest place port)) leads.port
-    ∙ sym (ends_inside nest scope bind place depth (ap (λ own. place_at nest own bind.inner.instance) of_group ∙ leads.place))
-    ∙ sym (append-nil (all_ends nest (suc depth) (spot_in scope bind)))
+leads_ends : (nest : Nest) (group : ℕ) (bind : Bind) (inner : Known) (scope : Scope) (depth : ℕ)
+    → place_at nest (Some group) bind.inner.instance ≡ Some inner.group → inner.port.now ≡ bind.inner.port → scope.group ≡ Some group
+    → ends_of nest (suc depth) scope (bind ∷ [])
+    ≡ ends_of nest depth (inside scope bind.inner.instance inner.group) (lines_of nest inner.group inner.port.now)
+leads_ends nest group bind inner scope depth at named of_group =
+    let place = inner.group in
+    append-nil (all_ends nest (suc depth) (spot_in scope bind))
+    ∙ ends_inside nest scope bind place depth (ap (λ own. place_at nest own bind.inner.instance) of_group ∙ at)
+    ∙ ap (λ port. ends_of nest depth (inside scope bind.inner.instance place) (lines_of nest place port)) (sym named)
+
+pub leads_inside : (nest : Nest) (scopes : List Scope) (all : List Known) (group height : ℕ) (step : Inside) (bind : Bind) (inner : Known)
+    → slice_get all step.input ≡ Some inner → inner.height < height → place_at nest (Some group) bind.inner.instance ≡ Some inner.group
+    → inner.port.now ≡ bind.inner.port → LeadsTo scopes group bind.inner.instance inner.group step.offset
+    → LeadsInside nest scopes all group height step bind
+leads_inside nest scopes all group height step bind inner there low at named leads = record { inner = inner; there = there; leads = by }
+  where
+    by : (base : ℕ) (scope : Scope) (depth : ℕ) → slice_get scopes base ≡ Some scope → scope.group ≡ Some group → height ≤ depth
+        → LeadsAlike nest scopes base step.offset depth scope bind inner
+    by base scope zero here of_group within = absurd (omega (arith, low, within))
+    by base scope (suc depth) here of_group within = record {
+      onward = inside scope bind.inner.instance inner.group;
+      there = leads base scope here of_group;
+      of_group = refl;
+      left = depth;
+      within = omega (arith, low, within);
+      same = leads_ends nest group bind inner scope depth at named of_group;
+    }
+
+past_first : (nest : Nest) (scopes : List Scope) (all : List Known) (group height : ℕ) (step past : Inside) (bind : Bind)
+    (first : LeadsInside nest scopes all group height step bind) → IsKnown nest scopes all first.inner → IsPast first.inner.steps step past
+    → LeadsInside nest scopes all group height past bind
+past_first nest scopes all group height step past bind first known (inl same) =
+    subst (λ one. LeadsInside nest scopes all group height one bind) (sym same) first
+past_first nest scopes all group height step past bind first known (inr (onward, only, is)) =
+    by (lines_of nest middle.group middle.port.now) refl
+    (subst (λ those. AreSteps nest scopes all middle.group middle.height those (lines_of nest middle.group middle.port.now)) only known.steps)
+  where
+    middle : Known
+    middle = first.inner
+
+    by : (lines : List Bind) → lines_of nest middle.group middle.port.now ≡ lines
+        → AreSteps nest scopes all middle.group middle.height (step_is.Inside onward ∷ []) lines → LeadsInside nest scopes all group height past bind
+    by [] lines_are are = absurd are
+    by (next ∷ (other ∷ lines)) lines_are are = absurd are.1
+    by (next ∷ []) lines_are are = record {
+      inner = second.inner;
+      there = ap (λ (one : Inside). slice_get all one.input) is ∙ second.there;
+      leads = further;
+    }
+      where
+        second : LeadsInside nest scopes all middle.group middle.height onward next
+        second = are.0
+
+        further : (base : ℕ) (scope : Scope) (depth : ℕ) → slice_get scopes base ≡ Some scope → scope.group ≡ Some group → height ≤ depth
+            → LeadsAlike nest scopes base past.offset depth scope bind second.inner
+        further base scope depth here of_group within =
+            let one = first.leads base scope depth here of_group within in
+            let two = second.leads (base + step.offset) one.onward one.left one.there one.of_group one.within in
+            let both : past.offset ≡ step.offset + onward.offset = ap (λ (last : Inside). last.offset) is in
+            let place : base + past.offset ≡ base + step.offset + onward.offset = omega (arith, both) in record {
+              onward = two.onward;
+              there = ap (slice_get scopes) place ∙ two.there;
+              of_group = two.of_group;
+              left = two.left;
+              within = two.within;
+              same = one.same ∙ ap (ends_of nest one.left one.onward) lines_are ∙ two.same;
+            }
+
+-- Past an input that leads into a group by its only line.
+pub leads_past : (nest : Nest) (scopes : List Scope) (all : List Known) (group height : ℕ) (step past : Inside) (bind : Bind) (middle : Known)
+    → LeadsInside nest scopes all group height step bind → slice_get all step.input ≡ Some middle → IsKnown nest scopes all middle
+    → IsPast middle.steps step past → LeadsInside nest scopes all group height past bind
+leads_past nest scopes all group height step past bind middle first there known is_past =
+    let same : middle ≡ first.inner = same_Some middle first.inner (sym there ∙ first.there) in
+    past_first nest scopes all group height step past bind first (subst (IsKnown nest scopes all) same known)
+    (subst (λ (one : Known). IsPast one.steps step past) same is_past)
 
 pub puts_inside : (nest : Nest) (scopes : List Scope) (all : List Known) (firsts : List ℕ) (group height : ℕ) (step : Inside) (bind : Bind)
     (kept old new : List End) → AreAlike scopes group firsts → (leads : LeadsInside nest scopes all group height step bind)
     → KeepsAll nest scopes leads.inner kept
     → ((f : End → List Spot) → ReadsAlike firsts f → SameKept (flat_map f new) (flat_map f (old ++ map (onward step.offset) kept)))
     → Puts nest scopes group height old new (bind ∷ [])
-puts_inside nest scopes all firsts group height step bind kept old new alike leads keeps puts base scope zero at of_group within =
-    let low = leads.lower in absurd (omega (arith, low, within))
-puts_inside nest scopes all firsts group height step bind kept old new alike leads keeps puts base scope (suc depth) at of_group within =
+puts_inside nest scopes all firsts group height step bind kept old new alike leads keeps puts base scope depth at of_group within =
     let f = inputs_at nest scopes base in
     let offset = step.offset in
     let there = inputs_at nest scopes (base + offset) kept in
-    let inner = inside scope bind.inner.instance leads.inner.group in
-    let ends = ends_of nest depth inner (lines_of nest leads.inner.group leads.inner.port.now) in
-    let all_of = ends_of nest (suc depth) scope (bind ∷ []) in
-    let low = leads.lower in
-    let knows : SameKept there ends = keeps (base + offset) inner depth (leads.leads base scope at of_group) refl (omega (arith, low, within)) in
+    let inner = leads.leads base scope depth at of_group within in
+    let ends = ends_of nest inner.left inner.onward (lines_of nest leads.inner.group leads.inner.port.now) in
+    let all_of = ends_of nest depth scope (bind ∷ []) in
+    let knows : SameKept there ends = keeps (base + offset) inner.onward inner.left inner.there inner.of_group inner.within in
     same_then (f new) (f (old ++ map (onward offset) kept)) (f old ++ all_of)
     (puts (input_at nest scopes base) (reads_alike nest scopes group firsts base scope alike at of_group))
     (same_then (f (old ++ map (onward offset) kept)) (f old ++ there) (f old ++ all_of)
@@ -205,7 +277,7 @@ puts_inside nest scopes all firsts group height step bind kept old new alike lea
     (flat_map-append (input_at nest scopes base) old (map (onward offset) kept)
     ∙ ap (λ more. f old ++ more) (onward_at nest scopes base offset kept)))
     (same_both (f old) (f old) there all_of (λ kept. refl)
-    (same_then there ends all_of knows (same_of ends all_of (leads_ends nest scopes all group height step bind scope depth leads of_group)))))
+    (same_then there ends all_of knows (same_of ends all_of (sym inner.same)))))
 
 -- ---- More that is known
 
@@ -213,13 +285,10 @@ step_more : (nest : Nest) (scopes : List Scope) (all behind : List Known) (group
     → IsStep nest scopes all group low step bind → IsStep nest scopes (all ++ behind) group high step bind
 step_more nest scopes all behind group low high less (step_is.Component line) bind leads = leads
 step_more nest scopes all behind group low high less (step_is.Inside step) bind leads =
-    let lower = leads.lower in record {
+    record {
       inner = leads.inner;
       there = at_front all behind step.input leads.inner leads.there;
-      lower = omega (arith, lower, less);
-      place = leads.place;
-      port = leads.port;
-      leads = leads.leads;
+      leads = λ base scope depth at of_group within. leads.leads base scope depth at of_group (omega (arith, less, within));
     }
 
 pub steps_more : (nest : Nest) (scopes : List Scope) (all behind : List Known) (group low high : ℕ) (steps : List Step) (binds : List Bind)

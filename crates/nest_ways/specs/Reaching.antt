@@ -1,5 +1,5 @@
 -- How inputs are followed: what an input of a group leads to is worked out once, for all scopes of the group.
-use Rattle.std.specs.Prelude.{◌≡◌, ◌⊎◌, ◌≤◌, ◌<◌, ℕ, zero, suc, ◌+◌, Bool, true, false, List, [], ◌∷◌, ◌++◌, map, Option, Some, None, slice_get}
+use Rattle.std.specs.Prelude.{◌≡◌, ◌⊎◌, ◌≤◌, ℕ, zero, suc, ◌+◌, Bool, true, false, List, [], ◌∷◌, ◌++◌, map, Option, Some, None, slice_get}
 use Rattle.std.specs.List.{AllZip, filter, flat_map, list_any}
 use Rattle.std.specs.Option.{option_and_then, option_map, option_to_list}
 use Rattle.std.specs.Str.{bytes_eq}
@@ -102,14 +102,28 @@ pub record LeadsHere (nest : Nest) (group line : ℕ) (bind : Bind) : Type 0 whe
   pub there : option_map (λ (one : Bind). one.inner) (slice_get (ins_of nest (Some group)) line) ≡ Some bind.inner
   pub component : place_at nest (Some group) bind.inner.instance ≡ None
 
--- The line of the group leads to an input of a group inside, which is known, and leads less far down than so many levels.
+-- Followed so many levels down, the line leads from this scope to what a known input leads to from the scope so many places behind the base:
+-- as many levels are left as it needs.
+pub record LeadsAlike (nest : Nest) (scopes : List Scope) (base offset depth : ℕ) (scope : Scope) (bind : Bind) (inner : Known) : Type 0 where
+  pub onward : Scope
+  pub there : slice_get scopes (base + offset) ≡ Some onward
+  pub of_group : onward.group ≡ Some inner.group
+  pub left : ℕ
+  pub within : inner.height ≤ left
+  pub same : ends_of nest depth scope (bind ∷ []) ≡ ends_of nest left onward (lines_of nest inner.group inner.port.now)
+
+-- The line of the group leads, at most so many levels down, to what a known input of a group further inside leads to: so in each scope of the group.
 pub record LeadsInside (nest : Nest) (scopes : List Scope) (all : List Known) (group height : ℕ) (step : Inside) (bind : Bind) : Type 0 where
   pub inner : Known
   pub there : slice_get all step.input ≡ Some inner
-  pub lower : inner.height < height
-  pub place : place_at nest (Some group) bind.inner.instance ≡ Some inner.group
-  pub port : inner.port.now ≡ bind.inner.port
-  pub leads : LeadsTo scopes group bind.inner.instance inner.group step.offset
+  pub leads : (base : ℕ) (scope : Scope) (depth : ℕ) → slice_get scopes base ≡ Some scope → scope.group ≡ Some group → height ≤ depth
+      → LeadsAlike nest scopes base step.offset depth scope bind inner
+
+-- The step that stays as it is, or, where the input that it leads to has these steps and they are one into a group, the step past that input.
+abbrev pub IsPast : List Step → Inside → Inside → Type 0
+IsPast steps step past =
+    (past ≡ step)
+    ⊎ ((onward : Inside) × (steps ≡ step_is.Inside onward ∷ []) × (past ≡ record { offset = step.offset + onward.offset; input = onward.input }))
 
 -- The step is where the line of the group leads.
 abbrev pub IsStep : Nest → List Scope → List Known → ℕ → ℕ → Step → Bind → Type 0

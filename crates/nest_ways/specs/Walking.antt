@@ -5,8 +5,9 @@ use Rattle.nest_text.specs.declared.nest.Nest.{Nest}
 use Rattle.nest_names.specs.Flattening.{distinct, levels, reach}
 use Rattle.nest_names.specs.declared.scope.Scope.{Scope}
 use Rattle.nest_names.specs.declared.scope.Spot.{Spot}
-use Rattle.nest_ways.specs.Reaching.{AreKnown, FindsKnown, IsIn, PutsUpTo, ends_of, inputs_at, lines_of}
+use Rattle.nest_ways.specs.Reaching.{AreKnown, FindsKnown, IsIn, LeadsInside, PutsUpTo, ends_of, inputs_at, lines_of}
 use Rattle.nest_ways.specs.declared.ends.End.{End}
+use Rattle.nest_ways.specs.declared.steps.Inside.{Inside}
 use Rattle.nest_ways.specs.declared.steps.Known.{Known}
 use Rattle.nest_ways.specs.declared.targets.Reach.{Reach}
 use Rattle.nest_ways.specs.declared.targets.Reach.TheVariants as reach_is
@@ -67,12 +68,36 @@ WalksWhole nest scopes all base inlet old new whole =
 abbrev pub IsBehind : Start → ℕ → ℕ → Type 0
 IsBehind start offset group = IsScopeAt start.ways.now.scopes (start.base + offset) group
 
+-- A walk from the scope of the start.
 abbrev pub IsWalkFrom : Start → Walk → Type 0
 IsWalkFrom start walk = IsWalk start.names.now start.ways.now.scopes start.ways.now.known.items start.base start.group walk
 
+-- The input of the inlet is one of the group of its scope.
+abbrev pub IsInletFrom : Start → Inlet → Type 0
+IsInletFrom start inlet = IsInletAt start.ways.now.scopes start.ways.now.known.items start.base inlet
+
+-- The step is where the line leads, of the group of a known input.
+abbrev pub LeadsFrom : Start → Known → Inside → Bind → Type 0
+LeadsFrom start known step bind =
+    LeadsInside start.names.now start.ways.now.scopes start.ways.now.known.items known.group known.height step bind
+
+-- All that an input leads to was put.
+abbrev pub IsDoneFrom : Start → List End → ℕ → Known → Type 0
+IsDoneFrom start ends offset known = IsDone start.names.now start.ways.now.scopes start.base ends offset known
+
+-- What is noted as done is done.
+abbrev pub AreDoneFrom : Start → Walk → Type 0
+AreDoneFrom start walk = AreDone start.names.now start.ways.now.scopes start.ways.now.known.items start.base walk
+
+-- What these lines of a known input lead to was put: all of it, or some.
 abbrev pub GoesOn : Start → ℕ → Known → Walk → Walk → Bool → List Bind → Type 0
 GoesOn start offset known old new whole binds =
     WalksOn start.names.now start.ways.now.scopes start.ways.now.known.items start.base offset known old new whole binds
+
+-- The same of all lines of the input of an inlet.
+abbrev pub GoesWhole : Start → Inlet → Walk → Walk → Bool → Type 0
+GoesWhole start inlet old new whole =
+    WalksWhole start.names.now start.ways.now.scopes start.ways.now.known.items start.base inlet old new whole
 
 -- ---- What is reached
 

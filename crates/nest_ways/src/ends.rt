@@ -1,8 +1,8 @@
 //! Inputs of components by numbers, each put into a list once.
-ghost use Rattle.std.specs.Prelude.{◌≡◌, ◌++◌, List, Some, IfOk, IsTrue, map, slice_get};
+ghost use Rattle.std.specs.Prelude.{◌≡◌, ◌++◌, List, Some, IfOk, IsTrue, OnOk, map, slice_get};
 ghost use Rattle.std.specs.List.{flat_map};
 ghost use Rattle.std.specs.Option.{option_map, unwrap_or};
-ghost use Rattle.nest_ways.specs.Reaching.{PutsIf, PutsOnce, PutsUpTo, ReadsAlike, onward};
+ghost use Rattle.nest_ways.specs.Reaching.{PutsIf, PutsOnce, PutsUpTo, ReadsAlike, SameKept, onward};
 ghost use Rattle.nest_names.specs.declared.scope.Spot.{Spot as Spots};
 ghost use Rattle.nest_text.specs.declared.nest.Bind.{Bind as Binds};
 
@@ -31,28 +31,17 @@ fn is_at(ends: &[End], place: usize, end: End) -> bool
     }
 }
 
-/// Puts an input behind others, where it isn't among them, and tells its place. It is looked for at a place where it may be, and at the
-/// one that the guide tells.
+/// Puts an input behind others, where it isn't among them: it is looked for at the place that the guide tells.
 #[inline(always)]
-pub(crate) fn put_once(
-    guide: &mut Guide<'_>,
-    guess: usize,
-    end: End,
-    ends: &mut List<End>,
-) -> Result<usize, NoMemory>
-    ensures { IfOk result (λ place. PutsOnce end ends.old ends.new) }
+fn put_once(guide: &mut Guide<'_>, end: End, ends: &mut List<End>) -> Result<(), NoMemory>
+    ensures { OnOk result (PutsOnce end ends.old ends.new) }
 {
-    if is_at(ends.as_slice(), guess, end) {
-        return Ok(guess);
+    if is_at(ends.as_slice(), guide.place_of(end), end) {
+        return Ok(());
     }
-    let place = guide.place_of(end);
-    if is_at(ends.as_slice(), place, end) {
-        return Ok(place);
-    }
-    let place = ends.len();
-    guide.note_place(end, place);
+    guide.note_place(end, ends.len());
     ends.push(end)?;
-    Ok(place)
+    Ok(())
 }
 
 /// Puts an input behind others as [`put_once`] does, where there are no more than so many. Tells whether it was put.
@@ -67,7 +56,7 @@ pub(crate) fn put_within(
     if ends.len() > most {
         return Ok(false);
     }
-    drop(put_once(guide, 0, end, ends)?);
+    put_once(guide, end, ends)?;
     Ok(true)
 }
 
@@ -82,8 +71,27 @@ pub(crate) fn first_same(firsts: &[u32], offset: u32) -> u32
     }
 }
 
+/// Whether inputs are among others, each as it is reached from a scope that stands so many places before.
+fn are_among(guide: &Guide<'_>, firsts: &[u32], offset: u32, inner: &[End], ends: &[End]) -> bool
+    ensures { IsTrue result → (input : End → List Spots) → ReadsAlike firsts.now input
+        → SameKept (flat_map input ends.now) (flat_map input (ends.now ++ map (onward offset) inner.now)) }
+{
+    for end in inner {
+        let Some(scope) = end.scope.checked_add(offset) else {
+            return false;
+        };
+        let scope = first_same(firsts, scope);
+        let line = end.line;
+        let end = End { scope, line };
+        if !is_at(ends, guide.place_of(end), end) {
+            return false;
+        }
+    }
+    true
+}
+
 /// Puts inputs behind others, each as it is reached from a scope that stands so many places before, until there are more than so many.
-/// Tells whether all were put. Most often they stand side by side where they were put before.
+/// Tells whether all were put. Most often all are there: this is told first, as it takes half the time.
 pub(crate) fn put_onward(
     guide: &mut Guide<'_>,
     firsts: &[u32],
@@ -95,7 +103,12 @@ pub(crate) fn put_onward(
     ensures { IfOk result (λ whole. (input : End → List Spots) → ReadsAlike firsts.now input
         → PutsUpTo whole (flat_map input ends.new) (flat_map input (ends.old ++ map (onward offset) inner.now))) }
 {
-    let mut guess: usize = 0;
+    if ends.len() > most {
+        return Ok(false);
+    }
+    if are_among(guide, firsts, offset, inner, ends.as_slice()) {
+        return Ok(true);
+    }
     for end in inner {
         if ends.len() > most {
             return Ok(false);
@@ -105,8 +118,7 @@ pub(crate) fn put_onward(
         };
         let scope = first_same(firsts, scope);
         let line = end.line;
-        let place = put_once(guide, guess, End { scope, line }, ends)?;
-        guess = place.saturating_add(1);
+        put_once(guide, End { scope, line }, ends)?;
     }
     Ok(true)
 }

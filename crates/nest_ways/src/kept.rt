@@ -7,14 +7,14 @@ ghost use Rattle.nest_ways.specs.Reaching.{AreKnown, AreSteps, IsStep, Puts};
 use crate::ends::{End, put_onward, put_within};
 use crate::guide::Guide;
 use crate::scopes::AllScopes;
-use crate::steps::{Known, Step};
+use crate::steps::{Known, Step, only_inside};
 use fixed_words::{List, NoMemory};
 use nest_names::at;
 use std::alloc::Global;
 
-/// The most inputs that are kept of one input. One that leads to more can be the target of few connections, since a system has no more
-/// than 2,048. Each of the inputs of groups has a list of its own, and there may be 75,000, so that longer ones would take much memory.
-const MOST_KEPT: usize = 64;
+/// The most inputs that are kept of one input. Few walks come to one that leads to more, since a system has no more than 2,048 connections.
+/// Some 40,000 inputs of groups may have two lines or more, and a list each, so that longer ones would take much memory.
+const MOST_KEPT: usize = 128;
 
 /// Puts the inputs of components that a step of an input of a group leads to, where they are known to be few.
 fn put_step(
@@ -50,7 +50,7 @@ fn put_step(
     }
 }
 
-/// The inputs of components that the steps of an input of a group lead to, where they are few.
+/// The inputs of components that the steps of an input of a group lead to, where they are few. One step into a group is gone along instead.
 pub(crate) fn kept_ends(
     alloc: Global,
     scopes: &AllScopes,
@@ -63,6 +63,9 @@ pub(crate) fn kept_ends(
         → AreKnown nest scopes.now known.now → AreSteps nest scopes.now known.now group height steps.now binds
         → Puts nest scopes.now group height [] ends binds) }
 {
+    if only_inside(steps).is_some() {
+        return Ok(None);
+    }
     guide.begin_group(group);
     let mut ends = List::new(alloc);
     for step in steps {

@@ -1,12 +1,12 @@
 //! Where the targets of the connections of a nest lead.
 //!
 //! The layer above makes the [`Ways`] of a nest once, and asks for each connection which inputs of components it [`reached`], up to the
-//! room that is left for connections. However many ways there are to an input between, each is come to once in each place of its group.
+//! room that is left for connections. However many ways there are to an input between, each connection goes on from it once in each place.
 //!
 //! Each input of a group that a connection leads to is looked up once: where its lines lead is kept by numbers (`steps.rt`), the same in
-//! each scope of the group, told by how many scopes further on. Where it leads to few inputs of components, those are kept too (`kept.rt`).
-//! A walk (`walk.rt`) puts what is kept of the target of a connection, or else goes along its steps. Few connections can have a target
-//! that leads to more than is kept, since a system has a limited number of them.
+//! each scope of the group, told by how many scopes further on. A chain of inputs that have one line each is one step, to its end. Where an
+//! input leads to few inputs of components, those are kept too (`kept.rt`). A walk (`walk.rt`) puts what is kept, or goes along steps.
+//! Few connections can lead to more than is kept, since a system has a limited number of them.
 //!
 //! Definitions: `specs/Reaching.antt` (inputs by numbers, and what is known of them) and `specs/Walking.antt` (what a walk has put and
 //! what it came to).

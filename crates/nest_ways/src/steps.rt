@@ -1,9 +1,10 @@
 //! Where the lines of inputs of groups lead, by numbers, so that each name is looked up once.
-ghost use Rattle.std.specs.Prelude.{◌≡◌, ℕ, List, None, Some, IfOk, slice_get};
+ghost use Rattle.std.specs.Prelude.{◌≡◌, ◌∷◌, [], ℕ, List, None, Some, IfOk, slice_get};
 ghost use Rattle.nest_names.specs.Flattening.{place_at};
 ghost use Rattle.nest_names.specs.declared.scope.Scope.{Scope};
-ghost use Rattle.nest_ways.specs.Reaching.{AreSteps, FindsKnown, IsStep, ins_of, lines_of};
+ghost use Rattle.nest_ways.specs.Reaching.{AreKnown, AreSteps, FindsKnown, IsPast, IsStep, ins_of, lines_of};
 ghost use Rattle.nest_ways.specs.declared.steps.Known.{Known as Knowns};
+ghost use Rattle.nest_ways.specs.declared.steps.Step.TheVariants as step_is;
 
 use crate::ends::{End, same_line};
 use crate::guide::Guide;
@@ -13,7 +14,7 @@ use nest_names::{NestNames, at};
 use nest_text::Bind;
 use std::alloc::Global;
 
-/// Through an instance of a group, to an input of the group inside it.
+/// Through an instance of a group, or several in each other, to an input of a group.
 #[derive(Clone, Copy, Debug, PartialEq, Eq)]
 pub struct Inside {
     /// How many places further on the scope inside stands in the list of all scopes.
@@ -42,8 +43,21 @@ pub struct Known<'n> {
     pub height: usize,
     /// Where its lines lead.
     pub steps: List<Step>,
-    /// The inputs of components that it leads to, where they are few.
+    /// The inputs of components that it leads to, where they are few and not those of one step into a group.
     pub ends: Option<List<End>>,
+}
+
+/// The only step of an input, where that leads into a group.
+pub(crate) fn only_inside(steps: &[Step]) -> Option<Inside>
+    ensures { (inside : _) → result ≡ Some inside → steps.now ≡ step_is.Inside inside ∷ [] }
+{
+    if steps.len() != 1 {
+        return None;
+    }
+    match *at(steps, 0)? {
+        Step::Component(_) => None,
+        Step::Inside(inside) => Some(inside),
+    }
 }
 
 /// A step, and how many levels further down the inputs of components are, at most, that it leads to.
@@ -91,6 +105,18 @@ fn component_step<'n>(
     Some(Descent { step, height: 0 })
 }
 
+/// The step to an input, or past it where it has one line only, which leads into a group: so chains of such inputs are gone along once.
+fn past(inner: &Known<'_>, step: Inside) -> Option<Inside>
+    ensures { (one : _) → result ≡ Some one → IsPast inner.now.steps step one }
+{
+    let Some(onward) = only_inside(inner.steps.as_slice()) else {
+        return Some(step);
+    };
+    let offset = step.offset.checked_add(onward.offset)?;
+    let input = onward.input;
+    Some(Inside { offset, input })
+}
+
 /// Where a line leads that leads into a group.
 fn inside_step<'n>(
     names: &NestNames<'n>,
@@ -101,6 +127,7 @@ fn inside_step<'n>(
     bind: &'n Bind,
     place: usize,
 ) -> Option<Descent>
+    requires known { AreKnown names.now scopes.now known.now }
     requires inside { place_at names.now (Some group) bind.now.inner.instance ≡ Some place }
     ensures { (made : _) → result ≡ Some made → IsStep names.now scopes.now known.now group made.height made.step bind.now }
 {
@@ -115,7 +142,8 @@ fn inside_step<'n>(
     let Ok(input) = u32::try_from(input) else {
         return None;
     };
-    let step = Step::Inside(Inside { offset, input });
+    let onward = past(inner, Inside { offset, input })?;
+    let step = Step::Inside(onward);
     Some(Descent { step, height })
 }
 
@@ -129,7 +157,8 @@ fn step_of<'n>(
     bind: &'n Bind,
     line: usize,
 ) -> Option<Descent>
-    requires { slice_get (ins_of names.now (Some group)) line ≡ Some bind.now }
+    requires known { AreKnown names.now scopes.now known.now }
+    requires line { slice_get (ins_of names.now (Some group)) line ≡ Some bind.now }
     ensures { (made : _) → result ≡ Some made → IsStep names.now scopes.now known.now group made.height made.step bind.now }
 {
     match names.place_at(Some(group), bind.inner.instance.as_slice()) {
@@ -155,6 +184,7 @@ pub(crate) fn steps_of<'n>(
     group: usize,
     port: &[u8],
 ) -> Result<Option<Steps>, NoMemory>
+    requires { AreKnown names.now scopes.now known.now }
     ensures { IfOk result (λ made. (found : _) → made ≡ Some found
         → AreSteps names.now scopes.now known.now group found.height found.steps (lines_of names.now group port.now)) }
 {

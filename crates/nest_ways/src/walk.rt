@@ -1,12 +1,15 @@
 //! What an input of a group leads to in one scope, however much it is.
 //!
-//! What is kept of an input is put; where nothing is kept, its steps are gone along. Then it is done: where it is led to again, nothing more
-//! is to be put. So a walk comes to each input once in each scope at most, and takes time by its lines or by what is kept of it.
+//! What is kept of an input is put; where nothing is kept, its steps are gone along. Then it is done: where a step leads to it again in that
+//! scope, nothing more is put. So a walk may come to an input by many steps, and goes on from it once in each scope.
+//!
+//! Where much is kept and steps are few, those are gone along too: of inputs that lead to much the same, most steps lead to inputs that are
+//! done, and that is told sooner than that all was put before.
 ghost use Rattle.std.specs.Prelude.{◌≡◌, ◌∷◌, ◌+◌, [], ℕ, Some, IfOk, IsTrue, OnOk, slice_get};
 ghost use Rattle.std.specs.Option.{option_to_list};
 ghost use Rattle.nest_text.specs.declared.nest.Bind.{Bind};
-ghost use Rattle.nest_ways.specs.Reaching.{KeepsAll, LeadsHere, LeadsInside, lines_of};
-ghost use Rattle.nest_ways.specs.Walking.{AreDone, GoesOn, IsBehind, IsDone, IsInletAt, IsScopeAt, IsWalkFrom, WalksWhole};
+ghost use Rattle.nest_ways.specs.Reaching.{KeepsAll, LeadsHere, lines_of};
+ghost use Rattle.nest_ways.specs.Walking.{AreDoneFrom, GoesOn, GoesWhole, IsBehind, IsDoneFrom, IsInletFrom, IsScopeAt, IsWalkFrom, LeadsFrom};
 ghost use Rattle.nest_ways.specs.declared.steps.Known.{Known as Knowns};
 
 use crate::ends::{End, first_same, put_onward, put_within};
@@ -15,6 +18,10 @@ use crate::known::Ways;
 use crate::steps::{Inside, Known, Step};
 use fixed_words::{List, NoMemory};
 use nest_names::{NestNames, at};
+
+/// Steps are few where so many inputs are kept for each of them, or more. An input that leads to fewer may be come to in many more places,
+/// and to put those takes no longer than to go along.
+const KEPT_FOR_EACH: usize = 32;
 
 /// A scope from which others are told, its group, and what is known of the inputs of groups.
 #[derive(Clone, Copy)]
@@ -112,9 +119,9 @@ fn walk_inside<'n>(
 ) -> Result<bool, NoMemory>
     requires walk { IsWalkFrom start.now walk.old }
     requires there { IsBehind start.now inlet.scope known.now.group }
-    requires leads { (bind : Bind) × LeadsInside start.now.names.now start.now.ways.now.scopes start.now.ways.now.known.items known.now.group known.now.height inside bind }
+    requires leads { (bind : Bind) × LeadsFrom start.now known.now inside bind }
     ensures { IfOk result (λ whole. (bind : Bind)
-        → LeadsInside start.now.names.now start.now.ways.now.scopes start.now.ways.now.known.items known.now.group known.now.height inside bind
+        → LeadsFrom start.now known.now inside bind
         → GoesOn start.now inlet.scope known.now walk.old walk.new whole (bind ∷ [])) }
 {
     if inside.input >= inlet.input {
@@ -175,7 +182,7 @@ fn walk_steps<'n>(
     Ok(true)
 }
 
-/// Puts the inputs of components that an input leads to: those that it keeps, or else by its steps.
+/// Puts the inputs of components that an input leads to: those that it keeps, or by its steps, where these are few or it keeps none.
 #[cycle(walk)]
 fn walk_known<'n>(
     start: &Start<'_, 'n>,
@@ -190,10 +197,13 @@ fn walk_known<'n>(
     ensures { IfOk result (λ whole. GoesOn start.now inlet.scope known.now walk.old walk.new whole
         (lines_of start.now.names.now known.now.group known.now.port.now)) }
 {
-    match &known.ends {
-        Some(kept) => put_kept(start, guide, walk, inlet, known, kept.as_slice()),
-        None => walk_steps(start, guide, walk, inlet, known),
+    let Some(kept) = &known.ends else {
+        return walk_steps(start, guide, walk, inlet, known);
+    };
+    if kept.len() >= known.steps.len().saturating_mul(KEPT_FOR_EACH) {
+        return walk_steps(start, guide, walk, inlet, known);
     }
+    put_kept(start, guide, walk, inlet, known, kept.as_slice())
 }
 
 /// Notes an input of which all was put.
@@ -204,10 +214,10 @@ fn note_done<'n>(
     inlet: Inlet,
     first: End,
 ) -> Result<(), NoMemory>
-    requires done { AreDone start.now.names.now start.now.ways.now.scopes start.now.ways.now.known.items start.now.base walk.old }
+    requires done { AreDoneFrom start.now walk.old }
     requires all { (known : Knowns) → slice_get start.now.ways.now.known.items inlet.input ≡ Some known
-        → IsDone start.now.names.now start.now.ways.now.scopes start.now.base walk.old.ends inlet.scope known }
-    ensures done { OnOk result (AreDone start.now.names.now start.now.ways.now.scopes start.now.ways.now.known.items start.now.base walk.new) }
+        → IsDoneFrom start.now walk.old.ends inlet.scope known }
+    ensures done { OnOk result (AreDoneFrom start.now walk.new) }
     ensures ends { OnOk result (walk.new.ends ≡ walk.old.ends) }
 {
     guide.note_done(first, walk.done.len());
@@ -253,8 +263,8 @@ pub(crate) fn walk_inlet<'n>(
     inlet: Inlet,
 ) -> Result<bool, NoMemory>
     requires walk { IsWalkFrom start.now walk.old }
-    requires there { IsInletAt start.now.ways.now.scopes start.now.ways.now.known.items start.now.base inlet }
-    ensures { IfOk result (WalksWhole start.now.names.now start.now.ways.now.scopes start.now.ways.now.known.items start.now.base inlet walk.old walk.new) }
+    requires there { IsInletFrom start.now inlet }
+    ensures { IfOk result (GoesWhole start.now inlet walk.old walk.new) }
 {
     let Some(known) = at(start.ways.known.as_slice(), inlet.input as usize) else {
         return Ok(false);

@@ -1,5 +1,5 @@
 //! The flat system of a nest, up to what it may have.
-ghost use Rattle.std.specs.Prelude.{◌≡◌, ◌∷◌, ◌++◌, [], ◌≤◌, nat_lt, length, map, IfOk, OnOk};
+ghost use Rattle.std.specs.Prelude.{◌≡◌, ◌∷◌, [], ◌≤◌, nat_lt, length, map, IfOk};
 ghost use Rattle.std.specs.List.{flat_map, list_any};
 ghost use Rattle.sub_flat.specs.FlatReading.{IsKeptPrintable, MadeWithin, MakesLeaves, MakesParts, PutsWithin, leaves_inside, wire_between, wires_inside, with_parts};
 ghost use Rattle.nest_ways.specs.Reaching.{AreKnown};

@@ -1,4 +1,6 @@
-use Rattle.std.proofs.Common.{◌≡◌, ◌∙◌, ap, get_or}
+use Rattle.std.proofs.Common.{◌≡◌, ◌∙◌, ap, append-nil, get_or, sym}
+use Rattle.std.specs.List.{flat_map}
+use Rattle.nest_names.specs.Flattening.{distinct}
 use Rattle.nest_ways.specs.declared.ends.End.{End}
 use Rattle.nest_ways.proofs.AlikeLaws.{first_input}
 use Rattle.nest_ways.proofs.WayLaws.{onward_next, onward_stop, some_is}
@@ -16,10 +18,15 @@ loop-end-preserved c input reads =
     ap (λ scope. input (record { scope = scope; line = end.line })) c.first_same-scope.ensures
     ∙ first_input input firsts c.in-Some.scope end.line reads in
     onward_next input c.args.offset c.args.ends.now c.loop-end.ends c.put_once.new.ends inner c.loop-end.end-index none one c.loop-end-test.true
-    c.in_ok-place.ensures (at ∙ ap (λ scope. input (record { scope = scope; line = end.line })) onward) (c.loop-end.invariant input reads)
+    c.in_ok-put_once.ensures (at ∙ ap (λ scope. input (record { scope = scope; line = end.line })) onward) (c.loop-end.invariant input reads)
 
 pub returns-then-len-most : goal.returns-then-len-most
 returns-then-len-most c input reads =
+    let old = c.args.ends.now in
+    onward_stop input c.args.offset old old c.args.inner.now 0 (λ kept. ap (λ ends. distinct kept (flat_map input ends)) (sym (append-nil old)))
+
+pub returns-then-len-most-2 : goal.returns-then-len-most-2
+returns-then-len-most-2 c input reads =
     onward_stop input c.args.offset c.args.ends.now c.loop-end.ends c.args.inner.now c.loop-end.end-index (c.loop-end.invariant input reads)
 
 pub returns-in_default : goal.returns-in_default

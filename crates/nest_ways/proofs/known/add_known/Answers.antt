@@ -4,6 +4,9 @@ use Rattle.nest_ways.specs.declared.steps.Known.{Known}
 use Rattle.nest_ways.proofs.WayLaws.{known_more}
 use Rattle.nest_ways.proofs.known.add_known.Goals as goal
 
+pub steps_of-requires : goal.steps_of-requires
+steps_of-requires c = subst (AreKnown c.args.names.now c.args.scopes.now) (sym c.as_slice.ensures.value) c.requires
+
 pub returns : goal.returns
 returns c place known there =
     let nest = c.args.names.now in
