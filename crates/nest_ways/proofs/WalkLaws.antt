@@ -1,10 +1,12 @@
 -- What an input of a group leads to in one scope, step by step.
 use Rattle.std.proofs.Common.{◌≡◌, ◌≤◌, ℕ, ◌+◌, Bool, true, false, List, [], ◌∷◌, ◌++◌, map, length}
 use Rattle.std.proofs.Common.{refl, sym, ap, ◌∙◌, subst, append_assoc, append-nil, arith, length-append, Some}
-use Rattle.std.proofs.Common.{Result, Ok, Err}
+use Rattle.std.proofs.Common.{Result, Ok, Err, ◌⊎◌, inl, inr}
 use Rattle.std.specs.Prelude.{IfOk, slice_get}
+use Rattle.std.specs.Int.{bit_at}
 use Rattle.std.specs.List.{flat_map}
 use Rattle.std.proofs.lemmas.Grind.{flat_map-append}
+use Rattle.std.proofs.lemmas.Nat.Bits.{bit_at-zero}
 use Rattle.std.proofs.lemmas.Option.{same_Some}
 use Rattle.list_laws.proofs.Members.{at_push}
 use Rattle.nest_text.specs.declared.nest.Bind.{Bind}
@@ -14,7 +16,9 @@ use Rattle.nest_names.specs.declared.scope.Scope.{Scope}
 use Rattle.nest_names.specs.declared.scope.Spot.{Spot}
 use Rattle.nest_ways.specs.Reaching.{AreAlike, KeepsAll, LeadsHere, LeadsInside, PutsIf, PutsOnce, PutsUpTo, ReadsAlike, SameKept}
 use Rattle.nest_ways.specs.Reaching.{ends_of, input_at, inputs_at, lines_of, onward}
-use Rattle.nest_ways.specs.Walking.{AreDone, IsDone, IsInletAt, IsScopeAt, WalksOn, WalksWhole}
+use Rattle.nest_ways.specs.Walking.{AreDone, AreEmpty, HasAt, IsInSet, IsDone, IsInletAt, IsNumbered, IsScopeAt, WalksOn, WalksWhole}
+use Rattle.nest_ways.specs.declared.done.GroupScopes.{GroupScopes}
+use Rattle.nest_ways.specs.declared.done.ScopeSet.{ScopeSet}
 use Rattle.nest_ways.specs.declared.ends.End.{End}
 use Rattle.nest_ways.specs.declared.steps.Inside.{Inside}
 use Rattle.nest_ways.specs.declared.steps.Known.{Known}
@@ -64,14 +68,14 @@ done_by nest scopes base offset known old new more same done scope depth one at 
     same_there (inputs_at nest scopes base new) (before ++ more) one same (in_front one before more (done scope depth one at of_group within leads))
 
 -- What is done stays done where more is put.
-pub done_more : (nest : Nest) (scopes : List Scope) (all : List Known) (base group place : ℕ) (old new : Walk) (more : Scope → List Spot)
-    → IsScopeAt scopes place group → new.done.items ≡ old.done.items
+pub done_more : (nest : Nest) (scopes : List Scope) (group_scopes : GroupScopes) (all : List Known) (base group place : ℕ) (old new : Walk) (more : Scope → List Spot)
+    → IsScopeAt scopes place group → new.done ≡ old.done
     → ((scope : Scope) → slice_get scopes place ≡ Some scope → scope.group ≡ Some group
     → SameKept (inputs_at nest scopes base new.ends) (inputs_at nest scopes base old.ends ++ more scope))
-    → AreDone nest scopes all base old → AreDone nest scopes all base new
-done_more nest scopes all base group place old new more there still puts are at inlet known found held =
-    done_by nest scopes base inlet.scope known old.ends new.ends (more there.scope) (puts there.scope there.there there.of_group)
-    (are at inlet known (sym (ap (λ done. slice_get done at) still) ∙ found) held)
+    → AreDone nest scopes group_scopes all base old → AreDone nest scopes group_scopes all base new
+done_more nest scopes group_scopes all base group place old new more there still puts are input number offset known held found at =
+    done_by nest scopes base offset known old.ends new.ends (more there.scope) (puts there.scope there.there there.of_group)
+    (are input number offset known (subst (λ done. HasAt done.sets.items input number) still held) found at)
 
 -- ---- Inputs that are kept
 
@@ -110,26 +114,26 @@ component_puts nest scopes base offset line known bind end old new here is leads
     (component_at nest scopes base known.group depth line scope bind end (ap (λ n. slice_get scopes (base + n)) here ∙ at) of_group is leads)))
 
 -- Nothing was put.
-pub walks_none : (nest : Nest) (scopes : List Scope) (all : List Known) (base offset : ℕ) (known : Known) (walk : Walk) (binds : List Bind)
-    → WalksOn nest scopes all base offset known walk walk false binds
-walks_none nest scopes all base offset known walk binds = record {
+pub walks_none : (nest : Nest) (scopes : List Scope) (group_scopes : GroupScopes) (all : List Known) (base offset : ℕ) (known : Known) (walk : Walk) (binds : List Bind)
+    → WalksOn nest scopes group_scopes all base offset known walk walk false binds
+walks_none nest scopes group_scopes all base offset known walk binds = record {
   puts = λ scope depth at of_group within. upto_none (inputs_at nest scopes base walk.ends) (ends_of nest depth scope binds);
   done = λ told. let never : false ≡ true = told in absurd (cc);
 }
 
-pub component_walks : (nest : Nest) (scopes : List Scope) (all : List Known) (base offset line : ℕ) (known : Known) (bind : Bind) (end : End)
-    (old new : Walk) (whole : Bool) → IsScopeAt scopes (base + offset) known.group → AreDone nest scopes all base old
+pub component_walks : (nest : Nest) (scopes : List Scope) (group_scopes : GroupScopes) (all : List Known) (base offset line : ℕ) (known : Known) (bind : Bind) (end : End)
+    (old new : Walk) (whole : Bool) → IsScopeAt scopes (base + offset) known.group → AreDone nest scopes group_scopes all base old
     → end.scope ≡ offset → end.line ≡ line → LeadsHere nest known.group line bind → PutsIf whole end old.ends new.ends
-    → new.done.items ≡ old.done.items → WalksOn nest scopes all base offset known old new whole (bind ∷ [])
-component_walks nest scopes all base offset line known bind end old new true there are here is leads puts still =
+    → new.done ≡ old.done → WalksOn nest scopes group_scopes all base offset known old new whole (bind ∷ [])
+component_walks nest scopes group_scopes all base offset line known bind end old new true there are here is leads puts still =
     let by = component_puts nest scopes base offset line known bind end old.ends new.ends here is leads puts in
     record {
       puts = λ scope depth at of_group within. by scope depth at of_group;
       done = λ told.
-          done_more nest scopes all base known.group (base + offset) old new (λ scope. ends_of nest known.height scope (bind ∷ [])) there still
+          done_more nest scopes group_scopes all base known.group (base + offset) old new (λ scope. ends_of nest known.height scope (bind ∷ [])) there still
           (λ scope at of_group. by scope known.height at of_group) are;
     }
-component_walks nest scopes all base offset line known bind end old new false there are here is leads puts still = record {
+component_walks nest scopes group_scopes all base offset line known bind end old new false there are here is leads puts still = record {
   puts = λ scope depth at of_group within.
       subst (λ ends. PutsUpTo false (inputs_at nest scopes base ends) (inputs_at nest scopes base old.ends ++ ends_of nest depth scope (bind ∷ [])))
       (sym puts) (upto_none (inputs_at nest scopes base old.ends) (ends_of nest depth scope (bind ∷ [])));
@@ -138,17 +142,17 @@ component_walks nest scopes all base offset line known bind end old new false th
 
 -- ---- A step into a group
 
-pub inside_walks : (nest : Nest) (scopes : List Scope) (all : List Known) (base offset : ℕ) (known : Known) (step : Inside) (bind : Bind)
+pub inside_walks : (nest : Nest) (scopes : List Scope) (group_scopes : GroupScopes) (all : List Known) (base offset : ℕ) (known : Known) (step : Inside) (bind : Bind)
     (inlet : Inlet) (old new : Walk) (whole : Bool) → inlet.input ≡ step.input
     → slice_get scopes (base + inlet.scope) ≡ slice_get scopes (base + (offset + step.offset))
-    → LeadsInside nest scopes all known.group known.height step bind → WalksWhole nest scopes all base inlet old new whole
-    → WalksOn nest scopes all base offset known old new whole (bind ∷ [])
-inside_walks nest scopes all base offset known step bind inlet old new whole input same leads walks = record {
+    → LeadsInside nest scopes all known.group known.height step bind → WalksWhole nest scopes group_scopes all base inlet old new whole
+    → WalksOn nest scopes group_scopes all base offset known old new whole (bind ∷ [])
+inside_walks nest scopes group_scopes all base offset known step bind inlet old new whole input same leads walks = record {
   puts = by;
   done = inner.done;
 }
   where
-    inner : WalksOn nest scopes all base inlet.scope leads.inner old new whole (lines_of nest leads.inner.group leads.inner.port.now)
+    inner : WalksOn nest scopes group_scopes all base inlet.scope leads.inner old new whole (lines_of nest leads.inner.group leads.inner.port.now)
     inner = walks leads.inner (ap (slice_get all) input ∙ leads.there)
 
     by : (scope : Scope) (depth : ℕ) → slice_get scopes (base + offset) ≡ Some scope → scope.group ≡ Some known.group → known.height ≤ depth
@@ -174,19 +178,19 @@ inside_there nest scopes all base offset known step bind inlet input same leads 
 
 -- ---- Steps in turn
 
-pub walks_nothing : (nest : Nest) (scopes : List Scope) (all : List Known) (base offset : ℕ) (known : Known) (walk : Walk) → AreDone nest scopes all base walk
-    → WalksOn nest scopes all base offset known walk walk true []
-walks_nothing nest scopes all base offset known walk done = record {
+pub walks_nothing : (nest : Nest) (scopes : List Scope) (group_scopes : GroupScopes) (all : List Known) (base offset : ℕ) (known : Known) (walk : Walk) → AreDone nest scopes group_scopes all base walk
+    → WalksOn nest scopes group_scopes all base offset known walk walk true []
+walks_nothing nest scopes group_scopes all base offset known walk done = record {
   puts = λ scope depth at of_group within.
       same_of (inputs_at nest scopes base walk.ends) (inputs_at nest scopes base walk.ends ++ [])
       (sym (append-nil (inputs_at nest scopes base walk.ends)));
   done = λ told. done;
 }
 
-pub walks_more : (nest : Nest) (scopes : List Scope) (all : List Known) (base offset : ℕ) (known : Known) (old now new : Walk) (whole : Bool)
-    (ones others both : List Bind) → WalksOn nest scopes all base offset known old now true ones
-    → WalksOn nest scopes all base offset known now new whole others → both ≡ ones ++ others → WalksOn nest scopes all base offset known old new whole both
-walks_more nest scopes all base offset known old now new whole ones others both first then_ is = record {
+pub walks_more : (nest : Nest) (scopes : List Scope) (group_scopes : GroupScopes) (all : List Known) (base offset : ℕ) (known : Known) (old now new : Walk) (whole : Bool)
+    (ones others both : List Bind) → WalksOn nest scopes group_scopes all base offset known old now true ones
+    → WalksOn nest scopes group_scopes all base offset known now new whole others → both ≡ ones ++ others → WalksOn nest scopes group_scopes all base offset known old new whole both
+walks_more nest scopes group_scopes all base offset known old now new whole ones others both first then_ is = record {
   puts = λ scope depth at of_group within.
       let f = inputs_at nest scopes base in
       let g = ends_of nest depth scope in
@@ -196,10 +200,10 @@ walks_more nest scopes all base offset known old now new whole ones others both 
   done = then_.done;
 }
 
-pub walks_stop : (nest : Nest) (scopes : List Scope) (all : List Known) (base offset : ℕ) (known : Known) (old new : Walk)
-    (ones others both : List Bind) → WalksOn nest scopes all base offset known old new false ones → both ≡ ones ++ others
-    → WalksOn nest scopes all base offset known old new false both
-walks_stop nest scopes all base offset known old new ones others both walks is = record {
+pub walks_stop : (nest : Nest) (scopes : List Scope) (group_scopes : GroupScopes) (all : List Known) (base offset : ℕ) (known : Known) (old new : Walk)
+    (ones others both : List Bind) → WalksOn nest scopes group_scopes all base offset known old new false ones → both ≡ ones ++ others
+    → WalksOn nest scopes group_scopes all base offset known old new false both
+walks_stop nest scopes group_scopes all base offset known old new ones others both walks is = record {
   puts = λ scope depth at of_group within.
       let f = inputs_at nest scopes base in
       let g = ends_of nest depth scope in
@@ -212,37 +216,63 @@ walks_stop nest scopes all base offset known old new ones others both walks is =
 
 -- ---- Inputs that are done
 
-pub walks_done : (nest : Nest) (scopes : List Scope) (all : List Known) (base : ℕ) (inlet : Inlet) (known : Known) (walk : Walk) (place : ℕ)
-    → AreDone nest scopes all base walk → slice_get walk.done.items place ≡ Some inlet → slice_get all inlet.input ≡ Some known
-    → WalksOn nest scopes all base inlet.scope known walk walk true (lines_of nest known.group known.port.now)
-walks_done nest scopes all base inlet known walk place are there found = record {
+pub walks_done : (nest : Nest) (scopes : List Scope) (group_scopes : GroupScopes) (all : List Known) (base offset : ℕ) (known : Known) (walk : Walk)
+    → AreDone nest scopes group_scopes all base walk → IsDone nest scopes base walk.ends offset known
+    → WalksOn nest scopes group_scopes all base offset known walk walk true (lines_of nest known.group known.port.now)
+walks_done nest scopes group_scopes all base offset known walk are done = record {
   puts = λ scope depth at of_group within.
       same_covered (inputs_at nest scopes base walk.ends) (ends_of nest depth scope (lines_of nest known.group known.port.now))
-      (λ one is. are place inlet known there found scope depth one at of_group within is);
+      (λ one is. done scope depth one at of_group within is);
   done = λ told. are;
 }
 
 -- An input of which all was put is done.
-pub is_done_now : (nest : Nest) (scopes : List Scope) (all : List Known) (base offset : ℕ) (known : Known) (old new : Walk)
-    → WalksOn nest scopes all base offset known old new true (lines_of nest known.group known.port.now) → IsDone nest scopes base new.ends offset known
-is_done_now nest scopes all base offset known old new walks scope depth one at of_group within is =
+pub is_done_now : (nest : Nest) (scopes : List Scope) (group_scopes : GroupScopes) (all : List Known) (base offset : ℕ) (known : Known) (old new : Walk)
+    → WalksOn nest scopes group_scopes all base offset known old new true (lines_of nest known.group known.port.now) → IsDone nest scopes base new.ends offset known
+is_done_now nest scopes group_scopes all base offset known old new walks scope depth one at of_group within is =
     let before = inputs_at nest scopes base old.ends in
     let leads = ends_of nest depth scope (lines_of nest known.group known.port.now) in
     same_there (inputs_at nest scopes base new.ends) (before ++ leads) one (walks.puts scope depth at of_group within) (in_behind one before leads is)
 
-pub done_with : (nest : Nest) (scopes : List Scope) (all : List Known) (base : ℕ) (old new : Walk) (inlet : Inlet) → AreDone nest scopes all base old
+-- One more empty set.
+pub empty_more : (sets : List ScopeSet) (one : ScopeSet) → one.bits ≡ 0 → AreEmpty sets → AreEmpty (sets ++ one ∷ [])
+empty_more sets one none are place number has =
+    at_push (λ (k : ℕ) (each : ScopeSet). IsInSet each number → ⊥) sets one (λ k each at is. are k number (each, at, is)) by place has.0 has.1 has.2
+  where
+    by : IsInSet one number → ⊥
+    by is = let never = sym (bit_at-zero number) ∙ sym (ap (λ n. bit_at n number) none) ∙ is in absurd (omega (arith, never))
+
+-- A scope of a group is told by its number.
+same_offset : (group_scopes : GroupScopes) (group number base one other : ℕ) → IsNumbered group_scopes group number (base + one)
+    → IsNumbered group_scopes group number (base + other) → one ≡ other
+same_offset group_scopes group number base one other here there =
+    let same : base + one ≡ base + other = same_Some (base + one) (base + other) (sym here ∙ there) in omega (arith, same)
+
+-- One more input is done, in one scope.
+pub done_with : (nest : Nest) (scopes : List Scope) (group_scopes : GroupScopes) (all : List Known) (base number : ℕ) (old new : Walk) (inlet : Inlet)
+    → AreDone nest scopes group_scopes all base old
     → ((known : Known) → slice_get all inlet.input ≡ Some known → IsDone nest scopes base old.ends inlet.scope known)
-    → new.ends ≡ old.ends → new.done.items ≡ old.done.items ++ inlet ∷ [] → AreDone nest scopes all base new
-done_with nest scopes all base old new inlet are is ends done place found known there held =
-    subst (λ those. IsDone nest scopes base those found.scope known) (sym ends)
-    (at_push (λ (k : ℕ) (one : Inlet). (known : Known) → slice_get all one.input ≡ Some known → IsDone nest scopes base old.ends one.scope known)
-    old.done.items inlet (λ k one at each. are k one each at) is place found (sym (ap (λ those. slice_get those place) done) ∙ there) known held)
+    → ((known : Known) → slice_get all inlet.input ≡ Some known → IsNumbered group_scopes known.group number (base + inlet.scope))
+    → new.ends ≡ old.ends
+    → ((input one : ℕ) → HasAt new.done.sets.items input one → ((input ≡ inlet.input) × (one ≡ number)) ⊎ HasAt old.done.sets.items input one)
+    → AreDone nest scopes group_scopes all base new
+done_with nest scopes group_scopes all base number old new inlet are is numbered ends has input one offset known held found at =
+    subst (λ those. IsDone nest scopes base those offset known) (sym ends) (by (has input one held))
+  where
+    by : ((input ≡ inlet.input) × (one ≡ number)) ⊎ HasAt old.done.sets.items input one → IsDone nest scopes base old.ends offset known
+    by (inr before) = are input one offset known before found at
+    by (inl here) =
+        let same_input = here.0 in
+        let there : slice_get all inlet.input ≡ Some known = ap (slice_get all) (sym same_input) ∙ found in
+        let place = same_offset group_scopes known.group number base inlet.scope offset (numbered known there)
+        (subst (λ n. IsNumbered group_scopes known.group n (base + offset)) here.1 at) in
+        subst (λ n. IsDone nest scopes base old.ends n known) place (is known there)
 
 -- The walk after that is the same, but for what is done.
-pub walks_same : (nest : Nest) (scopes : List Scope) (all : List Known) (base offset : ℕ) (known : Known) (old now new : Walk) (binds : List Bind)
-    → WalksOn nest scopes all base offset known old now true binds → new.ends ≡ now.ends → AreDone nest scopes all base new
-    → WalksOn nest scopes all base offset known old new true binds
-walks_same nest scopes all base offset known old now new binds walks same done = record {
+pub walks_same : (nest : Nest) (scopes : List Scope) (group_scopes : GroupScopes) (all : List Known) (base offset : ℕ) (known : Known) (old now new : Walk) (binds : List Bind)
+    → WalksOn nest scopes group_scopes all base offset known old now true binds → new.ends ≡ now.ends → AreDone nest scopes group_scopes all base new
+    → WalksOn nest scopes group_scopes all base offset known old new true binds
+walks_same nest scopes group_scopes all base offset known old now new binds walks same done = record {
   puts = λ scope depth at of_group within.
       subst (λ ends. SameKept (inputs_at nest scopes base ends) (inputs_at nest scopes base old.ends ++ ends_of nest depth scope binds))
       (sym same) (walks.puts scope depth at of_group within);
@@ -250,12 +280,12 @@ walks_same nest scopes all base offset known old now new binds walks same done =
 }
 
 -- What holds of the input at the place holds of each that is found there.
-pub whole_of : (nest : Nest) (scopes : List Scope) (all : List Known) (base : ℕ) (inlet : Inlet) (known : Known) (old new : Walk) (whole : Bool)
+pub whole_of : (nest : Nest) (scopes : List Scope) (group_scopes : GroupScopes) (all : List Known) (base : ℕ) (inlet : Inlet) (known : Known) (old new : Walk) (whole : Bool)
     → slice_get all inlet.input ≡ Some known
-    → WalksOn nest scopes all base inlet.scope known old new whole (lines_of nest known.group known.port.now)
-    → WalksWhole nest scopes all base inlet old new whole
-whole_of nest scopes all base inlet known old new whole found walks one there =
-    subst (λ (each : Known). WalksOn nest scopes all base inlet.scope each old new whole (lines_of nest each.group each.port.now))
+    → WalksOn nest scopes group_scopes all base inlet.scope known old new whole (lines_of nest known.group known.port.now)
+    → WalksWhole nest scopes group_scopes all base inlet old new whole
+whole_of nest scopes group_scopes all base inlet known old new whole found walks one there =
+    subst (λ (each : Known). WalksOn nest scopes group_scopes all base inlet.scope each old new whole (lines_of nest each.group each.port.now))
     (same_Some known one (sym found ∙ there)) walks
 
 pub more_kept : (put all rest : List Spot) → SameKept (put ++ rest) all → length (distinct [] put) ≤ length (distinct [] all)

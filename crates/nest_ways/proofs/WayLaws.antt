@@ -209,7 +209,7 @@ leads_inside nest scopes all group height step bind inner there low at named lea
     }
 
 past_first : (nest : Nest) (scopes : List Scope) (all : List Known) (group height : ℕ) (step past : Inside) (bind : Bind)
-    (first : LeadsInside nest scopes all group height step bind) → IsKnown nest scopes all first.inner → IsPast first.inner.steps step past
+    (first : LeadsInside nest scopes all group height step bind) → IsKnown nest scopes all first.inner → IsPast first.inner.steps.items step past
     → LeadsInside nest scopes all group height past bind
 past_first nest scopes all group height step past bind first known (inl same) =
     subst (λ one. LeadsInside nest scopes all group height one bind) (sym same) first
@@ -251,11 +251,11 @@ past_first nest scopes all group height step past bind first known (inr (onward,
 -- Past an input that leads into a group by its only line.
 pub leads_past : (nest : Nest) (scopes : List Scope) (all : List Known) (group height : ℕ) (step past : Inside) (bind : Bind) (middle : Known)
     → LeadsInside nest scopes all group height step bind → slice_get all step.input ≡ Some middle → IsKnown nest scopes all middle
-    → IsPast middle.steps step past → LeadsInside nest scopes all group height past bind
+    → IsPast middle.steps.items step past → LeadsInside nest scopes all group height past bind
 leads_past nest scopes all group height step past bind middle first there known is_past =
     let same : middle ≡ first.inner = same_Some middle first.inner (sym there ∙ first.there) in
     past_first nest scopes all group height step past bind first (subst (IsKnown nest scopes all) same known)
-    (subst (λ (one : Known). IsPast one.steps step past) same is_past)
+    (subst (λ (one : Known). IsPast one.steps.items step past) same is_past)
 
 pub puts_inside : (nest : Nest) (scopes : List Scope) (all : List Known) (firsts : List ℕ) (group height : ℕ) (step : Inside) (bind : Bind)
     (kept old new : List End) → AreAlike scopes group firsts → (leads : LeadsInside nest scopes all group height step bind)
@@ -313,7 +313,7 @@ steps_next nest scopes all group low one high steps steps' step binds binds' bin
     (subst (λ those. AllZip R (steps ++ step ∷ []) those) (sym led) (zip_append R steps (step ∷ []) binds (bind ∷ []) front (last, tt)))
 
 pub known_more : (nest : Nest) (scopes : List Scope) (all all' : List Known) (one : Known) → AreKnown nest scopes all
-    → AreSteps nest scopes all one.group one.height one.steps (lines_of nest one.group one.port.now)
+    → AreSteps nest scopes all one.group one.height one.steps.items (lines_of nest one.group one.port.now)
     → ((kept : List End) → one.ends ≡ Some kept → KeepsAll nest scopes one kept) → all' ≡ all ++ one ∷ [] → AreKnown nest scopes all'
 known_more nest scopes all all' one are steps ends more place known there =
     subst (λ those. IsKnown nest scopes those known) (sym more)
@@ -322,7 +322,7 @@ known_more nest scopes all all' one are steps ends more place known there =
   where
     still : (each : Known) → IsKnown nest scopes all each → IsKnown nest scopes (all ++ one ∷ []) each
     still each is = record {
-      steps = steps_more nest scopes all (one ∷ []) each.group each.height each.height each.steps (lines_of nest each.group each.port.now) (omega arith) is.steps;
+      steps = steps_more nest scopes all (one ∷ []) each.group each.height each.height each.steps.items (lines_of nest each.group each.port.now) (omega arith) is.steps;
       ends = is.ends;
     }
 

@@ -147,7 +147,7 @@ KeepsAll nest scopes known ends = Puts nest scopes known.group known.height [] e
 
 -- What is known of an input of a group: where its lines lead, and the inputs of components, where those are kept.
 pub record IsKnown (nest : Nest) (scopes : List Scope) (all : List Known) (known : Known) : Type 0 where
-  pub steps : AreSteps nest scopes all known.group known.height known.steps (lines_of nest known.group known.port.now)
+  pub steps : AreSteps nest scopes all known.group known.height known.steps.items (lines_of nest known.group known.port.now)
   pub ends : (kept : List End) → known.ends ≡ Some kept → KeepsAll nest scopes known kept
 
 abbrev pub AreKnown : Nest → List Scope → List Known → Type 0

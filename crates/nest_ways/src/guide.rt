@@ -40,8 +40,6 @@ pub struct Guide<'n> {
     twins: Vec<Option<usize>>,
     /// For each `in` line of each scope, where the list that is being made may have the input that it leads to.
     places: Vec<u32>,
-    /// For each `in` line of each scope, where the input of the group that it is the first line of may stand among those that are done.
-    done: Vec<u32>,
     /// The scope from which the list that is being made is told.
     base: usize,
 }
@@ -117,7 +115,6 @@ impl<'n> Guide<'n> {
             starts: Vec::new(alloc),
             twins: Vec::new(alloc),
             places: Vec::new(alloc),
-            done: Vec::new(alloc),
             base: 0,
         })
     }
@@ -133,7 +130,7 @@ impl<'n> Guide<'n> {
         }
     }
 
-    /// Notes where the `in` lines of each scope begin, and makes room for as many numbers as there are.
+    /// Notes where the `in` lines of each scope begin, and makes room for a number for each.
     fn note_lines(
         &mut self,
         alloc: Global,
@@ -146,7 +143,6 @@ impl<'n> Guide<'n> {
             lines = lines.saturating_add(lines_in(names, scope.group));
         }
         self.places = zeros(alloc, lines)?;
-        self.done = zeros(alloc, lines)?;
         Ok(())
     }
 
@@ -278,8 +274,8 @@ impl<'n> Guide<'n> {
 
     /// The number of an `in` line among those of all scopes.
     fn number(&self, end: End) -> usize {
-        let scope = self.base.saturating_add(end.scope as usize);
-        number_at(self.starts.as_slice(), scope).saturating_add(end.line as usize)
+        let scope = self.base.wrapping_add(end.scope as usize);
+        number_at(self.starts.as_slice(), scope).wrapping_add(end.line as usize)
     }
 
     /// Where the list that is being made may have an input.
@@ -291,17 +287,6 @@ impl<'n> Guide<'n> {
     pub(crate) fn note_place(&mut self, end: End, place: usize) {
         let number = self.number(end);
         put_number(self.places.as_mut_slice(), number, place);
-    }
-
-    /// Where the input of a group with this first line may stand among those that are done.
-    pub(crate) fn done_at(&self, first: End) -> usize {
-        number_at(self.done.as_slice(), self.number(first))
-    }
-
-    /// Notes where the input of a group with this first line stands among those that are done.
-    pub(crate) fn note_done(&mut self, first: End, place: usize) {
-        let number = self.number(first);
-        put_number(self.done.as_mut_slice(), number, place);
     }
 }
 

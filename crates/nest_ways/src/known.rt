@@ -2,6 +2,7 @@
 ghost use Rattle.std.specs.Prelude.{IfOk, OnOk};
 ghost use Rattle.nest_ways.specs.Reaching.{AreKnown};
 
+use crate::done::GroupScopes;
 use crate::guide::{Guide, guided_scopes};
 use crate::kept::kept_ends;
 use crate::scopes::AllScopes;
@@ -17,14 +18,6 @@ pub const MOST_WIRES: usize = 2048;
 /// The most connections whose targets are worked out beforehand, in the order in which they are asked for. Where all ports of groups are
 /// there, the flat system has one or more for each, so that no more are asked for: at the last of these it is too large.
 const MOST_TARGETS: usize = MOST_WIRES + 1;
-
-/// The first line of an input, for the guide.
-fn first_line(names: &NestNames<'_>, group: usize, port: &[u8]) -> u32 {
-    match names.ins_named(group, port).first() {
-        Some(line) => u32::try_from(*line).unwrap_or(0),
-        None => 0,
-    }
-}
 
 /// Works out an input of a group, after those that are known.
 fn add_known<'n>(
@@ -49,7 +42,6 @@ fn add_known<'n>(
     let one = Known {
         group,
         port,
-        first: first_line(names, group, port),
         height: made.height,
         steps: made.steps,
         ends,
@@ -189,6 +181,7 @@ fn know_all<'n>(
 #[derive(Drop)]
 pub struct Ways<'n> {
     pub scopes: AllScopes,
+    pub group_scopes: GroupScopes,
     pub known: Vec<Known<'n>>,
 }
 
@@ -198,9 +191,16 @@ impl<'n> Ways<'n> {
         ensures { IfOk result (λ made. AreKnown names.now made.0.scopes made.0.known.items) }
     {
         let (scopes, mut guide) = guided_scopes(alloc, names, LEVELS, &top(alloc))?;
-        let scopes = AllScopes::new(alloc, scopes, &guide, names.groups().len())?;
+        let groups = names.groups().len();
+        let scopes = AllScopes::new(alloc, scopes, &guide, groups)?;
+        let group_scopes = GroupScopes::new(alloc, scopes.as_slice(), groups)?;
         let mut known = Vec::new(alloc);
         know_all(alloc, names, &scopes, &mut known, &mut guide)?;
-        Ok((Ways { scopes, known }, guide))
+        let ways = Ways {
+            scopes,
+            group_scopes,
+            known,
+        };
+        Ok((ways, guide))
     }
 }

@@ -12,6 +12,7 @@ use crate::scopes::{AllScopes, leads};
 use fixed_words::{List, NoMemory};
 use nest_names::{NestNames, at};
 use nest_text::Bind;
+use smallvec::SmallVec;
 use std::alloc::Global;
 
 /// Through an instance of a group, or several in each other, to an input of a group.
@@ -32,17 +33,28 @@ pub enum Step {
     Inside(Inside),
 }
 
+/// What stands where a short list has no step yet.
+impl Default for Step {
+    fn default() -> Step {
+        Step::Component(0)
+    }
+}
+
+/// How many steps stand in what is known of an input itself. Most inputs have no more lines, and walks read these without a look elsewhere.
+const FEW_STEPS: usize = 4;
+
+/// Where the lines of an input lead, in turn.
+pub type InputSteps = SmallVec<Step, FEW_STEPS>;
+
 /// What is known of an input of a group.
 #[derive(Drop)]
 pub struct Known<'n> {
     pub group: usize,
     pub port: &'n [u8],
-    /// The place of its first line among the `in` lines of the group, for the guide.
-    pub first: u32,
     /// How many levels further down the inputs of components are, at most, that it leads to.
     pub height: usize,
     /// Where its lines lead.
-    pub steps: List<Step>,
+    pub steps: InputSteps,
     /// The inputs of components that it leads to, where they are few and not those of one step into a group.
     pub ends: Option<List<End>>,
 }
@@ -107,7 +119,7 @@ fn component_step<'n>(
 
 /// The step to an input, or past it where it has one line only, which leads into a group: so chains of such inputs are gone along once.
 fn past(inner: &Known<'_>, step: Inside) -> Option<Inside>
-    ensures { (one : _) → result ≡ Some one → IsPast inner.now.steps step one }
+    ensures { (one : _) → result ≡ Some one → IsPast inner.now.steps.items step one }
 {
     let Some(onward) = only_inside(inner.steps.as_slice()) else {
         return Some(step);
@@ -170,7 +182,7 @@ fn step_of<'n>(
 /// Where the lines of an input lead, and how many levels further down the inputs of components are, at most.
 #[derive(Drop)]
 pub(crate) struct Steps {
-    pub(crate) steps: List<Step>,
+    pub(crate) steps: InputSteps,
     pub(crate) height: usize,
 }
 
@@ -186,9 +198,9 @@ pub(crate) fn steps_of<'n>(
 ) -> Result<Option<Steps>, NoMemory>
     requires { AreKnown names.now scopes.now known.now }
     ensures { IfOk result (λ made. (found : _) → made ≡ Some found
-        → AreSteps names.now scopes.now known.now group found.height found.steps (lines_of names.now group port.now)) }
+        → AreSteps names.now scopes.now known.now group found.height found.steps.items (lines_of names.now group port.now)) }
 {
-    let mut steps = List::new(alloc);
+    let mut steps = SmallVec::new(alloc);
     let mut height: usize = 0;
     for line in names.ins_named(group, port) {
         let Some(bind) = at(names.ins(group), *line) else {

@@ -2,14 +2,15 @@
 ghost use Rattle.std.specs.Prelude.{◌≡◌, ◌++◌, [], ℕ, List, Some, IfOk, IsTrue, slice_get};
 ghost use Rattle.nest_names.specs.Flattening.{distinct};
 ghost use Rattle.nest_ways.specs.Reaching.{AreKnown, PutsUpTo, input_at, ins_of, inputs_at};
-ghost use Rattle.nest_ways.specs.Walking.{IsFirst, IsReached, Reaches, reached_inside};
+ghost use Rattle.nest_ways.specs.Walking.{AreEmpty, IsFirst, IsReached, Reaches, reached_inside};
 ghost use Rattle.nest_names.specs.declared.scope.Spot.{Spot as Spots};
 
+use crate::done::DoneInputs;
 use crate::ends::End;
 use crate::guide::Guide;
 use crate::known::Ways;
-use crate::steps::find;
-use crate::walk::{Inlet, Start, Walk, walk_inlet};
+use crate::steps::{find, only_inside};
+use crate::walk::{Inlet, Start, Walk, kept_to_put, walk_inlet};
 use fixed_words::{List, NoMemory};
 use nest_names::{
     LEVELS, NestNames, Scope, Spot, at, distinct, inside, put_bind, reach, same_scope, spot_of,
@@ -119,6 +120,31 @@ fn first_inlet(ways: &Ways<'_>, guide: &Guide<'_>, group: usize, port: &[u8]) ->
     Some(Inlet { scope: 0, input })
 }
 
+/// Whether a walk from an input puts at once what is kept of it, or of the input that its one step leads to.
+fn is_put_at_once(ways: &Ways<'_>, input: u32) -> bool {
+    let Some(known) = at(ways.known.as_slice(), input as usize) else {
+        return true;
+    };
+    let Some(inside) = only_inside(known.steps.as_slice()) else {
+        return kept_to_put(known).is_some();
+    };
+    match at(ways.known.as_slice(), inside.input as usize) {
+        Some(inner) => kept_to_put(inner).is_some(),
+        None => true,
+    }
+}
+
+/// Room to note the inputs that are done in a walk from an input: for all that are known, or for none where the walk puts all at once.
+fn none_done(alloc: Global, ways: &Ways<'_>, input: u32) -> Result<DoneInputs, NoMemory>
+    ensures { IfOk result (λ made. AreEmpty made.sets.items) }
+{
+    if is_put_at_once(ways, input) {
+        DoneInputs::new(alloc, 0)
+    } else {
+        DoneInputs::new(alloc, ways.known.len())
+    }
+}
+
 /// The inputs of components that an input of a group reaches in a scope. Where they are more than so many, that may be all that is told.
 fn walk_from<'n>(
     alloc: Global,
@@ -144,7 +170,7 @@ fn walk_from<'n>(
     guide.begin(base);
     let mut walk = Walk {
         ends: List::new(alloc),
-        done: Vec::new(alloc),
+        done: none_done(alloc, ways, inlet.input)?,
     };
     let start = Start {
         names,

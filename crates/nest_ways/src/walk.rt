@@ -5,13 +5,16 @@
 //!
 //! Where much is kept and steps are few, those are gone along too: of inputs that lead to much the same, most steps lead to inputs that are
 //! done, and that is told sooner than that all was put before.
-ghost use Rattle.std.specs.Prelude.{◌≡◌, ◌∷◌, ◌+◌, [], ℕ, Some, IfOk, IsTrue, OnOk, slice_get};
-ghost use Rattle.std.specs.Option.{option_to_list};
+ghost use Rattle.std.specs.Prelude.{◌≡◌, ◌∷◌, ◌+◌, [], ℕ, List, Some, IfOk, IsTrue, slice_get};
+ghost use Rattle.std.specs.Option.{option_map, option_to_list};
 ghost use Rattle.nest_text.specs.declared.nest.Bind.{Bind};
 ghost use Rattle.nest_ways.specs.Reaching.{KeepsAll, LeadsHere, lines_of};
-ghost use Rattle.nest_ways.specs.Walking.{AreDoneFrom, GoesOn, GoesWhole, IsBehind, IsDoneFrom, IsInletFrom, IsScopeAt, IsWalkFrom, LeadsFrom};
+ghost use Rattle.nest_ways.specs.Walking.{AreDoneFrom, GoesOn, GoesWhole, IsBehind, IsDoneFrom, IsInletFrom, IsNumberedFrom, IsScopeAt, IsWalkFrom};
+ghost use Rattle.nest_ways.specs.Walking.{LeadsFrom};
+ghost use Rattle.nest_ways.specs.declared.ends.End.{End as Ends};
 ghost use Rattle.nest_ways.specs.declared.steps.Known.{Known as Knowns};
 
+use crate::done::DoneInputs;
 use crate::ends::{End, first_same, put_onward, put_within};
 use crate::guide::Guide;
 use crate::known::Ways;
@@ -21,7 +24,7 @@ use nest_names::{NestNames, at};
 
 /// Steps are few where so many inputs are kept for each of them, or more. An input that leads to fewer may be come to in many more places,
 /// and to put those takes no longer than to go along.
-const KEPT_FOR_EACH: usize = 32;
+const KEPT_FOR_EACH: usize = 24;
 
 /// A scope from which others are told, its group, and what is known of the inputs of groups.
 #[derive(Clone, Copy)]
@@ -43,21 +46,60 @@ pub struct Inlet {
     pub input: u32,
 }
 
-/// The inputs of components that were put so far, and those of groups that are done: all that they lead to was put.
+/// The inputs of components that were put so far, and the inputs of groups that are done: all that they lead to was put.
 #[derive(Drop)]
 pub struct Walk {
     pub ends: List<End>,
-    pub done: Vec<Inlet>,
+    pub done: DoneInputs,
 }
 
-/// Whether an input is the one at a place of those that are done.
-fn is_done(done: &[Inlet], place: usize, inlet: Inlet) -> bool
-    ensures { IsTrue result → slice_get done.now place ≡ Some inlet }
+/// The number of the scope of an input, among those of its group.
+fn number_of(start: &Start<'_, '_>, inlet: Inlet) -> Option<u32>
+    requires { IsInletFrom start.now inlet }
+    ensures { (number : ℕ) (known : Knowns) → result ≡ Some number → slice_get start.now.ways.now.known.items inlet.input ≡ Some known
+        → IsNumberedFrom start.now inlet.scope known.group number }
 {
-    match at(done, place) {
-        Some(other) => other.scope == inlet.scope && other.input == inlet.input,
-        None => false,
+    let place = start.base.checked_add(inlet.scope as usize)?;
+    let scope = at(start.ways.scopes.as_slice(), place)?;
+    start.ways.group_scopes.number(scope.group?, place)
+}
+
+/// Whether all that an input leads to was put.
+fn is_done(start: &Start<'_, '_>, walk: &Walk, inlet: Inlet) -> bool
+    requires done { AreDoneFrom start.now walk.now }
+    requires there { IsInletFrom start.now inlet }
+    ensures { IsTrue result → (known : Knowns) → slice_get start.now.ways.now.known.items inlet.input ≡ Some known
+        → IsDoneFrom start.now walk.now.ends inlet.scope known }
+{
+    let Some(number) = number_of(start, inlet) else {
+        return false;
+    };
+    walk.done.has(inlet.input as usize, number)
+}
+
+/// Notes an input of which all was put.
+fn note_done(start: &Start<'_, '_>, walk: &mut Walk, inlet: Inlet)
+    requires done { AreDoneFrom start.now walk.old }
+    requires there { IsInletFrom start.now inlet }
+    requires all { (known : Knowns) → slice_get start.now.ways.now.known.items inlet.input ≡ Some known
+        → IsDoneFrom start.now walk.old.ends inlet.scope known }
+    ensures done { AreDoneFrom start.now walk.new }
+    ensures ends { walk.new.ends ≡ walk.old.ends }
+{
+    if let Some(number) = number_of(start, inlet) {
+        walk.done.put(inlet.input as usize, number);
     }
+}
+
+/// What is kept of an input, where it is put: nothing where steps are few.
+pub(crate) fn kept_to_put<'k>(known: &'k Known<'_>) -> Option<&'k [End]>
+    ensures { (kept : List Ends) → option_map (λ found. found.now) result ≡ Some kept → known.now.ends ≡ Some kept }
+{
+    let kept = known.ends.as_ref()?;
+    if kept.len() >= known.steps.len().saturating_mul(KEPT_FOR_EACH) {
+        return None;
+    }
+    Some(kept.as_slice())
 }
 
 /// Puts the inputs of components that are kept of an input.
@@ -197,64 +239,14 @@ fn walk_known<'n>(
     ensures { IfOk result (λ whole. GoesOn start.now inlet.scope known.now walk.old walk.new whole
         (lines_of start.now.names.now known.now.group known.now.port.now)) }
 {
-    let Some(kept) = &known.ends else {
-        return walk_steps(start, guide, walk, inlet, known);
-    };
-    if kept.len() >= known.steps.len().saturating_mul(KEPT_FOR_EACH) {
-        return walk_steps(start, guide, walk, inlet, known);
+    match kept_to_put(known) {
+        Some(kept) => put_kept(start, guide, walk, inlet, known, kept),
+        None => walk_steps(start, guide, walk, inlet, known),
     }
-    put_kept(start, guide, walk, inlet, known, kept.as_slice())
 }
 
-/// Notes an input of which all was put.
-fn note_done<'n>(
-    start: &Start<'_, 'n>,
-    guide: &mut Guide<'n>,
-    walk: &mut Walk,
-    inlet: Inlet,
-    first: End,
-) -> Result<(), NoMemory>
-    requires done { AreDoneFrom start.now walk.old }
-    requires all { (known : Knowns) → slice_get start.now.ways.now.known.items inlet.input ≡ Some known
-        → IsDoneFrom start.now walk.old.ends inlet.scope known }
-    ensures done { OnOk result (AreDoneFrom start.now walk.new) }
-    ensures ends { OnOk result (walk.new.ends ≡ walk.old.ends) }
-{
-    guide.note_done(first, walk.done.len());
-    walk.done.push(inlet)?;
-    Ok(())
-}
-
-/// Puts the inputs of components that an input leads to, where it is not done, and notes that it is.
-#[cycle(walk)]
-fn walk_once<'n>(
-    start: &Start<'_, 'n>,
-    guide: &mut Guide<'n>,
-    walk: &mut Walk,
-    inlet: Inlet,
-    known: &Known<'n>,
-) -> Result<bool, NoMemory>
-    requires walk { IsWalkFrom start.now walk.old }
-    requires found { slice_get start.now.ways.now.known.items inlet.input ≡ Some known.now }
-    requires there { IsBehind start.now inlet.scope known.now.group }
-    ensures { IfOk result (λ whole. GoesOn start.now inlet.scope known.now walk.old walk.new whole
-        (lines_of start.now.names.now known.now.group known.now.port.now)) }
-{
-    let first = End {
-        scope: inlet.scope,
-        line: known.first,
-    };
-    if is_done(walk.done.as_slice(), guide.done_at(first), inlet) {
-        return Ok(true);
-    }
-    if !walk_known(start, guide, walk, inlet, known)? {
-        return Ok(false);
-    }
-    note_done(start, guide, walk, inlet, first)?;
-    Ok(true)
-}
-
-/// Puts the inputs of components that an input of a group leads to, until there are more than there may be. Tells whether all were put.
+/// Puts the inputs of components that an input of a group leads to, where it is not done, until there are more than there may be. Tells
+/// whether all were put; then it is done.
 #[cycle(walk)]
 pub(crate) fn walk_inlet<'n>(
     start: &Start<'_, 'n>,
@@ -266,8 +258,15 @@ pub(crate) fn walk_inlet<'n>(
     requires there { IsInletFrom start.now inlet }
     ensures { IfOk result (GoesWhole start.now inlet walk.old walk.new) }
 {
+    if is_done(start, walk, inlet) {
+        return Ok(true);
+    }
     let Some(known) = at(start.ways.known.as_slice(), inlet.input as usize) else {
         return Ok(false);
     };
-    walk_once(start, guide, walk, inlet, known)
+    if !walk_known(start, guide, walk, inlet, known)? {
+        return Ok(false);
+    }
+    note_done(start, walk, inlet);
+    Ok(true)
 }

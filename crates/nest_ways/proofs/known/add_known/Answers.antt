@@ -18,13 +18,12 @@ returns c place known there =
     let one : Known = record {
       group = group;
       port = c.args.port;
-      first = c.first_line.result;
       height = made.height;
       steps = made.steps;
       ends = c.in_ok-ends.ends;
     } in
-    let steps : AreSteps nest scopes all group made.height made.steps lines =
-    subst (λ those. AreSteps nest scopes those group made.height made.steps lines) c.as_slice.ensures.value (c.in_ok-made.ensures made c.in-Some.is) in
+    let steps : AreSteps nest scopes all group made.height made.steps.items lines =
+    subst (λ those. AreSteps nest scopes those group made.height made.steps.items lines) c.as_slice.ensures.value (c.in_ok-made.ensures made c.in-Some.is) in
     known_more nest scopes all c.push.new.self.items one c.requires steps
     (λ kept is.
     c.in_ok-ends.ensures kept is nest made.height lines (subst (AreKnown nest scopes) (sym c.as_slice-2.ensures.value) c.requires)

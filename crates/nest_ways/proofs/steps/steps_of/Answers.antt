@@ -29,7 +29,7 @@ loop-line-preserved c =
     ∙ ap (option_map (λ one. one.now)) c.in-Some.is in
     let led : items_at ins (take (place + 1) lines) ≡ items_at ins (take place lines) ++ bind ∷ [] =
     lines_next ins lines place c.loop-line-test.true ∙ ap (λ found. items_at ins (take place lines) ++ option_to_list found) there in
-    steps_next nest scopes all group c.loop-line.height next.height c.max-height.result c.loop-line.steps c.push.new.self next.step
+    steps_next nest scopes all group c.loop-line.height next.height c.max-height.result c.loop-line.steps.items c.push.new.self.items next.step
     (items_at ins (take place lines)) (items_at ins (take (place + 1) lines)) bind c.loop-line.invariant (c.step_of.ensures next c.in-Some-step_of.is) low high
     c.in_ok-push.ensures.ok led
 
@@ -42,7 +42,7 @@ returns c found is =
     let ins = ins_of nest (Some group) in
     let lines = c.ins_named-line-items.result.now in
     let made : Steps = record { steps = c.loop-line.steps; height = c.loop-line.height } in
-    subst (λ (one : Steps). AreSteps nest scopes all group one.height one.steps (lines_of nest group c.args.port.now)) (same_Some made found is)
-    (subst (AreSteps nest scopes all group c.loop-line.height c.loop-line.steps) c.ins_named-line-items.ensures
-    (subst (λ those. AreSteps nest scopes all group c.loop-line.height c.loop-line.steps (items_at ins those))
+    subst (λ (one : Steps). AreSteps nest scopes all group one.height one.steps.items (lines_of nest group c.args.port.now)) (same_Some made found is)
+    (subst (AreSteps nest scopes all group c.loop-line.height c.loop-line.steps.items) c.ins_named-line-items.ensures
+    (subst (λ those. AreSteps nest scopes all group c.loop-line.height c.loop-line.steps.items (items_at ins those))
     (take_all c.loop-line.line-index lines c.loop-line-test.false) c.loop-line.invariant))

@@ -20,6 +20,17 @@ walk_inlet-requires-clause-there c known found =
       of_group = c.requires.scope ∙ ap (λ n. Some n) (sym first.finds.of_group) ∙ ap (λ (k : Known). Some k.group) same;
     }
 
+pub walk_inlet-requires-clause-walk : goal.walk_inlet-requires-clause-walk
+walk_inlet-requires-clause-walk c = record {
+  known = c.requires.known;
+  start = record {
+    scope = c.args.scope.now;
+    there = ap (λ those. slice_get those c.in-Some.base) (sym c.as_slice-scopes.ensures) ∙ c.place_of.ensures c.in-Some.base c.in-Some.is;
+    of_group = c.requires.scope;
+  };
+  done = λ input number offset known held found at. absurd (c.in_ok-none_done.ensures input number held);
+}
+
 pub returns : goal.returns
 returns c =
     let nest = c.args.names.now in

@@ -4,34 +4,36 @@ use Rattle.std.specs.Option.{option_map, option_to_list}
 use Rattle.list_laws.proofs.Pairs.{zip_at}
 use Rattle.nest_text.specs.declared.nest.Bind.{Bind}
 use Rattle.std.proofs.lemmas.Option.{same_Some}
-use Rattle.nest_ways.specs.Reaching.{IsStep, KeepsAll, LeadsHere, LeadsInside, lines_of}
+use Rattle.nest_ways.specs.Reaching.{IsStep, LeadsHere, LeadsInside, lines_of}
 use Rattle.nest_ways.specs.Walking.{IsDone, WalksOn, WalksWhole}
 use Rattle.nest_ways.specs.declared.steps.Step.TheVariants as step_is
 use Rattle.nest_ways.specs.declared.walk.Inlet.{Inlet}
 use Rattle.nest_ways.proofs.WalkLaws.{inside_there, inside_walks, is_done_now, ok_more, walks_done, walks_more, walks_none, walks_same, walks_stop}
+use Rattle.nest_ways.proofs.WalkLaws.{whole_of}
 use Rattle.nest_ways.proofs.WayLaws.{line_next, lines_end, lines_split}
 use Rattle.nest_ways.proofs.walk.+walk.Goals as goal
 
 pub walk_known-put_kept-requires-clause-kept : goal.walk_known-put_kept-requires-clause-kept
 walk_known-put_kept-requires-clause-kept t c =
-    let known = c.args.known.now in
-    subst (KeepsAll c.args.start.now.names.now c.args.start.now.ways.now.scopes known) (sym c.as_slice.ensures)
-    ((c.requires.walk.known c.args.inlet.input known c.requires.found).ends c.in-Some.kept c.in-Some.is)
+    let kept = c.in-Some.kept.now in
+    let told = c.kept_to_put.ensures kept (ap (option_map (λ found. found.now)) c.in-Some.is) in
+    (c.requires.walk.known c.args.inlet.input c.args.known.now c.requires.found).ends kept told
 
 pub walk_inside-returns-then-inside-inlet : goal.walk_inside-returns-then-inside-inlet
 walk_inside-returns-then-inside-inlet t c bind leads =
-    walks_none c.args.start.now.names.now c.args.start.now.ways.now.scopes c.args.start.now.ways.now.known.items c.args.start.now.base c.args.inlet.scope c.args.known.now c.args.walk.now
+    walks_none c.args.start.now.names.now c.args.start.now.ways.now.scopes c.args.start.now.ways.now.group_scopes c.args.start.now.ways.now.known.items c.args.start.now.base c.args.inlet.scope c.args.known.now c.args.walk.now
     (bind ∷ [])
 
 pub walk_inside-returns-in_default : goal.walk_inside-returns-in_default
 walk_inside-returns-in_default t c bind leads =
-    walks_none c.args.start.now.names.now c.args.start.now.ways.now.scopes c.args.start.now.ways.now.known.items c.args.start.now.base c.args.inlet.scope c.args.known.now c.args.walk.now
+    walks_none c.args.start.now.names.now c.args.start.now.ways.now.scopes c.args.start.now.ways.now.group_scopes c.args.start.now.ways.now.known.items c.args.start.now.base c.args.inlet.scope c.args.known.now c.args.walk.now
     (bind ∷ [])
 
 pub walk_inside-walk_inlet-requires : goal.walk_inside-walk_inlet-requires
 walk_inside-walk_inlet-requires t c =
     let nest = c.args.start.now.names.now in
     let scopes = c.args.start.now.ways.now.scopes in
+    let group_scopes = c.args.start.now.ways.now.group_scopes in
     let all = c.args.start.now.ways.now.known.items in
     let base = c.args.start.now.base in
     let offset = c.args.inlet.scope in
@@ -51,6 +53,7 @@ pub walk_inside-returns : goal.walk_inside-returns
 walk_inside-returns t c =
     let nest = c.args.start.now.names.now in
     let scopes = c.args.start.now.ways.now.scopes in
+    let group_scopes = c.args.start.now.ways.now.group_scopes in
     let all = c.args.start.now.ways.now.known.items in
     let base = c.args.start.now.base in
     let offset = c.args.inlet.scope in
@@ -59,33 +62,34 @@ walk_inside-returns t c =
     let inner : Inlet = record { scope = c.in-Some.scope; input = step.input } in
     let old = c.args.walk.now in
     let new = c.walk_inlet.new.walk in
-    ok_more (WalksWhole nest scopes all base inner old new)
+    ok_more (WalksWhole nest scopes group_scopes all base inner old new)
     (λ whole. (bind : Bind) → LeadsInside nest scopes all known.group known.height step bind
-    → WalksOn nest scopes all base offset known old new whole (bind ∷ [])) c.walk_inlet.result c.walk_inlet.ensures
+    → WalksOn nest scopes group_scopes all base offset known old new whole (bind ∷ [])) c.walk_inlet.result c.walk_inlet.ensures
     (λ whole walks bind leads.
-    inside_walks nest scopes all base offset known step bind inner old new whole refl (c.scope_behind.ensures c.in-Some.scope c.in-Some.is) leads walks)
+    inside_walks nest scopes group_scopes all base offset known step bind inner old new whole refl (c.scope_behind.ensures c.in-Some.scope c.in-Some.is) leads walks)
 
 pub walk_step-returns-in_default : goal.walk_step-returns-in_default
 walk_step-returns-in_default t c =
     let known = c.args.known.now in
-    walks_none c.args.start.now.names.now c.args.start.now.ways.now.scopes c.args.start.now.ways.now.known.items c.args.start.now.base c.args.inlet.scope known c.args.walk.now
+    walks_none c.args.start.now.names.now c.args.start.now.ways.now.scopes c.args.start.now.ways.now.group_scopes c.args.start.now.ways.now.known.items c.args.start.now.base c.args.inlet.scope known c.args.walk.now
     (option_to_list (slice_get (lines_of c.args.start.now.names.now known.group known.port.now) c.args.place))
 
 pub walk_step-walk_inside-requires : goal.walk_step-walk_inside-requires
 walk_step-walk_inside-requires t c =
     let nest = c.args.start.now.names.now in
     let scopes = c.args.start.now.ways.now.scopes in
+    let group_scopes = c.args.start.now.ways.now.group_scopes in
     let all = c.args.start.now.ways.now.known.items in
     let base = c.args.start.now.base in
     let offset = c.args.inlet.scope in
     let known = c.args.known.now in
     let lines = lines_of nest known.group known.port.now in
     let place = c.args.place in
-    let there : slice_get known.steps place ≡ Some (step_is.Inside c.in-Inside.inside) =
+    let there : slice_get known.steps.items place ≡ Some (step_is.Inside c.in-Inside.inside) =
     ap (λ those. slice_get those place) (sym c.as_slice.ensures) ∙ sym c.at.ensures ∙ ap (option_map (λ one. one.now)) c.in-Some.is
     ∙ ap (λ step. Some step) c.in-Inside.is in
     let beside =
-    zip_at (IsStep nest scopes all known.group known.height) known.steps lines place (step_is.Inside c.in-Inside.inside)
+    zip_at (IsStep nest scopes all known.group known.height) known.steps.items lines place (step_is.Inside c.in-Inside.inside)
     (c.requires.walk.known c.args.inlet.input known c.requires.found).steps there in
     let most = c.decreases in (omega (arith, most), (c.requires.walk, (c.requires.there, (beside.other, beside.related))))
 
@@ -93,50 +97,52 @@ pub walk_step-returns-in-Component : goal.walk_step-returns-in-Component
 walk_step-returns-in-Component t c =
     let nest = c.args.start.now.names.now in
     let scopes = c.args.start.now.ways.now.scopes in
+    let group_scopes = c.args.start.now.ways.now.group_scopes in
     let all = c.args.start.now.ways.now.known.items in
     let base = c.args.start.now.base in
     let offset = c.args.inlet.scope in
     let known = c.args.known.now in
     let lines = lines_of nest known.group known.port.now in
     let place = c.args.place in
-    let there : slice_get known.steps place ≡ Some (step_is.Component c.in-Component.line) =
+    let there : slice_get known.steps.items place ≡ Some (step_is.Component c.in-Component.line) =
     ap (λ those. slice_get those place) (sym c.as_slice.ensures) ∙ sym c.at.ensures ∙ ap (option_map (λ one. one.now)) c.in-Some.is
     ∙ ap (λ step. Some step) c.in-Component.is in
     let beside =
-    zip_at (IsStep nest scopes all known.group known.height) known.steps lines place (step_is.Component c.in-Component.line)
+    zip_at (IsStep nest scopes all known.group known.height) known.steps.items lines place (step_is.Component c.in-Component.line)
     (c.requires.walk.known c.args.inlet.input known c.requires.found).steps there in
     ok_more
     (λ whole. (bind : Bind) → LeadsHere nest known.group c.in-Component.line bind
-    → WalksOn nest scopes all base offset known c.args.walk.now c.walk_component.new.walk whole (bind ∷ []))
-    (λ whole. WalksOn nest scopes all base offset known c.args.walk.now c.walk_component.new.walk whole (option_to_list (slice_get lines place)))
+    → WalksOn nest scopes group_scopes all base offset known c.args.walk.now c.walk_component.new.walk whole (bind ∷ []))
+    (λ whole. WalksOn nest scopes group_scopes all base offset known c.args.walk.now c.walk_component.new.walk whole (option_to_list (slice_get lines place)))
     c.walk_component.result c.walk_component.ensures
     (λ whole walks.
-    subst (λ found. WalksOn nest scopes all base offset known c.args.walk.now c.walk_component.new.walk whole (option_to_list found)) (sym beside.is)
+    subst (λ found. WalksOn nest scopes group_scopes all base offset known c.args.walk.now c.walk_component.new.walk whole (option_to_list found)) (sym beside.is)
     (walks beside.other beside.related))
 
 pub walk_step-returns-in-Inside : goal.walk_step-returns-in-Inside
 walk_step-returns-in-Inside t c =
     let nest = c.args.start.now.names.now in
     let scopes = c.args.start.now.ways.now.scopes in
+    let group_scopes = c.args.start.now.ways.now.group_scopes in
     let all = c.args.start.now.ways.now.known.items in
     let base = c.args.start.now.base in
     let offset = c.args.inlet.scope in
     let known = c.args.known.now in
     let lines = lines_of nest known.group known.port.now in
     let place = c.args.place in
-    let there : slice_get known.steps place ≡ Some (step_is.Inside c.in-Inside.inside) =
+    let there : slice_get known.steps.items place ≡ Some (step_is.Inside c.in-Inside.inside) =
     ap (λ those. slice_get those place) (sym c.as_slice.ensures) ∙ sym c.at.ensures ∙ ap (option_map (λ one. one.now)) c.in-Some.is
     ∙ ap (λ step. Some step) c.in-Inside.is in
     let beside =
-    zip_at (IsStep nest scopes all known.group known.height) known.steps lines place (step_is.Inside c.in-Inside.inside)
+    zip_at (IsStep nest scopes all known.group known.height) known.steps.items lines place (step_is.Inside c.in-Inside.inside)
     (c.requires.walk.known c.args.inlet.input known c.requires.found).steps there in
     ok_more
     (λ whole. (bind : Bind) → LeadsInside nest scopes all known.group known.height c.in-Inside.inside bind
-    → WalksOn nest scopes all base offset known c.args.walk.now c.walk_inside.new.walk whole (bind ∷ []))
-    (λ whole. WalksOn nest scopes all base offset known c.args.walk.now c.walk_inside.new.walk whole (option_to_list (slice_get lines place)))
+    → WalksOn nest scopes group_scopes all base offset known c.args.walk.now c.walk_inside.new.walk whole (bind ∷ []))
+    (λ whole. WalksOn nest scopes group_scopes all base offset known c.args.walk.now c.walk_inside.new.walk whole (option_to_list (slice_get lines place)))
     c.walk_inside.result c.walk_inside.ensures
     (λ whole walks.
-    subst (λ found. WalksOn nest scopes all base offset known c.args.walk.now c.walk_inside.new.walk whole (option_to_list found)) (sym beside.is)
+    subst (λ found. WalksOn nest scopes group_scopes all base offset known c.args.walk.now c.walk_inside.new.walk whole (option_to_list found)) (sym beside.is)
     (walks beside.other beside.related))
 
 pub walk_steps-walk_step-requires : goal.walk_steps-walk_step-requires
@@ -150,6 +156,7 @@ pub walk_steps-returns-then-not-branch : goal.walk_steps-returns-then-not-branch
 walk_steps-returns-then-not-branch t c =
     let nest = c.args.start.now.names.now in
     let scopes = c.args.start.now.ways.now.scopes in
+    let group_scopes = c.args.start.now.ways.now.group_scopes in
     let all = c.args.start.now.ways.now.known.items in
     let base = c.args.start.now.base in
     let offset = c.args.inlet.scope in
@@ -160,15 +167,16 @@ walk_steps-returns-then-not-branch t c =
     let old = c.args.walk.now in
     let new = c.walk_step.new.walk in
     let walks =
-    subst (λ whole. WalksOn nest scopes all base offset known c.loop-place.walk new whole one) c.if-not-branch.true c.in_ok-walk_step.ensures in
-    walks_stop nest scopes all base offset known old new (take place lines ++ one) (drop (place + 1) lines) lines
-    (walks_more nest scopes all base offset known old c.loop-place.walk new false (take place lines) one (take place lines ++ one)
+    subst (λ whole. WalksOn nest scopes group_scopes all base offset known c.loop-place.walk new whole one) c.if-not-branch.true c.in_ok-walk_step.ensures in
+    walks_stop nest scopes group_scopes all base offset known old new (take place lines ++ one) (drop (place + 1) lines) lines
+    (walks_more nest scopes group_scopes all base offset known old c.loop-place.walk new false (take place lines) one (take place lines ++ one)
     c.loop-place.invariant walks refl) (lines_split lines place)
 
 pub walk_steps-loop-place-preserved : goal.walk_steps-loop-place-preserved
 walk_steps-loop-place-preserved t c =
     let nest = c.args.start.now.names.now in
     let scopes = c.args.start.now.ways.now.scopes in
+    let group_scopes = c.args.start.now.ways.now.group_scopes in
     let all = c.args.start.now.ways.now.known.items in
     let base = c.args.start.now.base in
     let offset = c.args.inlet.scope in
@@ -179,14 +187,15 @@ walk_steps-loop-place-preserved t c =
     let old = c.args.walk.now in
     let new = c.walk_step.new.walk in
     let walks =
-    subst (λ whole. WalksOn nest scopes all base offset known c.loop-place.walk new whole one) c.if-not-branch.false c.in_ok-walk_step.ensures in
-    walks_more nest scopes all base offset known old c.loop-place.walk new true (take place lines) one (take (place + 1) lines)
+    subst (λ whole. WalksOn nest scopes group_scopes all base offset known c.loop-place.walk new whole one) c.if-not-branch.false c.in_ok-walk_step.ensures in
+    walks_more nest scopes group_scopes all base offset known old c.loop-place.walk new true (take place lines) one (take (place + 1) lines)
     c.loop-place.invariant walks (line_next lines place)
 
 pub walk_steps-returns : goal.walk_steps-returns
 walk_steps-returns t c =
     let nest = c.args.start.now.names.now in
     let scopes = c.args.start.now.ways.now.scopes in
+    let group_scopes = c.args.start.now.ways.now.group_scopes in
     let all = c.args.start.now.ways.now.known.items in
     let base = c.args.start.now.base in
     let offset = c.args.inlet.scope in
@@ -195,60 +204,69 @@ walk_steps-returns t c =
     let steps = (c.requires.walk.known c.args.inlet.input known c.requires.found).steps in
     let long = c.len-place-end.ensures in
     let past = c.loop-place-test.false in
-    subst (WalksOn nest scopes all base offset known c.args.walk.now c.loop-place.walk true)
-    (lines_end nest scopes all known.group known.height known.steps lines c.loop-place.place steps (omega (arith, long, past))) c.loop-place.invariant
+    subst (WalksOn nest scopes group_scopes all base offset known c.args.walk.now c.loop-place.walk true)
+    (lines_end nest scopes all known.group known.height known.steps.items lines c.loop-place.place steps (omega (arith, long, past))) c.loop-place.invariant
 
-pub walk_once-returns-then-is_done : goal.walk_once-returns-then-is_done
-walk_once-returns-then-is_done t c =
+pub walk_inlet-returns-then-is_done : goal.walk_inlet-returns-then-is_done
+walk_inlet-returns-then-is_done t c known found =
     let nest = c.args.start.now.names.now in
     let scopes = c.args.start.now.ways.now.scopes in
+    let group_scopes = c.args.start.now.ways.now.group_scopes in
     let all = c.args.start.now.ways.now.known.items in
     let base = c.args.start.now.base in
-    let offset = c.args.inlet.scope in
-    let known = c.args.known.now in
-    walks_done nest scopes all base c.args.inlet known c.args.walk.now c.done_at.result c.requires.walk.done
-    (ap (λ those. slice_get those c.done_at.result) (sym c.as_slice.ensures.value) ∙ c.is_done.ensures c.if-is_done.true) c.requires.found
+    walks_done nest scopes group_scopes all base c.args.inlet.scope known c.args.walk.now c.requires.walk.done (c.is_done.ensures c.if-is_done.true known found)
 
-pub walk_once-returns-then-not-branch : goal.walk_once-returns-then-not-branch
-walk_once-returns-then-not-branch t c =
+pub walk_inlet-returns-then-not-branch : goal.walk_inlet-returns-then-not-branch
+walk_inlet-returns-then-not-branch t c =
     let nest = c.args.start.now.names.now in
     let scopes = c.args.start.now.ways.now.scopes in
+    let group_scopes = c.args.start.now.ways.now.group_scopes in
     let all = c.args.start.now.ways.now.known.items in
     let base = c.args.start.now.base in
-    let offset = c.args.inlet.scope in
-    let known = c.args.known.now in
+    let known = c.in-Some.known.now in
     let lines = lines_of nest known.group known.port.now in
-    subst (λ whole. WalksOn nest scopes all base offset known c.args.walk.now c.walk_known.new.walk whole lines) c.if-not-branch.true
-    c.in_ok-walk_known.ensures
+    let found : slice_get all c.args.inlet.input ≡ Some known =
+    ap (λ those. slice_get those c.args.inlet.input) (sym c.as_slice.ensures.value) ∙ sym c.at.ensures ∙ ap (option_map (λ one. one.now)) c.in-Some.is in
+    whole_of nest scopes group_scopes all base c.args.inlet known c.args.walk.now c.walk_known.new.walk false found
+    (subst (λ whole. WalksOn nest scopes group_scopes all base c.args.inlet.scope known c.args.walk.now c.walk_known.new.walk whole lines)
+    c.if-not-branch.true c.in_ok-walk_known.ensures)
 
-pub walk_once-note_done-requires-clause-done : goal.walk_once-note_done-requires-clause-done
-walk_once-note_done-requires-clause-done t c =
+pub walk_inlet-note_done-requires-clause-done : goal.walk_inlet-note_done-requires-clause-done
+walk_inlet-note_done-requires-clause-done t c =
     c.in_ok-walk_known.ensures.done c.if-not-branch.false
 
-pub walk_once-note_done-requires-clause-all : goal.walk_once-note_done-requires-clause-all
-walk_once-note_done-requires-clause-all t c one found =
+pub walk_inlet-note_done-requires-clause-all : goal.walk_inlet-note_done-requires-clause-all
+walk_inlet-note_done-requires-clause-all t c one there =
     let nest = c.args.start.now.names.now in
     let scopes = c.args.start.now.ways.now.scopes in
+    let group_scopes = c.args.start.now.ways.now.group_scopes in
     let all = c.args.start.now.ways.now.known.items in
     let base = c.args.start.now.base in
     let offset = c.args.inlet.scope in
-    let known = c.args.known.now in
+    let known = c.in-Some.known.now in
     let lines = lines_of nest known.group known.port.now in
     let new = c.walk_known.new.walk in
-    subst (IsDone nest scopes base new.ends offset) (same_Some known one (sym c.requires.found ∙ found))
-    (is_done_now nest scopes all base offset known c.args.walk.now new
-    (subst (λ whole. WalksOn nest scopes all base offset known c.args.walk.now new whole lines) c.if-not-branch.false c.in_ok-walk_known.ensures))
+    let found : slice_get all c.args.inlet.input ≡ Some known =
+    ap (λ those. slice_get those c.args.inlet.input) (sym c.as_slice.ensures.value) ∙ sym c.at.ensures ∙ ap (option_map (λ one. one.now)) c.in-Some.is in
+    subst (IsDone nest scopes base new.ends offset) (same_Some known one (sym found ∙ there))
+    (is_done_now nest scopes group_scopes all base offset known c.args.walk.now new
+    (subst (λ whole. WalksOn nest scopes group_scopes all base offset known c.args.walk.now new whole lines) c.if-not-branch.false c.in_ok-walk_known.ensures))
 
-pub walk_once-returns : goal.walk_once-returns
-walk_once-returns t c =
+pub walk_inlet-returns : goal.walk_inlet-returns
+walk_inlet-returns t c =
     let nest = c.args.start.now.names.now in
     let scopes = c.args.start.now.ways.now.scopes in
+    let group_scopes = c.args.start.now.ways.now.group_scopes in
     let all = c.args.start.now.ways.now.known.items in
     let base = c.args.start.now.base in
     let offset = c.args.inlet.scope in
-    let known = c.args.known.now in
+    let known = c.in-Some.known.now in
     let lines = lines_of nest known.group known.port.now in
     let now = c.walk_known.new.walk in
-    walks_same nest scopes all base offset known c.args.walk.now now c.note_done.new.walk lines
-    (subst (λ whole. WalksOn nest scopes all base offset known c.args.walk.now now whole lines) c.if-not-branch.false c.in_ok-walk_known.ensures)
-    c.in_ok-note_done.ensures.ends c.in_ok-note_done.ensures.done
+    let new = c.note_done.new.walk in
+    let found : slice_get all c.args.inlet.input ≡ Some known =
+    ap (λ those. slice_get those c.args.inlet.input) (sym c.as_slice.ensures.value) ∙ sym c.at.ensures ∙ ap (option_map (λ one. one.now)) c.in-Some.is in
+    whole_of nest scopes group_scopes all base c.args.inlet known c.args.walk.now new true found
+    (walks_same nest scopes group_scopes all base offset known c.args.walk.now now new lines
+    (subst (λ whole. WalksOn nest scopes group_scopes all base offset known c.args.walk.now now whole lines) c.if-not-branch.false c.in_ok-walk_known.ensures)
+    c.note_done.ensures.ends c.note_done.ensures.done)

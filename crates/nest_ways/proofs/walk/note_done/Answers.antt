@@ -1,8 +1,16 @@
 use Rattle.std.proofs.Common.{refl}
+use Rattle.nest_ways.specs.declared.walk.Walk.{Walk}
 use Rattle.nest_ways.proofs.WalkLaws.{done_with}
 use Rattle.nest_ways.proofs.walk.note_done.Goals as goal
 
-pub returns-clause-done : goal.returns-clause-done
-returns-clause-done c =
-    done_with c.args.start.now.names.now c.args.start.now.ways.now.scopes c.args.start.now.ways.now.known.items c.args.start.now.base c.args.walk.now
-    (record { ends = c.args.walk.now.ends; done = c.push.new.self }) c.args.inlet c.requires.done c.requires.all refl c.in_ok-push.ensures.items
+pub returns-in-Some-clause-done : goal.returns-in-Some-clause-done
+returns-in-Some-clause-done c =
+    let nest = c.args.start.now.names.now in
+    let scopes = c.args.start.now.ways.now.scopes in
+    let group_scopes = c.args.start.now.ways.now.group_scopes in
+    let all = c.args.start.now.ways.now.known.items in
+    let number = c.in-Some.number in
+    let old = c.args.walk.now in
+    let new : Walk = record { ends = old.ends; done = c.put.new.self } in
+    done_with nest scopes group_scopes all c.args.start.now.base number old new c.args.inlet c.requires.done c.requires.all
+    (λ known found. c.number_of.ensures number known c.in-Some.is found) refl c.put.ensures

@@ -1,0 +1,5 @@
+use Rattle.nest_ways.specs.Walking.{AreEmpty}
+use Rattle.nest_ways.proofs.done.DoneInputs.new.Given as goal
+
+abbrev pub invariant-loop : goal.invariant-loop
+invariant-loop l = AreEmpty l.sets.items
