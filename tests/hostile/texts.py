@@ -214,6 +214,9 @@ def long_nests():
         ("names that lead to as many inputs as are kept, of twins in seven places", twin_places(7, 8, 1)),
         ("names that lead by two lines to as many inputs as are kept, of twins in seven places", twin_places(7, 8, 2)),
         ("names on levels that lead in no order to as many inputs as are kept, of twins in seven places", twin_levels(7, 8, 4)),
+        ("names that lead by two lines to 47 inputs of twins each, which are put in nine places", few_of_twins(9, 7, 47, 2)),
+        ("names that lead by six lines to 127 inputs of twins each, which are put in nine places", few_of_twins(9, 7, 127, 6)),
+        ("trees of names that lead by two lines each to 48 inputs of twins, in ten places", twin_trees(10, 6, 48, 2)),
         ("trees of names that lead by two lines each to 72 inputs of twins, in nine places", twin_trees(9, 7, 72, 2)),
         ("trees of names that lead by five lines each to 40 inputs of twins, in twelve places", twin_trees(12, 5, 40, 5)),
         ("trees of names that lead by two lines each to 16 inputs, in nine places", twin_trees(9, 1, 16, 2)),
@@ -510,6 +513,27 @@ def twin_places(places, inner, lines):
     names = (LONGEST - len(text + outer + tail)) // (12 * lines + 12)
     text += "".join(f"in {short_name(number)}->_.{orders[(number + line) % len(orders)]}\n" for number in range(names) for line in range(lines))
     return (text + outer + "".join(f"in z->_.{short_name(number)}\n" for number in range(names)) + tail).encode()
+
+
+def few_of_twins(places, inner, inputs, lines):
+    """Many names that lead by so many lines each to so many inputs of twins, in so many places; and an input beside them in each place that
+    leads to one more than are kept."""
+    rows = -(-(KEPT + 1) // inner)
+    leading = [(twin, number) for number in range(rows) for twin in range(1, inner + 1)]
+    text = "group J\ninstance d:M\nend\n" + "".join(f"in {name_of(number)}->d.{name_of(number)}\n" for number in range(rows))
+    text += "group H\n" + "".join(f"instance {'_' * twin}:J\nend\n" for twin in range(1, inner + 1))
+    orders = "bcdefgijklmnopqrsuv"
+    few = leading[:inputs]
+    for seed, order in enumerate(orders):
+        random.Random(seed).shuffle(few)
+        text += "".join(f"in {order}->{'_' * twin}.{name_of(number)}\n" for twin, number in few)
+    text += "".join(f"in A->{'_' * twin}.{name_of(number)}\n" for twin, number in leading) + "group T\ninstance _:H\nend\nin A->_.A\n"
+    outer = "group S\ninstance _:T\nend\nin z->_.A\n"
+    tail = "group G\n" + "".join(f"instance {'_' * place}:S\nend\nin x->{'_' * place}.z\n" for place in range(1, places + 1))
+    tail += with_unit(unit_with(rows + 1)) + "instance g:G\nend\n" + "connect a.y->g.x\n" * (2_048 // ((places + inner - 1) * rows))
+    names = (LONGEST - len(text + outer + tail)) // (12 * lines + 12)
+    text += "".join(f"in {short_name(number)}->_.{orders[(number + line) % len(orders)]}\n" for number in range(names) for line in range(lines))
+    return (text + outer + "".join(f"in z->_.{short_name(number)}\n" for number in shuffled(names, 3)) + tail).encode()
 
 
 def twin_levels(places, inner, levels):

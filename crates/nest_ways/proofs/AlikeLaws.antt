@@ -1,4 +1,4 @@
--- Scopes that are the same, by tables of the first ones.
+-- Scopes that are the same, and those inside instances, by tables.
 use Rattle.std.proofs.Common.{◌≡◌, ◌+◌, ℕ, List, [], ◌∷◌, ◌++◌, length, Option, Some, None, refl, sym, ap, ◌∙◌, subst}
 use Rattle.std.specs.Prelude.{slice_get}
 use Rattle.std.specs.Option.{option_and_then, option_map, option_to_list, unwrap_or}
@@ -7,8 +7,9 @@ use Rattle.nest_text.specs.declared.nest.Nest.{Nest}
 use Rattle.nest_names.specs.Flattening.{spot_in}
 use Rattle.nest_names.specs.declared.scope.Scope.{Scope}
 use Rattle.nest_names.specs.declared.scope.Spot.{Spot}
-use Rattle.nest_ways.specs.Reaching.{AreAlike, AreAllAlike, IsAlike, ReadsAlike, input_at, ins_of}
+use Rattle.nest_ways.specs.Reaching.{AreAlike, AreAllAlike, AreAllInside, AreInside, IsAlike, LeadsTo, ReadsAlike, input_at, ins_of}
 use Rattle.nest_ways.specs.declared.ends.End.{End}
+use Rattle.nest_ways.specs.declared.scopes.Inner.{Inner}
 
 -- ---- Tables
 
@@ -29,6 +30,20 @@ all_alike_more scopes lists lists' group firsts are long is more place all there
 
 pub none_alike : (scopes : List Scope) (group : ℕ) → AreAlike scopes group []
 none_alike scopes group offset first there = let never : None ≡ Some first = there in absurd (cc)
+
+-- ---- Scopes inside instances
+
+pub inside_more : (scopes : List Scope) (group : ℕ) (inner inner' : List Inner) (one : Inner) → AreInside scopes group inner
+    → LeadsTo scopes group one.name.now one.place one.offset → inner' ≡ inner ++ one ∷ [] → AreInside scopes group inner'
+inside_more scopes group inner inner' one are leads more k each there =
+    at_push (λ (k : ℕ) (each : Inner). LeadsTo scopes group each.name.now each.place each.offset) inner one are leads k each
+    (sym (ap (λ all. slice_get all k) more) ∙ there)
+
+pub all_inside_more : (scopes : List Scope) (lists lists' : List (List Inner)) (group : ℕ) (inner : List Inner) → AreAllInside scopes lists
+    → length lists ≡ group → AreInside scopes group inner → lists' ≡ lists ++ inner ∷ [] → AreAllInside scopes lists'
+all_inside_more scopes lists lists' group inner are long is more place all there =
+    at_push (AreInside scopes) lists inner are (subst (λ n. AreInside scopes n inner) (sym long) is) place all
+    (sym (ap (λ those. slice_get those place) more) ∙ there)
 
 -- ---- Inputs
 

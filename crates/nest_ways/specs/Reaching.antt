@@ -10,6 +10,7 @@ use Rattle.nest_names.specs.Flattening.{binds_of, distinct, expand, inside, plac
 use Rattle.nest_names.specs.declared.scope.Scope.{Scope}
 use Rattle.nest_names.specs.declared.scope.Spot.{Spot}
 use Rattle.nest_ways.specs.declared.ends.End.{End}
+use Rattle.nest_ways.specs.declared.scopes.Inner.{Inner}
 use Rattle.nest_ways.specs.declared.steps.Inside.{Inside}
 use Rattle.nest_ways.specs.declared.steps.Known.{Known}
 use Rattle.nest_ways.specs.declared.steps.Step.{Step}
@@ -94,6 +95,13 @@ abbrev pub LeadsTo : List Scope → ℕ → List ℕ → ℕ → ℕ → Type 0
 LeadsTo scopes group name place offset =
     (base : ℕ) (scope : Scope) → slice_get scopes base ≡ Some scope → scope.group ≡ Some group
     → slice_get scopes (base + offset) ≡ Some (inside scope name place)
+
+-- The scopes inside instances of the group stand where it is told, behind each scope of the group.
+abbrev pub AreInside : List Scope → ℕ → List Inner → Type 0
+AreInside scopes group inner = (k : ℕ) (one : Inner) → slice_get inner k ≡ Some one → LeadsTo scopes group one.name.now one.place one.offset
+
+abbrev pub AreAllInside : List Scope → List (List Inner) → Type 0
+AreAllInside scopes lists = (group : ℕ) (inner : List Inner) → slice_get lists group ≡ Some inner → AreInside scopes group inner
 
 -- ---- Steps
 

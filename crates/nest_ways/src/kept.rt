@@ -18,7 +18,7 @@ const MOST_KEPT: usize = 128;
 
 /// Puts the inputs of components that a step of an input of a group leads to, where they are known to be few.
 fn put_step(
-    scopes: &AllScopes,
+    scopes: &AllScopes<'_>,
     known: &[Known<'_>],
     guide: &mut Guide<'_>,
     group: usize,
@@ -53,7 +53,7 @@ fn put_step(
 /// The inputs of components that the steps of an input of a group lead to, where they are few. One step into a group is gone along instead.
 pub(crate) fn kept_ends(
     alloc: Global,
-    scopes: &AllScopes,
+    scopes: &AllScopes<'_>,
     known: &[Known<'_>],
     guide: &mut Guide<'_>,
     group: usize,

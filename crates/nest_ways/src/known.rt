@@ -23,7 +23,7 @@ const MOST_TARGETS: usize = MOST_WIRES + 1;
 fn add_known<'n>(
     alloc: Global,
     names: &NestNames<'n>,
-    scopes: &AllScopes,
+    scopes: &AllScopes<'n>,
     known: &mut Vec<Known<'n>>,
     guide: &mut Guide<'n>,
     group: usize,
@@ -55,7 +55,7 @@ fn add_known<'n>(
 fn know_line<'n>(
     alloc: Global,
     names: &NestNames<'n>,
-    scopes: &AllScopes,
+    scopes: &AllScopes<'n>,
     known: &mut Vec<Known<'n>>,
     guide: &mut Guide<'n>,
     depth: usize,
@@ -88,7 +88,7 @@ fn know_line<'n>(
 fn know<'n>(
     alloc: Global,
     names: &NestNames<'n>,
-    scopes: &AllScopes,
+    scopes: &AllScopes<'n>,
     known: &mut Vec<Known<'n>>,
     guide: &mut Guide<'n>,
     depth: usize,
@@ -111,7 +111,7 @@ fn know<'n>(
 fn know_target<'n>(
     alloc: Global,
     names: &NestNames<'n>,
-    scopes: &AllScopes,
+    scopes: &AllScopes<'n>,
     known: &mut Vec<Known<'n>>,
     guide: &mut Guide<'n>,
     group: Option<usize>,
@@ -139,7 +139,7 @@ fn know_target<'n>(
 fn know_targets<'n>(
     alloc: Global,
     names: &NestNames<'n>,
-    scopes: &AllScopes,
+    scopes: &AllScopes<'n>,
     known: &mut Vec<Known<'n>>,
     guide: &mut Guide<'n>,
     group: Option<usize>,
@@ -163,7 +163,7 @@ fn know_targets<'n>(
 fn know_all<'n>(
     alloc: Global,
     names: &NestNames<'n>,
-    scopes: &AllScopes,
+    scopes: &AllScopes<'n>,
     known: &mut Vec<Known<'n>>,
     guide: &mut Guide<'n>,
 ) -> Result<(), NoMemory>
@@ -180,7 +180,7 @@ fn know_all<'n>(
 /// What is known of the inputs to which the connections of a nest lead.
 #[derive(Drop)]
 pub struct Ways<'n> {
-    pub scopes: AllScopes,
+    pub scopes: AllScopes<'n>,
     pub group_scopes: GroupScopes,
     pub known: Vec<Known<'n>>,
 }
@@ -191,9 +191,8 @@ impl<'n> Ways<'n> {
         ensures { IfOk result (λ made. AreKnown names.now made.0.scopes made.0.known.items) }
     {
         let (scopes, mut guide) = guided_scopes(alloc, names, LEVELS, &top(alloc))?;
-        let groups = names.groups().len();
-        let scopes = AllScopes::new(alloc, scopes, &guide, groups)?;
-        let group_scopes = GroupScopes::new(alloc, scopes.as_slice(), groups)?;
+        let scopes = AllScopes::new(alloc, names, scopes, &guide)?;
+        let group_scopes = GroupScopes::new(alloc, scopes.as_slice(), names.groups().len())?;
         let mut known = Vec::new(alloc);
         know_all(alloc, names, &scopes, &mut known, &mut guide)?;
         let ways = Ways {

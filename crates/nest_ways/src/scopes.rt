@@ -1,32 +1,45 @@
 //! All scopes of a nest, and which stands where.
 //!
-//! Scopes of one group have the same scopes inside them, so what is inside one is told by how many places further on it stands. Two of
-//! these may be the same scope, as the names of instances around them may join to one prefix.
+//! Scopes of one group have the same scopes inside them, so what is inside one is told by how many places further on it stands: that is
+//! tried once for each instance. Two of these may be the same scope, as the names of instances around them may join to one prefix.
 ghost use Rattle.std.specs.Prelude.{◌≡◌, ◌++◌, ◌+◌, ℕ, List, Some, IfOk, IsTrue, map, slice_get};
 ghost use Rattle.std.specs.Option.{option_map};
 ghost use Rattle.nest_names.specs.Flattening.{inside};
-ghost use Rattle.nest_ways.specs.Reaching.{AreAlike, AreAllAlike, IsAlike, LeadsTo};
+ghost use Rattle.nest_names.specs.declared.scope.Scope.{Scope as Scopes};
+ghost use Rattle.nest_ways.specs.Reaching.{AreAlike, AreAllAlike, AreAllInside, AreInside, IsAlike, LeadsTo};
 
 use crate::guide::Guide;
 use fixed_words::{List, NoMemory};
-use nest_names::{Scope, at, same_group, same_scope};
+use nest_names::{NestNames, Scope, at, same_group, same_scope};
 use std::alloc::Global;
 use std::marker::Model;
-use unit_tree::Name;
+use unit_tree::{Instance, Name};
 
 /// All scopes of a nest, an instance before those inside it. Contracts see the list.
 #[derive(Drop)]
-pub struct AllScopes {
+pub struct AllScopes<'n> {
     scopes: List<Scope>,
     /// For each group, by how many places further on a scope is: by how many the first one is that is the same.
     firsts: Vec<Vec<u32>>,
+    /// For each group, where the scopes inside its instances stand.
+    inner: Vec<Vec<Inner<'n>>>,
 }
 
-impl Model for AllScopes {
+/// Where the scope inside an instance of a group stands.
+#[derive(Clone, Copy)]
+pub struct Inner<'n> {
+    name: &'n Name,
+    /// The place of the group that the instance is one of.
+    place: usize,
+    /// How many places further on, behind each scope of the group.
+    offset: u32,
+}
+
+impl<'n> Model for AllScopes<'n> {
     ghost use Rattle.std.specs.Prelude.{List, map};
     ghost use Rattle.std.specs.Coded.{codes};
     ghost use Rattle.nest_names.specs.declared.scope.Scope.{Scope};
-    ghost use Rattle.nest_ways.specs.Reaching.{AreAllAlike};
+    ghost use Rattle.nest_ways.specs.Reaching.{AreAllAlike, AreAllInside};
 
     ghost Value = { List Scope };
 
@@ -34,7 +47,8 @@ impl Model for AllScopes {
 
     ghost view = { λ all. all.scopes };
 
-    ghost invariant = { λ all. AreAllAlike all.scopes (map (λ one. one.items) all.firsts.items) };
+    ghost invariant = { λ all. AreAllAlike all.scopes (map (λ one. one.items) all.firsts.items)
+        × AreAllInside all.scopes (map (λ one. one.items) all.inner.items) };
 }
 
 /// Whether the scopes so many and so many places behind a scope are the same.
@@ -117,36 +131,6 @@ fn firsts_of_groups(
     Ok(lists)
 }
 
-impl AllScopes {
-    pub(crate) fn new(
-        alloc: Global,
-        scopes: List<Scope>,
-        guide: &Guide<'_>,
-        groups: usize,
-    ) -> Result<AllScopes, NoMemory>
-        ensures { IfOk result (λ all. all ≡ scopes) }
-    {
-        let firsts = firsts_of_groups(alloc, scopes.as_slice(), guide, groups)?;
-        Ok(AllScopes { scopes, firsts })
-    }
-
-    pub(crate) fn as_slice(&self) -> &[Scope]
-        ensures { result.now ≡ self.now }
-    {
-        self.scopes.as_slice()
-    }
-
-    /// For each scope inside one of a group, the first one that is the same.
-    pub(crate) fn firsts(&self, group: usize) -> &[u32]
-        ensures { AreAlike self.now group result.now }
-    {
-        match at(self.firsts.as_slice(), group) {
-            Some(firsts) => firsts.as_slice(),
-            None => &[],
-        }
-    }
-}
-
 /// What is behind a front.
 fn behind<'b>(whole: &'b [u8], front: &[u8]) -> Option<&'b [u8]>
     ensures { (rest : List ℕ) → option_map (λ found. found.now) result ≡ Some rest → whole.now ≡ front.now ++ rest }
@@ -171,7 +155,7 @@ fn is_inside(inner: &Scope, scope: &Scope, name: &Name, place: usize) -> bool
 }
 
 /// Whether the scope inside an instance stands so many places behind a scope.
-pub(crate) fn leads_from(
+fn leads_from(
     scopes: &[Scope],
     base: usize,
     offset: usize,
@@ -191,13 +175,7 @@ pub(crate) fn leads_from(
 }
 
 /// Whether the scope inside an instance of a group stands so many places behind each scope of the group.
-pub(crate) fn leads(
-    scopes: &[Scope],
-    group: usize,
-    name: &Name,
-    place: usize,
-    offset: usize,
-) -> bool
+fn leads(scopes: &[Scope], group: usize, name: &Name, place: usize, offset: usize) -> bool
     ensures { IsTrue result → LeadsTo scopes.now group name.now place offset }
 {
     for (base, scope) in scopes.iter().enumerate() {
@@ -209,4 +187,125 @@ pub(crate) fn leads(
         }
     }
     true
+}
+
+/// Where the scope inside an instance of a group stands. Nothing of a component, which has none.
+fn inner_of<'n>(
+    names: &NestNames<'n>,
+    scopes: &[Scope],
+    guide: &Guide<'_>,
+    group: usize,
+    instance: &'n Instance,
+) -> Option<Inner<'n>>
+    ensures { (one : _) → result ≡ Some one → LeadsTo scopes.now group one.name.now one.place one.offset }
+{
+    let name = &instance.name;
+    let place = names.group_place(instance.unit.as_slice())?;
+    let offset = guide.offset(group, name.as_slice())?;
+    if leads(scopes, group, name, place, offset as usize) {
+        return Some(Inner {
+            name,
+            place,
+            offset,
+        });
+    }
+    None
+}
+
+/// Where the scopes inside the instances of a group stand.
+fn inner_in<'n>(
+    alloc: Global,
+    names: &NestNames<'n>,
+    scopes: &[Scope],
+    guide: &Guide<'_>,
+    group: usize,
+) -> Result<Vec<Inner<'n>>, NoMemory>
+    ensures { IfOk result (λ made. AreInside scopes.now group made.items) }
+{
+    let mut inner = Vec::new(alloc);
+    for instance in names.instances(Some(group)) {
+        if let Some(one) = inner_of(names, scopes, guide, group, instance) {
+            inner.push(one)?;
+        }
+    }
+    Ok(inner)
+}
+
+/// For each group, where the scopes inside its instances stand.
+fn inner_of_groups<'n>(
+    alloc: Global,
+    names: &NestNames<'n>,
+    scopes: &[Scope],
+    guide: &Guide<'_>,
+) -> Result<Vec<Vec<Inner<'n>>>, NoMemory>
+    ensures { IfOk result (λ made. AreAllInside scopes.now (map (λ one. one.items) made.items)) }
+{
+    let mut lists = Vec::new(alloc);
+    for group in 0..names.groups().len() {
+        let inner = inner_in(alloc, names, scopes, guide, group)?;
+        lists.push(inner)?;
+    }
+    Ok(lists)
+}
+
+fn same_name(one: &Name, other: &Name) -> bool
+    ensures { IsTrue result → one.now ≡ other.now }
+{
+    one.as_slice() == other.as_slice()
+}
+
+/// How many places further on the scope inside the instance of a name stands, which is one of the group at a place.
+fn offset_of(inner: &[Inner<'_>], name: &Name, place: usize) -> Option<u32>
+    ensures { (scopes : List Scopes) (group offset : ℕ) → result ≡ Some offset → AreInside scopes group inner.now
+        → LeadsTo scopes group name.now place offset }
+{
+    for one in inner {
+        if one.place == place && same_name(one.name, name) {
+            return Some(one.offset);
+        }
+    }
+    None
+}
+
+impl<'n> AllScopes<'n> {
+    pub(crate) fn new(
+        alloc: Global,
+        names: &NestNames<'n>,
+        scopes: List<Scope>,
+        guide: &Guide<'_>,
+    ) -> Result<AllScopes<'n>, NoMemory>
+        ensures { IfOk result (λ all. all ≡ scopes) }
+    {
+        let firsts = firsts_of_groups(alloc, scopes.as_slice(), guide, names.groups().len())?;
+        let inner = inner_of_groups(alloc, names, scopes.as_slice(), guide)?;
+        Ok(AllScopes {
+            scopes,
+            firsts,
+            inner,
+        })
+    }
+
+    pub(crate) fn as_slice(&self) -> &[Scope]
+        ensures { result.now ≡ self.now }
+    {
+        self.scopes.as_slice()
+    }
+
+    /// For each scope inside one of a group, the first one that is the same.
+    pub(crate) fn firsts(&self, group: usize) -> &[u32]
+        ensures { AreAlike self.now group result.now }
+    {
+        match at(self.firsts.as_slice(), group) {
+            Some(firsts) => firsts.as_slice(),
+            None => &[],
+        }
+    }
+
+    /// How many places further on the scope inside an instance of a group stands, behind each scope of the group.
+    pub(crate) fn offset(&self, group: usize, name: &Name, place: usize) -> Option<u32>
+        ensures { (offset : ℕ) → result ≡ Some offset → LeadsTo self.now group name.now place offset }
+    {
+        let inner = at(self.inner.as_slice(), group)?;
+        offset_of(inner.as_slice(), name, place)
+    }
 }

@@ -8,7 +8,7 @@ ghost use Rattle.nest_ways.specs.declared.steps.Step.TheVariants as step_is;
 
 use crate::ends::{End, same_line};
 use crate::guide::Guide;
-use crate::scopes::{AllScopes, leads};
+use crate::scopes::AllScopes;
 use fixed_words::{List, NoMemory};
 use nest_names::{NestNames, at};
 use nest_text::Bind;
@@ -132,7 +132,7 @@ fn past(inner: &Known<'_>, step: Inside) -> Option<Inside>
 /// Where a line leads that leads into a group.
 fn inside_step<'n>(
     names: &NestNames<'n>,
-    scopes: &AllScopes,
+    scopes: &AllScopes<'n>,
     known: &[Known<'n>],
     guide: &Guide<'n>,
     group: usize,
@@ -146,10 +146,7 @@ fn inside_step<'n>(
     let name = &bind.inner.instance;
     let input = find(known, guide, place, bind.inner.port.as_slice())?;
     let inner = at(known, input)?;
-    let offset = guide.offset(group, name.as_slice())?;
-    if !leads(scopes.as_slice(), group, name, place, offset as usize) {
-        return None;
-    }
+    let offset = scopes.offset(group, name, place)?;
     let height = inner.height.checked_add(1)?;
     let Ok(input) = u32::try_from(input) else {
         return None;
@@ -162,7 +159,7 @@ fn inside_step<'n>(
 /// Where a line of a group leads.
 fn step_of<'n>(
     names: &NestNames<'n>,
-    scopes: &AllScopes,
+    scopes: &AllScopes<'n>,
     known: &[Known<'n>],
     guide: &Guide<'n>,
     group: usize,
@@ -190,7 +187,7 @@ pub(crate) struct Steps {
 pub(crate) fn steps_of<'n>(
     alloc: Global,
     names: &NestNames<'n>,
-    scopes: &AllScopes,
+    scopes: &AllScopes<'n>,
     known: &[Known<'n>],
     guide: &Guide<'n>,
     group: usize,

@@ -28,7 +28,7 @@ returns c made is =
     let place : inner.group ≡ c.args.place = ap (λ (k : Known). k.group) (sym same) ∙ finds.of_group in
     let high : c.in_ok-height.height ≡ inner.height + 1 = some_is _ _ c.checked_add.result c.in_ok-height.height c.in_ok-height.was c.checked_add.ensures in
     let leads : LeadsTo scopes group bind.inner.instance c.args.place offset =
-    subst (λ those. LeadsTo those group bind.inner.instance c.args.place offset) c.as_slice-3.ensures (c.leads.ensures c.if-not-leads.false) in
+    c.offset.ensures offset c.in_ok-offset.was in
     let here : slice_get all step.input ≡ Some inner = ap (slice_get all) c.in-Ok.ensures.1 ∙ there in
     let led : LeadsInside nest scopes all group c.in_ok-height.height step bind =
     leads_inside nest scopes all group c.in_ok-height.height step bind inner here (omega (arith, high))

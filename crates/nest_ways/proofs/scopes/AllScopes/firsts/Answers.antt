@@ -14,4 +14,4 @@ returns-in-Some c =
     slice_get-map (λ one. one.items) lists c.args.group ∙ ap (option_map (λ one. one.items)) found in
     subst (AreAlike c.args.self.now c.args.group) (sym c.as_slice-in-Some.ensures.value)
     (subst (λ scopes. AreAlike scopes c.args.group c.in-Some.firsts.now.items) c.self.view_is
-    (c.self.invariant c.args.group c.in-Some.firsts.now.items listed))
+    (c.self.invariant.0 c.args.group c.in-Some.firsts.now.items listed))
