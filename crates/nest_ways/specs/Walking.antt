@@ -33,7 +33,7 @@ IsInletAt scopes all base inlet = (known : Known) → slice_get all inlet.input 
 
 -- ---- In which scopes
 
--- The scope of the group with this number stands at the place.
+-- Under the number the table has the place, for the group.
 abbrev pub IsNumbered : GroupScopes → ℕ → ℕ → ℕ → Type 0
 IsNumbered group_scopes group number place = slice_get (inside_of (map (λ one. one.items) group_scopes.places.items) group) number ≡ Some place
 
@@ -57,7 +57,7 @@ IsDone nest scopes base ends offset known =
     (scope : Scope) (depth : ℕ) (one : Spot) → slice_get scopes (base + offset) ≡ Some scope → scope.group ≡ Some known.group → known.height ≤ depth
     → IsIn one (ends_of nest depth scope (lines_of nest known.group known.port.now)) → IsIn one (inputs_at nest scopes base ends)
 
--- What is noted as done is done: an input in a scope of its group.
+-- Where the set of an input has the number of a scope of its group, all that the input leads to there was put.
 abbrev pub AreDone : Nest → List Scope → GroupScopes → List Known → ℕ → Walk → Type 0
 AreDone nest scopes group_scopes all base walk =
     (input number offset : ℕ) (known : Known) → HasAt walk.done.sets.items input number → slice_get all input ≡ Some known
@@ -95,7 +95,7 @@ IsBehind start offset group = IsScopeAt start.ways.now.scopes (start.base + offs
 abbrev pub IsWalkFrom : Start → Walk → Type 0
 IsWalkFrom start walk = IsWalk start.names.now start.ways.now.scopes start.ways.now.group_scopes start.ways.now.known.items start.base start.group walk
 
--- So many places behind that of the start stands the scope of the group with this number.
+-- The same of the place so many behind that of the start.
 abbrev pub IsNumberedFrom : Start → ℕ → ℕ → ℕ → Type 0
 IsNumberedFrom start offset group number = IsNumbered start.ways.now.group_scopes group number (start.base + offset)
 

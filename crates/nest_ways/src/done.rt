@@ -7,6 +7,7 @@ use nest_names::{Scope, at};
 use std::alloc::Global;
 
 /// The most scopes that a set can hold. No group has more: each of its scopes has a component of its own, and a system has no more of them.
+/// One of a higher number would never be in the set: the input would be followed there again.
 const MOST_SCOPES: u32 = 64;
 
 /// Some of the scopes of a group, told by their numbers.
@@ -77,12 +78,12 @@ impl DoneInputs {
     }
 }
 
-/// The scopes of each group, by numbers.
+/// The scopes of each group, by numbers. No more rests on it than that a number of a group is that of one place.
 #[derive(Drop)]
 pub struct GroupScopes {
     /// For each group, the places of its scopes in the list of all scopes.
     places: Vec<Vec<usize>>,
-    /// For each scope, which one of its group it is. Nothing rests on it: it is compared with the places.
+    /// For each scope, which one of its group it is, which is compared with the places.
     numbers: Vec<u32>,
 }
 

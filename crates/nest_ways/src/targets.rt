@@ -9,8 +9,8 @@ use crate::done::DoneInputs;
 use crate::ends::End;
 use crate::guide::Guide;
 use crate::known::Ways;
-use crate::steps::{find, only_inside};
-use crate::walk::{Inlet, Start, Walk, kept_to_put, walk_inlet};
+use crate::steps::find;
+use crate::walk::{Inlet, Start, Walk, is_put_at_once, walk_inlet};
 use fixed_words::{List, NoMemory};
 use nest_names::{
     LEVELS, NestNames, Scope, Spot, at, distinct, inside, put_bind, reach, same_scope, spot_of,
@@ -120,25 +120,11 @@ fn first_inlet(ways: &Ways<'_>, guide: &Guide<'_>, group: usize, port: &[u8]) ->
     Some(Inlet { scope: 0, input })
 }
 
-/// Whether a walk from an input puts at once what is kept of it, or of the input that its one step leads to.
-fn is_put_at_once(ways: &Ways<'_>, input: u32) -> bool {
-    let Some(known) = at(ways.known.as_slice(), input as usize) else {
-        return true;
-    };
-    let Some(inside) = only_inside(known.steps.as_slice()) else {
-        return kept_to_put(known).is_some();
-    };
-    match at(ways.known.as_slice(), inside.input as usize) {
-        Some(inner) => kept_to_put(inner).is_some(),
-        None => true,
-    }
-}
-
 /// Room to note the inputs that are done in a walk from an input: for all that are known, or for none where the walk puts all at once.
 fn none_done(alloc: Global, ways: &Ways<'_>, input: u32) -> Result<DoneInputs, NoMemory>
     ensures { IfOk result (λ made. AreEmpty made.sets.items) }
 {
-    if is_put_at_once(ways, input) {
+    if is_put_at_once(ways.known.as_slice(), input) {
         DoneInputs::new(alloc, 0)
     } else {
         DoneInputs::new(alloc, ways.known.len())
@@ -178,6 +164,7 @@ fn walk_from<'n>(
         base,
         group,
         most,
+        along: false,
     };
     let whole = walk_inlet(&start, guide, &mut walk, inlet)?;
     let Some(spots) = inputs(alloc, names, scopes, base, walk.ends.as_slice())? else {

@@ -3,8 +3,8 @@
 //! What is kept of an input is put; where nothing is kept, its steps are gone along. Then it is done: where a step leads to it again in that
 //! scope, nothing more is put. So a walk may come to an input by many steps, and goes on from it once in each scope.
 //!
-//! Where much is kept and steps are few, those are gone along too: of inputs that lead to much the same, most steps lead to inputs that are
-//! done, and that is told sooner than that all was put before.
+//! Where much is kept and steps are few, those are gone along too, and so is all inside: of inputs that lead to much the same, most steps lead
+//! to inputs that are done, and that is told sooner than that all was put before. How a walk goes on decides its time alone: no clause tells.
 ghost use Rattle.std.specs.Prelude.{◌≡◌, ◌∷◌, ◌+◌, [], ℕ, List, Some, IfOk, IsTrue, slice_get};
 ghost use Rattle.std.specs.Option.{option_map, option_to_list};
 ghost use Rattle.nest_text.specs.declared.nest.Bind.{Bind};
@@ -18,13 +18,15 @@ use crate::done::DoneInputs;
 use crate::ends::{End, first_same, put_onward, put_within};
 use crate::guide::Guide;
 use crate::known::Ways;
-use crate::steps::{Inside, Known, Step};
+use crate::steps::{Inside, Known, Step, only_inside};
 use fixed_words::{List, NoMemory};
 use nest_names::{NestNames, at};
 
-/// Steps are few where so many inputs are kept for each of them, or more. An input that leads to fewer may be come to in many more places,
-/// and to put those takes no longer than to go along.
-const KEPT_FOR_EACH: usize = 24;
+/// Fewer kept inputs than so many are put, however few steps there are: an input that leads to fewer may be come to in many more places.
+const FEW_KEPT: usize = 24;
+
+/// Steps are few where so many inputs are kept for each of them, or more.
+const KEPT_FOR_EACH: usize = 4;
 
 /// A scope from which others are told, its group, and what is known of the inputs of groups.
 #[derive(Clone, Copy)]
@@ -35,6 +37,8 @@ pub struct Start<'a, 'n> {
     pub group: usize,
     /// The most inputs of components that may be reached.
     pub most: usize,
+    /// Whether the walk goes along inside an input that keeps inputs and has few steps.
+    pub along: bool,
 }
 
 /// An input of a group in a scope.
@@ -91,15 +95,32 @@ fn note_done(start: &Start<'_, '_>, walk: &mut Walk, inlet: Inlet)
     }
 }
 
-/// What is kept of an input, where it is put: nothing where steps are few.
-pub(crate) fn kept_to_put<'k>(known: &'k Known<'_>) -> Option<&'k [End]>
+/// What is kept of an input, where it is put: nothing where it has few steps for that.
+fn kept_to_put<'k>(known: &'k Known<'_>) -> Option<&'k [End]>
     ensures { (kept : List Ends) → option_map (λ found. found.now) result ≡ Some kept → known.now.ends ≡ Some kept }
 {
     let kept = known.ends.as_ref()?;
-    if kept.len() >= known.steps.len().saturating_mul(KEPT_FOR_EACH) {
+    let few_steps = kept.len() >= known.steps.len().saturating_mul(KEPT_FOR_EACH);
+    if few_steps && kept.len() >= FEW_KEPT {
         return None;
     }
     Some(kept.as_slice())
+}
+
+/// Whether a walk from an input puts at once what is kept of it, or of the input that its one step leads to: then it comes to none again, and
+/// needs no room to note what is done. This has to say what [`walk_known`] does: a walk without room takes long, which only texts that are
+/// made for it tell.
+pub(crate) fn is_put_at_once(known: &[Known<'_>], input: u32) -> bool {
+    let Some(first) = at(known, input as usize) else {
+        return true;
+    };
+    let Some(inside) = only_inside(first.steps.as_slice()) else {
+        return kept_to_put(first).is_some();
+    };
+    match at(known, inside.input as usize) {
+        Some(inner) => kept_to_put(inner).is_some(),
+        None => true,
+    }
 }
 
 /// Puts the inputs of components that are kept of an input.
@@ -239,10 +260,14 @@ fn walk_known<'n>(
     ensures { IfOk result (λ whole. GoesOn start.now inlet.scope known.now walk.old walk.new whole
         (lines_of start.now.names.now known.now.group known.now.port.now)) }
 {
-    match kept_to_put(known) {
-        Some(kept) => put_kept(start, guide, walk, inlet, known, kept),
-        None => walk_steps(start, guide, walk, inlet, known),
+    if !start.along {
+        if let Some(kept) = kept_to_put(known) {
+            return put_kept(start, guide, walk, inlet, known, kept);
+        }
     }
+    let along = start.along || known.ends.is_some();
+    let start = Start { along, ..*start };
+    walk_steps(&start, guide, walk, inlet, known)
 }
 
 /// Puts the inputs of components that an input of a group leads to, where it is not done, until there are more than there may be. Tells
