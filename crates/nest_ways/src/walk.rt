@@ -23,10 +23,10 @@ use fixed_words::{List, NoMemory};
 use nest_names::{NestNames, at};
 
 /// Fewer kept inputs than so many are put, however few steps there are: an input that leads to fewer may be come to in many more places.
-const FEW_KEPT: usize = 24;
+const FEW_KEPT: usize = 40;
 
 /// Steps are few where so many inputs are kept for each of them, or more.
-const KEPT_FOR_EACH: usize = 4;
+const KEPT_FOR_EACH: usize = 12;
 
 /// A scope from which others are told, its group, and what is known of the inputs of groups.
 #[derive(Clone, Copy)]
