@@ -214,11 +214,13 @@ def long_nests():
         ("names that lead to as many inputs as are kept, of twins in seven places", twin_places(7, 8, 1)),
         ("names that lead by two lines to as many inputs as are kept, of twins in seven places", twin_places(7, 8, 2)),
         ("names on levels that lead in no order to as many inputs as are kept, of twins in seven places", twin_levels(7, 8, 4)),
-        ("names that lead by two lines to 47 inputs of twins each, which are put in nine places", few_of_twins(9, 7, 47, 2)),
-        ("names that lead by six lines to 127 inputs of twins each, which are put in nine places", few_of_twins(9, 7, 127, 6)),
-        ("trees of names that lead by two lines each to 48 inputs of twins, in ten places", twin_trees(10, 6, 48, 2)),
+        ("names that lead by two lines to 39 inputs of twins each, which are put in nine places", few_of_twins(9, 7, 39, 2)),
+        ("names that lead by six lines to 71 inputs of twins each, which are put in nine places", few_of_twins(9, 7, 71, 6)),
+        ("trees of names that lead by two lines each to 40 inputs of twins, in twelve places", twin_trees(12, 5, 40, 2)),
         ("trees of names that lead by two lines each to 72 inputs of twins, in nine places", twin_trees(9, 7, 72, 2)),
         ("trees of names that lead by five lines each to 40 inputs of twins, in twelve places", twin_trees(12, 5, 40, 5)),
+        ("trees of names that lead to all but one of 48 inputs of twins each, in ten places", twin_mixtures(10, 6, 48)),
+        ("trees of names that lead to all but one of 72 inputs of twins each, in nine places", twin_mixtures(9, 7, 72)),
         ("trees of names that lead by two lines each to 16 inputs, in nine places", twin_trees(9, 1, 16, 2)),
         ("lines of a group in as many scopes as there may be", lines_in_scopes()),
         ("outputs that are connected", connected_outputs()),
@@ -578,6 +580,42 @@ def twin_trees(places, inner, inputs, steps):
     more = max(KEPT + 1 - reached, 0)
     text += "".join(starts) + "".join(f"in x->{'_' * place}.z\n" for place in range(1, more + 1))
     return (text + with_unit(unit_with(rows + 1)) + "instance g:G\nend\n" + "connect a.y->g.x\n" * (2_048 // (reached + more))).encode()
+
+
+def twin_mixtures(places, inner, inputs):
+    """Names on five levels, each of which leads by two lines to names of the next level, in no order, and at last to one of 30 inputs that lead
+    to all but one of so many inputs of twins each; some connections lead to those of the first level in each of so many places. A first one
+    leads to those of the fourth level in another order, so that what is known of names stands in no order in which walks come to them."""
+    rows = -(-inputs // inner)
+    leading = [(twin, number) for number in range(rows) for twin in range(1, inner + 1)][:inputs]
+    orders = [letter for letter in string.ascii_letters if letter not in "thabyxz"][:30]
+    text = "group J\ninstance d:M\nend\n" + "".join(f"in {name_of(number)}->d.{name_of(number)}\n" for number in range(rows + 1))
+    text += "group H\n" + "".join(f"instance {'_' * twin}:J\nend\n" for twin in range(1, inner + 1))
+    for seed, order in enumerate(orders):
+        few = random.Random(seed).sample(leading, inputs - 1)
+        text += "".join(f"in {order}->{'_' * twin}.{name_of(number)}\n" for twin, number in few)
+    text += f"in z->_.{name_of(rows)}\n"
+    first = (LONGEST - len(text) - 8_000) // (28 * 15 + 24 * 16 + 13 * 8 + places * (12 + places // 2))
+    led, inside = orders, "H"
+    for level in reversed(range(5)):
+        own = [short_name(number) for number in shuffled(first * 2**level, level)]
+        text += f"group T{level}\ninstance _:{inside}\nend\nin z->_.z\n" + ("in y->_.y\n" if level < 2 else "")
+        if level == 2:
+            text += "".join(f"in y->_.{name}\n" for name in random.Random(7).sample(led, len(led)))
+        if level == 4:
+            text += "".join(f"in {name}->_.{orders[place % len(orders)]}\n" * 2 for place, name in enumerate(own))
+        else:
+            order = shuffled(2 * len(own), level + 5)
+            text += "".join(f"in {name}->_.{led[order[2 * place + line] % len(led)]}\n" for place, name in enumerate(own) for line in range(2))
+        led, inside = own, f"T{level}"
+    text += "group G\n" + "".join(f"instance {'_' * place}:T0\nend\n" for place in range(1, places + 1)) + "in y->_.y\n"
+    starts = [f"in x->{'_' * place}.{name}\n" for place in range(1, places + 1) for name in led]
+    random.Random(places).shuffle(starts)
+    reached = (places + inner - 1) * rows
+    more = max(KEPT + 1 - reached, 0)
+    text += "".join(starts) + "".join(f"in x->{'_' * place}.z\n" for place in range(1, more + 1))
+    wires = "connect a.y->g.y\n" + "connect a.y->g.x\n" * ((2_048 - inner * rows) // (reached + more))
+    return (text + with_unit(unit_with(rows + 1)) + "instance g:G\nend\n" + wires).encode()
 
 
 def place_name(place):
