@@ -78,7 +78,7 @@ impl DoneInputs {
     }
 }
 
-/// The scopes of each group, by numbers. No more rests on it than that a number of a group is that of one place.
+/// The scopes of each group, by numbers. What rests on it is only that a number of a group is that of one place.
 #[derive(Drop)]
 pub struct GroupScopes {
     /// For each group, the places of its scopes in the list of all scopes.

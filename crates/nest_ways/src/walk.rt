@@ -3,8 +3,9 @@
 //! What is kept of an input is put; where nothing is kept, its steps are gone along. Then it is done: where a step leads to it again in that
 //! scope, nothing more is put. So a walk may come to an input by many steps, and goes on from it once in each scope.
 //!
-//! Where much is kept and steps are few, those are gone along too, and so is all inside: of inputs that lead to much the same, most steps lead
-//! to inputs that are done, and that is told sooner than that all was put before. How a walk goes on decides its time alone: no clause tells.
+//! Where much is kept and steps are few, those are gone along too, and inside such an input where less is kept: of inputs that lead to much the
+//! same, most steps lead to inputs that are done, and that is told sooner than that all was put before. How a walk goes on decides its time
+//! alone: no clause tells.
 ghost use Rattle.std.specs.Prelude.{◌≡◌, ◌∷◌, ◌+◌, [], ℕ, List, Some, IfOk, IsTrue, slice_get};
 ghost use Rattle.std.specs.Option.{option_map, option_to_list};
 ghost use Rattle.nest_text.specs.declared.nest.Bind.{Bind};
@@ -22,7 +23,8 @@ use crate::steps::{Inside, Known, Step, only_inside};
 use fixed_words::{List, NoMemory};
 use nest_names::{NestNames, at};
 
-/// Fewer kept inputs than so many are put, however few steps there are: an input that leads to fewer may be come to in many more places.
+/// Fewer kept inputs than so many are put, however few steps there are, but for those inside an input that keeps inputs and was gone along: an
+/// input that leads to fewer may be come to in many more places.
 const FEW_KEPT: usize = 40;
 
 /// Steps are few where so many inputs are kept for each of them, or more.
@@ -37,7 +39,7 @@ pub struct Start<'a, 'n> {
     pub group: usize,
     /// The most inputs of components that may be reached.
     pub most: usize,
-    /// Whether the walk goes along inside an input that keeps inputs and has few steps.
+    /// Whether the walk is inside an input that keeps inputs and was gone along.
     pub along: bool,
 }
 
@@ -95,13 +97,13 @@ fn note_done(start: &Start<'_, '_>, walk: &mut Walk, inlet: Inlet)
     }
 }
 
-/// What is kept of an input, where it is put: nothing where it has few steps for that.
-fn kept_to_put<'k>(known: &'k Known<'_>) -> Option<&'k [End]>
+/// What is kept of an input, where it is put: nothing where its steps are few for that, and no few inputs are kept or the walk goes along.
+fn kept_to_put<'k>(known: &'k Known<'_>, along: bool) -> Option<&'k [End]>
     ensures { (kept : List Ends) → option_map (λ found. found.now) result ≡ Some kept → known.now.ends ≡ Some kept }
 {
     let kept = known.ends.as_ref()?;
     let few_steps = kept.len() >= known.steps.len().saturating_mul(KEPT_FOR_EACH);
-    if few_steps && kept.len() >= FEW_KEPT {
+    if few_steps && (along || kept.len() >= FEW_KEPT) {
         return None;
     }
     Some(kept.as_slice())
@@ -115,10 +117,10 @@ pub(crate) fn is_put_at_once(known: &[Known<'_>], input: u32) -> bool {
         return true;
     };
     let Some(inside) = only_inside(first.steps.as_slice()) else {
-        return kept_to_put(first).is_some();
+        return kept_to_put(first, false).is_some();
     };
     match at(known, inside.input as usize) {
-        Some(inner) => kept_to_put(inner).is_some(),
+        Some(inner) => kept_to_put(inner, false).is_some(),
         None => true,
     }
 }
@@ -260,10 +262,8 @@ fn walk_known<'n>(
     ensures { IfOk result (λ whole. GoesOn start.now inlet.scope known.now walk.old walk.new whole
         (lines_of start.now.names.now known.now.group known.now.port.now)) }
 {
-    if !start.along {
-        if let Some(kept) = kept_to_put(known) {
-            return put_kept(start, guide, walk, inlet, known, kept);
-        }
+    if let Some(kept) = kept_to_put(known, start.along) {
+        return put_kept(start, guide, walk, inlet, known, kept);
     }
     let along = start.along || known.ends.is_some();
     let start = Start { along, ..*start };
