@@ -221,6 +221,7 @@ def long_nests():
         ("trees of names that lead by five lines each to 40 inputs of twins, in twelve places", twin_trees(12, 5, 40, 5)),
         ("trees of names that lead to all but one of 48 inputs of twins each, in ten places", twin_mixtures(10, 6, 48)),
         ("trees of names that lead to all but one of 72 inputs of twins each, in nine places", twin_mixtures(9, 7, 72)),
+        ("names on eight levels that lead to one input, in 14 places of each of three parts", few_inside(3, 14)),
         ("trees of names that lead by two lines each to 16 inputs, in nine places", twin_trees(9, 1, 16, 2)),
         ("lines of a group in as many scopes as there may be", lines_in_scopes()),
         ("outputs that are connected", connected_outputs()),
@@ -616,6 +617,27 @@ def twin_mixtures(places, inner, inputs):
     text += "".join(starts) + "".join(f"in x->{'_' * place}.z\n" for place in range(1, more + 1))
     wires = "connect a.y->g.y\n" + "connect a.y->g.x\n" * ((2_048 - inner * rows) // (reached + more))
     return (text + with_unit(unit_with(rows + 1)) + "instance g:G\nend\n" + wires).encode()
+
+
+def few_inside(parts, places):
+    """An input that leads by few lines to one in each of so many places of as many parts, and so to few more inputs than are put: in each place
+    names on eight levels lead by two lines each to one input. As many connections lead to it as there may be, and a first one to the names in
+    another order, so that what is known of them stands in no order in which walks come to them."""
+    text, led, inside = f"group H\ninstance d:M\nend\nin {name_of(0)}->d.{name_of(0)}\n", [name_of(0)], "H"
+    width = (LONGEST - 6_000) // (28 * 8 + 26)
+    for level in range(8):
+        own = [short_name(number) for number in shuffled(width, level)]
+        order = shuffled(2 * width, level + 8)
+        text += f"group T{level}\ninstance _:{inside}\nend\n"
+        text += "".join(f"in {name}->_.{led[order[2 * place + line] % len(led)]}\n" for place, name in enumerate(own) for line in range(2))
+        led, inside = own, f"T{level}"
+    text += f"group Z\ninstance _:{inside}\nend\n" + "".join(f"in z->_.{led[number]}\n" for number in shuffled(width, 17))
+    text += "".join(f"in y->_.{led[number]}\n" for number in shuffled(width, 18))
+    for name, inner, count in (("P", "Z", places), ("G", "P", parts)):
+        text += f"group {name}\n" + "".join(f"instance {place_name(place)}:{inner}\nend\n" for place in range(count))
+        text += "".join(f"in {'x' if name == 'G' else 'z'}->{place_name(place)}.z\n" for place in range(count)) + f"in y->{place_name(0)}.y\n"
+    wires = "connect a.y->g.y\n" + "connect a.y->g.x\n" * (2_047 // (parts * places))
+    return (text + with_unit(unit_with(2)) + "instance g:G\nend\n" + wires).encode()
 
 
 def place_name(place):
