@@ -82,7 +82,7 @@ pub in_behind : (one : Spot) (front behind : List Spot) → IsIn one behind → 
 in_behind one front behind is =
     list_any-append (same_spot one) front behind ∙ or_true (list_any (same_spot one) front) (list_any (same_spot one) behind) is
 
-in_either : (one : Spot) (front behind : List Spot) → IsIn one (front ++ behind) → IsIn one front ⊎ IsIn one behind
+pub in_either : (one : Spot) (front behind : List Spot) → IsIn one (front ++ behind) → IsIn one front ⊎ IsIn one behind
 in_either one front behind is =
     either (list_any (same_spot one) front) (list_any (same_spot one) behind) (sym (list_any-append (same_spot one) front behind) ∙ is)
 

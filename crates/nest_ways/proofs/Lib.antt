@@ -1,4 +1,5 @@
 pub mod AlikeLaws
 pub mod KeptLaws
+pub mod SetLaws
 pub mod WalkLaws
 pub mod WayLaws

@@ -1,16 +1,17 @@
 -- How an input of a group is followed in one scope, however much it leads to.
 use Rattle.std.specs.Prelude.{◌≡◌, ◌≤◌, ◌<◌, ℕ, ◌+◌, ◌-◌, Bool, IsTrue, List, [], ◌∷◌, ◌++◌, length, map, Option, Some, None, slice_get, ⊤}
-use Rattle.std.specs.Int.{bit_at}
 use Rattle.nest_text.specs.declared.nest.Bind.{Bind}
 use Rattle.nest_text.specs.declared.nest.Nest.{Nest}
 use Rattle.nest_names.specs.Flattening.{distinct, levels, reach}
 use Rattle.nest_names.specs.Tables.{inside_of}
 use Rattle.nest_names.specs.declared.scope.Scope.{Scope}
 use Rattle.nest_names.specs.declared.scope.Spot.{Spot}
-use Rattle.nest_ways.specs.Reaching.{AreKnown, FindsKnown, IsIn, LeadsInside, PutsUpTo, ends_of, inputs_at, lines_of}
+use Rattle.nest_ways.specs.Reaching.{AreKnown, FindsKnown, IsIn, LeadsInside, PutsUpTo, ends_of, input_at, inputs_at, lines_of}
+use Rattle.nest_ways.specs.Sets.{KeepsByNumbers, HasAt, HasNumberAt}
 use Rattle.nest_ways.specs.declared.done.GroupScopes.{GroupScopes}
-use Rattle.nest_ways.specs.declared.done.ScopeSet.{ScopeSet}
 use Rattle.nest_ways.specs.declared.ends.End.{End}
+use Rattle.nest_ways.specs.declared.known.Ways.{Ways}
+use Rattle.nest_ways.specs.declared.numbers.KeptSets.{KeptSets}
 use Rattle.nest_ways.specs.declared.steps.Inside.{Inside}
 use Rattle.nest_ways.specs.declared.steps.Known.{Known}
 use Rattle.nest_ways.specs.declared.targets.Reach.{Reach}
@@ -18,6 +19,13 @@ use Rattle.nest_ways.specs.declared.targets.Reach.TheVariants as reach_is
 use Rattle.nest_ways.specs.declared.walk.Inlet.{Inlet}
 use Rattle.nest_ways.specs.declared.walk.Start.{Start}
 use Rattle.nest_ways.specs.declared.walk.Walk.{Walk}
+
+-- ---- What is known
+
+-- What is known of the inputs to which the connections of a nest lead: where their lines lead, and what is kept of them, by numbers too.
+pub record AreWays (nest : Nest) (ways : Ways) : Type 0 where
+  pub known : AreKnown nest ways.scopes ways.known.items
+  pub kept : KeepsByNumbers ways.kept_sets ways.known.items
 
 -- ---- Where a walk stands
 
@@ -37,18 +45,6 @@ IsInletAt scopes all base inlet = (known : Known) → slice_get all inlet.input 
 abbrev pub IsNumbered : GroupScopes → ℕ → ℕ → ℕ → Type 0
 IsNumbered group_scopes group number place = slice_get (inside_of (map (λ one. one.items) group_scopes.places.items) group) number ≡ Some place
 
--- The scope with this number is in the set.
-abbrev pub IsInSet : ScopeSet → ℕ → Type 0
-IsInSet set number = bit_at set.bits number ≡ 1
-
--- The set at the place has the scope with this number.
-abbrev pub HasAt : List ScopeSet → ℕ → ℕ → Type 0
-HasAt sets place number = (set : ScopeSet) × (slice_get sets place ≡ Some set) × IsInSet set number
-
--- No set has a scope.
-abbrev pub AreEmpty : List ScopeSet → Type 0
-AreEmpty sets = (place number : ℕ) → HasAt sets place number → ⊥
-
 -- ---- What is done
 
 -- All inputs of components that an input of a group leads to were put, if it is followed down to the last of them.
@@ -57,33 +53,37 @@ IsDone nest scopes base ends offset known =
     (scope : Scope) (depth : ℕ) (one : Spot) → slice_get scopes (base + offset) ≡ Some scope → scope.group ≡ Some known.group → known.height ≤ depth
     → IsIn one (ends_of nest depth scope (lines_of nest known.group known.port.now)) → IsIn one (inputs_at nest scopes base ends)
 
--- Where the set of an input has the number of a scope of its group, all that the input leads to there was put.
-abbrev pub AreDone : Nest → List Scope → GroupScopes → List Known → ℕ → Walk → Type 0
-AreDone nest scopes group_scopes all base walk =
-    (input number offset : ℕ) (known : Known) → HasAt walk.done.sets.items input number → slice_get all input ≡ Some known
-    → IsNumbered group_scopes known.group number (base + offset) → IsDone nest scopes base walk.ends offset known
+-- What is noted of a walk: where the set of an input has the number of a scope of its group, all that the input leads to there was put; and
+-- where the set of a scope has a number, the input of this number was put as it is reached from there.
+pub record AreDone (nest : Nest) (scopes : List Scope) (group_scopes : GroupScopes) (kept_sets : KeptSets) (all : List Known) (base : ℕ) (walk : Walk) : Type 0 where
+  pub inputs : (input number offset : ℕ) (known : Known) → HasAt walk.done.sets.items input number → slice_get all input ≡ Some known
+      → IsNumbered group_scopes known.group number (base + offset) → IsDone nest scopes base walk.ends offset known
+  pub ends : (offset number : ℕ) (end : End) (one : Spot) → HasNumberAt walk.put.sets.items offset number
+      → slice_get kept_sets.numbered number ≡ Some end → IsIn one (input_at nest scopes (base + offset) end)
+      → IsIn one (inputs_at nest scopes base walk.ends)
 
 -- A walk from a scope of the group, by what is known.
-pub record IsWalk (nest : Nest) (scopes : List Scope) (group_scopes : GroupScopes) (all : List Known) (base group : ℕ) (walk : Walk) : Type 0 where
+pub record IsWalk (nest : Nest) (scopes : List Scope) (group_scopes : GroupScopes) (kept_sets : KeptSets) (all : List Known) (base group : ℕ) (walk : Walk) : Type 0 where
   pub known : AreKnown nest scopes all
+  pub kept : KeepsByNumbers kept_sets all
   pub start : IsScopeAt scopes base group
-  pub done : AreDone nest scopes group_scopes all base walk
+  pub done : AreDone nest scopes group_scopes kept_sets all base walk
 
 -- ---- Going on
 
 -- From the scope of an input, what its lines lead to was put behind what was there, if they are followed down to the last: all of it, and
 -- what is done is right; or some of it.
-pub record WalksOn (nest : Nest) (scopes : List Scope) (group_scopes : GroupScopes) (all : List Known) (base offset : ℕ) (known : Known)
+pub record WalksOn (nest : Nest) (scopes : List Scope) (group_scopes : GroupScopes) (kept_sets : KeptSets) (all : List Known) (base offset : ℕ) (known : Known)
     (old new : Walk) (whole : Bool) (binds : List Bind) : Type 0 where
   pub puts : (scope : Scope) (depth : ℕ) → slice_get scopes (base + offset) ≡ Some scope → scope.group ≡ Some known.group → known.height ≤ depth
       → PutsUpTo whole (inputs_at nest scopes base new.ends) (inputs_at nest scopes base old.ends ++ ends_of nest depth scope binds)
-  pub done : IsTrue whole → AreDone nest scopes group_scopes all base new
+  pub done : IsTrue whole → AreDone nest scopes group_scopes kept_sets all base new
 
 -- The same of all lines of an input that is known.
-abbrev pub WalksWhole : Nest → List Scope → GroupScopes → List Known → ℕ → Inlet → Walk → Walk → Bool → Type 0
-WalksWhole nest scopes group_scopes all base inlet old new whole =
+abbrev pub WalksWhole : Nest → List Scope → GroupScopes → KeptSets → List Known → ℕ → Inlet → Walk → Walk → Bool → Type 0
+WalksWhole nest scopes group_scopes kept_sets all base inlet old new whole =
     (known : Known) → slice_get all inlet.input ≡ Some known
-    → WalksOn nest scopes group_scopes all base inlet.scope known old new whole (lines_of nest known.group known.port.now)
+    → WalksOn nest scopes group_scopes kept_sets all base inlet.scope known old new whole (lines_of nest known.group known.port.now)
 
 -- ---- The same from a start
 
@@ -93,7 +93,7 @@ IsBehind start offset group = IsScopeAt start.ways.now.scopes (start.base + offs
 
 -- A walk from the scope of the start.
 abbrev pub IsWalkFrom : Start → Walk → Type 0
-IsWalkFrom start walk = IsWalk start.names.now start.ways.now.scopes start.ways.now.group_scopes start.ways.now.known.items start.base start.group walk
+IsWalkFrom start walk = IsWalk start.names.now start.ways.now.scopes start.ways.now.group_scopes start.ways.now.kept_sets start.ways.now.known.items start.base start.group walk
 
 -- The same of the place so many behind that of the start.
 abbrev pub IsNumberedFrom : Start → ℕ → ℕ → ℕ → Type 0
@@ -114,17 +114,17 @@ IsDoneFrom start ends offset known = IsDone start.names.now start.ways.now.scope
 
 -- The same of all that is noted as done.
 abbrev pub AreDoneFrom : Start → Walk → Type 0
-AreDoneFrom start walk = AreDone start.names.now start.ways.now.scopes start.ways.now.group_scopes start.ways.now.known.items start.base walk
+AreDoneFrom start walk = AreDone start.names.now start.ways.now.scopes start.ways.now.group_scopes start.ways.now.kept_sets start.ways.now.known.items start.base walk
 
 -- What these lines of a known input lead to was put: all of it, or some.
 abbrev pub GoesOn : Start → ℕ → Known → Walk → Walk → Bool → List Bind → Type 0
 GoesOn start offset known old new whole binds =
-    WalksOn start.names.now start.ways.now.scopes start.ways.now.group_scopes start.ways.now.known.items start.base offset known old new whole binds
+    WalksOn start.names.now start.ways.now.scopes start.ways.now.group_scopes start.ways.now.kept_sets start.ways.now.known.items start.base offset known old new whole binds
 
 -- The same of all lines of the input of an inlet.
 abbrev pub GoesWhole : Start → Inlet → Walk → Walk → Bool → Type 0
 GoesWhole start inlet old new whole =
-    WalksWhole start.names.now start.ways.now.scopes start.ways.now.group_scopes start.ways.now.known.items start.base inlet old new whole
+    WalksWhole start.names.now start.ways.now.scopes start.ways.now.group_scopes start.ways.now.kept_sets start.ways.now.known.items start.base inlet old new whole
 
 -- ---- What is reached
 

@@ -1,48 +1,21 @@
 //! In which scopes of its group an input is done: a set of them for each input.
-ghost use Rattle.std.specs.Prelude.{◌≡◌, ◌⊎◌, ℕ, Some, IfOk, IsTrue, slice_get};
-ghost use Rattle.nest_ways.specs.Walking.{AreEmpty, HasAt, IsInSet, IsNumbered};
+ghost use Rattle.std.specs.Prelude.{◌≡◌, ◌⊎◌, ℕ, Some, IfOk, IsTrue};
+ghost use Rattle.nest_ways.specs.Sets.{AreEmpty, HasAt};
+ghost use Rattle.nest_ways.specs.Walking.{IsNumbered};
 
+use crate::sets::{SetWord, WORD_BITS};
 use fixed_words::NoMemory;
 use nest_names::{Scope, at};
 use std::alloc::Global;
 
-/// The most scopes that a set can hold. No group has more: each of its scopes has a component of its own, and a system has no more of them.
-/// One of a higher number would never be in the set: the input would be followed there again.
-const MOST_SCOPES: u32 = 64;
-
-/// Some of the scopes of a group, told by their numbers.
-#[derive(Clone, Copy)]
-pub struct ScopeSet {
-    bits: u64,
-}
-
-impl ScopeSet {
-    /// Whether a scope is in the set.
-    pub(crate) fn has(self, number: u32) -> bool
-        ensures { IsTrue result → IsInSet self number }
-    {
-        if number >= MOST_SCOPES {
-            return false;
-        }
-        self.bits & (1 << number) != 0
-    }
-
-    /// The set with one scope more, where there is room for it.
-    pub(crate) fn with(self, number: u32) -> ScopeSet
-        ensures { (one : ℕ) → IsInSet result one → (one ≡ number) ⊎ IsInSet self one }
-    {
-        if number >= MOST_SCOPES {
-            return self;
-        }
-        let bits = self.bits | (1 << number);
-        ScopeSet { bits }
-    }
-}
+/// The most scopes of a group whose numbers are noted. No group has more: each of its scopes has a component of its own, and a system has no
+/// more of them. In one of a higher number an input would never be done: it would be followed there again.
+const MOST_SCOPES: u32 = WORD_BITS;
 
 /// In which scopes inputs of groups are done: for each input a set of scopes of its group.
 #[derive(Drop)]
 pub struct DoneInputs {
-    sets: Vec<ScopeSet>,
+    sets: Vec<SetWord>,
 }
 
 impl DoneInputs {
@@ -52,7 +25,7 @@ impl DoneInputs {
     {
         let mut sets = Vec::with_capacity(alloc, count)?;
         for _ in 0..count {
-            sets.push(ScopeSet { bits: 0 })?;
+            sets.push(SetWord::empty())?;
         }
         Ok(DoneInputs { sets })
     }

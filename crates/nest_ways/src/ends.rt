@@ -22,7 +22,7 @@ pub struct End {
 
 /// Whether an input is at a place of others.
 #[inline(always)]
-fn is_at(ends: &[End], place: usize, end: End) -> bool
+pub(crate) fn is_at(ends: &[End], place: usize, end: End) -> bool
     ensures { IsTrue result → slice_get ends.now place ≡ Some end }
 {
     match at(ends, place) {

@@ -13,7 +13,7 @@ use nest_names::at;
 use std::alloc::Global;
 
 /// The most inputs that are kept of one input. Few walks come to one that leads to more, since a system has no more than 2,048 connections.
-/// Some 40,000 inputs of groups may have two lines or more, and a list each, so that longer ones would take much memory.
+/// Some 40,000 inputs of groups may have two lines or more, and a list and a set of numbers each, so that longer ones would take much memory.
 const MOST_KEPT: usize = 128;
 
 /// Puts the inputs of components that a step of an input of a group leads to, where they are known to be few.

@@ -1,10 +1,12 @@
 //! What is known of the inputs of groups that connections lead to: each is worked out once, for all scopes of its group.
 ghost use Rattle.std.specs.Prelude.{IfOk, OnOk};
 ghost use Rattle.nest_ways.specs.Reaching.{AreKnown};
+ghost use Rattle.nest_ways.specs.Walking.{AreWays};
 
 use crate::done::GroupScopes;
 use crate::guide::{Guide, guided_scopes};
 use crate::kept::kept_ends;
+use crate::numbers::KeptSets;
 use crate::scopes::AllScopes;
 use crate::steps::{Known, steps_of};
 use fixed_words::NoMemory;
@@ -183,22 +185,25 @@ pub struct Ways<'n> {
     pub scopes: AllScopes<'n>,
     pub group_scopes: GroupScopes,
     pub known: Vec<Known<'n>>,
+    pub kept_sets: KeptSets,
 }
 
 impl<'n> Ways<'n> {
     /// The ways of a nest, and a guide to them.
     pub fn new(alloc: Global, names: &NestNames<'n>) -> Result<(Ways<'n>, Guide<'n>), NoMemory>
-        ensures { IfOk result (λ made. AreKnown names.now made.0.scopes made.0.known.items) }
+        ensures { IfOk result (λ made. AreWays names.now made.0) }
     {
         let (scopes, mut guide) = guided_scopes(alloc, names, LEVELS, &top(alloc))?;
         let scopes = AllScopes::new(alloc, names, scopes, &guide)?;
         let group_scopes = GroupScopes::new(alloc, scopes.as_slice(), names.groups().len())?;
         let mut known = Vec::new(alloc);
         know_all(alloc, names, &scopes, &mut known, &mut guide)?;
+        let kept_sets = KeptSets::new(alloc, known.as_slice(), &mut guide, names.groups().len())?;
         let ways = Ways {
             scopes,
             group_scopes,
             known,
+            kept_sets,
         };
         Ok((ways, guide))
     }

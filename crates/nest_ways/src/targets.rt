@@ -1,16 +1,15 @@
 //! The inputs of components that the target of a connection reaches.
 ghost use Rattle.std.specs.Prelude.{◌≡◌, ◌++◌, [], ℕ, List, Some, IfOk, IsTrue, slice_get};
 ghost use Rattle.nest_names.specs.Flattening.{distinct};
-ghost use Rattle.nest_ways.specs.Reaching.{AreKnown, PutsUpTo, input_at, ins_of, inputs_at};
-ghost use Rattle.nest_ways.specs.Walking.{AreEmpty, IsFirst, IsReached, Reaches, reached_inside};
+ghost use Rattle.nest_ways.specs.Reaching.{PutsUpTo, input_at, ins_of, inputs_at};
+ghost use Rattle.nest_ways.specs.Walking.{AreWays, IsFirst, IsReached, Reaches, reached_inside};
 ghost use Rattle.nest_names.specs.declared.scope.Spot.{Spot as Spots};
 
-use crate::done::DoneInputs;
 use crate::ends::End;
 use crate::guide::Guide;
 use crate::known::Ways;
 use crate::steps::find;
-use crate::walk::{Inlet, Start, Walk, is_put_at_once, walk_inlet};
+use crate::walk::{Inlet, Start, Walk, walk_inlet};
 use fixed_words::{List, NoMemory};
 use nest_names::{
     LEVELS, NestNames, Scope, Spot, at, distinct, inside, put_bind, reach, same_scope, spot_of,
@@ -120,17 +119,6 @@ fn first_inlet(ways: &Ways<'_>, guide: &Guide<'_>, group: usize, port: &[u8]) ->
     Some(Inlet { scope: 0, input })
 }
 
-/// Room to note the inputs that are done in a walk from an input: for all that are known, or for none where the walk puts all at once.
-fn none_done(alloc: Global, ways: &Ways<'_>, input: u32) -> Result<DoneInputs, NoMemory>
-    ensures { IfOk result (λ made. AreEmpty made.sets.items) }
-{
-    if is_put_at_once(ways.known.as_slice(), input) {
-        DoneInputs::new(alloc, 0)
-    } else {
-        DoneInputs::new(alloc, ways.known.len())
-    }
-}
-
 /// The inputs of components that an input of a group reaches in a scope. Where they are more than so many, that may be all that is told.
 fn walk_from<'n>(
     alloc: Global,
@@ -142,7 +130,7 @@ fn walk_from<'n>(
     port: &[u8],
     most: usize,
 ) -> Result<Reach, NoMemory>
-    requires known { AreKnown names.now ways.now.scopes ways.now.known.items }
+    requires known { AreWays names.now ways.now }
     requires scope { scope.now.group ≡ Some group }
     ensures { IfOk result (Reaches most (reached_inside names.now scope.now group port.now)) }
 {
@@ -154,17 +142,13 @@ fn walk_from<'n>(
         return Ok(Reach::Unknown);
     };
     guide.begin(base);
-    let mut walk = Walk {
-        ends: List::new(alloc),
-        done: none_done(alloc, ways, inlet.input)?,
-    };
+    let mut walk = Walk::new(alloc, ways, group, inlet.input)?;
     let start = Start {
         names,
         ways,
         base,
         group,
         most,
-        along: false,
     };
     let whole = walk_inlet(&start, guide, &mut walk, inlet)?;
     let Some(spots) = inputs(alloc, names, scopes, base, walk.ends.as_slice())? else {
@@ -184,7 +168,7 @@ pub fn reached<'n>(
     to: &'n PortName,
     most: usize,
 ) -> Result<Option<List<Spot>>, NoMemory>
-    requires { AreKnown names.now ways.now.scopes ways.now.known.items }
+    requires { AreWays names.now ways.now }
     ensures { IfOk result (IsReached names.now most (record { scope = scope.now; port = to.now })) }
 {
     if let Some(place) = names.place_at(scope.group, to.instance.as_slice()) {

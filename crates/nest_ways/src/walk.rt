@@ -1,34 +1,27 @@
 //! What an input of a group leads to in one scope, however much it is.
 //!
 //! What is kept of an input is put; where nothing is kept, its steps are gone along. Then it is done: where a step leads to it again in that
-//! scope, nothing more is put. So a walk may come to an input by many steps, and goes on from it once in each scope.
-//!
-//! Where much is kept and steps are few, those are gone along too, and inside such an input where less is kept: of inputs that lead to much the
-//! same, most steps lead to inputs that are done, and that is told sooner than that all was put before. How a walk goes on decides its time
-//! alone: no clause tells.
-ghost use Rattle.std.specs.Prelude.{◌≡◌, ◌∷◌, ◌+◌, [], ℕ, List, Some, IfOk, IsTrue, slice_get};
-ghost use Rattle.std.specs.Option.{option_map, option_to_list};
+//! scope, nothing more is put. So a walk may come to an input by many steps, and goes on from it once in each scope. Inputs that lead to much
+//! the same are put once, too: what was put from a scope is noted by numbers, and an input is done where all that is kept of it was put from
+//! there for others, which is told by words of 64 numbers. How a walk goes on decides its time alone: no clause tells.
+ghost use Rattle.std.specs.Prelude.{◌≡◌, ◌∷◌, ◌+◌, [], ℕ, List, Some, IfOk, IsTrue, OnOk, slice_get};
+ghost use Rattle.std.specs.Option.{option_to_list};
 ghost use Rattle.nest_text.specs.declared.nest.Bind.{Bind};
 ghost use Rattle.nest_ways.specs.Reaching.{KeepsAll, LeadsHere, lines_of};
+ghost use Rattle.nest_ways.specs.Sets.{AreEmpty, HasNumberAt};
 ghost use Rattle.nest_ways.specs.Walking.{AreDoneFrom, GoesOn, GoesWhole, IsBehind, IsDoneFrom, IsInletFrom, IsNumberedFrom, IsScopeAt, IsWalkFrom};
 ghost use Rattle.nest_ways.specs.Walking.{LeadsFrom};
-ghost use Rattle.nest_ways.specs.declared.ends.End.{End as Ends};
 ghost use Rattle.nest_ways.specs.declared.steps.Known.{Known as Knowns};
 
 use crate::done::DoneInputs;
 use crate::ends::{End, first_same, put_onward, put_within};
 use crate::guide::Guide;
 use crate::known::Ways;
+use crate::numbers::PutSets;
 use crate::steps::{Inside, Known, Step, only_inside};
 use fixed_words::{List, NoMemory};
 use nest_names::{NestNames, at};
-
-/// Fewer kept inputs than so many are put, however few steps there are, but for those inside an input that keeps inputs and was gone along: an
-/// input that leads to fewer may be come to in many more places.
-const FEW_KEPT: usize = 40;
-
-/// Steps are few where so many inputs are kept for each of them, or more.
-const KEPT_FOR_EACH: usize = 12;
+use std::alloc::Global;
 
 /// A scope from which others are told, its group, and what is known of the inputs of groups.
 #[derive(Clone, Copy)]
@@ -39,8 +32,6 @@ pub struct Start<'a, 'n> {
     pub group: usize,
     /// The most inputs of components that may be reached.
     pub most: usize,
-    /// Whether the walk is inside an input that keeps inputs and was gone along.
-    pub along: bool,
 }
 
 /// An input of a group in a scope.
@@ -52,15 +43,19 @@ pub struct Inlet {
     pub input: u32,
 }
 
-/// The inputs of components that were put so far, and the inputs of groups that are done: all that they lead to was put.
+/// What was put so far.
 #[derive(Drop)]
 pub struct Walk {
+    /// The inputs of components, each once.
     pub ends: List<End>,
+    /// The inputs of groups that are done: all that they lead to was put.
     pub done: DoneInputs,
+    /// From which scopes the inputs of components were put, by numbers.
+    pub put: PutSets,
 }
 
 /// The number of the scope of an input, among those of its group.
-fn number_of(start: &Start<'_, '_>, inlet: Inlet) -> Option<u32>
+fn scope_number(start: &Start<'_, '_>, inlet: Inlet) -> Option<u32>
     requires { IsInletFrom start.now inlet }
     ensures { (number : ℕ) (known : Knowns) → result ≡ Some number → slice_get start.now.ways.now.known.items inlet.input ≡ Some known
         → IsNumberedFrom start.now inlet.scope known.group number }
@@ -70,20 +65,32 @@ fn number_of(start: &Start<'_, '_>, inlet: Inlet) -> Option<u32>
     start.ways.group_scopes.number(scope.group?, place)
 }
 
-/// Whether all that an input leads to was put.
+/// Whether all that is kept of an input was put from its scope.
+fn is_put(start: &Start<'_, '_>, walk: &Walk, inlet: Inlet) -> bool
+    requires { IsWalkFrom start.now walk.now }
+    ensures { IsTrue result → (known : Knowns) → slice_get start.now.ways.now.known.items inlet.input ≡ Some known
+        → IsDoneFrom start.now walk.now.ends inlet.scope known }
+{
+    match start.ways.kept_sets.set(inlet.input as usize) {
+        Some(set) => walk.put.has(inlet.scope as usize, set),
+        None => false,
+    }
+}
+
+/// Whether an input is noted as done in its scope.
 fn is_done(start: &Start<'_, '_>, walk: &Walk, inlet: Inlet) -> bool
     requires done { AreDoneFrom start.now walk.now }
     requires there { IsInletFrom start.now inlet }
     ensures { IsTrue result → (known : Knowns) → slice_get start.now.ways.now.known.items inlet.input ≡ Some known
         → IsDoneFrom start.now walk.now.ends inlet.scope known }
 {
-    let Some(number) = number_of(start, inlet) else {
+    let Some(number) = scope_number(start, inlet) else {
         return false;
     };
     walk.done.has(inlet.input as usize, number)
 }
 
-/// Notes an input of which all was put.
+/// Notes that an input is done in its scope.
 fn note_done(start: &Start<'_, '_>, walk: &mut Walk, inlet: Inlet)
     requires done { AreDoneFrom start.now walk.old }
     requires there { IsInletFrom start.now inlet }
@@ -92,36 +99,80 @@ fn note_done(start: &Start<'_, '_>, walk: &mut Walk, inlet: Inlet)
     ensures done { AreDoneFrom start.now walk.new }
     ensures ends { walk.new.ends ≡ walk.old.ends }
 {
-    if let Some(number) = number_of(start, inlet) {
+    if let Some(number) = scope_number(start, inlet) {
         walk.done.put(inlet.input as usize, number);
     }
 }
 
-/// What is kept of an input, where it is put: nothing where its steps are few for that, and no few inputs are kept or the walk goes along.
-fn kept_to_put<'k>(known: &'k Known<'_>, along: bool) -> Option<&'k [End]>
-    ensures { (kept : List Ends) → option_map (λ found. found.now) result ≡ Some kept → known.now.ends ≡ Some kept }
+/// Notes that all that is kept of an input was put from its scope.
+fn note_put(start: &Start<'_, '_>, walk: &mut Walk, inlet: Inlet) -> Result<(), NoMemory>
+    requires walk { IsWalkFrom start.now walk.old }
+    requires there { IsInletFrom start.now inlet }
+    requires all { (known : Knowns) → slice_get start.now.ways.now.known.items inlet.input ≡ Some known
+        → IsDoneFrom start.now walk.old.ends inlet.scope known }
+    ensures done { OnOk result (AreDoneFrom start.now walk.new) }
+    ensures ends { OnOk result (walk.new.ends ≡ walk.old.ends) }
 {
-    let kept = known.ends.as_ref()?;
-    let few_steps = kept.len() >= known.steps.len().saturating_mul(KEPT_FOR_EACH);
-    if few_steps && (along || kept.len() >= FEW_KEPT) {
-        return None;
+    match start.ways.kept_sets.set(inlet.input as usize) {
+        Some(set) => walk.put.put(inlet.scope as usize, set),
+        None => Ok(()),
     }
-    Some(kept.as_slice())
 }
 
-/// Whether a walk from an input puts at once what is kept of it, or of the input that its one step leads to: then it comes to none again, and
-/// needs no room to note what is done. This has to say what [`walk_known`] does: a walk without room takes long, which only texts that are
-/// made for it tell.
-pub(crate) fn is_put_at_once(known: &[Known<'_>], input: u32) -> bool {
+/// Notes that all that an input leads to was put.
+fn note_whole(start: &Start<'_, '_>, walk: &mut Walk, inlet: Inlet) -> Result<(), NoMemory>
+    requires walk { IsWalkFrom start.now walk.old }
+    requires there { IsInletFrom start.now inlet }
+    requires all { (known : Knowns) → slice_get start.now.ways.now.known.items inlet.input ≡ Some known
+        → IsDoneFrom start.now walk.old.ends inlet.scope known }
+    ensures done { OnOk result (AreDoneFrom start.now walk.new) }
+    ensures ends { OnOk result (walk.new.ends ≡ walk.old.ends) }
+{
+    note_done(start, walk, inlet);
+    note_put(start, walk, inlet)
+}
+
+/// Whether a walk from an input puts at once what is kept of it, or of the input that its one step leads to: then it comes to none again.
+fn is_put_at_once(known: &[Known<'_>], input: u32) -> bool {
     let Some(first) = at(known, input as usize) else {
         return true;
     };
     let Some(inside) = only_inside(first.steps.as_slice()) else {
-        return kept_to_put(first, false).is_some();
+        return first.ends.is_some();
     };
     match at(known, inside.input as usize) {
-        Some(inner) => kept_to_put(inner, false).is_some(),
+        Some(inner) => inner.ends.is_some(),
         None => true,
+    }
+}
+
+/// For how many inputs and from how many scopes a walk from an input of a group notes what was put. A walk without room for that goes on all
+/// the same, and takes long where it comes to inputs again.
+fn room_of(ways: &Ways<'_>, group: usize, input: u32) -> (usize, usize) {
+    if is_put_at_once(ways.known.as_slice(), input) {
+        (0, 0)
+    } else {
+        (ways.known.len(), ways.scopes.firsts(group).len())
+    }
+}
+
+impl Walk {
+    /// A walk that has put nothing yet, from an input of a group.
+    pub(crate) fn new(
+        alloc: Global,
+        ways: &Ways<'_>,
+        group: usize,
+        input: u32,
+    ) -> Result<Walk, NoMemory>
+        ensures ends { IfOk result (λ made. made.ends ≡ []) }
+        ensures done { IfOk result (λ made. AreEmpty made.done.sets.items) }
+        ensures put { IfOk result (λ made. (scope number : ℕ) → HasNumberAt made.put.sets.items scope number → ⊥) }
+    {
+        let (inputs, scopes) = room_of(ways, group, input);
+        let done = DoneInputs::new(alloc, inputs)?;
+        let put = PutSets::new(alloc, scopes)?;
+        let ends = List::new(alloc);
+        Ok(Walk { ends, done, put })
     }
 }
 
@@ -247,7 +298,7 @@ fn walk_steps<'n>(
     Ok(true)
 }
 
-/// Puts the inputs of components that an input leads to: those that it keeps, or by its steps, where these are few or it keeps none.
+/// Puts the inputs of components that an input leads to: those that it keeps, or by its steps, where it keeps none.
 #[cycle(walk)]
 fn walk_known<'n>(
     start: &Start<'_, 'n>,
@@ -262,12 +313,10 @@ fn walk_known<'n>(
     ensures { IfOk result (λ whole. GoesOn start.now inlet.scope known.now walk.old walk.new whole
         (lines_of start.now.names.now known.now.group known.now.port.now)) }
 {
-    if let Some(kept) = kept_to_put(known, start.along) {
-        return put_kept(start, guide, walk, inlet, known, kept);
+    match &known.ends {
+        Some(kept) => put_kept(start, guide, walk, inlet, known, kept.as_slice()),
+        None => walk_steps(start, guide, walk, inlet, known),
     }
-    let along = start.along || known.ends.is_some();
-    let start = Start { along, ..*start };
-    walk_steps(&start, guide, walk, inlet, known)
 }
 
 /// Puts the inputs of components that an input of a group leads to, where it is not done, until there are more than there may be. Tells
@@ -286,12 +335,16 @@ pub(crate) fn walk_inlet<'n>(
     if is_done(start, walk, inlet) {
         return Ok(true);
     }
+    if is_put(start, walk, inlet) {
+        note_done(start, walk, inlet);
+        return Ok(true);
+    }
     let Some(known) = at(start.ways.known.as_slice(), inlet.input as usize) else {
         return Ok(false);
     };
     if !walk_known(start, guide, walk, inlet, known)? {
         return Ok(false);
     }
-    note_done(start, walk, inlet);
+    note_whole(start, walk, inlet)?;
     Ok(true)
 }

@@ -2,7 +2,7 @@
 ghost use Rattle.std.specs.Prelude.{◌≡◌, ◌∷◌, [], ◌≤◌, nat_lt, length, map, IfOk};
 ghost use Rattle.std.specs.List.{flat_map, list_any};
 ghost use Rattle.sub_flat.specs.FlatReading.{IsKeptPrintable, MadeWithin, MakesLeaves, MakesParts, PutsWithin, leaves_inside, wire_between, wires_inside, with_parts};
-ghost use Rattle.nest_ways.specs.Reaching.{AreKnown};
+ghost use Rattle.nest_ways.specs.Walking.{AreWays};
 ghost use Rattle.nest_names.specs.Flattening.{flat_port, flat_wire, flat_wires, follow, leaves, levels, named_in, reach, top, wires_of};
 
 use crate::fault::Unflat;
@@ -136,7 +136,7 @@ fn put_flat_wire<'n>(
     wires: &mut List<Wire>,
 ) -> Result<(), Unflat>
     requires room { length wires.old ≤ 2048 }
-    requires known { AreKnown names.now ways.now.scopes ways.now.known.items }
+    requires known { AreWays names.now ways.now }
     ensures { PutsWithin 2048 wires.old wires.new (flat_wire names.now scope.now wire.now) result }
 {
     let around = copied_scope(alloc, scope)?;
@@ -159,7 +159,7 @@ fn put_own_wires<'n>(
     wires: &mut List<Wire>,
 ) -> Result<(), Unflat>
     requires room { length wires.old ≤ 2048 }
-    requires known { AreKnown names.now ways.now.scopes ways.now.known.items }
+    requires known { AreWays names.now ways.now }
     ensures { PutsWithin 2048 wires.old wires.new (flat_map (flat_wire names.now scope.now) (wires_of names.now scope.now.group)) result }
 {
     for wire in names.wires(scope.group) {
@@ -181,7 +181,7 @@ fn put_wires_inside<'n>(
     wires: &mut List<Wire>,
 ) -> Result<(), Unflat>
     requires room { length wires.old ≤ 2048 }
-    requires known { AreKnown names.now ways.now.scopes ways.now.known.items }
+    requires known { AreWays names.now ways.now }
     ensures { PutsWithin 2048 wires.old wires.new (wires_inside names.now depth scope.now instance.now) result }
 {
     if depth == 0 {
@@ -206,7 +206,7 @@ fn put_wires<'n>(
     wires: &mut List<Wire>,
 ) -> Result<(), Unflat>
     requires room { length wires.old ≤ 2048 }
-    requires known { AreKnown names.now ways.now.scopes ways.now.known.items }
+    requires known { AreWays names.now ways.now }
     ensures { PutsWithin 2048 wires.old wires.new (flat_wires names.now depth scope.now) result }
 {
     put_own_wires(alloc, names, ways, guide, scope, wires)?;

@@ -22,13 +22,17 @@ walk_inlet-requires-clause-there c known found =
 
 pub walk_inlet-requires-clause-walk : goal.walk_inlet-requires-clause-walk
 walk_inlet-requires-clause-walk c = record {
-  known = c.requires.known;
+  known = c.requires.known.known;
+  kept = c.requires.known.kept;
   start = record {
     scope = c.args.scope.now;
     there = ap (λ those. slice_get those c.in-Some.base) (sym c.as_slice-scopes.ensures) ∙ c.place_of.ensures c.in-Some.base c.in-Some.is;
     of_group = c.requires.scope;
   };
-  done = λ input number offset known held found at. absurd (c.in_ok-none_done.ensures input number held);
+  done = record {
+    inputs = λ input number offset known held found at. absurd (c.in_ok-walk.ensures.done input number held);
+    ends = λ offset number end one held numbered is. absurd (c.in_ok-walk.ensures.put offset number held);
+  };
 }
 
 pub returns : goal.returns
@@ -52,7 +56,7 @@ returns c =
     let put : PutsUpTo whole (f ends) (ends_of nest 32 scope (lines_of nest c.args.group c.args.port.now)) =
     subst (λ group. PutsUpTo whole (f ends) (ends_of nest 32 scope (lines_of nest group c.args.port.now))) first.finds.of_group
     (subst (λ port. PutsUpTo whole (f ends) (ends_of nest 32 scope (lines_of nest first.finds.known.group port))) first.finds.named
-    (subst (λ old. PutsUpTo whole (f ends) (f old ++ ends_of nest 32 scope (lines_of nest first.finds.known.group first.finds.known.port.now))) c.new.ensures puts)) in
+    (subst (λ old. PutsUpTo whole (f ends) (f old ++ ends_of nest 32 scope (lines_of nest first.finds.known.group first.finds.known.port.now))) c.in_ok-walk.ensures.ends puts)) in
     let spots : c.in-Some-2.spots ≡ f ends =
     c.in_ok-spots.ensures c.in-Some-2.spots c.in-Some-2.is
     ∙ ap (λ those. inputs_at nest those base c.as_slice.result.now) c.as_slice-scopes.ensures

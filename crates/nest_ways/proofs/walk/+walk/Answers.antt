@@ -4,7 +4,7 @@ use Rattle.std.specs.Option.{option_map, option_to_list}
 use Rattle.list_laws.proofs.Pairs.{zip_at}
 use Rattle.nest_text.specs.declared.nest.Bind.{Bind}
 use Rattle.std.proofs.lemmas.Option.{same_Some}
-use Rattle.nest_ways.specs.Reaching.{IsStep, LeadsHere, LeadsInside, lines_of}
+use Rattle.nest_ways.specs.Reaching.{IsStep, KeepsAll, LeadsHere, LeadsInside, lines_of}
 use Rattle.nest_ways.specs.Walking.{IsDone, WalksOn, WalksWhole}
 use Rattle.nest_ways.specs.declared.steps.Step.TheVariants as step_is
 use Rattle.nest_ways.specs.declared.walk.Inlet.{Inlet}
@@ -15,18 +15,17 @@ use Rattle.nest_ways.proofs.walk.+walk.Goals as goal
 
 pub walk_known-put_kept-requires-clause-kept : goal.walk_known-put_kept-requires-clause-kept
 walk_known-put_kept-requires-clause-kept t c =
-    let kept = c.in-Some.kept.now in
-    let told = c.kept_to_put.ensures kept (ap (option_map (λ found. found.now)) c.in-Some.is) in
-    (c.requires.walk.known c.args.inlet.input c.args.known.now c.requires.found).ends kept told
+    subst (KeepsAll c.args.start.now.names.now c.args.start.now.ways.now.scopes c.args.known.now) (sym c.as_slice.ensures)
+    ((c.requires.walk.known c.args.inlet.input c.args.known.now c.requires.found).ends c.in-Some.kept c.in-Some.is)
 
 pub walk_inside-returns-then-inside-inlet : goal.walk_inside-returns-then-inside-inlet
 walk_inside-returns-then-inside-inlet t c bind leads =
-    walks_none c.args.start.now.names.now c.args.start.now.ways.now.scopes c.args.start.now.ways.now.group_scopes c.args.start.now.ways.now.known.items c.args.start.now.base c.args.inlet.scope c.args.known.now c.args.walk.now
+    walks_none c.args.start.now.names.now c.args.start.now.ways.now.scopes c.args.start.now.ways.now.group_scopes c.args.start.now.ways.now.kept_sets c.args.start.now.ways.now.known.items c.args.start.now.base c.args.inlet.scope c.args.known.now c.args.walk.now
     (bind ∷ [])
 
 pub walk_inside-returns-in_default : goal.walk_inside-returns-in_default
 walk_inside-returns-in_default t c bind leads =
-    walks_none c.args.start.now.names.now c.args.start.now.ways.now.scopes c.args.start.now.ways.now.group_scopes c.args.start.now.ways.now.known.items c.args.start.now.base c.args.inlet.scope c.args.known.now c.args.walk.now
+    walks_none c.args.start.now.names.now c.args.start.now.ways.now.scopes c.args.start.now.ways.now.group_scopes c.args.start.now.ways.now.kept_sets c.args.start.now.ways.now.known.items c.args.start.now.base c.args.inlet.scope c.args.known.now c.args.walk.now
     (bind ∷ [])
 
 pub walk_inside-walk_inlet-requires : goal.walk_inside-walk_inlet-requires
@@ -34,6 +33,7 @@ walk_inside-walk_inlet-requires t c =
     let nest = c.args.start.now.names.now in
     let scopes = c.args.start.now.ways.now.scopes in
     let group_scopes = c.args.start.now.ways.now.group_scopes in
+    let kept_sets = c.args.start.now.ways.now.kept_sets in
     let all = c.args.start.now.ways.now.known.items in
     let base = c.args.start.now.base in
     let offset = c.args.inlet.scope in
@@ -54,6 +54,7 @@ walk_inside-returns t c =
     let nest = c.args.start.now.names.now in
     let scopes = c.args.start.now.ways.now.scopes in
     let group_scopes = c.args.start.now.ways.now.group_scopes in
+    let kept_sets = c.args.start.now.ways.now.kept_sets in
     let all = c.args.start.now.ways.now.known.items in
     let base = c.args.start.now.base in
     let offset = c.args.inlet.scope in
@@ -62,16 +63,16 @@ walk_inside-returns t c =
     let inner : Inlet = record { scope = c.in-Some.scope; input = step.input } in
     let old = c.args.walk.now in
     let new = c.walk_inlet.new.walk in
-    ok_more (WalksWhole nest scopes group_scopes all base inner old new)
+    ok_more (WalksWhole nest scopes group_scopes kept_sets all base inner old new)
     (λ whole. (bind : Bind) → LeadsInside nest scopes all known.group known.height step bind
-    → WalksOn nest scopes group_scopes all base offset known old new whole (bind ∷ [])) c.walk_inlet.result c.walk_inlet.ensures
+    → WalksOn nest scopes group_scopes kept_sets all base offset known old new whole (bind ∷ [])) c.walk_inlet.result c.walk_inlet.ensures
     (λ whole walks bind leads.
-    inside_walks nest scopes group_scopes all base offset known step bind inner old new whole refl (c.scope_behind.ensures c.in-Some.scope c.in-Some.is) leads walks)
+    inside_walks nest scopes group_scopes kept_sets all base offset known step bind inner old new whole refl (c.scope_behind.ensures c.in-Some.scope c.in-Some.is) leads walks)
 
 pub walk_step-returns-in_default : goal.walk_step-returns-in_default
 walk_step-returns-in_default t c =
     let known = c.args.known.now in
-    walks_none c.args.start.now.names.now c.args.start.now.ways.now.scopes c.args.start.now.ways.now.group_scopes c.args.start.now.ways.now.known.items c.args.start.now.base c.args.inlet.scope known c.args.walk.now
+    walks_none c.args.start.now.names.now c.args.start.now.ways.now.scopes c.args.start.now.ways.now.group_scopes c.args.start.now.ways.now.kept_sets c.args.start.now.ways.now.known.items c.args.start.now.base c.args.inlet.scope known c.args.walk.now
     (option_to_list (slice_get (lines_of c.args.start.now.names.now known.group known.port.now) c.args.place))
 
 pub walk_step-walk_inside-requires : goal.walk_step-walk_inside-requires
@@ -79,6 +80,7 @@ walk_step-walk_inside-requires t c =
     let nest = c.args.start.now.names.now in
     let scopes = c.args.start.now.ways.now.scopes in
     let group_scopes = c.args.start.now.ways.now.group_scopes in
+    let kept_sets = c.args.start.now.ways.now.kept_sets in
     let all = c.args.start.now.ways.now.known.items in
     let base = c.args.start.now.base in
     let offset = c.args.inlet.scope in
@@ -98,6 +100,7 @@ walk_step-returns-in-Component t c =
     let nest = c.args.start.now.names.now in
     let scopes = c.args.start.now.ways.now.scopes in
     let group_scopes = c.args.start.now.ways.now.group_scopes in
+    let kept_sets = c.args.start.now.ways.now.kept_sets in
     let all = c.args.start.now.ways.now.known.items in
     let base = c.args.start.now.base in
     let offset = c.args.inlet.scope in
@@ -112,11 +115,11 @@ walk_step-returns-in-Component t c =
     (c.requires.walk.known c.args.inlet.input known c.requires.found).steps there in
     ok_more
     (λ whole. (bind : Bind) → LeadsHere nest known.group c.in-Component.line bind
-    → WalksOn nest scopes group_scopes all base offset known c.args.walk.now c.walk_component.new.walk whole (bind ∷ []))
-    (λ whole. WalksOn nest scopes group_scopes all base offset known c.args.walk.now c.walk_component.new.walk whole (option_to_list (slice_get lines place)))
+    → WalksOn nest scopes group_scopes kept_sets all base offset known c.args.walk.now c.walk_component.new.walk whole (bind ∷ []))
+    (λ whole. WalksOn nest scopes group_scopes kept_sets all base offset known c.args.walk.now c.walk_component.new.walk whole (option_to_list (slice_get lines place)))
     c.walk_component.result c.walk_component.ensures
     (λ whole walks.
-    subst (λ found. WalksOn nest scopes group_scopes all base offset known c.args.walk.now c.walk_component.new.walk whole (option_to_list found)) (sym beside.is)
+    subst (λ found. WalksOn nest scopes group_scopes kept_sets all base offset known c.args.walk.now c.walk_component.new.walk whole (option_to_list found)) (sym beside.is)
     (walks beside.other beside.related))
 
 pub walk_step-returns-in-Inside : goal.walk_step-returns-in-Inside
@@ -124,6 +127,7 @@ walk_step-returns-in-Inside t c =
     let nest = c.args.start.now.names.now in
     let scopes = c.args.start.now.ways.now.scopes in
     let group_scopes = c.args.start.now.ways.now.group_scopes in
+    let kept_sets = c.args.start.now.ways.now.kept_sets in
     let all = c.args.start.now.ways.now.known.items in
     let base = c.args.start.now.base in
     let offset = c.args.inlet.scope in
@@ -138,18 +142,26 @@ walk_step-returns-in-Inside t c =
     (c.requires.walk.known c.args.inlet.input known c.requires.found).steps there in
     ok_more
     (λ whole. (bind : Bind) → LeadsInside nest scopes all known.group known.height c.in-Inside.inside bind
-    → WalksOn nest scopes group_scopes all base offset known c.args.walk.now c.walk_inside.new.walk whole (bind ∷ []))
-    (λ whole. WalksOn nest scopes group_scopes all base offset known c.args.walk.now c.walk_inside.new.walk whole (option_to_list (slice_get lines place)))
+    → WalksOn nest scopes group_scopes kept_sets all base offset known c.args.walk.now c.walk_inside.new.walk whole (bind ∷ []))
+    (λ whole. WalksOn nest scopes group_scopes kept_sets all base offset known c.args.walk.now c.walk_inside.new.walk whole (option_to_list (slice_get lines place)))
     c.walk_inside.result c.walk_inside.ensures
     (λ whole walks.
-    subst (λ found. WalksOn nest scopes group_scopes all base offset known c.args.walk.now c.walk_inside.new.walk whole (option_to_list found)) (sym beside.is)
+    subst (λ found. WalksOn nest scopes group_scopes kept_sets all base offset known c.args.walk.now c.walk_inside.new.walk whole (option_to_list found)) (sym beside.is)
     (walks beside.other beside.related))
 
 pub walk_steps-walk_step-requires : goal.walk_steps-walk_step-requires
 walk_steps-walk_step-requires t c =
     let most = c.decreases in (
       omega (arith, most),
-      (record { known = c.requires.walk.known; start = c.requires.walk.start; done = c.loop-place.invariant.done refl }, (c.requires.found, c.requires.there)),
+      (
+        record {
+          known = c.requires.walk.known;
+          kept = c.requires.walk.kept;
+          start = c.requires.walk.start;
+          done = c.loop-place.invariant.done refl;
+        },
+        (c.requires.found, c.requires.there),
+      ),
     )
 
 pub walk_steps-returns-then-not-branch : goal.walk_steps-returns-then-not-branch
@@ -157,6 +169,7 @@ walk_steps-returns-then-not-branch t c =
     let nest = c.args.start.now.names.now in
     let scopes = c.args.start.now.ways.now.scopes in
     let group_scopes = c.args.start.now.ways.now.group_scopes in
+    let kept_sets = c.args.start.now.ways.now.kept_sets in
     let all = c.args.start.now.ways.now.known.items in
     let base = c.args.start.now.base in
     let offset = c.args.inlet.scope in
@@ -167,9 +180,9 @@ walk_steps-returns-then-not-branch t c =
     let old = c.args.walk.now in
     let new = c.walk_step.new.walk in
     let walks =
-    subst (λ whole. WalksOn nest scopes group_scopes all base offset known c.loop-place.walk new whole one) c.if-not-branch.true c.in_ok-walk_step.ensures in
-    walks_stop nest scopes group_scopes all base offset known old new (take place lines ++ one) (drop (place + 1) lines) lines
-    (walks_more nest scopes group_scopes all base offset known old c.loop-place.walk new false (take place lines) one (take place lines ++ one)
+    subst (λ whole. WalksOn nest scopes group_scopes kept_sets all base offset known c.loop-place.walk new whole one) c.if-not-branch.true c.in_ok-walk_step.ensures in
+    walks_stop nest scopes group_scopes kept_sets all base offset known old new (take place lines ++ one) (drop (place + 1) lines) lines
+    (walks_more nest scopes group_scopes kept_sets all base offset known old c.loop-place.walk new false (take place lines) one (take place lines ++ one)
     c.loop-place.invariant walks refl) (lines_split lines place)
 
 pub walk_steps-loop-place-preserved : goal.walk_steps-loop-place-preserved
@@ -177,6 +190,7 @@ walk_steps-loop-place-preserved t c =
     let nest = c.args.start.now.names.now in
     let scopes = c.args.start.now.ways.now.scopes in
     let group_scopes = c.args.start.now.ways.now.group_scopes in
+    let kept_sets = c.args.start.now.ways.now.kept_sets in
     let all = c.args.start.now.ways.now.known.items in
     let base = c.args.start.now.base in
     let offset = c.args.inlet.scope in
@@ -187,8 +201,8 @@ walk_steps-loop-place-preserved t c =
     let old = c.args.walk.now in
     let new = c.walk_step.new.walk in
     let walks =
-    subst (λ whole. WalksOn nest scopes group_scopes all base offset known c.loop-place.walk new whole one) c.if-not-branch.false c.in_ok-walk_step.ensures in
-    walks_more nest scopes group_scopes all base offset known old c.loop-place.walk new true (take place lines) one (take (place + 1) lines)
+    subst (λ whole. WalksOn nest scopes group_scopes kept_sets all base offset known c.loop-place.walk new whole one) c.if-not-branch.false c.in_ok-walk_step.ensures in
+    walks_more nest scopes group_scopes kept_sets all base offset known old c.loop-place.walk new true (take place lines) one (take (place + 1) lines)
     c.loop-place.invariant walks (line_next lines place)
 
 pub walk_steps-returns : goal.walk_steps-returns
@@ -196,6 +210,7 @@ walk_steps-returns t c =
     let nest = c.args.start.now.names.now in
     let scopes = c.args.start.now.ways.now.scopes in
     let group_scopes = c.args.start.now.ways.now.group_scopes in
+    let kept_sets = c.args.start.now.ways.now.kept_sets in
     let all = c.args.start.now.ways.now.known.items in
     let base = c.args.start.now.base in
     let offset = c.args.inlet.scope in
@@ -204,7 +219,7 @@ walk_steps-returns t c =
     let steps = (c.requires.walk.known c.args.inlet.input known c.requires.found).steps in
     let long = c.len-place-end.ensures in
     let past = c.loop-place-test.false in
-    subst (WalksOn nest scopes group_scopes all base offset known c.args.walk.now c.loop-place.walk true)
+    subst (WalksOn nest scopes group_scopes kept_sets all base offset known c.args.walk.now c.loop-place.walk true)
     (lines_end nest scopes all known.group known.height known.steps.items lines c.loop-place.place steps (omega (arith, long, past))) c.loop-place.invariant
 
 pub walk_inlet-returns-then-is_done : goal.walk_inlet-returns-then-is_done
@@ -212,34 +227,55 @@ walk_inlet-returns-then-is_done t c known found =
     let nest = c.args.start.now.names.now in
     let scopes = c.args.start.now.ways.now.scopes in
     let group_scopes = c.args.start.now.ways.now.group_scopes in
+    let kept_sets = c.args.start.now.ways.now.kept_sets in
     let all = c.args.start.now.ways.now.known.items in
     let base = c.args.start.now.base in
-    walks_done nest scopes group_scopes all base c.args.inlet.scope known c.args.walk.now c.requires.walk.done (c.is_done.ensures c.if-is_done.true known found)
+    walks_done nest scopes group_scopes kept_sets all base c.args.inlet.scope known c.args.walk.now c.requires.walk.done (c.is_done.ensures c.if-is_done.true known found)
+
+pub walk_inlet-returns-then-is_put : goal.walk_inlet-returns-then-is_put
+walk_inlet-returns-then-is_put t c known found =
+    let nest = c.args.start.now.names.now in
+    let scopes = c.args.start.now.ways.now.scopes in
+    let group_scopes = c.args.start.now.ways.now.group_scopes in
+    let kept_sets = c.args.start.now.ways.now.kept_sets in
+    let all = c.args.start.now.ways.now.known.items in
+    let base = c.args.start.now.base in
+    let offset = c.args.inlet.scope in
+    let now = c.args.walk.now in
+    walks_same nest scopes group_scopes kept_sets all base offset known now now c.note_done.new.walk (lines_of nest known.group known.port.now)
+    (walks_done nest scopes group_scopes kept_sets all base offset known now c.requires.walk.done (c.is_put.ensures c.if-is_put.true known found))
+    c.note_done.ensures.ends c.note_done.ensures.done
 
 pub walk_inlet-returns-then-not-branch : goal.walk_inlet-returns-then-not-branch
 walk_inlet-returns-then-not-branch t c =
     let nest = c.args.start.now.names.now in
     let scopes = c.args.start.now.ways.now.scopes in
     let group_scopes = c.args.start.now.ways.now.group_scopes in
+    let kept_sets = c.args.start.now.ways.now.kept_sets in
     let all = c.args.start.now.ways.now.known.items in
     let base = c.args.start.now.base in
     let known = c.in-Some.known.now in
     let lines = lines_of nest known.group known.port.now in
     let found : slice_get all c.args.inlet.input ≡ Some known =
     ap (λ those. slice_get those c.args.inlet.input) (sym c.as_slice.ensures.value) ∙ sym c.at.ensures ∙ ap (option_map (λ one. one.now)) c.in-Some.is in
-    whole_of nest scopes group_scopes all base c.args.inlet known c.args.walk.now c.walk_known.new.walk false found
-    (subst (λ whole. WalksOn nest scopes group_scopes all base c.args.inlet.scope known c.args.walk.now c.walk_known.new.walk whole lines)
+    whole_of nest scopes group_scopes kept_sets all base c.args.inlet known c.args.walk.now c.walk_known.new.walk false found
+    (subst (λ whole. WalksOn nest scopes group_scopes kept_sets all base c.args.inlet.scope known c.args.walk.now c.walk_known.new.walk whole lines)
     c.if-not-branch.true c.in_ok-walk_known.ensures)
 
-pub walk_inlet-note_done-requires-clause-done : goal.walk_inlet-note_done-requires-clause-done
-walk_inlet-note_done-requires-clause-done t c =
-    c.in_ok-walk_known.ensures.done c.if-not-branch.false
+pub walk_inlet-note_whole-requires-clause-walk : goal.walk_inlet-note_whole-requires-clause-walk
+walk_inlet-note_whole-requires-clause-walk t c = record {
+  known = c.requires.walk.known;
+  kept = c.requires.walk.kept;
+  start = c.requires.walk.start;
+  done = c.in_ok-walk_known.ensures.done c.if-not-branch.false;
+}
 
-pub walk_inlet-note_done-requires-clause-all : goal.walk_inlet-note_done-requires-clause-all
-walk_inlet-note_done-requires-clause-all t c one there =
+pub walk_inlet-note_whole-requires-clause-all : goal.walk_inlet-note_whole-requires-clause-all
+walk_inlet-note_whole-requires-clause-all t c one there =
     let nest = c.args.start.now.names.now in
     let scopes = c.args.start.now.ways.now.scopes in
     let group_scopes = c.args.start.now.ways.now.group_scopes in
+    let kept_sets = c.args.start.now.ways.now.kept_sets in
     let all = c.args.start.now.ways.now.known.items in
     let base = c.args.start.now.base in
     let offset = c.args.inlet.scope in
@@ -249,24 +285,25 @@ walk_inlet-note_done-requires-clause-all t c one there =
     let found : slice_get all c.args.inlet.input ≡ Some known =
     ap (λ those. slice_get those c.args.inlet.input) (sym c.as_slice.ensures.value) ∙ sym c.at.ensures ∙ ap (option_map (λ one. one.now)) c.in-Some.is in
     subst (IsDone nest scopes base new.ends offset) (same_Some known one (sym found ∙ there))
-    (is_done_now nest scopes group_scopes all base offset known c.args.walk.now new
-    (subst (λ whole. WalksOn nest scopes group_scopes all base offset known c.args.walk.now new whole lines) c.if-not-branch.false c.in_ok-walk_known.ensures))
+    (is_done_now nest scopes group_scopes kept_sets all base offset known c.args.walk.now new
+    (subst (λ whole. WalksOn nest scopes group_scopes kept_sets all base offset known c.args.walk.now new whole lines) c.if-not-branch.false c.in_ok-walk_known.ensures))
 
 pub walk_inlet-returns : goal.walk_inlet-returns
 walk_inlet-returns t c =
     let nest = c.args.start.now.names.now in
     let scopes = c.args.start.now.ways.now.scopes in
     let group_scopes = c.args.start.now.ways.now.group_scopes in
+    let kept_sets = c.args.start.now.ways.now.kept_sets in
     let all = c.args.start.now.ways.now.known.items in
     let base = c.args.start.now.base in
     let offset = c.args.inlet.scope in
     let known = c.in-Some.known.now in
     let lines = lines_of nest known.group known.port.now in
     let now = c.walk_known.new.walk in
-    let new = c.note_done.new.walk in
+    let new = c.note_whole.new.walk in
     let found : slice_get all c.args.inlet.input ≡ Some known =
     ap (λ those. slice_get those c.args.inlet.input) (sym c.as_slice.ensures.value) ∙ sym c.at.ensures ∙ ap (option_map (λ one. one.now)) c.in-Some.is in
-    whole_of nest scopes group_scopes all base c.args.inlet known c.args.walk.now new true found
-    (walks_same nest scopes group_scopes all base offset known c.args.walk.now now new lines
-    (subst (λ whole. WalksOn nest scopes group_scopes all base offset known c.args.walk.now now whole lines) c.if-not-branch.false c.in_ok-walk_known.ensures)
-    c.note_done.ensures.ends c.note_done.ensures.done)
+    whole_of nest scopes group_scopes kept_sets all base c.args.inlet known c.args.walk.now new true found
+    (walks_same nest scopes group_scopes kept_sets all base offset known c.args.walk.now now new lines
+    (subst (λ whole. WalksOn nest scopes group_scopes kept_sets all base offset known c.args.walk.now now whole lines) c.if-not-branch.false c.in_ok-walk_known.ensures)
+    c.in_ok-note_whole.ensures.ends c.in_ok-note_whole.ensures.done)

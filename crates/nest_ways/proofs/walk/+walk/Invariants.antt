@@ -20,5 +20,5 @@ decreases-walk_inlet l = 5 * l.inlet.input + 4
 
 abbrev pub invariant-walk_steps-loop-place : goal.invariant-walk_steps-loop-place
 invariant-walk_steps-loop-place l =
-    WalksOn l.start.names.now l.start.ways.now.scopes l.start.ways.now.group_scopes l.start.ways.now.known.items l.start.base l.inlet.scope l.known l.initial.walk l.walk true
+    WalksOn l.start.names.now l.start.ways.now.scopes l.start.ways.now.group_scopes l.start.ways.now.kept_sets l.start.ways.now.known.items l.start.base l.inlet.scope l.known l.initial.walk l.walk true
     (take l.place (lines_of l.start.names.now l.known.group l.known.port.now))

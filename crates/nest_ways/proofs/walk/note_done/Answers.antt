@@ -8,9 +8,10 @@ returns-in-Some-clause-done c =
     let nest = c.args.start.now.names.now in
     let scopes = c.args.start.now.ways.now.scopes in
     let group_scopes = c.args.start.now.ways.now.group_scopes in
+    let kept_sets = c.args.start.now.ways.now.kept_sets in
     let all = c.args.start.now.ways.now.known.items in
     let number = c.in-Some.number in
     let old = c.args.walk.now in
-    let new : Walk = record { ends = old.ends; done = c.put.new.self } in
-    done_with nest scopes group_scopes all c.args.start.now.base number old new c.args.inlet c.requires.done c.requires.all
-    (λ known found. c.number_of.ensures number known c.in-Some.is found) refl c.put.ensures
+    let new : Walk = record { ends = old.ends; done = c.put.new.self; put = old.put } in
+    done_with nest scopes group_scopes kept_sets all c.args.start.now.base number old new c.args.inlet c.requires.done c.requires.all
+    (λ known found. c.scope_number.ensures number known c.in-Some.is found) refl refl c.put.ensures

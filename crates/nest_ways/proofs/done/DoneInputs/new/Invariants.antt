@@ -1,4 +1,4 @@
-use Rattle.nest_ways.specs.Walking.{AreEmpty}
+use Rattle.nest_ways.specs.Sets.{AreEmpty}
 use Rattle.nest_ways.proofs.done.DoneInputs.new.Given as goal
 
 abbrev pub invariant-loop : goal.invariant-loop

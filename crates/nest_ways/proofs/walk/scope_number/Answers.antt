@@ -5,7 +5,7 @@ use Rattle.std.proofs.lemmas.Option.{same_Some}
 use Rattle.nest_names.specs.declared.scope.Scope.{Scope}
 use Rattle.nest_ways.specs.Walking.{IsNumbered}
 use Rattle.nest_ways.proofs.WayLaws.{some_is}
-use Rattle.nest_ways.proofs.walk.number_of.Goals as goal
+use Rattle.nest_ways.proofs.walk.scope_number.Goals as goal
 
 pub returns : goal.returns
 returns c number known is found =

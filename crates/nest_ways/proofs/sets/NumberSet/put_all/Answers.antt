@@ -1,0 +1,40 @@
+use Rattle.std.proofs.Common.{◌≡◌, ◌⊎◌, ◌∙◌, ◌+◌, ℕ, ap, arith, get_or, inl, inr, refl, slice_get, sym, Some}
+use Rattle.std.proofs.lemmas.Option.{slice_get-get_or}
+use Rattle.nest_ways.specs.Sets.{HasAt, HasNumber, IsInWord}
+use Rattle.nest_ways.specs.declared.sets.NumberSet.{NumberSet}
+use Rattle.nest_ways.specs.declared.sets.SetWord.{SetWord}
+use Rattle.nest_ways.proofs.SetLaws.{word_comes}
+use Rattle.nest_ways.proofs.sets.NumberSet.put_all.Goals as goal
+
+pub loop-place-preserved : goal.loop-place-preserved
+loop-place-preserved c =
+    let old = c.loop-place.self in
+    let other = c.args.set.now in
+    let new : NumberSet = record { start = old.start; words = c.put_word.new.words } in
+    let words = c.as_slice-word-items.result.now in
+    let place = c.loop-place.place in
+    let there = c.in-Some-checked_add.there in
+    let none : SetWord = record { bits = 0 } in
+    let word = get_or words place none in
+    let at : slice_get other.words.items place ≡ Some word =
+    ap (λ those. slice_get those place) (sym c.as_slice-word-items.ensures) ∙ slice_get-get_or words place none c.loop-place-test.true in
+    let sum = c.in-Some-checked_add.ensures in
+    let sub = c.in-Some.ensures in
+    let same = c.loop-place.invariant.1 in
+    let far : other.start ≡ old.start + c.in-Some.ahead = omega (arith, sub, same) in (
+      λ number held.
+          further number
+          (word_comes old new other word c.in-Some.ahead place there refl far (omega (arith, sum)) at
+          (λ k bit has. before word there k bit (c.put_word.ensures k bit has)) number held),
+      same,
+    )
+  where
+    before : (word : SetWord) (there k bit : ℕ) → ((k ≡ there) × IsInWord word bit) ⊎ HasAt c.grow_to.new.words.items k bit
+        → ((k ≡ there) × IsInWord word bit) ⊎ HasAt c.loop-place.self.words.items k bit
+    before word there k bit (inl here) = inl here
+    before word there k bit (inr was) = inr (c.in_ok-grow_to.ensures.only k bit was)
+
+    further : (number : ℕ) → HasNumber c.args.set.now number ⊎ HasNumber c.loop-place.self number
+        → HasNumber c.args.set.now number ⊎ HasNumber c.begin.new.self number
+    further number (inl here) = inl here
+    further number (inr was) = c.loop-place.invariant.0 number was

@@ -1,0 +1,68 @@
+-- Sets of numbers, and numbers of inputs of components that are kept.
+use Rattle.std.specs.Prelude.{◌≡◌, ◌↔◌, ◌+◌, ◌*◌, ℕ, List, Option, Some, slice_get}
+use Rattle.std.specs.Int.{bit_at}
+use Rattle.nest_ways.specs.declared.ends.End.{End}
+use Rattle.nest_ways.specs.declared.numbers.KeptSets.{KeptSets}
+use Rattle.nest_ways.specs.declared.sets.NumberSet.{NumberSet}
+use Rattle.nest_ways.specs.declared.sets.SetWord.{SetWord}
+use Rattle.nest_ways.specs.declared.steps.Known.{Known}
+
+-- ---- Sets
+
+-- The number is in the word.
+abbrev pub IsInWord : SetWord → ℕ → Type 0
+IsInWord word number = bit_at word.bits number ≡ 1
+
+-- The word at the place has the number.
+abbrev pub HasAt : List SetWord → ℕ → ℕ → Type 0
+HasAt words place number = (word : SetWord) × (slice_get words place ≡ Some word) × IsInWord word number
+
+-- No word has a number.
+abbrev pub AreEmpty : List SetWord → Type 0
+AreEmpty words = (place number : ℕ) → HasAt words place number → ⊥
+
+-- A word of the set has the number: the words stand for 64 numbers each, in turn, from its start on.
+pub record HasNumber (set : NumberSet) (number : ℕ) : Type 0 where
+  pub place : ℕ
+  pub bit : ℕ
+  pub has : HasAt set.words.items place bit
+  pub is : number ≡ (set.start + place) * 64 + bit
+
+-- Both sets have the same numbers.
+abbrev pub HasSame : NumberSet → NumberSet → Type 0
+HasSame one other = (number : ℕ) → HasNumber one number ↔ HasNumber other number
+
+-- The set at the place has the number.
+abbrev pub HasNumberAt : List NumberSet → ℕ → ℕ → Type 0
+HasNumberAt sets place number = (set : NumberSet) × (slice_get sets place ≡ Some set) × HasNumber set number
+
+-- ---- Inputs by numbers
+
+-- The input stands among others.
+abbrev pub IsAmong : End → List End → Type 0
+IsAmong end ends = (place : ℕ) × (slice_get ends place ≡ Some end)
+
+-- Each of these inputs has a number of the set.
+abbrev pub HasAll : List End → NumberSet → List End → Type 0
+HasAll numbered set ends = (end : End) → IsAmong end ends → (number : ℕ) × HasNumber set number × (slice_get numbered number ≡ Some end)
+
+-- Each number of the set is that of one of these inputs.
+abbrev pub HasOnly : List End → NumberSet → List End → Type 0
+HasOnly numbered set ends = (number : ℕ) → HasNumber set number → (end : End) × (slice_get numbered number ≡ Some end) × IsAmong end ends
+
+-- The set has the numbers of what is kept of the input.
+pub record IsKeptSet (numbered : List End) (all : List Known) (input : ℕ) (set : NumberSet) : Type 0 where
+  pub known : Known
+  pub there : slice_get all input ≡ Some known
+  pub kept : List End
+  pub keeps : known.ends ≡ Some kept
+  pub has_all : HasAll numbered set kept
+  pub has_only : HasOnly numbered set kept
+
+-- The sets of inputs have the numbers of what is kept of them.
+abbrev pub AreKeptSets : List End → List Known → List (Option NumberSet) → Type 0
+AreKeptSets numbered all sets = (input : ℕ) (set : NumberSet) → slice_get sets input ≡ Some (Some set) → IsKeptSet numbered all input set
+
+-- What is kept of the inputs that are known, by numbers.
+abbrev pub KeepsByNumbers : KeptSets → List Known → Type 0
+KeepsByNumbers kept all = AreKeptSets kept.numbered all kept.sets.items

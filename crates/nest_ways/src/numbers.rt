@@ -1,0 +1,251 @@
+//! The inputs of components that are kept, by numbers: so that it is told by words whether all that is kept of an input was put.
+//!
+//! Each input of a component that is kept of inputs of a group to which walks come has a number, the same for all of them, and the numbers of
+//! one group stand together. What rests on it is only that one input stands at a number, as it is reached from a scope of the group: an input without a set,
+//! or with one that is never found to be put, is put again from each scope, which takes long and changes nothing.
+ghost use Rattle.std.specs.Prelude.{◌≡◌, ◌⊎◌, ◌++◌, ℕ, List, Some, IfOk, IsTrue, OnOk, slice_get};
+ghost use Rattle.std.specs.Option.{option_map};
+ghost use Rattle.nest_ways.specs.Sets.{AreKeptSets, KeepsByNumbers, HasAll, HasNumber, HasOnly, HasNumberAt};
+ghost use Rattle.nest_ways.specs.declared.ends.End.{End as Ends};
+ghost use Rattle.nest_ways.specs.declared.sets.NumberSet.{NumberSet as NumberSets};
+
+use crate::ends::{End, is_at};
+use crate::guide::Guide;
+use crate::sets::NumberSet;
+use crate::steps::{Known, Step, only_inside};
+use fixed_words::{List, NoMemory};
+use nest_names::at;
+use std::alloc::Global;
+
+/// The most inputs of components that get numbers for one group. Connections lead to 2,048 at most, where they don't lead to too many. One of
+/// them may have eight numbers, where names of instances join to the same: each for another scope of the group from which it is reached, and
+/// for another component in each of these, of which there are 64 at most. Beyond, what is kept has no set, and is put from each scope anew.
+pub(crate) const MOST_NUMBERS: usize = 8 * 2048;
+
+/// What is kept of inputs of groups, by numbers.
+#[derive(Drop)]
+pub struct KeptSets {
+    /// The inputs of components, each at its number, as it is reached from a scope.
+    numbered: List<End>,
+    /// For each input of a group the numbers of what is kept of it, where something is, walks come to it and there were numbers for it.
+    sets: Vec<Option<NumberSet>>,
+}
+
+/// The number of an input of a component, the next one where it has none yet and there are enough. Those of the group begin with the first.
+fn number_end(
+    guide: &mut Guide<'_>,
+    first: usize,
+    end: End,
+    numbered: &mut List<End>,
+) -> Result<Option<usize>, NoMemory>
+    ensures found { IfOk result (λ told. (number : ℕ) → told ≡ Some number → slice_get numbered.new number ≡ Some end) }
+    ensures still { OnOk result ((rest : List Ends) × (numbered.new ≡ numbered.old ++ rest)) }
+{
+    let number = guide.place_of(end);
+    if number >= first && is_at(numbered.as_slice(), number, end) {
+        return Ok(Some(number));
+    }
+    let next = numbered.len();
+    if next >= first.saturating_add(MOST_NUMBERS) {
+        return Ok(None);
+    }
+    guide.note_place(end, next);
+    numbered.push(end)?;
+    Ok(Some(next))
+}
+
+/// The numbers of what is kept, where there are enough.
+fn numbers_of(
+    alloc: Global,
+    guide: &mut Guide<'_>,
+    first: usize,
+    kept: &[End],
+    numbered: &mut List<End>,
+) -> Result<Option<NumberSet>, NoMemory>
+    ensures has { IfOk result (λ made. (set : NumberSets) → made ≡ Some set → HasAll numbered.new set kept.now × HasOnly numbered.new set kept.now) }
+    ensures still { OnOk result ((rest : List Ends) × (numbered.new ≡ numbered.old ++ rest)) }
+{
+    let mut set = NumberSet::new(alloc, first);
+    for end in kept {
+        let Some(number) = number_end(guide, first, *end, numbered)? else {
+            return Ok(None);
+        };
+        if !set.put(number)? {
+            return Ok(None);
+        }
+    }
+    set.trimmed()
+}
+
+/// Puts a set at a place, where there is one.
+fn set_at(sets: &mut Vec<Option<NumberSet>>, place: usize, set: Option<NumberSet>)
+    ensures { (other : ℕ) (one : NumberSets) → slice_get sets.new.items other ≡ Some (Some one)
+        → ((other ≡ place) × (set ≡ Some one)) ⊎ (slice_get sets.old.items other ≡ Some (Some one)) }
+{
+    if place < sets.len() {
+        sets[place] = set;
+    }
+}
+
+/// Numbers what is kept of inputs of one group.
+fn number_inputs(
+    alloc: Global,
+    known: &[Known<'_>],
+    guide: &mut Guide<'_>,
+    group: usize,
+    inputs: &[usize],
+    numbered: &mut List<End>,
+    sets: &mut Vec<Option<NumberSet>>,
+) -> Result<(), NoMemory>
+    requires { AreKeptSets numbered.old known.now sets.old.items }
+    ensures { OnOk result (AreKeptSets numbered.new known.now sets.new.items) }
+{
+    guide.begin_group(group);
+    let first = numbered.len();
+    for input in inputs {
+        let Some(one) = at(known, *input) else {
+            continue;
+        };
+        let Some(kept) = &one.ends else {
+            continue;
+        };
+        let set = numbers_of(alloc, guide, first, kept.as_slice(), numbered)?;
+        set_at(sets, *input, set);
+    }
+    Ok(())
+}
+
+/// Notes the inputs that a walk comes to from an input, where nothing is kept of this, so that walks go along its steps, and they aren't one
+/// step, which is led past.
+fn note_walked(one: &Known<'_>, walked: &mut [bool]) {
+    let steps = one.steps.as_slice();
+    if one.ends.is_some() || only_inside(steps).is_some() {
+        return;
+    }
+    for step in steps {
+        if let Step::Inside(inside) = *step {
+            if let Some(input) = walked.get_mut(inside.input as usize) {
+                *input = true;
+            }
+        }
+    }
+}
+
+/// Which of the inputs that are known walks come to from others.
+fn walked_inputs(alloc: Global, known: &[Known<'_>]) -> Result<Vec<bool>, NoMemory> {
+    let mut walked = Vec::with_capacity(alloc, known.len())?;
+    for _ in 0..known.len() {
+        walked.push(false)?;
+    }
+    for one in known {
+        note_walked(one, walked.as_mut_slice());
+    }
+    Ok(walked)
+}
+
+/// For each group those of its inputs to which walks come.
+fn inputs_of_groups(
+    alloc: Global,
+    known: &[Known<'_>],
+    groups: usize,
+) -> Result<Vec<Vec<usize>>, NoMemory> {
+    let walked = walked_inputs(alloc, known)?;
+    let mut lists = Vec::new(alloc);
+    for _ in 0..groups {
+        lists.push(Vec::new(alloc))?;
+    }
+    for (input, (one, walked)) in known.iter().zip(walked.iter()).enumerate() {
+        if *walked {
+            if let Some(own) = lists.get_mut(one.group) {
+                own.push(input)?;
+            }
+        }
+    }
+    Ok(lists)
+}
+
+/// So many inputs, none of which has a set.
+fn no_sets(alloc: Global, count: usize) -> Result<Vec<Option<NumberSet>>, NoMemory>
+    ensures { IfOk result (λ made. (place : ℕ) (set : NumberSets) → slice_get made.items place ≡ Some (Some set) → ⊥) }
+{
+    let mut sets = Vec::with_capacity(alloc, count)?;
+    for _ in 0..count {
+        sets.push(None)?;
+    }
+    Ok(sets)
+}
+
+impl KeptSets {
+    /// The numbers of what is kept of inputs to which walks come, group by group.
+    pub(crate) fn new(
+        alloc: Global,
+        known: &[Known<'_>],
+        guide: &mut Guide<'_>,
+        groups: usize,
+    ) -> Result<KeptSets, NoMemory>
+        ensures { IfOk result (λ made. KeepsByNumbers made known.now) }
+    {
+        let mut numbered = List::new(alloc);
+        let mut sets = no_sets(alloc, known.len())?;
+        let lists = inputs_of_groups(alloc, known, groups)?;
+        for (group, inputs) in lists.iter().enumerate() {
+            number_inputs(
+                alloc,
+                known,
+                guide,
+                group,
+                inputs.as_slice(),
+                &mut numbered,
+                &mut sets,
+            )?;
+        }
+        Ok(KeptSets { numbered, sets })
+    }
+
+    /// The numbers of what is kept of an input.
+    pub(crate) fn set(&self, input: usize) -> Option<&NumberSet>
+        ensures { (set : NumberSets) → option_map (λ found. found.now) result ≡ Some set → slice_get self.now.sets.items input ≡ Some (Some set) }
+    {
+        at(self.sets.as_slice(), input)?.as_ref()
+    }
+}
+
+/// For each scope, told by how many places further on it stands, numbers of inputs that were put from there.
+#[derive(Drop)]
+pub struct PutSets {
+    sets: Vec<NumberSet>,
+}
+
+impl PutSets {
+    /// So many scopes, from none of which inputs were put.
+    pub(crate) fn new(alloc: Global, count: usize) -> Result<PutSets, NoMemory>
+        ensures { IfOk result (λ made. (scope number : ℕ) → HasNumberAt made.sets.items scope number → ⊥) }
+    {
+        let mut sets = Vec::with_capacity(alloc, count)?;
+        for _ in 0..count {
+            sets.push(NumberSet::new(alloc, 0))?;
+        }
+        Ok(PutSets { sets })
+    }
+
+    /// Whether all numbers of a set were put from a scope.
+    pub(crate) fn has(&self, scope: usize, set: &NumberSet) -> bool
+        ensures { IsTrue result → (number : ℕ) → HasNumber set.now number → HasNumberAt self.now.sets.items scope number }
+    {
+        match at(self.sets.as_slice(), scope) {
+            Some(own) => set.is_within(own),
+            None => false,
+        }
+    }
+
+    /// Puts the numbers of a set to those of a scope.
+    pub(crate) fn put(&mut self, scope: usize, set: &NumberSet) -> Result<(), NoMemory>
+        ensures { OnOk result ((other number : ℕ) → HasNumberAt self.new.sets.items other number
+            → ((other ≡ scope) × HasNumber set.now number) ⊎ HasNumberAt self.old.sets.items other number) }
+    {
+        if let Some(own) = self.sets.get_mut(scope) {
+            own.put_all(set)?;
+        }
+        Ok(())
+    }
+}

@@ -1,0 +1,229 @@
+//! Sets of numbers, by words of 64 bits.
+ghost use Rattle.std.specs.Prelude.{◌≡◌, ◌⊎◌, ◌<◌, ◌≤◌, ℕ, length, Some, IfOk, IsTrue, OnOk};
+ghost use Rattle.nest_ways.specs.Sets.{HasAt, HasNumber, HasSame, IsInWord};
+ghost use Rattle.nest_ways.specs.declared.sets.NumberSet.{NumberSet as NumberSets};
+
+use crate::numbers::MOST_NUMBERS;
+use fixed_words::NoMemory;
+use nest_names::at;
+use smallvec::SmallVec;
+use std::alloc::Global;
+
+/// How many numbers a word has room for.
+pub(crate) const WORD_BITS: u32 = 64;
+
+/// Which of the numbers below 64 are in a set.
+#[derive(Clone, Copy)]
+pub struct SetWord {
+    bits: u64,
+}
+
+/// What stands where a short list has no word yet.
+impl Default for SetWord {
+    fn default() -> SetWord {
+        SetWord::empty()
+    }
+}
+
+impl SetWord {
+    /// None of the numbers.
+    pub(crate) fn empty() -> SetWord
+        ensures { (number : ℕ) → IsInWord result number → ⊥ }
+    {
+        SetWord { bits: 0 }
+    }
+
+    /// Whether a number is in the set.
+    pub(crate) fn has(self, number: u32) -> bool
+        ensures { IsTrue result → IsInWord self number }
+    {
+        if number >= WORD_BITS {
+            return false;
+        }
+        self.bits & (1 << number) != 0
+    }
+
+    /// The set with one number more, where it is below 64.
+    pub(crate) fn with(self, number: u32) -> SetWord
+        ensures there { number < 64 → IsInWord result number }
+        ensures still { (one : ℕ) → IsInWord self one → IsInWord result one }
+        ensures only { (one : ℕ) → IsInWord result one → (one ≡ number) ⊎ IsInWord self one }
+    {
+        if number >= WORD_BITS {
+            return self;
+        }
+        let bits = self.bits | (1 << number);
+        SetWord { bits }
+    }
+
+    /// Whether all its numbers are in another set.
+    fn is_within(self, other: SetWord) -> bool
+        ensures { IsTrue result → (number : ℕ) → IsInWord self number → IsInWord other number }
+    {
+        self.bits | other.bits == other.bits
+    }
+
+    /// The numbers of both.
+    fn joined(self, other: SetWord) -> SetWord
+        ensures { (number : ℕ) → IsInWord result number → IsInWord self number ⊎ IsInWord other number }
+    {
+        let bits = self.bits | other.bits;
+        SetWord { bits }
+    }
+}
+
+/// How many words of a set stand in the set itself.
+const FEW_WORDS: usize = 3;
+
+/// How many words the numbers of one group stand in at most.
+const MOST_WORDS: usize = MOST_NUMBERS / 64 + 1;
+
+/// The words of a set, in turn.
+type Words = SmallVec<SetWord, FEW_WORDS>;
+
+/// A set of numbers.
+#[derive(Drop)]
+pub struct NumberSet {
+    /// How many words of lower numbers are left out: none of these is in the set.
+    start: usize,
+    words: Words,
+}
+
+/// The word at a place, or an empty one.
+fn word_at(words: &[SetWord], place: usize) -> SetWord
+    ensures { (bit : ℕ) → IsInWord result bit → HasAt words.now place bit }
+{
+    match at(words, place) {
+        Some(word) => *word,
+        None => SetWord::empty(),
+    }
+}
+
+/// Puts empty words behind others until there is one at the place.
+fn grow_to(words: &mut Words, place: usize) -> Result<(), NoMemory>
+    ensures still { OnOk result ((at bit : ℕ) → HasAt words.old.items at bit → HasAt words.new.items at bit) }
+    ensures only { OnOk result ((at bit : ℕ) → HasAt words.new.items at bit → HasAt words.old.items at bit) }
+    ensures long { OnOk result (place < length words.new.items) }
+{
+    for _ in words.len()..=place {
+        words.push(SetWord::empty())?;
+    }
+    Ok(())
+}
+
+/// Puts a bit into the word at a place.
+fn put_bit(words: &mut Words, place: usize, bit: u32)
+    requires { place < length words.old.items }
+    ensures there { bit < 64 → HasAt words.new.items place bit }
+    ensures still { (at one : ℕ) → HasAt words.old.items at one → HasAt words.new.items at one }
+    ensures only { (at one : ℕ) → HasAt words.new.items at one → ((at ≡ place) × (one ≡ bit)) ⊎ HasAt words.old.items at one }
+{
+    if let Some(word) = words.get_mut(place) {
+        *word = word.with(bit);
+    }
+}
+
+/// Puts the bits of a word into the one at a place, where there is one.
+fn put_word(words: &mut Words, place: usize, more: SetWord)
+    ensures { (at bit : ℕ) → HasAt words.new.items at bit → ((at ≡ place) × IsInWord more bit) ⊎ HasAt words.old.items at bit }
+{
+    if let Some(word) = words.get_mut(place) {
+        *word = word.joined(more);
+    }
+}
+
+/// How many words are empty before the first that isn't.
+fn empty_before(words: &[SetWord]) -> usize
+    ensures least { (place bit : ℕ) → HasAt words.now place bit → result ≤ place }
+    ensures within { result ≤ length words.now }
+{
+    for (place, word) in words.iter().enumerate() {
+        if word.bits != 0 {
+            return place;
+        }
+    }
+    words.len()
+}
+
+impl NumberSet {
+    /// No numbers, with room for those from the first one on.
+    pub(crate) fn new(alloc: Global, first: usize) -> NumberSet
+        ensures { (number : ℕ) → HasNumber result number → ⊥ }
+    {
+        NumberSet {
+            start: first / 64,
+            words: SmallVec::new(alloc),
+        }
+    }
+
+    /// Puts a number into the set, where there is room for it. Tells whether it was put.
+    pub(crate) fn put(&mut self, number: usize) -> Result<bool, NoMemory>
+        ensures there { IfOk result (λ told. IsTrue told → HasNumber self.new number) }
+        ensures still { OnOk result ((one : ℕ) → HasNumber self.old one → HasNumber self.new one) }
+        ensures only { OnOk result ((one : ℕ) → HasNumber self.new one → (one ≡ number) ⊎ HasNumber self.old one) }
+    {
+        let Some(place) = (number / 64).checked_sub(self.start) else {
+            return Ok(false);
+        };
+        grow_to(&mut self.words, place)?;
+        put_bit(&mut self.words, place, (number % 64) as u32);
+        Ok(true)
+    }
+
+    /// The same numbers, without empty words before them.
+    pub(crate) fn trimmed(&self) -> Result<Option<NumberSet>, NoMemory>
+        ensures { IfOk result (λ told. (made : NumberSets) → told ≡ Some made → HasSame made self.now) }
+    {
+        let empty = empty_before(self.words.as_slice());
+        let Some(start) = self.start.checked_add(empty) else {
+            return Ok(None);
+        };
+        let words = SmallVec::from_slice(*self.words.allocator(), &self.words.as_slice()[empty..])?;
+        Ok(Some(NumberSet { start, words }))
+    }
+
+    /// Whether all its numbers are in another set.
+    pub(crate) fn is_within(&self, other: &NumberSet) -> bool
+        ensures { IsTrue result → (number : ℕ) → HasNumber self.now number → HasNumber other.now number }
+    {
+        let Some(ahead) = self.start.checked_sub(other.start) else {
+            return false;
+        };
+        for (place, word) in self.words.as_slice().iter().enumerate() {
+            let Some(there) = ahead.checked_add(place) else {
+                return false;
+            };
+            if !word.is_within(word_at(other.words.as_slice(), there)) {
+                return false;
+            }
+        }
+        true
+    }
+
+    /// Chooses which words are left out, where there are none yet: there is room then for all numbers of the group of a set.
+    fn begin(&mut self, set: &NumberSet)
+        ensures { (number : ℕ) → HasNumber self.new number → HasNumber self.old number }
+    {
+        if self.words.is_empty() {
+            self.start = set.start.saturating_sub(MOST_WORDS);
+        }
+    }
+
+    /// Puts all numbers of another set of the same group. A set that began before the words of this one would be left out: none of a group does.
+    pub(crate) fn put_all(&mut self, set: &NumberSet) -> Result<(), NoMemory>
+        ensures { OnOk result ((number : ℕ) → HasNumber self.new number → HasNumber set.now number ⊎ HasNumber self.old number) }
+    {
+        self.begin(set);
+        let Some(ahead) = set.start.checked_sub(self.start) else {
+            return Ok(());
+        };
+        for (place, word) in set.words.as_slice().iter().enumerate() {
+            let Some(there) = ahead.checked_add(place) else {
+                return Ok(());
+            };
+            grow_to(&mut self.words, there)?;
+            put_word(&mut self.words, there, *word);
+        }
+        Ok(())
+    }
+}
