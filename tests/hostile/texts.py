@@ -1,4 +1,5 @@
 """Texts at the ends of what the language allows: as deep as there may be, and of nearly 1 MiB in many shapes."""
+import itertools
 import random
 import string
 
@@ -221,6 +222,12 @@ def long_nests():
         ("trees of names that lead by five lines each to 40 inputs of twins, in twelve places", twin_trees(12, 5, 40, 5)),
         ("trees of names that lead to all but one of 48 inputs of twins each, in ten places", twin_mixtures(10, 6, 48)),
         ("trees of names that lead to all but one of 72 inputs of twins each, in nine places", twin_mixtures(9, 7, 72)),
+        ("trees of names that lead to half of 48 inputs of twins each, in ten places", twin_mixtures(10, 6, 48, 23)),
+        ("trees of names that lead by three lines to most of 42 inputs of twins each, in twelve places", twin_mixtures(12, 5, 42, 35, 3)),
+        ("trees of names that lead to more inputs of twins each than are kept, in nine places", twin_mixtures(9, 7, KEPT + 5, KEPT + 2)),
+        ("names that lead to inputs whose numbers stand far apart, in eight places, by many lines", numbers_apart(8, 118, 8_000, 4)),
+        ("many names that lead to inputs whose numbers stand far apart, in eight places", numbers_apart(8, 118, 15_000, 4)),
+        ("names that lead to inputs whose numbers stand as far apart as they may, and to too many", numbers_at_ends()),
         ("names on eight levels that lead to one input, in 14 places of each of three parts", few_inside(3, 14)),
         ("trees of names that lead by two lines each to 16 inputs, in nine places", twin_trees(9, 1, 16, 2)),
         ("lines of a group in as many scopes as there may be", lines_in_scopes()),
@@ -583,20 +590,21 @@ def twin_trees(places, inner, inputs, steps):
     return (text + with_unit(unit_with(rows + 1)) + "instance g:G\nend\n" + "connect a.y->g.x\n" * (2_048 // (reached + more))).encode()
 
 
-def twin_mixtures(places, inner, inputs):
-    """Names on five levels, each of which leads by two lines to names of the next level, in no order, and at last to one of 30 inputs that lead
-    to all but one of so many inputs of twins each; some connections lead to those of the first level in each of so many places. A first one
-    leads to those of the fourth level in another order, so that what is known of names stands in no order in which walks come to them."""
+def twin_mixtures(places, inner, inputs, led_to=None, lines=2):
+    """Names on five levels, each of which leads by two lines to names of the next level, in no order, and at last by so many to one of 30 inputs
+    that lead to so many of so many inputs of twins each, all but one where it isn't told; some connections lead to those of the first level in
+    each of so many places. A first one leads to those of the fourth level in another order, so that what is known of names stands in no order
+    in which walks come to them."""
     rows = -(-inputs // inner)
     leading = [(twin, number) for number in range(rows) for twin in range(1, inner + 1)][:inputs]
     orders = [letter for letter in string.ascii_letters if letter not in "thabyxz"][:30]
     text = "group J\ninstance d:M\nend\n" + "".join(f"in {name_of(number)}->d.{name_of(number)}\n" for number in range(rows + 1))
     text += "group H\n" + "".join(f"instance {'_' * twin}:J\nend\n" for twin in range(1, inner + 1))
     for seed, order in enumerate(orders):
-        few = random.Random(seed).sample(leading, inputs - 1)
+        few = random.Random(seed).sample(leading, led_to or inputs - 1)
         text += "".join(f"in {order}->{'_' * twin}.{name_of(number)}\n" for twin, number in few)
     text += f"in z->_.{name_of(rows)}\n"
-    first = (LONGEST - len(text) - 8_000) // (28 * 15 + 24 * 16 + 13 * 8 + places * (12 + places // 2))
+    first = (LONGEST - len(text) - 8_000) // (28 * 15 + 12 * lines * 16 + 13 * 8 + places * (12 + places // 2))
     led, inside = orders, "H"
     for level in reversed(range(5)):
         own = [short_name(number) for number in shuffled(first * 2**level, level)]
@@ -604,7 +612,7 @@ def twin_mixtures(places, inner, inputs):
         if level == 2:
             text += "".join(f"in y->_.{name}\n" for name in random.Random(7).sample(led, len(led)))
         if level == 4:
-            text += "".join(f"in {name}->_.{orders[place % len(orders)]}\n" * 2 for place, name in enumerate(own))
+            text += "".join(f"in {name}->_.{orders[place % len(orders)]}\n" * lines for place, name in enumerate(own))
         else:
             order = shuffled(2 * len(own), level + 5)
             text += "".join(f"in {name}->_.{led[order[2 * place + line] % len(led)]}\n" for place, name in enumerate(own) for line in range(2))
@@ -617,6 +625,61 @@ def twin_mixtures(places, inner, inputs):
     text += "".join(starts) + "".join(f"in x->{'_' * place}.z\n" for place in range(1, more + 1))
     wires = "connect a.y->g.y\n" + "connect a.y->g.x\n" * ((2_048 - inner * rows) // (reached + more))
     return (text + with_unit(unit_with(rows + 1)) + "instance g:G\nend\n" + wires).encode()
+
+
+def numbers_apart(side, lots, names, connections):
+    """So many names, each of which leads by two lines to as many inputs of twins as are kept; some connections lead to them by line after line, in
+    as many places as there are twins, and so to one input more. A first connection leads to lots of 63 other inputs, each of them behind one of
+    those that are kept, so that what is kept of a name stands far apart among all inputs that are met."""
+    rows = -(-(KEPT + 1) // side)
+    leading = [(twin, number) for number in range(rows) for twin in range(1, side + 1)][: KEPT + 1]
+    more = -(-63 * lots // side)
+    others = [(twin, rows + number) for twin in range(1, side + 1) for number in range(more)]
+    ports = [name_of(number) for number in range(rows + more)]
+    inner = "group H\n" + "".join(f"instance {'_' * twin}:J\nend\n" for twin in range(1, side + 1))
+    first = []
+    for lot in range(lots):
+        for twin, led in itertools.groupby(others[63 * lot : 63 * lot + 63], key=lambda one: one[0]):
+            name = f"E{lot}x{twin}"
+            before = [leading[lot]] if not first or not first[-1][1].startswith(f"E{lot}x") else []
+            inner += "".join(f"in {name}->{'_' * own}.{ports[number]}\n" for own, number in before + list(led))
+            first.append((twin, name))
+    inner += "".join(f"in b->{'_' * twin}.{ports[number]}\n" for twin, number in (leading[place] for place in shuffled(KEPT, lots)))
+    inner += "".join(f"in z->{'_' * twin}.{ports[number]}\n" for twin, number in leading) + "out q=_.q\n"
+    text = "group J\ninstance d:M\nend\n" + "".join(f"in {port}->d.{port}\n" for port in ports) + "out q=d.q\n" + inner
+    text += "group T\ninstance _:H\nend\nout q=_.q\n" + "".join(f"in {name}->_.{name}\n" * 2 for _, name in first) + "in z->_.z\n"
+    own = [short_name(number) for number in range(names)]
+    text += "".join(f"in {name}->_.b\n" * 2 for name in own)
+    text += "group S\ninstance _:T\nend\nout q=_.q\nin z->_.z\n" + "".join(f"in {name}->_.{name}\n" for _, name in first)
+    places = [f"instance {'_' * place}:S\nend\nin x->{'_' * place}.z\n" for place in range(1, side + 1)]
+    end = "group G\nout q=_.q\n" + "".join(places) + "".join(f"in e->{'_' * (side + 1 - twin)}.{name}\n" for twin, name in first)
+    unit = "unit M\n" + "".join(f"input {port}:Int8=0\n" for port in ports) + "output q:Int8=0\nend\n"
+    end += "main\ncosim 1\n" + unit + "stop 3\ninstance g:G\nend\nconnect g.q->g.e\n" + "connect g.q->g.x\n" * connections
+    order = itertools.cycle(shuffled(names, side))
+    while len(text) + len(end) < LONGEST - 20:
+        text += f"in z->_.{own[next(order)]}\n"
+    return (text + end).encode()
+
+
+def numbers_at_ends():
+    """Names that lead by two lines to as many inputs as are kept, of which each stands behind as many others that are met before: so that what is
+    known of each name takes most memory. One connection leads to all of them, and so to more than there may be."""
+    ports = [name_of(number) for number in range(2 * KEPT)]
+    places = [place_name(place) for place in range(64)]
+    lots = [(place, half) for place in places for half in range(2)]
+    text = "group J\ninstance d:M\nend\nout q=d.q\n" + "".join(f"in {port}->d.{port}\n" for port in ports)
+    text += "".join(f"in P{place // KEPT}->d.{port}\n" for place, port in enumerate(ports))
+    text += "group H\n" + "".join(f"instance {place}:J\nend\n" for place in places) + f"out q={places[0]}.q\n"
+    text += "".join(f"in F{place}x{half}->{place}.P{half}\n" for place, half in lots)
+    text += "".join(f"in b->{place}.{ports[(half + 1) * KEPT - 1]}\n" for place, half in lots)
+    text += "group T\ninstance _:H\nend\nout q=_.q\n" + "".join(f"in F{place}x{half}->_.F{place}x{half}\n" * 2 for place, half in lots)
+    end = "".join(f"in z->_.F{place}x{half}\n" for place, half in lots)
+    unit = "unit M\n" + "".join(f"input {port}:Int8=0\n" for port in ports) + "output q:Int8=0\nend\n"
+    outer = "group S\ninstance _:T\nend\nout q=_.q\n" + end
+    main = "main\ncosim 1\n" + unit + "stop 3\ninstance g:S\nend\nconnect g.q->g.z\n"
+    names = [short_name(number) for number in range((LONGEST - len(text + outer + main)) // 38)]
+    text += "".join(f"in {name}->_.b\n" * 2 for name in names)
+    return (text + outer + "".join(f"in z->_.{name}\n" for name in names) + main).encode()
 
 
 def few_inside(parts, places):
