@@ -18,6 +18,3 @@ pub use laws::{
     generated_system_is_worked, generated_systems_are_printable, generated_systems_are_well_formed,
     generated_systems_have_no_cycle,
 };
-
-#[cfg(test)]
-mod tests;

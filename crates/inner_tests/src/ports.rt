@@ -1,12 +1,12 @@
 //! Ports that are solved one by one.
 ghost use Rattle.std.specs.Prelude.{◌≡◌};
 
-use crate::opening::plan_of;
 use fixed_words::Fault;
 use port_solve::{ask, feed, set_starts};
 use std::alloc::Global;
 use std::sync::Arc;
 use std::test::Fail;
+use test_plans::plan_of;
 use trace_core::Plan;
 use trace_units::Units;
 

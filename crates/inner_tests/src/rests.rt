@@ -1,12 +1,12 @@
 //! Runs that are opened at any position, and the lines that they put from there.
 ghost use Rattle.trace_core.specs.Runs.{IsOpened, Stands};
 
-use crate::opening::plan_of;
 use cosim_io::MemSink;
 use serial_run::put_rest;
 use std::alloc::Global;
 use std::sync::Arc;
 use std::test::Fail;
+use test_plans::plan_of;
 use trace_core::{OpenFault, Plan, Run};
 use unit_tree::Point;
 

@@ -1,11 +1,11 @@
 //! Systems without a plan, the ends of inputs, and reports of whole runs.
-use crate::opening::{perhaps_plan, plan_of};
 use crate::wants::HELD_ANEW;
 use cosim_io::MemSink;
 use serial_run::{CrewFault, Report, run_alone};
 use std::alloc::Global;
 use std::sync::Arc;
 use std::test::Fail;
+use test_plans::{perhaps_plan, plan_of};
 use trace_core::Plan;
 use trace_plan::PlanFault;
 use unit_tree::{Ending, Point};

@@ -1,8 +1,7 @@
 //! What a run lends of an instance, and the steps that it wants.
-use crate::opening::plan_of;
-use crate::stepping::settle;
 use std::alloc::Global;
 use std::test::Fail;
+use test_plans::{plan_of, settle};
 use trace_core::{Phase, Run};
 
 /// Two components in a ring, whose outputs are in none. The state of `a` is what `b` put out at the row before.

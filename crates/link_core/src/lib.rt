@@ -39,9 +39,6 @@ pub use laws::{
 };
 pub use node::{Node, Row};
 pub use owners::by_turns;
-pub use pair::Pair;
+pub use pair::{Pair, deliver};
 pub use pair_event::PairEvent;
 pub use taken::Taken;
-
-#[cfg(test)]
-mod tests;

@@ -16,7 +16,7 @@ use std::sync::Arc;
 use trace_plan::Plan;
 
 /// The fact at a place of the other node's list arrives at a node, where there is one.
-pub(crate) fn deliver(node: &mut Node, other: &Node, place: u32) -> Result<Taken, NoMemory>
+pub fn deliver(node: &mut Node, other: &Node, place: u32) -> Result<Taken, NoMemory>
     requires plan { other.now.plan ≡ node.old.plan }
     ensures delivered { IfOk result (λ answer. (node.new.progress, answer)
         ≡ delivered (rule_of node.old.plan.run node.old.owners) node.old.me node.old.progress (slice_get other.now.progress.facts place)) }

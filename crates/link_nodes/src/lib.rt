@@ -24,6 +24,3 @@ pub use laws::rounds_keep;
 pub use run::{Nodes, run_nodes};
 pub use trace_rows::CrewFault as NodesFault;
 pub use wire::{decode, encode};
-
-#[cfg(test)]
-mod tests;

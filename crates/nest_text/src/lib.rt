@@ -22,6 +22,3 @@ pub use fault::NestFault;
 pub use laws::nests_are_read_once;
 pub use nest::{Bind, Group, Nest};
 pub use reading::read_nest;
-
-#[cfg(test)]
-mod tests;

@@ -31,6 +31,3 @@ pub use laws::{
 pub use opening::open_saved;
 pub use reading::{Saved, read_saved};
 pub use saving::save_text;
-
-#[cfg(test)]
-mod tests;

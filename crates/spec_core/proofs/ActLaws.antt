@@ -35,13 +35,6 @@ wanted_lane world instance is wanted =
 pub refused_so : (world : WorldState) (one : Event) → IsRefused world one → Happens world one reply.Refused world
 refused_so world one is = inr (record { refused = is; is = refl; replied = refl })
 
--- Settling keeps the plan.
-pub settled_plan : (old new : RunState) (to : Settle) → Settled old new to → new.plan ≡ old.plan
-settled_plan old new settle.Redo (due, is) = ap (λ (r : RunState). r.plan) is
-settled_plan old new settle.Row (moved, known) = ap (λ (r : RunState). r.plan) moved.is
-settled_plan old new settle.Ended (inl (moved, unknown)) = ap (λ (r : RunState). r.plan) moved.is
-settled_plan old new settle.Ended (inr ended) = ap (λ (r : RunState). r.plan) ended.is
-
 -- ---- Whether all cells are filled
 
 -- Nothing is wanted of the first instances.

@@ -17,7 +17,7 @@ use Rattle.spec_core.specs.Worlds.{WorldState}
 use Rattle.spec_core.specs.declared.event.Event.{Event}
 use Rattle.spec_core.specs.declared.event.Event.TheVariants as event
 use Rattle.spec_core.specs.declared.event.Reply.{Reply}
-use Rattle.spec_core.proofs.ActLaws.{settled_plan}
+use Rattle.trace_core.proofs.Settles.{settled_plan}
 use Rattle.spec_core.proofs.ReplyLaws.{AreBelow, CanGoOn, CanReply, FitPhase}
 use Rattle.spec_core.proofs.TakeLaws.{ticket_own}
 use Rattle.spec_core.proofs.WorldLaws.{at_set}

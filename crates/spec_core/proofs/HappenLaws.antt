@@ -10,7 +10,8 @@ use Rattle.guess_board.specs.Lanes.{LaneState, TicketState}
 use Rattle.list_laws.proofs.Lists.{same_first, same_rest}
 use Rattle.list_laws.proofs.Truths.{true_is_false}
 use Rattle.run_laws.proofs.RunTraces.{goes_same}
-use Rattle.spec_core.specs.Events.{Computes, Does, Finds, GivesBack, Happens, HasFirst, IsRefused, IsSeenAt, Looks, Misses, Posts, Publishes}
+use Rattle.lane_outlook.specs.Outlooks.{IsSeenAt}
+use Rattle.spec_core.specs.Events.{Computes, Does, Finds, GivesBack, Happens, HasFirst, IsRefused, Looks, Misses, Posts, Publishes}
 use Rattle.spec_core.specs.Events.{Settles, Steals, Takes, posted_by, with_hand, with_lane, with_run}
 use Rattle.spec_core.specs.Worlds.{WorldState}
 use Rattle.spec_core.specs.declared.event.Event.{Event}

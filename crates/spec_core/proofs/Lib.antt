@@ -15,7 +15,6 @@ pub mod KnowLaws
 pub mod OpenedLaws
 pub mod OpenedOnce
 pub mod OpeningLaws
-pub mod OutlookLaws
 pub mod PostLaws
 pub mod PublishLaws
 pub mod ReplayLaws

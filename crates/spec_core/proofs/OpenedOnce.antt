@@ -15,10 +15,11 @@ use Rattle.run_laws.proofs.AssignmentLaws.{one_assignment}
 use Rattle.run_laws.proofs.PositionLaws.{positions_keep}
 use Rattle.run_laws.proofs.RunTraces.{same_stand}
 use Rattle.spec_core.specs.Replays.{CanReplay}
-use Rattle.spec_core.specs.Worlds.{AreLanesOpened, cut_window, FitsInstance, IsOpenedWorld, IsWorld, WorldState, images_of}
+use Rattle.spec_core.specs.Worlds.{AreLanesOpened, FitsInstance, IsOpenedWorld, IsWorld, WorldState, images_of}
 use Rattle.spec_core.proofs.OpenedLaws.{opened_is_world, planned}
 use Rattle.spec_core.proofs.OpeningLaws.{AreFirstLanes, all_opened, first_more, first_none}
-use Rattle.spec_core.proofs.OutlookLaws.{known_by}
+use Rattle.lane_outlook.proofs.OutlookLaws.{known_by}
+use Rattle.lane_outlook.specs.Outlooks.{cut_window}
 use Rattle.spec_core.proofs.ReplyLaws.{AreBelow, CanReply, FitPhase}
 use Rattle.trace_core.specs.Runs.{ArePortsKnown, Cell, IsPhase, RunState, Stands, arrived}
 use Rattle.trace_core.specs.declared.phase.Phase.{Phase}

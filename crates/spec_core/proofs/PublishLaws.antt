@@ -9,7 +9,8 @@ use Rattle.guess_board.specs.Guesses.{Seen, guessed_line}
 use Rattle.guess_board.specs.Lanes.{IsLane, LaneState}
 use Rattle.guess_board.specs.declared.fault.LaneFault.{LaneFault}
 use Rattle.guess_board.specs.declared.fault.LaneFault.TheVariants as fault
-use Rattle.spec_core.specs.Events.{Happens, IsSeenAt, with_lane}
+use Rattle.lane_outlook.specs.Outlooks.{IsSeenAt}
+use Rattle.spec_core.specs.Events.{Happens, with_lane}
 use Rattle.spec_core.specs.Keeping.{IsReplyToPublish}
 use Rattle.spec_core.specs.Worlds.{IsWorld, WorldState}
 use Rattle.spec_core.specs.declared.event.Event.TheVariants as event

@@ -9,7 +9,8 @@ use Rattle.spec_core.specs.Replays.{AreRounds, IsRound, drawn_events}
 use Rattle.spec_core.specs.Worlds.{WorldState}
 use Rattle.spec_core.specs.declared.event.Event.TheVariants as event
 use Rattle.spec_core.specs.declared.event.Reply.{Reply}
-use Rattle.spec_core.proofs.ActLaws.{all_full, settled_plan}
+use Rattle.spec_core.proofs.ActLaws.{all_full}
+use Rattle.trace_core.proofs.Settles.{settled_plan}
 use Rattle.spec_core.proofs.GoingLaws.{IsBeside, drawn_beside, keeps_reply, publishes_beside}
 use Rattle.spec_core.proofs.ReplyLaws.{CanReply, cells_few, has_reply}
 use Rattle.spec_core.proofs.RoundLaws.{all_keep, served_keep}

@@ -4,6 +4,7 @@ use Rattle.guess_board.specs.Chains.{chain_of, code_of}
 use Rattle.guess_board.specs.Events.{backed, found, is_full, posted, published, taken, ticket_of}
 use Rattle.guess_board.specs.Guesses.{Seen, guessed_line}
 use Rattle.guess_board.specs.Lanes.{LaneState, TicketState}
+use Rattle.lane_outlook.specs.Outlooks.{IsSeenAt}
 use Rattle.spec_core.specs.Worlds.{WorldState}
 use Rattle.spec_core.specs.declared.event.Event.{Event}
 use Rattle.spec_core.specs.declared.event.Event.TheVariants as event
@@ -30,20 +31,6 @@ abbrev pub with_run : WorldState → RunState → WorldState
 with_run world run = record world { run = run }
 
 -- ---- Publish
-
--- What is known of an instance where a run stands: the step of its phase, and the words of its inputs there and at the row before.
-pub record IsSeenAt (r : RunState) (instance : ℕ) (seen : Seen) : Type 0 where
-  pub member : Member
-  pub is_there : slice_get r.plan.run.members instance ≡ Some member
-  pub row : seen.row ≡ r.stand.at.number
-  pub time : seen.t ≡ r.stand.at.point.t
-  pub step : seen.step ≡ step_length r.phase
-  pub stop : seen.stop ≡ r.plan.run.stop
-  pub factor : seen.factor ≡ member.factor
-  pub last : slice_get (all_inputs r.plan.run r.stand.ports) instance ≡ Some seen.last
-  pub before : slice_get r.before instance ≡ Some seen.before
-  pub low : seen.low ≡ lowest_words member
-  pub high : seen.high ≡ highest_words member
 
 -- The lane of an instance is published with the state where the run stands, and with the line that is guessed from there. The reply
 -- tells how many answers it kept.

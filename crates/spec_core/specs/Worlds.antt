@@ -4,6 +4,7 @@ use Rattle.std.specs.List.{AllByRecursion, sum_by}
 use Rattle.guess_board.specs.Events.{opened}
 use Rattle.guess_board.specs.Lanes.{FitsImage, IsLane, LaneState, TicketState}
 use Rattle.guess_board.specs.declared.guesses.Policy.{Policy}
+use Rattle.lane_outlook.specs.Outlooks.{cut_window}
 use Rattle.trace_core.specs.Runs.{IsOpened, RunState, Stands}
 use Rattle.trace_plan.specs.Plans.{ForMember, Planned}
 use Rattle.unit_exec.specs.Images.{Compiled, IsImageOf}
@@ -63,10 +64,6 @@ pub record IsWorld (world : WorldState) : Type 0 where
       → AllByRecursion (FitsInstance (images_of world.lanes)) hand
 
 -- ---- The opened world
-
--- The window that a run uses of the one that is asked for, so that the answers of all lanes have room.
-abbrev pub cut_window : Composition → ℕ → ℕ
-cut_window run window = min window (4000000 / (run.row_budget * length run.members))
 
 -- A lane for each instance, as it is opened with its image.
 pub record AreLanesOpened (run : Composition) (lanes : List LaneState) : Type 0 where

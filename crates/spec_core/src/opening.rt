@@ -2,7 +2,7 @@
 ghost use Rattle.std.specs.Prelude.{◌≡◌, [], replicate, map, IfOk};
 ghost use Rattle.std.specs.List.{AllZip};
 ghost use Rattle.spec_core.specs.Keeping.{AreLanes, IsUnitOf};
-ghost use Rattle.spec_core.specs.Worlds.{AreLanesOpened, cut_window};
+ghost use Rattle.spec_core.specs.Worlds.{AreLanesOpened};
 
 use fixed_words::NoMemory;
 use guess_board::{Lane, Ticket};
@@ -10,17 +10,6 @@ use std::alloc::Global;
 use std::sync::Arc;
 use trace_core::Plan;
 use unit_exec::Unit;
-
-/// How many cells the lines of a whole run may have together.
-const MOST_CELLS: u64 = 4_000_000;
-
-/// The window that a run uses of the one that is asked for.
-pub fn cut_window(plan: &Plan, window: u32) -> u32
-    ensures { result ≡ cut_window plan.now.run window }
-{
-    let cells = plan.row_limit() * u64::from(plan.instances());
-    u64::from(window).min(MOST_CELLS / cells) as u32
-}
 
 /// A lane for each instance.
 pub(crate) fn lanes_of(alloc: Global, plan: &Plan) -> Result<Vec<Lane>, NoMemory>

@@ -9,10 +9,10 @@ ghost use Rattle.spec_core.specs.declared.event.Event.TheVariants as event;
 ghost use Rattle.trace_core.specs.Runs.{AreCellsFull, is_ended};
 
 use crate::event::{Event, Reply};
-use crate::opening::{cut_window, hands_of, lanes_of, units_of};
-use crate::outlooks::{outlook, publish_from};
+use crate::opening::{hands_of, lanes_of, units_of};
 use fixed_words::NoMemory;
 use guess_board::{Lane, LaneFault, Policy, Ticket, work_off};
+use lane_outlook::{cut_window, outlook, publish_from};
 use std::alloc::{AllocError, Global};
 use std::marker::Model;
 use std::sync::Arc;

@@ -1,10 +1,14 @@
 pub mod Deciding
+pub mod MomentLaws
+pub mod NameLaws
 pub mod OneMoment
 pub mod OneTable
 pub mod OutputLaws
 pub mod PlayedLaws
 pub mod PortsPlayed
 pub mod Printing
+pub mod ReadTables
+pub mod ReadingLaws
 pub mod SitesPass
 pub mod SomeTable
 pub mod StateNames
@@ -16,3 +20,4 @@ pub mod TableMeasures
 pub mod TableNames
 pub mod TextsOfNumbers
 pub mod WellFormedTables
+pub mod WordTexts

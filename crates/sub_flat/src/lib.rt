@@ -21,6 +21,3 @@ mod samples;
 
 pub use flattening::{flatten, into_flat};
 pub use laws::nests_are_judged_once;
-
-#[cfg(test)]
-mod tests;

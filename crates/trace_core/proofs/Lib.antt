@@ -14,6 +14,7 @@ pub mod RestoredWords
 pub mod RowLaws
 pub mod SeatLaws
 pub mod SettleLaws
+pub mod Settles
 pub mod SlotLaws
 pub mod StandLaws
 pub mod StateWordLaws

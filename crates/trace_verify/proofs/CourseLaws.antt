@@ -6,9 +6,10 @@ use Rattle.std.proofs.lemmas.Grind.{flat_map-append}
 use Rattle.std.proofs.lemmas.List.Splits.{join_with_byte-slice_split}
 use Rattle.list_laws.proofs.Lists.{each_append, same_first, same_rest}
 use Rattle.trace_verify.specs.Comparing.{Compared, HasNoFeed, IsJudged, IsKept, IsOneLine, PutsByte, end_put, goes_on, marked}
-use Rattle.trace_verify.specs.Reading.{Gives, Took}
+use Rattle.stimulus_tables.specs.Reading.{Gives, Took}
 use Rattle.trace_verify.specs.TraceLines.{fields_between, line_of, lines_text}
-use Rattle.trace_verify.specs.Verdicts.{Fields, column_from, records_of, verdict_by, verdict_from}
+use Rattle.trace_verify.specs.Verdicts.{column_from, verdict_by, verdict_from}
+use Rattle.stimulus_tables.specs.Records.{Fields, records_of}
 use Rattle.trace_verify.specs.declared.compare.Course.{Course}
 use Rattle.trace_verify.specs.declared.compare.Course.TheVariants as course
 use Rattle.trace_verify.proofs.VerdictLaws.{ColumnTold, column_told}

@@ -6,7 +6,8 @@ use Rattle.std.specs.Str.{bytes_eq}
 use Rattle.std.proofs.lemmas.List.{drop-drop, length-drop}
 use Rattle.csv.specs.Records.{field_at}
 use Rattle.trace_verify.specs.TraceLines.{behind_comma, fields_between, first_field, is_inside, is_next, other_fields}
-use Rattle.trace_verify.specs.Verdicts.{Fields, column_from}
+use Rattle.trace_verify.specs.Verdicts.{column_from}
+use Rattle.stimulus_tables.specs.Records.{Fields}
 
 -- The fields of what may be left of a line.
 abbrev pub fields_left : Option (List ℕ) → Fields

@@ -2,13 +2,8 @@ pub mod CourseLaws
 pub mod FieldLaws
 pub mod LineRecords
 pub mod MatchLaws
-pub mod MomentLaws
-pub mod NameLaws
 pub mod PartingLaws
 pub mod PlainTexts
-pub mod ReadingLaws
-pub mod StimulusLaws
 pub mod ToldLaws
 pub mod VerdictLaws
 pub mod VerifyLaws
-pub mod WordTexts

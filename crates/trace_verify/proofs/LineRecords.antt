@@ -9,10 +9,10 @@ use Rattle.csv.specs.declared.parser.Action.TheVariants as act
 use Rattle.csv.specs.declared.parser.State.{State}
 use Rattle.csv.specs.declared.parser.State.TheVariants as state
 use Rattle.std.proofs.lemmas.Bool.{or_parts}
-use Rattle.trace_verify.specs.Reading.{records_behind}
+use Rattle.stimulus_tables.specs.Reading.{records_behind}
 use Rattle.trace_verify.specs.TraceLines.{IsPlain, IsTraceLine, is_special, line_of, lines_text}
-use Rattle.trace_verify.specs.Verdicts.{Fields, records_of}
-use Rattle.trace_verify.proofs.ReadingLaws.{no_record, one_record}
+use Rattle.stimulus_tables.specs.Records.{Fields, records_of}
+use Rattle.stimulus_tables.proofs.ReadingLaws.{no_record, one_record}
 
 -- ---- Plain bytes
 

@@ -6,7 +6,8 @@ use Rattle.list_laws.proofs.Truths.{true_is_false}
 use Rattle.std.proofs.lemmas.Slice.Eq.{bytes_eq-Decides}
 use Rattle.trace_verify.specs.Comparing.{HasNoFeed, IsOneLine}
 use Rattle.trace_verify.specs.TraceLines.{IsPlain, IsTraceLine, is_special, fields_between, lines_text}
-use Rattle.trace_verify.specs.Verdicts.{Fields, column_from, verdict_by, verdict_from, verdict_of}
+use Rattle.trace_verify.specs.Verdicts.{column_from, verdict_by, verdict_from, verdict_of}
+use Rattle.stimulus_tables.specs.Records.{Fields}
 use Rattle.trace_verify.specs.declared.verdict.Verdict.TheVariants.{Yes, No}
 use Rattle.trace_verify.proofs.LineRecords.{none_of_four}
 

@@ -15,7 +15,7 @@ use Rattle.text_tokens.proofs.LineLemmas.{behind_suc, line_length, line_of_cut, 
 use Rattle.text_tokens.proofs.TableLemmas.{keyword_of_none}
 use Rattle.trace_verify.specs.Laws.{IsPartedOnce}
 use Rattle.trace_verify.specs.Parting.{IsCutBehind, IsOtherLine, IsParted, IsPartingLine, IsWhole, LacksTrace, ended, trace_tokens}
-use Rattle.trace_verify.specs.TableFields.{Decides}
+use Rattle.stimulus_tables.specs.TableFields.{Decides}
 use Rattle.unit_tree.specs.Lines.{code_of, lines_of, without_return}
 use Rattle.unit_tree.specs.Tokens.{IsName, Spells, begins_with, is_blank, is_word_byte}
 

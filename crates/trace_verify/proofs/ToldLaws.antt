@@ -4,9 +4,10 @@ use Rattle.std.specs.List.{AllByRecursion}
 use Rattle.std.proofs.lemmas.List.{take-append-drop}
 use Rattle.csv.specs.declared.reader.Reader.{Reader}
 use Rattle.trace_verify.specs.Comparing.{Begins, IsCourse, IsKept, end_put, text_put}
-use Rattle.trace_verify.specs.Reading.{Gives, Took}
+use Rattle.stimulus_tables.specs.Reading.{Gives, Took}
 use Rattle.trace_verify.specs.TraceLines.{IsTraceLine, lines_text}
-use Rattle.trace_verify.specs.Verdicts.{Fields, records_of, verdict_of}
+use Rattle.trace_verify.specs.Verdicts.{verdict_of}
+use Rattle.stimulus_tables.specs.Records.{Fields, records_of}
 use Rattle.trace_verify.specs.declared.compare.Course.{Course}
 use Rattle.trace_verify.specs.declared.compare.Course.TheVariants as course
 use Rattle.trace_verify.specs.declared.verdict.Verdict.TheVariants.{Yes, No}

@@ -4,7 +4,8 @@ use Rattle.std.specs.Prelude.{slice_get, if◌then◌else◌}
 use Rattle.std.specs.Str.{bytes_eq}
 use Rattle.std.proofs.lemmas.Slice.Eq.{bytes_eq-Decides}
 use Rattle.list_laws.proofs.Truths.{true_is_false}
-use Rattle.trace_verify.specs.Verdicts.{Fields, column_from, verdict_by, verdict_from, verdict_of, PartAt, IsColumnOf, IsRight}
+use Rattle.trace_verify.specs.Verdicts.{column_from, verdict_by, verdict_from, verdict_of, PartAt, IsColumnOf, IsRight}
+use Rattle.stimulus_tables.specs.Records.{Fields}
 use Rattle.trace_verify.specs.declared.verdict.Verdict.{Verdict}
 use Rattle.trace_verify.specs.declared.verdict.Verdict.TheVariants.{Yes, No}
 

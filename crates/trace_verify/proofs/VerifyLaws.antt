@@ -16,7 +16,8 @@ use Rattle.trace_rows.specs.declared.fault.CrewFault.{CrewFault}
 use Rattle.trace_rows.specs.declared.report.Report.{Report}
 use Rattle.trace_verify.specs.Comparing.{Begins, Compared, all_held, begun, marked, text_put}
 use Rattle.trace_verify.specs.TraceLines.{IsTraceLine, line_of, lines_text}
-use Rattle.trace_verify.specs.Verdicts.{Fields, records_of, verdict_of}
+use Rattle.trace_verify.specs.Verdicts.{verdict_of}
+use Rattle.stimulus_tables.specs.Records.{Fields, records_of}
 use Rattle.trace_verify.specs.Verifying.{IsVerdictOn}
 use Rattle.trace_verify.specs.declared.verdict.Verdict.{Verdict}
 use Rattle.trace_verify.proofs.LineRecords.{lines_read}

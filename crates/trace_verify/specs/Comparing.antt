@@ -3,9 +3,10 @@ use Rattle.std.specs.Prelude.{◌≡◌, ◌⊎◌, ℕ, suc, ◌-◌, ◌≤◌
 use Rattle.std.specs.Borrow.{Bor}
 use Rattle.std.specs.List.{AllByRecursion, join_with_byte}
 use Rattle.csv.specs.declared.reader.Reader.{Reader}
-use Rattle.trace_verify.specs.Reading.{Gives}
+use Rattle.stimulus_tables.specs.Reading.{Gives}
 use Rattle.trace_verify.specs.TraceLines.{fields_between, lines_text}
-use Rattle.trace_verify.specs.Verdicts.{Fields, records_of, verdict_from}
+use Rattle.trace_verify.specs.Verdicts.{verdict_from}
+use Rattle.stimulus_tables.specs.Records.{Fields, records_of}
 use Rattle.trace_verify.specs.declared.compare.Comparison.TheInside.{Inside}
 use Rattle.trace_verify.specs.declared.compare.Course.{Course}
 use Rattle.trace_verify.specs.declared.compare.Course.TheVariants as course

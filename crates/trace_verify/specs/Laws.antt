@@ -1,7 +1,8 @@
 -- Laws of verdicts, and of the parts of an input.
 use Rattle.std.specs.Prelude.{◌≡◌, ◌⊎◌, ℕ, List}
 use Rattle.trace_verify.specs.Parting.{IsParted, LacksTrace}
-use Rattle.trace_verify.specs.Verdicts.{Fields, IsRight, verdict_of}
+use Rattle.trace_verify.specs.Verdicts.{IsRight, verdict_of}
+use Rattle.stimulus_tables.specs.Records.{Fields}
 
 -- The verdict on records is right, whatever they are.
 abbrev pub VerdictsAreRight : Type 0

@@ -2,7 +2,7 @@
 use Rattle.std.specs.Prelude.{◌≡◌, ℕ, ◌≤◌, ◌==◌, ◌||◌, Bool, false, not, List, [], ◌∷◌, ◌++◌, length, take, drop, Option, Some, None}
 use Rattle.std.specs.List.{AllByRecursion, flat_map, join_with_byte, prefix_len, slice_split}
 use Rattle.std.specs.Str.{bytes_eq}
-use Rattle.trace_verify.specs.Verdicts.{Fields}
+use Rattle.stimulus_tables.specs.Records.{Fields}
 
 -- A line of fields: joined by commas, ended by LF.
 abbrev pub line_of : Fields → List ℕ

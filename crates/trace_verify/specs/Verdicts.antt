@@ -1,19 +1,9 @@
--- The records of a table, and the verdict on a table that should have the records of another one.
+-- The verdict on a table that should have the records of another one.
 use Rattle.std.specs.Prelude.{◌≡◌, ◌≢◌, ℕ, suc, ◌-◌, ◌≤◌, List, [], ◌∷◌, take, slice_get, Option, Some, None, if◌then◌else◌}
 use Rattle.std.specs.Str.{bytes_eq}
-use Rattle.csv.specs.Reading.{default_config, records, strip_bom}
+use Rattle.stimulus_tables.specs.Records.{Fields}
 use Rattle.trace_verify.specs.declared.verdict.Verdict.{Verdict}
 use Rattle.trace_verify.specs.declared.verdict.Verdict.TheVariants.{Yes, No}
-
--- ---- Records
-
--- A record is its fields, of which each is its bytes.
-abbrev pub Fields : Type 0
-Fields = List (List ℕ)
-
--- The records of a table, as `csv` reads them behind a byte order mark at its beginning.
-abbrev pub records_of : List ℕ → List Fields
-records_of table = records default_config (strip_bom table)
 
 -- ---- The verdict
 

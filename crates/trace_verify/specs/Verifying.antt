@@ -2,7 +2,8 @@
 use Rattle.std.specs.Prelude.{◌≡◌, ℕ, List}
 use Rattle.super_time.specs.declared.point.Point.{Point}
 use Rattle.trace_csv.specs.TraceText.{trace_text}
-use Rattle.trace_verify.specs.Verdicts.{records_of, verdict_of}
+use Rattle.trace_verify.specs.Verdicts.{verdict_of}
+use Rattle.stimulus_tables.specs.Records.{records_of}
 use Rattle.trace_verify.specs.declared.verdict.Verdict.{Verdict}
 use Rattle.unit_tree.specs.Trace.{IsTraceOf, Row}
 use Rattle.unit_tree.specs.declared.ending.Ending.{Ending}

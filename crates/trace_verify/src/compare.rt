@@ -5,17 +5,18 @@ ghost use Rattle.std.specs.Option.{option_map};
 ghost use Rattle.csv.specs.Records.{fields_of};
 ghost use Rattle.cosim_io.specs.Faults.{HasCause};
 ghost use Rattle.trace_verify.specs.Comparing.{Begins, IsJudged, PutsByte, all_held, begun, goes_on, text_put};
-ghost use Rattle.trace_verify.specs.Reading.{Gives};
+ghost use Rattle.stimulus_tables.specs.Reading.{Gives};
 ghost use Rattle.trace_verify.specs.TraceLines.{IsTraceLine, fields_between, first_field, is_inside, is_next, lines_text, other_fields};
-ghost use Rattle.trace_verify.specs.Verdicts.{Fields, column_from, records_of, verdict_of};
+ghost use Rattle.trace_verify.specs.Verdicts.{column_from, verdict_of};
+ghost use Rattle.stimulus_tables.specs.Records.{Fields, records_of};
 
-use crate::records::{read_table, take_record};
 use crate::verdict::Verdict;
 use cosim_io::{Failed, Sink};
 use csv::{ByteRecord, Reader};
 use fixed_words::NoMemory;
 use std::alloc::{AllocError, Global};
 use std::marker::Model;
+use stimulus_tables::{read_table, take_record};
 
 /// What a comparison has come to.
 #[derive(Clone, Copy)]

@@ -3,7 +3,7 @@ ghost use Rattle.std.specs.Prelude.{◌≡◌, ◌≤◌, ◌==◌, not, ℕ, Li
 ghost use Rattle.std.specs.List.{list_all, prefix_len};
 ghost use Rattle.std.specs.Option.{MatchOption};
 ghost use Rattle.trace_verify.specs.Parting.{IsParted, IsPartingLine, LacksTrace, trace_tokens};
-ghost use Rattle.trace_verify.specs.TableFields.{Decides};
+ghost use Rattle.stimulus_tables.specs.TableFields.{Decides};
 ghost use Rattle.unit_tree.specs.Lines.{code_of};
 ghost use Rattle.unit_tree.specs.Tokens.{Spells, is_blank};
 

@@ -15,6 +15,3 @@ mod upgrading;
 pub use fault::UpgradeFault;
 pub use laws::{upgrades_are_right, upgrades_are_worked};
 pub use upgrading::upgrade;
-
-#[cfg(test)]
-mod tests;

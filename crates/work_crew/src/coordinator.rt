@@ -4,13 +4,12 @@ ghost use Rattle.std.specs.Arc.{arc_value};
 ghost use Rattle.trace_core.specs.Runs.{IsWanted, is_ended};
 ghost use Rattle.trace_rows.specs.Passing.{AreStepsThere, IsFilled};
 
-use crate::desk::Desk;
 use crate::gate::Gate;
-use crate::patience::{Due, Patience};
+use crew_lanes::{Desk, Due, Patience};
 use fixed_words::NoMemory;
 use front_cell::{FrontCell, Writer};
 use guess_board::{Lane, Policy};
-use spec_core::{outlook, publish_from};
+use lane_outlook::{outlook, publish_from};
 use std::alloc::Global;
 use std::sync::{Arc, Mutex, Wait};
 use trace_core::{Plan, Run, Settle};

@@ -8,15 +8,14 @@ ghost use Rattle.trace_rows.specs.Reports.{PutsFront, ReportsTrace};
 ghost use Rattle.unit_tree.specs.Successor.{first_position};
 
 use crate::coordinator::{Coordinator, Guessing};
-use crate::desk::{Desk, TicketSums};
 use crate::gate::Gate;
-use crate::patience::Patience;
 use crate::worker::{Home, Seat, Tickets, Watch, Worker, Workplace, Works};
 use cosim_io::Sink;
+use crew_lanes::{Desk, Patience, TicketSums};
 use fixed_words::NoMemory;
 use front_cell::{FrontCell, Writer};
 use guess_board::{Policy, Ticket};
-use spec_core::cut_window;
+use lane_outlook::cut_window;
 use std::alloc::Global;
 use std::sync::{Arc, Wait};
 use std::thread;
@@ -311,6 +310,3 @@ pub fn run_crew<R: Threads + Wait + Copy + Send + Drop + 'static, O: Sink, G: Ga
     join_all(&rt, started);
     Ok(with_tickets(ended?, desk.sums(&rt)))
 }
-
-#[cfg(test)]
-mod tests;

@@ -19,9 +19,7 @@
 
 mod coordinator;
 mod crew;
-mod desk;
 mod gate;
-mod patience;
 mod worker;
 
 pub use crew::run_crew;

@@ -4,7 +4,7 @@ ghost use Rattle.std.specs.Option.{ForSome};
 ghost use Rattle.std.specs.Arc.{arc_value};
 ghost use Rattle.guess_board.specs.Lanes.{FitsImage};
 
-use crate::desk::Desk;
+use crew_lanes::Desk;
 use crossbeam_utils::Backoff;
 use fixed_words::NoMemory;
 use front_cell::{Front, FrontCell, Reader};

@@ -1,6 +1,6 @@
 use Rattle.std.proofs.Common.{◌∙◌, sym, subst}
 use Rattle.csv.specs.Records.{fields_of}
-use Rattle.trace_verify.specs.Reading.{Took}
+use Rattle.stimulus_tables.specs.Reading.{Took}
 use Rattle.trace_verify.proofs.CourseLaws.{judged_apart, judged_missing, judged_same}
 use Rattle.trace_verify.proofs.compare.judge.Goals as goal
 

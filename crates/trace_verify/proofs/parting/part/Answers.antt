@@ -1,6 +1,6 @@
 use Rattle.std.proofs.Common.{arith, subst}
 use Rattle.trace_verify.specs.Parting.{IsPartingLine}
-use Rattle.trace_verify.specs.TableFields.{Decides}
+use Rattle.stimulus_tables.specs.TableFields.{Decides}
 use Rattle.trace_verify.proofs.PartingLaws.{passed_more}
 use Rattle.trace_verify.proofs.parting.part.Goals as goal
 

@@ -2,7 +2,8 @@ use Rattle.std.proofs.Common.{◌∙◌, ap, refl, subst}
 use Rattle.std.specs.List.{AllZip}
 use Rattle.spec_core.proofs.OpenedLaws.{opened_is_world, planned}
 use Rattle.spec_core.specs.Keeping.{IsUnitOf}
-use Rattle.spec_core.specs.Worlds.{AreLanesOpened, cut_window}
+use Rattle.lane_outlook.specs.Outlooks.{cut_window}
+use Rattle.spec_core.specs.Worlds.{AreLanesOpened}
 use Rattle.trace_core.specs.Runs.{IsOpened}
 use Rattle.trace_plan.specs.Plans.{Planned}
 use Rattle.unit_tree.specs.Successor.{first_position}

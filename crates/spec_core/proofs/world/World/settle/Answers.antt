@@ -4,7 +4,7 @@ use Rattle.spec_core.specs.Keeping.{world_state}
 use Rattle.spec_core.specs.Worlds.{WorldState}
 use Rattle.spec_core.specs.declared.event.Event.TheVariants as event
 use Rattle.spec_core.specs.declared.event.Reply.TheVariants as reply
-use Rattle.spec_core.proofs.ActLaws.{settled_plan}
+use Rattle.trace_core.proofs.Settles.{settled_plan}
 use Rattle.trace_rows.proofs.Filling.{few_cells}
 use Rattle.spec_core.proofs.WorldLaws.{keeps_run}
 use Rattle.trace_plan.specs.Plans.{Planned}

@@ -1,7 +1,8 @@
 use Rattle.std.proofs.Common.{◌≡◌, ◌∙◌, ap, subst}
 use Rattle.csv.specs.Records.{fields_of}
 use Rattle.trace_verify.specs.Comparing.{Compared, text_put}
-use Rattle.trace_verify.specs.Verdicts.{records_of, verdict_of}
+use Rattle.trace_verify.specs.Verdicts.{verdict_of}
+use Rattle.stimulus_tables.specs.Records.{records_of}
 use Rattle.trace_verify.specs.declared.compare.Course.TheVariants as course
 use Rattle.trace_verify.specs.declared.verdict.Verdict.TheVariants.{Yes, No}
 use Rattle.trace_verify.proofs.ToldLaws.{more_told, none_told}

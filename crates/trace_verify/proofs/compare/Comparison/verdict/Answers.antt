@@ -1,7 +1,8 @@
 use Rattle.std.proofs.Common.{◌≡◌, sym, subst}
 use Rattle.trace_verify.specs.Comparing.{Begins, Compared, text_put}
 use Rattle.trace_verify.specs.TraceLines.{lines_text}
-use Rattle.trace_verify.specs.Verdicts.{records_of, verdict_of}
+use Rattle.trace_verify.specs.Verdicts.{verdict_of}
+use Rattle.stimulus_tables.specs.Records.{records_of}
 use Rattle.trace_verify.specs.declared.verdict.Verdict.TheVariants.{No}
 use Rattle.trace_verify.proofs.ToldLaws.{apart_told}
 use Rattle.trace_verify.proofs.compare.Comparison.verdict.Goals as goal

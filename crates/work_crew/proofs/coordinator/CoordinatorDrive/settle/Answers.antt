@@ -1,6 +1,5 @@
 use Rattle.std.proofs.Common.{◌∙◌, arith}
-use Rattle.spec_core.proofs.ActLaws.{settled_plan}
-use Rattle.work_crew.proofs.Settles.{settled_number}
+use Rattle.trace_core.proofs.Settles.{settled_number, settled_plan}
 use Rattle.work_crew.proofs.coordinator.CoordinatorDrive.settle.Goals as goal
 
 pub invariant_of-self-clause-planned : goal.invariant_of-self-clause-planned

@@ -1,5 +1,0 @@
-use Rattle.cosim_app.proofs.SavedRuns.{saved_runs_go_on}
-use Rattle.cosim_app.proofs.command.saved_runs_go_on.Goals as goal
-
-pub returns : goal.returns
-returns c = saved_runs_go_on

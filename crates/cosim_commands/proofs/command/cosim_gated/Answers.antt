@@ -1,0 +1,30 @@
+use Rattle.std.proofs.Common.{Option, subst}
+use Rattle.cosim_call.specs.Calls.{Promises, Streams, stream}
+use Rattle.cosim_call.proofs.CallLaws.{promises_kept}
+use Rattle.cosim_call.proofs.UsageLaws.{never_usage}
+use Rattle.cosim_commands.specs.Answer.{Answers, AnswersOf}
+use Rattle.command_line.specs.Commands.{input_of, input_of_words}
+use Rattle.command_line.specs.Words.{bytes_of}
+use Rattle.command_line.specs.declared.commands.Command.{Command}
+use Rattle.cosim_commands.proofs.CommandLaws.{has_form}
+use Rattle.cosim_commands.proofs.command.cosim_gated.Goals as goal
+
+pub returns-in-Some : goal.returns-in-Some
+returns-in-Some g c =
+    let source = stream (g.S.Source.left c.args.source.now) (g.S.Source.faults c.args.source.now) in
+    let source' = stream (g.S.Source.left c.come_crewed-came.new.source) (g.S.Source.faults c.come_crewed-came.new.source) in
+    let out = stream (g.O.Sink.held c.args.out.now) (g.O.Sink.faults c.args.out.now) in
+    let out' = stream (g.O.Sink.held c.come_crewed-came.new.out) (g.O.Sink.faults c.come_crewed-came.new.out) in
+    let notes = stream (g.N.Sink.held c.args.notes.now) (g.N.Sink.faults c.args.notes.now) in
+    let notes' = stream (g.N.Sink.held c.finish.new.notes) (g.N.Sink.faults c.finish.new.notes) in
+    let before : Streams = record { source = source; out = out; notes = notes } in
+    let now : Streams = record { source = source'; out = out'; notes = notes' } in
+    let input = input_of c.in-Some.command in
+    let IsAnswer = Answers c.in-Some.command in
+    record {
+      headline = subst (λ (words : Option Command). Promises (input_of_words words) (AnswersOf words) before now c.finish.result) c.in-Some.ensures
+          (promises_kept input IsAnswer before now c.come_crewed-came.result c.finish.result c.come_crewed-came.ensures c.finish.ensures.told);
+      usage = has_form (bytes_of c.args.words.now) c.in-Some.command c.finish.result c.in-Some.ensures
+          (never_usage input IsAnswer source source' out out' notes notes' c.come_crewed-came.result c.finish.result c.come_crewed-came.ensures
+          c.finish.ensures.told);
+    }

@@ -1,0 +1,40 @@
+use Rattle.std.proofs.Common.{Err, refl, ap, subst}
+use Rattle.spec_core.specs.Replays.{IsReplayed, PutsTrace}
+use Rattle.trace_rows.specs.Reports.{PutsFront}
+use Rattle.trace_rows.specs.declared.fault.CrewFault.{CrewFault}
+use Rattle.trace_rows.proofs.RunEnds.{front_none}
+use Rattle.trace_plan.specs.Plans.{Planned}
+use Rattle.cosim_call.specs.Calls.{stream}
+use Rattle.cosim_call.specs.declared.coming.Stopped.TheVariants as stopped
+use Rattle.cosim_commands.specs.Serving.{Replays}
+use Rattle.cosim_commands.proofs.MakingLaws.{handed_on}
+use Rattle.cosim_commands.proofs.commands.replay.replay_plan.Goals as goal
+
+pub returns-in_err-clone : goal.returns-in_err-clone
+returns-in_err-clone g c =
+    let out = stream (g.O.Sink.held c.args.out.now) (g.O.Sink.faults c.args.out.now) in
+    handed_on (Replays c.args.plan.now.value c.args.asked out out) c.from_residual.result stopped.NoMemory c.from_residual.ensures.1
+    (front_none c.args.plan.now.value.system out.bytes, refl)
+
+pub returns-in-Ok : goal.returns-in-Ok
+returns-in-Ok g c = (
+  subst (λ (p : Planned). PutsTrace p.system c.in-Ok.counts.last c.in-Ok.counts.outcome (g.O.Sink.held c.args.out.now) (g.O.Sink.held c.replay.new.out))
+      c.in_ok-clone.ensures.cases c.in-Ok.ensures.whole,
+  subst (λ (p : Planned). IsReplayed p c.args.asked.seed c.args.asked.workers c.in-Ok.counts) c.in_ok-clone.ensures.cases
+      (subst (λ workers. IsReplayed c.in_ok-clone.field-0.value c.args.asked.seed workers c.in-Ok.counts) c.get-workers.ensures.value c.in-Ok.ensures.counts),
+  c.in-Ok.ensures.cause.same (λ e. absurd (cc)),
+)
+
+pub returns-in-Err-WriteFault : goal.returns-in-Err-WriteFault
+returns-in-Err-WriteFault g c = (
+  subst (λ (p : Planned). PutsFront p.system (g.O.Sink.held c.args.out.now) (g.O.Sink.held c.replay.new.out))
+      c.in_ok-clone.ensures.cases c.in-Err-WriteFault.ensures.front,
+  c.in-Err-WriteFault.ensures.cause.failed (ap (λ (e : CrewFault). Err e) c.in-Err-WriteFault.field-0-is),
+)
+
+pub returns-in-Err-NoMemory : goal.returns-in-Err-NoMemory
+returns-in-Err-NoMemory g c = (
+  subst (λ (p : Planned). PutsFront p.system (g.O.Sink.held c.args.out.now) (g.O.Sink.held c.replay.new.out))
+      c.in_ok-clone.ensures.cases c.in-Err-NoMemory.ensures.front,
+  c.in-Err-NoMemory.ensures.cause.same (λ e. absurd (cc)),
+)

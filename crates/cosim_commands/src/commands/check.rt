@@ -1,0 +1,16 @@
+//! The command `check`.
+ghost use Rattle.cosim_call.specs.Coming.{Makes};
+ghost use Rattle.cosim_commands.specs.Answer.{Answers};
+ghost use Rattle.command_line.specs.declared.commands.Command.TheVariants.{Check};
+
+use crate::commands::accept;
+use cosim_call::Stopped;
+use std::alloc::Global;
+
+/// What is put of a text: that it is accepted.
+pub(crate) fn make(alloc: Global, text: &[u8]) -> Result<Vec<u8>, Stopped>
+    ensures { Makes (Answers Check text.now) result }
+{
+    drop(accept(alloc, text)?);
+    Ok(Vec::from_slice(alloc, b"accepted\n")?)
+}

@@ -1,0 +1,48 @@
+//! The command `flatten`, in three steps: the nest that the text says, the canonical text of its flat system, and whether this keeps all
+//! rules of the language.
+ghost use Rattle.command_line.specs.declared.commands.Command.TheVariants.{Flatten};
+ghost use Rattle.cosim_commands.specs.Answer.{Answers};
+ghost use Rattle.cosim_commands.specs.Serving.{FindsFlat, FindsNest};
+ghost use Rattle.cosim_call.specs.Coming.{Makes};
+ghost use Rattle.std.specs.Prelude.{◌≡◌, length};
+
+use crate::commands::accept;
+use crate::commands::print::canonical;
+use cosim_call::Stopped;
+use nest_text::{Nest, NestFault, read_nest};
+use std::alloc::Global;
+use sub_flat::into_flat;
+
+/// The nest that a text says.
+fn nest_in(alloc: Global, text: &[u8]) -> Result<Nest, Stopped>
+    ensures { FindsNest text.now result }
+{
+    match read_nest(alloc, text) {
+        Ok(nest) => Ok(nest),
+        Err(NestFault::Line { line, rule }) => Err(Stopped::Refused { line, rule }),
+        Err(NestFault::NoMemory) => Err(Stopped::NoMemory),
+    }
+}
+
+/// The canonical text of the flat system of a nest.
+fn flat_text(alloc: Global, nest: Nest) -> Result<Vec<u8>, Stopped>
+    requires { length nest.lines ≡ length nest.groups }
+    ensures { FindsFlat nest result }
+{
+    match into_flat(alloc, nest) {
+        Ok(flat) => Ok(canonical(alloc, &flat)?),
+        Err(NestFault::Line { line, rule }) => Err(Stopped::Refused { line, rule }),
+        Err(NestFault::NoMemory) => Err(Stopped::NoMemory),
+    }
+}
+
+/// What is put of a nested text: the canonical text of its flat system.
+#[inline(never)]
+pub(crate) fn make(alloc: Global, text: &[u8]) -> Result<Vec<u8>, Stopped>
+    ensures { Makes (Answers Flatten text.now) result }
+{
+    let nest = nest_in(alloc, text)?;
+    let flat = flat_text(alloc, nest)?;
+    accept(alloc, &flat)?;
+    Ok(flat)
+}

@@ -1,0 +1,39 @@
+//! The command `save`.
+ghost use Rattle.cosim_call.specs.Coming.{Makes};
+ghost use Rattle.cosim_commands.specs.Answer.{Answers};
+ghost use Rattle.cosim_commands.specs.Serving.{MakesSaved};
+ghost use Rattle.command_line.specs.declared.commands.Command.TheVariants.{Save};
+
+use crate::commands::run::plan_of;
+use command_line::Saving;
+use cosim_call::Stopped;
+use save_point::{SaveFault, save_text};
+use std::alloc::Global;
+use std::sync::Arc;
+use trace_core::Plan;
+
+/// The rule of a trace that has no position of the number that is asked for.
+const POSITION_RULE: u8 = 31;
+
+/// The saved text of the position of a number in a plan's trace. A number that this hasn't is refused.
+fn saved_text(alloc: Global, plan: &Arc<Plan>, row: u64) -> Result<Vec<u8>, Stopped>
+    ensures { MakesSaved plan.now.value row result }
+{
+    let mut out = Vec::new(alloc);
+    match save_text(alloc, plan, row, &mut out) {
+        Ok(()) => Ok(out),
+        Err(SaveFault::NoRow) => Err(Stopped::Refused {
+            line: 1,
+            rule: POSITION_RULE,
+        }),
+        Err(SaveFault::NoMemory) => Err(Stopped::NoMemory),
+    }
+}
+
+/// What is put of a text: the saved text of the position that is asked for.
+pub(crate) fn make(alloc: Global, asked: Saving, text: &[u8]) -> Result<Vec<u8>, Stopped>
+    ensures { Makes (Answers (Save asked) text.now) result }
+{
+    let plan = plan_of(alloc, text)?;
+    saved_text(alloc, &plan, asked.row.get())
+}

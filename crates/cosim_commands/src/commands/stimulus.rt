@@ -1,0 +1,40 @@
+//! The command `stimulus`.
+ghost use Rattle.cosim_commands.specs.Answer.{Answers};
+ghost use Rattle.cosim_commands.specs.Serving.{FindsTable};
+ghost use Rattle.cosim_call.specs.Coming.{Makes};
+ghost use Rattle.command_line.specs.Commands.{stimulus_limit};
+ghost use Rattle.command_line.specs.declared.commands.Command.TheVariants.{Stimulus};
+ghost use Rattle.std.specs.Prelude.{◌≤◌, length};
+
+use crate::commands::print::canonical;
+use cosim_call::Stopped;
+use std::alloc::Global;
+use stimulus_tables::{TableFault, stimulus};
+use unit_tree::System;
+
+/// The rule of tables that leave the form of a table of stimulus.
+const FORM_RULE: u8 = 36;
+
+/// The system that plays a table. One that leaves the form is refused, at the number of the record in place of a line.
+fn system_of(alloc: Global, table: &[u8]) -> Result<System, Stopped>
+    ensures { FindsTable table.now result }
+{
+    match stimulus(alloc, table) {
+        Ok(system) => Ok(system),
+        Err(TableFault::Form { number }) => Err(Stopped::Refused {
+            line: number,
+            rule: FORM_RULE,
+        }),
+        Err(TableFault::NoMemory) => Err(Stopped::NoMemory),
+    }
+}
+
+/// What is put of a table: the canonical text of the system that plays it.
+#[inline(never)]
+pub(crate) fn make(alloc: Global, table: &[u8]) -> Result<Vec<u8>, Stopped>
+    requires within { length table.now ≤ stimulus_limit }
+    ensures { Makes (Answers Stimulus table.now) result }
+{
+    let system = system_of(alloc, table)?;
+    Ok(canonical(alloc, &system)?)
+}

@@ -1,0 +1,27 @@
+ghost use Rattle.std.specs.Prelude.{◌≡◌};
+
+use fixed_words::NoMemory;
+use thiserror::Error;
+
+/// Why a table has no system.
+#[derive(Clone, Copy, Debug, PartialEq, Eq, Error)]
+pub enum TableFault {
+    /// It leaves the form of a table of stimulus.
+    #[error("record {number} is not as it has to be")]
+    Form {
+        /// The number of the first record that leaves it, from 1, or of the one that is lacking.
+        number: u32,
+    },
+    #[error("no memory")]
+    NoMemory,
+}
+
+impl From<NoMemory> for TableFault {
+    ghost use Rattle.stimulus_tables.specs.declared.fault.TableFault.TheVariants as faults;
+
+    ghost from_gives = { λ _ fault. fault ≡ faults.NoMemory };
+
+    fn from(_: NoMemory) -> TableFault {
+        TableFault::NoMemory
+    }
+}

@@ -1,5 +1,0 @@
-use Rattle.trace_verify.proofs.StimulusLaws.{no_moments}
-use Rattle.trace_verify.proofs.stimuli.system_of.Goals as goal
-
-pub returns-in-empty : goal.returns-in-empty
-returns-in-empty c records begins = no_moments records c.args.names.now c.args.moments.now c.in-empty.len_below begins

@@ -1,5 +1,0 @@
-use Rattle.std.proofs.Common.{length}
-use Rattle.trace_verify.proofs.system.+last_time.Given as goal
-
-abbrev pub decreases-last_time : goal.decreases-last_time
-decreases-last_time l = length l.later.now

@@ -1,5 +1,0 @@
-use Rattle.std.proofs.Common.{length}
-use Rattle.trace_verify.proofs.system.+to_next.Given as goal
-
-abbrev pub decreases-to_next : goal.decreases-to_next
-decreases-to_next l = length l.later.now
