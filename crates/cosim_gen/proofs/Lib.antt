@@ -1,6 +1,5 @@
 pub mod Turns
 pub mod Names
-pub mod Rules
 pub mod UnitLines
 pub mod Ports
 pub mod Before

@@ -34,7 +34,7 @@ use Rattle.cosim_gen.specs.Generated.{CanGenerate, number, source_unit, mixer_un
 use Rattle.cosim_gen.specs.Generated.{wire_to, later_places, generated}
 use Rattle.cosim_gen.proofs.Before.{NamedBefore, later_named, not_said, FedBefore, later_fed, not_fed}
 use Rattle.cosim_gen.proofs.Ports.{mixer, output_there, input_there, source_before}
-use Rattle.cosim_gen.proofs.Rules.{Keeps, all_told, well_formed, all_hold}
+use Rattle.text_laws.proofs.KeptRules.{Keeps, all_told, well_formed, all_hold}
 use Rattle.cosim_gen.proofs.UnitLines.{header, source_sites, behind_source, mixer_sites, source_keeps, mixer_keeps}
 
 -- ---- Canonical lines, with their blocks

@@ -29,7 +29,7 @@ use Rattle.unit_tree.specs.declared.system.System.{System}
 use Rattle.unit_tree.specs.declared.system.Wire.{Wire}
 use Rattle.text_tokens.specs.Scanning.{keyword_of}
 use Rattle.text_tokens.proofs.TableLemmas.{keyword_of_none}
-use Rattle.text_laws.proofs.ReadIsPrintable.{no_event_port}
+use Rattle.text_laws.proofs.PrintedLines.{Prints, all_short, all_writable, fixed_short, no_events, none_second, text_within}
 use Rattle.text_laws.proofs.ShortestLines.{unsigned_tokens}
 use Rattle.text_laws.proofs.TokenWidths.{tokens_within, width}
 use Rattle.list_laws.proofs.Lists.{each_append, each_so}
@@ -38,45 +38,6 @@ use Rattle.cosim_gen.specs.Generated.{CanGenerate, number, param_k, state_n, inp
 use Rattle.cosim_gen.specs.Generated.{instance_in, source_of, wire_to, later_places, generated}
 use Rattle.cosim_gen.proofs.Names.{is_name}
 use Rattle.cosim_gen.proofs.Ports.{mixer}
-
--- ---- One line
-
--- What a line of a printable system is, where it has no events.
-record Prints (line : LineForm) : Type 0 where
-  names : AllByRecursion IsName (names_on line)
-  in_range : IsInRange line
-  writable : is_writable (tail_of line) ≡ true
-  old : is_of_version_2 line ≡ false
-  short : length (line_text line) ≤ 1000
-
--- ---- All lines
-
-all_writable : (lines : List LineForm) → AllByRecursion Prints lines → list_all (λ line. is_writable (tail_of line)) lines ≡ true
-all_writable [] all = refl
-all_writable (line ∷ lines) all = and_from _ _ all.0.writable (all_writable lines all.1)
-
-all_short : (lines : List LineForm) → AllByRecursion Prints lines → list_all (λ line. nat_le (length (line_text line)) 1000) lines ≡ true
-all_short [] all = refl
-all_short (line ∷ lines) all = and_from _ _ (le_asked (length (line_text line)) 1000 all.0.short) (all_short lines all.1)
-
-none_second : (lines : List LineForm) → AllByRecursion Prints lines → list_any is_of_version_2 lines ≡ false
-none_second [] all = refl
-none_second (line ∷ lines) all = rw (all.0.old) (none_second lines all.1)
-
-no_events : (lines : List LineForm) → AllByRecursion Prints lines → list_any is_event_port lines ≡ false
-no_events [] all = refl
-no_events (line ∷ lines) all = rw (no_event_port line all.0.old) (no_events lines all.1)
-
-text_within : (lines : List LineForm) → AllByRecursion Prints lines → length (flat_map (λ line. line_text line ++ (10 ∷ [])) lines) ≤ 1001 * length lines
-text_within [] all = omega arith
-text_within (line ∷ lines) all =
-    omega (
-      arith,
-      all.0.short,
-      text_within lines all.1,
-      length-append (line_text line ++ (10 ∷ [])) (flat_map (λ some. line_text some ++ (10 ∷ [])) lines),
-      length-append (line_text line) (10 ∷ []),
-    )
 
 -- ---- Names and numbers
 
@@ -107,26 +68,9 @@ mix_is = ((refl, refl, omega arith), keyword_of_none (codes "mix") refl)
 name_short : (place : ℕ) → place < 64 → length (name_in place) ≤ 3
 name_short place few = omega (arith, length-decimal-le 2 place (omega arith) (omega arith) (omega arith))
 
-pointed_within : (fraction : List ℕ) → length (pointed fraction) ≤ suc (length fraction)
-pointed_within [] = omega arith
-pointed_within (digit ∷ fraction) = omega arith
-
 -- A number of at most six digits.
 number_short : (n : ℕ) → n < 10 ^ 6 → length (fixed_text 0 n) ≤ 9
-number_short n small =
-    let text = decimal n in
-    let all = padded 0 text in
-    let place = length all - 0 in
-    let few : length text ≤ 6 = length-decimal-le 6 n (omega arith) small (omega arith) in
-    omega (
-      arith,
-      length-append (replicate {A = ℕ} (0 + 1 - length text) 48) text,
-      length-replicate {A = ℕ} (0 + 1 - length text) 48,
-      length-append (take place all) (pointed (drop place all)),
-      length-take-le place all (omega arith),
-      length-drop place all,
-      pointed_within (drop place all),
-    )
+number_short n small = fixed_short 6 n (omega arith) small (omega (arith, small))
 
 number_is_word : (n : ℕ) → n < 10 ^ 6 → is_word_of Int64 (pos n) ≡ true
 number_is_word n small = grind (arith, nat_tests)

@@ -16,7 +16,7 @@ use Rattle.unit_tree.specs.declared.system.Wire.{Wire}
 use Rattle.language_laws.proofs.KindLemmas.{kind_laws}
 use Rattle.language_laws.proofs.PlainLemmas.{plain_measures}
 use Rattle.cosim_gen.specs.Generated.{number, source_unit, mixer_unit}
-use Rattle.cosim_gen.proofs.Rules.{keeps}
+use Rattle.text_laws.proofs.KeptRules.{keeps}
 
 -- A system of the two units.
 abbrev pub made : List Instance → List Wire → ℕ → System

@@ -22,6 +22,7 @@ use Rattle.unit_tree.specs.Ports.{first_some}
 use Rattle.unit_tree.specs.Successor.{Position, after, ends, ends_at, ends_or, first_position, goes, successor}
 use Rattle.unit_tree.specs.Trace.{Goes, IsStand, Reaches, Row as TraceRow, Stand, row_at}
 use Rattle.unit_tree.specs.declared.ending.Ending.{Ending}
+use Rattle.list_laws.proofs.Lists.{each_append}
 
 -- ---- Lists
 
@@ -59,10 +60,6 @@ fact_so so known (Reply row instance true said) are on =
     record { words = are.words; limits = are.limits; replies = are.replies; redos = set_honest so.redos known.redos instance said are.redos on }
 fact_so so known (Reply row instance false said) are on =
     record { words = are.words; limits = are.limits; replies = set_honest so.replies known.replies instance said are.replies on; redos = are.redos }
-
-pub all_more : {A : Type 0} (P : A → Type 0) (xs ys : List A) → AllByRecursion P xs → AllByRecursion P ys → AllByRecursion P (xs ++ ys)
-all_more P [] ys old new = new
-all_more P (x ∷ xs) ys old new = (old.0, all_more P xs ys old.1 new)
 
 pub found_is : {A : Type 0} (P : A → Type 0) (xs : List A) (place : ℕ) (one : A) → AllByRecursion P xs → slice_get xs place ≡ Some one → P one
 found_is P [] place one are is = absurd (cc)
@@ -164,7 +161,7 @@ module _ (run : Composition) (rule : Rule) (right : IsRightRule run rule) where
       ended = keeps.ended;
       kept_stand = keeps.kept_stand;
       kept = keeps.kept;
-      facts = all_more (IsTrueFact run) node.facts (making_of rule me node).facts keeps.facts
+      facts = each_append (IsTrueFact run) node.facts (making_of rule me node).facts keeps.facts
           (new_facts keeps.stand (making_of rule me node).facts keeps.stands.place (made_of node keeps).facts);
       row = keeps.row;
     }

@@ -2,7 +2,7 @@
 use Rattle.fixed_words.specs.Operations.{Outcome}
 use Rattle.link_core.proofs.BoardLaws.{known_all, words_end}
 use Rattle.link_core.proofs.MakeLaws.{Below, Lacks, all_seen, determined_is, ports_below, ports_lack}
-use Rattle.link_core.proofs.PairLaws.{all_more, fact_so, on_so}
+use Rattle.link_core.proofs.PairLaws.{fact_so, on_so}
 use Rattle.link_core.proofs.StageLaws.{stage_is_right}
 use Rattle.link_core.specs.Boards.{Agrees, Board, IsKnown, IsOn, IsSo, asked_of, before_limits, before_redo, before_trial, board_of, entry, row_of, said_of}
 use Rattle.link_core.specs.Boards.{said_where, seen_of}
@@ -38,14 +38,10 @@ use Rattle.unit_tree.specs.Ports.{IsAssignment, IsPlaceOrder, Outlet, Ports, Sta
 use Rattle.unit_tree.specs.Successor.{Position, after, agreed, first_position, point_after, proposed, standings, when}
 use Rattle.unit_tree.specs.Trace.{AreWordsOf, Goes, HasWords, IsStand, Reaches, Stand, row_at, row_unless}
 use Rattle.unit_tree.specs.declared.unit.Output.{Output}
+use Rattle.list_laws.proofs.Pairs.{zip_append}
+use Rattle.list_laws.proofs.Lists.{each_append}
 
 -- ---- Lists
-
-all_zip_more : {A B : Type 0} (R : A → B → Type 0) (xs xs' : List A) (ys ys' : List B) → AllZip R xs ys → AllZip R xs' ys' → AllZip R (xs ++ xs') (ys ++ ys')
-all_zip_more R [] xs' [] ys' one other = other
-all_zip_more R [] xs' (y ∷ ys) ys' one other = absurd one
-all_zip_more R (x ∷ xs) xs' [] ys' one other = absurd one
-all_zip_more R (x ∷ xs) xs' (y ∷ ys) ys' one other = (one.0, all_zip_more R xs xs' ys ys' one.1 other)
 
 -- The place of each is that of what stands beside it.
 abbrev IsAtPlace : {A B : Type 0} → (A → B → Type 0) → List B → ℕ × A → Type 0
@@ -117,7 +113,7 @@ held_same me from (owner ∷ owners) [] states owns long = absurd (omega arith)
 held_same me from [] (member ∷ members) states owns long = absurd (omega arith)
 held_same me from (owner ∷ owners) (member ∷ members) [] owns long = absurd (omega arith)
 held_same me from (owner ∷ owners) (member ∷ members) (state ∷ states) owns long =
-    all_zip_more (IsSame me) (held_outlets (owner, (from, (member, own_state me (owner, state)))))
+    zip_append (IsSame me) (held_outlets (owner, (from, (member, own_state me (owner, state)))))
     (flat_map held_outlets (zip owners (enumerate_from (from + 1) (zip members (own_states owners me states))))) (outlets_of (from, (member, state)))
     (flat_map outlets_of (enumerate_from (from + 1) (zip members states)))
     (outlets_same me owner from member state (enumerate_from 0 member.component.unit.outputs))
@@ -216,7 +212,7 @@ module _ (run : Composition) (owners : List ℕ) (me : ℕ) (stand : Stand) (is_
   add_fact : (making : Making) (fact : Fact) → P making → row_of fact ≡ number → IsOn board fact → P (with_made fact making)
   add_fact making fact keeps row on = record {
     agrees = fact_so board making.known fact keeps.agrees (on_so board fact on);
-    facts = all_more (IsNewFact run stand) making.facts (fact ∷ []) keeps.facts ((row, on), tt);
+    facts = each_append (IsNewFact run stand) making.facts (fact ∷ []) keeps.facts ((row, on), tt);
   }
 
   add_reply : (making : Making) (instance : ℕ) (said : Option Said) → P making → entry board.replies instance ≡ said

@@ -32,7 +32,7 @@ use Rattle.sub_flat.proofs.SearchLaws.{place_within}
 use Rattle.language_laws.proofs.NameLaws.{same_bytes}
 use Rattle.language_laws.proofs.PlainNames.{has_flat, has_part, words_on, units, instances, wires}
 use Rattle.list_laws.proofs.Members.{Has, has_front, has_behind, has_map, at_place, found_passes}
-use Rattle.list_laws.proofs.Truths.{not_false, lt_told, lt_not_told}
+use Rattle.list_laws.proofs.Truths.{lt_not_told, lt_told, not_false, other_fails}
 use Rattle.nest_runs.specs.SoundNests.{IsSound}
 use Rattle.nest_runs.specs.NestPorts.{IsInside, IsScopeAt}
 use Rattle.nest_runs.proofs.SoundLaws.{flat_ranged}
@@ -66,11 +66,6 @@ never_true false never = refl
 neither : (one other : Bool) → (one || other) ≡ false → (one ≡ false) × (other ≡ false)
 neither true other is = absurd (cc)
 neither false other is = (refl, is)
-
--- Two of which the first holds don't both hold.
-second_fails : (one other : Bool) → one ≡ true → (one && other) ≡ false → other ≡ false
-second_fails true other holds is = is
-second_fails false other holds is = absurd (cc)
 
 pub name_long : (prefix name : List ℕ) → suc (length prefix) ≤ length (prefix ++ (name ++ 95 ∷ []))
 name_long prefix name =
@@ -263,7 +258,7 @@ module _ (nest : Nest) (sound : IsSound nest) where
         let grouped = ap (λ found. not (is_none found)) led.is in
         has_lines led.one.unit port.port place led.is
         (not_false (has led.one.unit port.port)
-        (second_fails (not (is_none (group_place nest led.one.unit))) (not (has led.one.unit port.port)) grouped test))
+        (other_fails (not (is_none (group_place nest led.one.unit))) (not (has led.one.unit port.port)) grouped test))
 
     bound : (group : Option ℕ) (port : PortName) → is_there has (instances_of nest group) port ≡ true → IsThere binds group port
     bound group port told place at =

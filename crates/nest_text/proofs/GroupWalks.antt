@@ -17,7 +17,8 @@ use Rattle.nest_text.specs.declared.kind.Kind.{Kind}
 use Rattle.nest_text.specs.declared.kind.Kind.TheVariants as kinds
 use Rattle.nest_text.specs.declared.nest.Group.{Group}
 use Rattle.nest_text.proofs.LineWalks.{lines_there, next_line, none_left, of_lines}
-use Rattle.nest_text.proofs.TextCuts.{IsWhole, are_whole, line_more}
+use Rattle.nest_text.proofs.TextCuts.{IsWhole, are_whole}
+use Rattle.text_laws.proofs.WholeLines.{line_more}
 
 -- ---- A line more
 

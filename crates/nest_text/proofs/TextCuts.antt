@@ -9,6 +9,7 @@ use Rattle.std.proofs.lemmas.List.{map-append}
 use Rattle.std.proofs.Math.Seq.{take-append_seam}
 use Rattle.list_laws.proofs.Lists.{any_behind, front_of}
 use Rattle.list_laws.proofs.Truths.{not_true}
+use Rattle.text_laws.proofs.WholeLines.{line_more}
 use Rattle.unit_tree.specs.Lines.{lines_of, without_return}
 use Rattle.nest_text.specs.NestLines.{AreLines, IsKind, IsLine, SourceLine}
 use Rattle.nest_text.specs.Nests.{BreaksParts, IsCut, has_main, is_main}
@@ -27,13 +28,6 @@ ended lines = flat_map (λ line. line ++ 10 ∷ []) lines
 -- No end stands in the line.
 abbrev pub IsWhole : List ℕ → Type 0
 IsWhole line = IsTrue (list_all (λ byte. not (byte == 10)) line)
-
-pub line_more : (line rest : List ℕ) → IsWhole line → lines_of (line ++ 10 ∷ rest) ≡ line ∷ lines_of rest
-line_more [] rest whole = refl
-line_more (byte ∷ line) rest whole =
-    let both = and_parts (not (byte == 10)) (list_all (λ byte. not (byte == 10)) line) whole in
-    ap (λ test. if test then [] ∷ lines_of (line ++ 10 ∷ rest) else onto_first byte (lines_of (line ++ 10 ∷ rest))) (not_true (byte == 10) both.0)
-    ∙ ap (onto_first byte) (line_more line rest both.1)
 
 pub lines_ended : (lines : List (List ℕ)) → AllByRecursion IsWhole lines → lines_of (ended lines) ≡ lines
 lines_ended [] whole = refl

@@ -18,6 +18,7 @@ use Rattle.fixed_words.specs.Types.{is_word_of}
 use Rattle.fixed_words.specs.declared.types.Ty.TheVariants.{Int64}
 use Rattle.fixed_words.proofs.Numbers.{decimal_is}
 use Rattle.list_laws.proofs.Truths.{le_asked, le_told, true_is_false}
+use Rattle.text_laws.proofs.WordTexts.{unsigned_value, word_bound, word_fits, word_once}
 use Rattle.save_point.specs.Reading.{IsNumberText, IsWordText, Tells, is_inside, word_in}
 use Rattle.save_point.specs.SavedTexts.{number_limit}
 
@@ -28,19 +29,6 @@ told_same Is once None None on_one on_other = refl
 told_same Is once None (Some y) on_one on_other = absurd (on_one y on_other)
 told_same Is once (Some x) None on_one on_other = absurd (on_other x on_one)
 told_same Is once (Some x) (Some y) on_one on_other = ap Some (once x y on_one on_other)
-
--- ---- Texts that are parsed
-
--- bytes that are no text
-pub no_text : {E : Type 0} (IsFault : E → Type 0) (bytes : List ℕ) (text : Result (Bor (List ℕ)) E) (told : Option (Bor (List ℕ)))
-    → MatchResult text (λ s. (s.now ≡ bytes) × IsUtf8 bytes) (λ e. (IsUtf8 bytes → ⊥) × IsFault e) → told ≡ result_ok text → told ≡ None → IsUtf8 bytes → ⊥
-no_text IsFault bytes (Ok s) told reads is none utf8 = absurd (none-some s (sym none ∙ is))
-no_text IsFault bytes (Err e) told reads is none utf8 = reads.0 utf8
-
-pub text_read : {E : Type 0} (IsFault : E → Type 0) (bytes : List ℕ) (text : Result (Bor (List ℕ)) E) (told : Option (Bor (List ℕ))) (s : Bor (List ℕ))
-    → MatchResult text (λ s. (s.now ≡ bytes) × IsUtf8 bytes) (λ e. (IsUtf8 bytes → ⊥) × IsFault e) → told ≡ result_ok text → told ≡ Some s → s.now ≡ bytes
-text_read IsFault bytes (Ok one) told s reads is some = ap (λ (b : Bor (List ℕ)). b.now) (same_Some s one (sym some ∙ is)) ∙ reads.0
-text_read IsFault bytes (Err e) told s reads is some = absurd (none-some s (sym is ∙ some))
 
 -- ---- Numbers
 
@@ -54,29 +42,6 @@ number_parsed bytes text parsed number same parses within is =
 
 pub number_once : (bytes : List ℕ) (one other : ℕ) → IsNumberText bytes one → IsNumberText bytes other → one ≡ other
 number_once bytes one other is also = decimal_injective one other (omega (arith, is.0)) (omega (arith, also.0)) (sym is.1 ∙ also.1)
-
--- ---- Words
-
-pub word_bound : (word : ℤ) → is_word_of Int64 word ≡ true → SFits w64 word
-word_bound (pos n) fits = record { sfits = grind (arith, nat_tests) }
-word_bound (negsuc n) fits = record { sfits = grind (arith, nat_tests) }
-
-pub word_fits : (word : ℤ) → SFits w64 word → is_word_of Int64 word ≡ true
-word_fits (pos n) bound = let small = bound.sfits in grind (arith, nat_tests)
-word_fits (negsuc n) bound = let small = bound.sfits in grind (arith, nat_tests)
-
-pub word_utf8 : (bytes : List ℕ) (word : ℤ) → is_word_of Int64 word ≡ true → bytes ≡ signed_decimal word → IsUtf8 bytes
-word_utf8 bytes word fits is = subst IsUtf8 (sym is) (IsUtf8-from_ascii (signed_decimal word) (IsAscii-signed word (word_bound word fits).sfits))
-
-pub word_parsed : {E : Type 0} (bytes text : List ℕ) (parsed : Result ℤ E) (word : ℤ) → text ≡ bytes → ParsesSigned w64 10 text parsed
-    → is_word_of Int64 word ≡ true → bytes ≡ signed_decimal word → result_ok parsed ≡ Some word
-word_parsed bytes text parsed word same parses fits is =
-    let bound = word_bound word fits in
-    ap result_ok (parse-signed_decimal w64 word text parsed bound bound.sfits (same ∙ is) parses)
-
-pub word_once : (bytes : List ℕ) (one other : ℤ) → IsWordText bytes one → IsWordText bytes other → one ≡ other
-word_once bytes one other is also =
-    signed_decimal_injective one other (word_bound one is.0).sfits (word_bound other also.0).sfits (sym is.1 ∙ also.1)
 
 -- ---- Bytes of numbers
 
@@ -97,19 +62,6 @@ word_inside (pos n) fits = let bound = (word_bound (pos n) fits).sfits in number
 word_inside (negsuc n) fits = let bound = (word_bound (negsuc n) fits).sfits in number_inside (suc n) (omega arith)
 
 -- ---- The word that bytes are the text of
-
--- Digits have no sign in front.
-unsigned_value : (bytes : List ℕ) → list_all is_digit bytes ≡ true → signed_digits_value 10 bytes ≡ pos (digits_value 10 bytes)
-unsigned_value [] all = refl
-unsigned_value (byte ∷ bytes) all =
-    let first = (and_parts (is_digit byte) (list_all is_digit bytes) all).0 in
-    rw (no_minus byte first, no_plus byte first) refl
-  where
-    no_minus : (byte : ℕ) → is_digit byte ≡ true → (byte == 45) ≡ false
-    no_minus byte digit = grind (arith, nat_tests)
-
-    no_plus : (byte : ℕ) → is_digit byte ≡ true → (byte == 43) ≡ false
-    no_plus byte digit = grind (arith, nat_tests)
 
 value_of_text : (word : ℤ) → is_word_of Int64 word ≡ true → signed_digits_value 10 (signed_decimal word) ≡ word
 value_of_text (pos n) fits =

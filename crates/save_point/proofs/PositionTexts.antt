@@ -16,7 +16,7 @@ use Rattle.save_point.specs.Laws.{saved_of}
 use Rattle.save_point.specs.SavedTexts.{AreNumbers, BeginsState, BeginsWithLines, IsFirstLine, IsSaved, IsState, LacksLine, NamedState, ended, named_states, point_line, row_line}
 use Rattle.save_point.specs.SavedTexts.{saved_lines, saved_text, spaced_words, state_line}
 use Rattle.save_point.proofs.LineLaws.{point_front, row_front}
-use Rattle.save_point.proofs.NumberTexts.{word_bound}
+use Rattle.text_laws.proofs.WordTexts.{word_bound}
 use Rattle.save_point.proofs.ReadStates.{state_front}
 use Rattle.super_time.specs.declared.point.Point.{Point}
 use Rattle.unit_tree.specs.Canonical.{canonical_parts, canonical_text, line_text, tokens_text}

@@ -54,9 +54,6 @@ whole_limit t h some = ap (λ b. if b then 0 else (t / 1 + h) * 1 - t) apart ∙
     count : (t / 1 + h) * 1 - t ≡ h
     count = omega arith
 
-not_negative_number : (n : ℕ) → is_negative (pos n) ≡ false
-not_negative_number n = grind (arith, ints)
-
 magnitude : (n : ℕ) → unsigned_abs (pos n) ≡ n
 magnitude n = omega arith
 
@@ -154,7 +151,7 @@ module _ (names : List (List ℕ)) (first n : Moment) (ns : List Moment) (stop :
   max_is words t goal before is small smalls =
       ap (λ r. r >>= as_limit) (chain_value n.time ns (environment_of (component names first later) words [] t 0) small smalls (subst (λ g. t < g) (sym is) before))
       ∙ ap (λ g. Ok (record { kind = kinds.Int; word = pos (g - t) }) >>= as_limit) is
-      ∙ ap (λ b. if b then Err faults.Max else Ok (Some (unsigned_abs (pos (goal - t))))) (not_negative_number (goal - t))
+      ∙ ap (λ b. if b then Err faults.Max else Ok (Some (unsigned_abs (pos (goal - t))))) (not_negative (goal - t))
       ∙ ap (λ size. Ok (Some size)) (magnitude (goal - t))
 
   step_is : (words : List ℤ) (t h : ℕ) → length words ≡ length first.words → length words ≤ 16 → AllByRecursion (IsTaken (length words)) later → t + h ≤ 1000000000

@@ -18,7 +18,7 @@ use Rattle.fixed_words.specs.declared.types.Literal.TheVariants as literal
 use Rattle.fixed_words.specs.declared.types.Ty.TheVariants.{Int64}
 use Rattle.list_laws.proofs.Lists.{each_append, each_so}
 use Rattle.list_laws.proofs.Truths.{le_asked, not_negative}
-use Rattle.text_laws.proofs.ReadIsPrintable.{no_event_port}
+use Rattle.text_laws.proofs.PrintedLines.{Prints, all_short, all_writable, fixed_short, no_events, none_second, text_within}
 use Rattle.text_laws.proofs.ShortestLines.{unsigned_tokens}
 use Rattle.text_laws.proofs.SpelledBytes.{all_pass}
 use Rattle.text_laws.proofs.TokenWidths.{is_worded, tokens_within, width}
@@ -50,16 +50,6 @@ use Rattle.stimulus_tables.specs.Laws.{IsStimulus}
 use Rattle.stimulus_tables.specs.TableSystems.{is_before, is_reached, last_time, max_of_moments, number, output_with, outputs_from, sets_from, state_with, states_from, step_of_moments, table_system, table_unit, takes, to_next, until}
 use Rattle.stimulus_tables.specs.Tables.{IsMoment, IsWritable, state_name}
 use Rattle.stimulus_tables.specs.declared.moment.Moment.{Moment}
-
--- ---- One line
-
--- What a line of a printable system is, where it has no events.
-record Prints (line : LineForm) : Type 0 where
-  names : AllByRecursion IsName (names_on line)
-  in_range : IsInRange line
-  writable : is_writable (tail_of line) ≡ true
-  old : is_of_version_2 line ≡ false
-  short : length (line_text line) ≤ 1000
 
 -- ---- Names and numbers
 
@@ -96,26 +86,9 @@ name_short : (name : List ℕ) → IsName name → length name ≤ 32
 name_short [] is = absurd is.0
 name_short (first ∷ others) is = omega (arith, is.0.2)
 
-pointed_within : (fraction : List ℕ) → length (pointed fraction) ≤ suc (length fraction)
-pointed_within [] = omega arith
-pointed_within (digit ∷ fraction) = omega arith
-
 -- A number of at most 16 digits.
 number_short : (n : ℕ) → n ≤ 10 ^ 15 → length (fixed_text 0 n) ≤ 19
-number_short n small =
-    let text = decimal n in
-    let all = padded 0 text in
-    let place = length all - 0 in
-    let few : length text ≤ 16 = length-decimal-le 16 n (omega arith) (omega arith) (omega arith) in
-    omega (
-      arith,
-      length-append (replicate {A = ℕ} (0 + 1 - length text) 48) text,
-      length-replicate {A = ℕ} (0 + 1 - length text) 48,
-      length-append (take place all) (pointed (drop place all)),
-      length-take-le place all (omega arith),
-      length-drop place all,
-      pointed_within (drop place all),
-    )
+number_short n small = fixed_short 16 n (omega arith) (omega (arith, small)) (omega (arith, small))
 
 -- A number of at most ten digits.
 time_short : (n : ℕ) → n ≤ 10 ^ 9 → length (fixed_text 0 n) ≤ 13
@@ -494,33 +467,6 @@ steps_deep [] = omega arith
 steps_deep (next ∷ later) = under 1 0 (map line_depth (map takes (next ∷ later))) (omega arith) (all_deep (next ∷ later))
 
 -- ---- All of a system
-
-all_writable : (lines : List LineForm) → AllByRecursion Prints lines → list_all (λ line. is_writable (tail_of line)) lines ≡ true
-all_writable [] all = refl
-all_writable (line ∷ lines) all = and_from _ _ all.0.writable (all_writable lines all.1)
-
-all_short : (lines : List LineForm) → AllByRecursion Prints lines → list_all (λ line. nat_le (length (line_text line)) 1000) lines ≡ true
-all_short [] all = refl
-all_short (line ∷ lines) all = and_from _ _ (le_asked (length (line_text line)) 1000 all.0.short) (all_short lines all.1)
-
-none_second : (lines : List LineForm) → AllByRecursion Prints lines → list_any is_of_version_2 lines ≡ false
-none_second [] all = refl
-none_second (line ∷ lines) all = rw (all.0.old) (none_second lines all.1)
-
-no_events : (lines : List LineForm) → AllByRecursion Prints lines → list_any is_event_port lines ≡ false
-no_events [] all = refl
-no_events (line ∷ lines) all = rw (no_event_port line all.0.old) (no_events lines all.1)
-
-text_within : (lines : List LineForm) → AllByRecursion Prints lines → length (flat_map (λ line. line_text line ++ (10 ∷ [])) lines) ≤ 1001 * length lines
-text_within [] all = omega arith
-text_within (line ∷ lines) all =
-    omega (
-      arith,
-      all.0.short,
-      text_within lines all.1,
-      length-append (line_text line ++ (10 ∷ [])) (flat_map (λ some. line_text some ++ (10 ∷ [])) lines),
-      length-append (line_text line) (10 ∷ []),
-    )
 
 max_print : (later : List Moment) → length later < 20 → AllByRecursion IsWritable later → PartsPrint (optional parts.Max (max_of_moments later)) 1
 max_print [] few writable = record { each = tt; few = omega arith }

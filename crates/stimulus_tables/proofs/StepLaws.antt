@@ -26,6 +26,7 @@ use Rattle.stimulus_tables.specs.TableSystems.{last_of, held, number, until, is_
 use Rattle.stimulus_tables.specs.Tables.{state_name}
 use Rattle.stimulus_tables.specs.declared.moment.Moment.{Moment}
 use Rattle.stimulus_tables.proofs.StateNames.{its_name, other_state}
+use Rattle.list_laws.proofs.Truths.{not_negative}
 
 -- ---- Words
 
@@ -88,9 +89,6 @@ chain_value first (second ∷ others) env small smalls later =
         ∙ ap (λ c. Ok (int (pos ((if c then first else next_time second.time others env.time) - env.time)))) (sym e)
 
 -- ---- The lines
-
-not_negative : (n : ℕ) → is_negative (pos n) ≡ false
-not_negative n = grind (arith, ints)
 
 negative : (n : ℕ) → is_negative (negsuc n) ≡ true
 negative n = grind (arith, ints)

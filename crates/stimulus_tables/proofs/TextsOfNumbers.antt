@@ -9,6 +9,7 @@ use Rattle.std.proofs.lemmas.Fmt.{decimal_is_IsNumeral}
 use Rattle.fixed_words.specs.Digits.{is_digit}
 use Rattle.fixed_words.proofs.Numbers.{decimal_is}
 use Rattle.list_laws.proofs.Lists.{same_first, same_rest}
+use Rattle.text_laws.proofs.WordTexts.{unsigned_value}
 use Rattle.stimulus_tables.proofs.Deciding.{Decided, Found, at_most_decided, both_decided, same_decided}
 
 -- ---- Times
@@ -34,19 +35,6 @@ time_found bytes = by (both_decided (at_most_decided (digits_value 10 bytes) (10
     by (inr none) = inr (λ time is. none (subst (IsTime bytes) (value_is time is.0 is.1) is))
 
 -- ---- Entries
-
--- Digits have no sign in front.
-unsigned_value : (bytes : List ℕ) → list_all is_digit bytes ≡ true → signed_digits_value 10 bytes ≡ pos (digits_value 10 bytes)
-unsigned_value [] all = refl
-unsigned_value (byte ∷ bytes) all =
-    let first = (and_parts (is_digit byte) (list_all is_digit bytes) all).0 in
-    rw (no_minus byte first, no_plus byte first) refl
-  where
-    no_minus : (byte : ℕ) → is_digit byte ≡ true → (byte == 45) ≡ false
-    no_minus byte digit = grind (arith, nat_tests)
-
-    no_plus : (byte : ℕ) → is_digit byte ≡ true → (byte == 43) ≡ false
-    no_plus byte digit = grind (arith, nat_tests)
 
 entry_value : (word : ℤ) → unsigned_abs word ≤ 10 ^ 15 → signed_digits_value 10 (signed_decimal word) ≡ word
 entry_value (pos n) small =

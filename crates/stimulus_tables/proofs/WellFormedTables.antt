@@ -33,7 +33,8 @@ use Rattle.stimulus_tables.specs.Laws.{IsStimulus}
 use Rattle.stimulus_tables.specs.TableSystems.{is_reached, last_time, max_of_moments, number, output_with, outputs_from, sets_from, state_with, states_from, step_of_moments, takes, to_next}
 use Rattle.stimulus_tables.specs.Tables.{AllDiffer, IsMoment, IsWritable, state_name}
 use Rattle.stimulus_tables.specs.declared.moment.Moment.{Moment}
-use Rattle.stimulus_tables.proofs.SitesPass.{Keeps, all_hold, passed, well_formed}
+use Rattle.stimulus_tables.proofs.SitesPass.{passed}
+use Rattle.text_laws.proofs.KeptRules.{Keeps, all_hold, well_formed}
 use Rattle.stimulus_tables.proofs.StateNames.{not_told, other_state}
 use Rattle.stimulus_tables.proofs.TableLines.{StepPasses, in_step, max_passes, one_more, output_passes, plain, reached_passes, set_passes, state_passes, step_end_passes, step_passes, system, unit}
 use Rattle.stimulus_tables.proofs.TableNames.{column_free}

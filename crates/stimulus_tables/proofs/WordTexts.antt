@@ -1,4 +1,4 @@
--- Words by their texts.
+-- Words, times and entries by their texts.
 use Rattle.std.proofs.Common.{◌≡◌, ℕ, ◌^◌, ◌≤◌, Bool, true, false, ℤ, pos, negsuc, List, Option, Some, None, Result, Ok, Err}
 use Rattle.std.proofs.Common.{sym, ap, subst, ◌∙◌, arith, Bor, SFits, w64}
 use Rattle.std.specs.Prelude.{MatchResult, unsigned_abs, neg_ℤ, int_le}
@@ -15,43 +15,8 @@ use Rattle.std.proofs.lemmas.Str.{IsUtf8-from_ascii}
 use Rattle.fixed_words.specs.Types.{is_word_of}
 use Rattle.fixed_words.specs.declared.types.Ty.TheVariants.{Int64}
 use Rattle.list_laws.proofs.Truths.{true_is_false}
+use Rattle.text_laws.proofs.WordTexts.{word_fits, word_once}
 use Rattle.stimulus_tables.specs.TableFields.{IsEntryText, IsTimeText, IsWordText, Tells}
-
--- ---- Texts that are parsed
-
--- bytes that are no text
-pub no_text : {E : Type 0} (IsFault : E → Type 0) (bytes : List ℕ) (text : Result (Bor (List ℕ)) E) (told : Option (Bor (List ℕ)))
-    → MatchResult text (λ s. (s.now ≡ bytes) × IsUtf8 bytes) (λ e. (IsUtf8 bytes → ⊥) × IsFault e) → told ≡ result_ok text → told ≡ None → IsUtf8 bytes → ⊥
-no_text IsFault bytes (Ok s) told reads is none utf8 = absurd (none-some s (sym none ∙ is))
-no_text IsFault bytes (Err e) told reads is none utf8 = reads.0 utf8
-
-pub text_read : {E : Type 0} (IsFault : E → Type 0) (bytes : List ℕ) (text : Result (Bor (List ℕ)) E) (told : Option (Bor (List ℕ))) (s : Bor (List ℕ))
-    → MatchResult text (λ s. (s.now ≡ bytes) × IsUtf8 bytes) (λ e. (IsUtf8 bytes → ⊥) × IsFault e) → told ≡ result_ok text → told ≡ Some s → s.now ≡ bytes
-text_read IsFault bytes (Ok one) told s reads is some = ap (λ (b : Bor (List ℕ)). b.now) (same_Some s one (sym some ∙ is)) ∙ reads.0
-text_read IsFault bytes (Err e) told s reads is some = absurd (none-some s (sym is ∙ some))
-
--- ---- Words
-
-pub word_bound : (word : ℤ) → is_word_of Int64 word ≡ true → SFits w64 word
-word_bound (pos n) fits = record { sfits = grind (arith, nat_tests) }
-word_bound (negsuc n) fits = record { sfits = grind (arith, nat_tests) }
-
-pub word_fits : (word : ℤ) → SFits w64 word → is_word_of Int64 word ≡ true
-word_fits (pos n) bound = let small = bound.sfits in grind (arith, nat_tests)
-word_fits (negsuc n) bound = let small = bound.sfits in grind (arith, nat_tests)
-
-pub word_utf8 : (bytes : List ℕ) (word : ℤ) → is_word_of Int64 word ≡ true → bytes ≡ signed_decimal word → IsUtf8 bytes
-word_utf8 bytes word fits is = subst IsUtf8 (sym is) (IsUtf8-from_ascii (signed_decimal word) (IsAscii-signed word (word_bound word fits).sfits))
-
-pub word_parsed : {E : Type 0} (bytes text : List ℕ) (parsed : Result ℤ E) (word : ℤ) → text ≡ bytes → ParsesSigned w64 10 text parsed
-    → is_word_of Int64 word ≡ true → bytes ≡ signed_decimal word → result_ok parsed ≡ Some word
-word_parsed bytes text parsed word same parses fits is =
-    let bound = word_bound word fits in
-    ap result_ok (parse-signed_decimal w64 word text parsed bound bound.sfits (same ∙ is) parses)
-
-pub word_once : (bytes : List ℕ) (one other : ℤ) → IsWordText bytes one → IsWordText bytes other → one ≡ other
-word_once bytes one other is also =
-    signed_decimal_injective one other (word_bound one is.0).sfits (word_bound other also.0).sfits (sym is.1 ∙ also.1)
 
 abbrev Parses : List ℕ → Option ℤ → Type 0
 Parses bytes parsed = (word : ℤ) → is_word_of Int64 word ≡ true → bytes ≡ signed_decimal word → parsed ≡ Some word

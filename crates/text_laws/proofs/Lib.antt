@@ -5,8 +5,10 @@ pub mod Depths
 pub mod FirstTokens
 pub mod FitTokens
 pub mod FormsInOrder
+pub mod KeptRules
 pub mod NestingOfPhrases
 pub mod PlacedParts
+pub mod PrintedLines
 pub mod ReadBack
 pub mod ReadIsPrintable
 pub mod RefusalSteps
@@ -17,4 +19,6 @@ pub mod SpelledBytes
 pub mod TokenTexts
 pub mod TokenWidths
 pub mod TokensApart
+pub mod WholeLines
+pub mod WordTexts
 pub mod WrittenForms

@@ -1,2 +1,3 @@
-pub mod LineLaws
 pub mod BareTexts
+pub mod HighTexts
+pub mod LineLaws

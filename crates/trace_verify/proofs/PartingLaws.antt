@@ -8,6 +8,7 @@ use Rattle.std.proofs.lemmas.Bool.Decides.{nat_tests}
 use Rattle.std.proofs.lemmas.List.{append_cancel_left, drop_all, drop_at, take_all, take_at}
 use Rattle.list_laws.proofs.Lists.{each_more, same_first, same_rest}
 use Rattle.list_laws.proofs.Truths.{not_true, true_is_false}
+use Rattle.text_laws.proofs.WholeLines.{line_more}
 use Rattle.stimulus_tables.proofs.Deciding.{Decided, is_decided, same_decided}
 use Rattle.text_tokens.specs.Scanning.{keyword_of}
 use Rattle.text_tokens.proofs.FrontLemmas.{front_passes, prefix_len-front}
@@ -105,13 +106,6 @@ trace_decided : (line : List ℕ) → Decided (IsPartingLine line)
 trace_decided line = word_decided (code_of (without_return line))
 
 -- ---- Lines
-
-line_more : (line rest : List ℕ) → IsWhole line → lines_of (line ++ 10 ∷ rest) ≡ line ∷ lines_of rest
-line_more [] rest whole = refl
-line_more (byte ∷ line) rest whole =
-    let both = and_parts (not (byte == 10)) (list_all (λ byte. not (byte == 10)) line) whole in
-    ap (λ test. if test then [] ∷ lines_of (line ++ 10 ∷ rest) else onto_first byte (lines_of (line ++ 10 ∷ rest))) (not_true (byte == 10) both.0)
-    ∙ ap (onto_first byte) (line_more line rest both.1)
 
 line_alone : (byte : ℕ) (line : List ℕ) → IsWhole (byte ∷ line) → lines_of (byte ∷ line) ≡ (byte ∷ line) ∷ []
 line_alone byte [] whole = ap (λ test. if test then [] ∷ [] else (byte ∷ []) ∷ []) (not_true (byte == 10) (and_parts (not (byte == 10)) true whole).0)

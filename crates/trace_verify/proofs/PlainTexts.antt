@@ -17,6 +17,8 @@ use Rattle.list_laws.proofs.Members.{Has, each_has, has_at}
 use Rattle.trace_csv.specs.Columns.{port_title, title_in}
 use Rattle.trace_csv.specs.TraceText.{field_of, is_absent, row_fields}
 use Rattle.trace_verify.specs.TraceLines.{IsPlain, is_special}
+use Rattle.run_laws.proofs.PlainOrders.{named_has}
+use Rattle.trace_csv.proofs.HighTexts.{AreHigh, high_decimal, high_fixed, high_word, high_append}
 use Rattle.unit_tree.specs.Canonical.{canonical_parts, optional, unit_parts}
 use Rattle.unit_tree.specs.Names.{unit_named, unit_of_instance}
 use Rattle.unit_tree.specs.Parts as parts
@@ -33,89 +35,13 @@ use Rattle.unit_tree.specs.declared.unit.EventOut.{EventOut}
 use Rattle.unit_tree.specs.declared.unit.Output.{Output}
 use Rattle.unit_tree.specs.declared.unit.Unit.{Unit}
 
--- ---- Bytes behind the comma
-
--- The bytes by which a table is cut come before all that a trace has.
-abbrev pub AreHigh : List ℕ → Type 0
-AreHigh bytes = AllByRecursion (λ byte. 45 ≤ byte) bytes
+-- ---- Bytes after the comma
 
 high_plain : (byte : ℕ) → 45 ≤ byte → is_special byte ≡ false
 high_plain byte high = grind (arith, nat_tests)
 
 pub plain_of : (bytes : List ℕ) → AreHigh bytes → IsPlain bytes
 plain_of bytes high = each_so (λ byte. 45 ≤ byte) (λ byte. is_special byte ≡ false) high_plain bytes high
-
--- ---- Numbers
-
-high_glyph : (n : ℕ) → 45 ≤ digit_glyph false (n % 10)
-high_glyph n =
-    let small : nat_lt (n % 10) 10 ≡ true = grind (arith, nat_tests) in
-    subst (λ b. 45 ≤ (if b then 48 + n % 10 else 87 + n % 10)) (sym small) (omega arith)
-
-high_onto : (count n : ℕ) (more : List ℕ) → AreHigh more → AreHigh (digits_onto count 10 false n more)
-high_onto zero n more high = high
-high_onto (suc count) n more high =
-    by (n / 10 == 0) (high_glyph n, high) (high_onto count (n / 10) (digit_glyph false (n % 10) ∷ more) (high_glyph n, high))
-  where
-    by : (b : Bool) → AreHigh (digit_glyph false (n % 10) ∷ more) → AreHigh (digits_onto count 10 false (n / 10) (digit_glyph false (n % 10) ∷ more))
-        → AreHigh (if b then digit_glyph false (n % 10) ∷ more else digits_onto count 10 false (n / 10) (digit_glyph false (n % 10) ∷ more))
-    by true last others = last
-    by false last others = others
-
-pub high_decimal : (n : ℕ) → AreHigh (decimal n)
-unfolding digits
-high_decimal n = high_onto 64 n [] tt
-
-high_signed : (word : ℤ) → AreHigh (signed_decimal word)
-high_signed (pos n) = high_decimal n
-high_signed (negsuc n) = (omega arith, high_decimal (suc n))
-
-high_zeros : (count : ℕ) → AreHigh (replicate count 48)
-high_zeros zero = tt
-high_zeros (suc count) = (omega arith, high_zeros count)
-
-high_take : (count : ℕ) (bytes : List ℕ) → AreHigh bytes → AreHigh (take count bytes)
-high_take zero bytes high = tt
-high_take (suc count) [] high = tt
-high_take (suc count) (byte ∷ bytes) high = (high.0, high_take count bytes high.1)
-
-high_drop : (count : ℕ) (bytes : List ℕ) → AreHigh bytes → AreHigh (drop count bytes)
-high_drop zero bytes high = high
-high_drop (suc count) [] high = tt
-high_drop (suc count) (byte ∷ bytes) high = high_drop count bytes high.1
-
-high_pointed : (bytes : List ℕ) → AreHigh bytes → AreHigh (pointed bytes)
-high_pointed [] high = tt
-high_pointed (byte ∷ bytes) high = (omega arith, high)
-
-high_append : (one other : List ℕ) → AreHigh one → AreHigh other → AreHigh (one ++ other)
-high_append one other first second = each_append (λ byte. 45 ≤ byte) one other first second
-
-pub high_fixed : (decimals magnitude : ℕ) → AreHigh (fixed_text decimals magnitude)
-high_fixed decimals magnitude =
-    let all : List ℕ = padded decimals (decimal magnitude) in
-    let whole = high_append (replicate (decimals + 1 - length (decimal magnitude)) 48) (decimal magnitude) (high_zeros (decimals + 1 - length (decimal magnitude)))
-    (high_decimal magnitude) in
-    high_append (take (length all - decimals) all) (pointed (drop (length all - decimals) all)) (high_take (length all - decimals) all whole)
-    (high_pointed (drop (length all - decimals) all) (high_drop (length all - decimals) all whole))
-
-high_sign : (negative : Bool) → AreHigh (sign_text negative)
-high_sign true = (omega arith, tt)
-high_sign false = tt
-
-high_word : (ty : Ty) (word : ℤ) → AreHigh (text_of ty word)
-high_word types.Bool (pos zero) = search arith
-high_word types.Bool (pos (suc n)) = search arith
-high_word types.Bool (negsuc n) = search arith
-high_word (types.Fixed decimals) word =
-    high_append (sign_text (is_negative word)) (fixed_text decimals (unsigned_abs word)) (high_sign (is_negative word)) (high_fixed decimals (unsigned_abs word))
-high_word types.Int8 word = high_signed word
-high_word types.UInt8 word = high_signed word
-high_word types.Int16 word = high_signed word
-high_word types.UInt16 word = high_signed word
-high_word types.Int32 word = high_signed word
-high_word types.UInt32 word = high_signed word
-high_word types.Int64 word = high_signed word
 
 -- ---- Rows
 
@@ -255,17 +181,6 @@ module _ (system : System) (ranged : IsRanged system) where
       }
 
 -- ---- Titles
-
-named_has : (units : List Unit) (name : List ℕ) (unit : Unit) → unit_named units name ≡ Some unit → Has units unit
-named_has [] name unit is = absurd (cc is)
-named_has (first ∷ units) name unit is = by (bytes_eq first.name name) is (named_has units name unit)
-  where
-    by : (b : Bool) → (if b then Some first else unit_named units name) ≡ Some unit → (unit_named units name ≡ Some unit → Has units unit) → Has (first ∷ units) unit
-    by true some later = inl (inside some)
-      where
-        inside : Some first ≡ Some unit → first ≡ unit
-        inside same = cc same
-    by false some later = inr (later some)
 
 module _ (system : System) (named : AreNamed system) where
   by_output : (instance : Instance) (unit : Unit) (told : Option Output) (place : ℕ) → AreHigh instance.name → slice_get unit.outputs place ≡ told → Has system.units unit

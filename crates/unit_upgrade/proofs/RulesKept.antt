@@ -9,6 +9,7 @@ use Rattle.std.proofs.lemmas.Grind.{flat_map-append}
 use Rattle.std.proofs.lemmas.List.Elements.{filter_map-append}
 use Rattle.std.proofs.lemmas.List.Sums.{sum_by-append}
 use Rattle.language_laws.proofs.NameLaws.{Hold, all_keep, hold_all, hold_behind}
+use Rattle.text_laws.proofs.KeptRules.{all_hold, no_number}
 use Rattle.list_laws.proofs.Lists.{each_append, each_so}
 use Rattle.unit_tree.specs.Canonical.{canonical_parts}
 use Rattle.unit_tree.specs.Compositions.{default_rows, default_zeros}
@@ -31,23 +32,6 @@ use Rattle.unit_upgrade.specs.Laws.{UpgradesAreWellFormed}
 use Rattle.unit_upgrade.specs.Upgrades.{in_version_2}
 use Rattle.unit_upgrade.proofs.BudgetBounds.{default_shares}
 use Rattle.unit_upgrade.proofs.Parted.{front_heads, heads_are, row_heads, sample_heads, zero_heads}
-
--- ---- Lines with their blocks
-
--- Lines that hold one after the other hold.
-all_hold : (P : Site → Type 0) (scope : Scope) (earlier : List LineForm) (headed : List Headed) → Hold P scope earlier headed
-    → AllByRecursion P (sites scope earlier headed)
-all_hold P scope earlier [] hold = tt
-all_hold P scope earlier (first ∷ others) hold = (
-  hold.0,
-  each_append P first.block (sites scope (earlier ++ (first.head ∷ [])) others) hold.1 (all_hold P scope (earlier ++ (first.head ∷ [])) others hold.2),
-)
-
--- Where no line breaks a rule none is numbered.
-none_numbered : (breaks : Site → Bool) (number : ℕ) (all : List Site) → AllByRecursion (λ site. breaks site ≡ false) all
-    → filter_map (number_where breaks) (enumerate_from number all) ≡ []
-none_numbered breaks number [] keep = refl
-none_numbered breaks number (site ∷ all) keep = rw (keep.0) (none_numbered breaks (number + 1) all keep.1)
 
 abbrev top : List LineForm → LineForm → Site
 top earlier line = record { scope = TopScope; earlier = earlier; line = line }
@@ -381,7 +365,7 @@ module _ (system : System) where
         (all_keep (breaks system) 1 (sites_of system) none) in
         let behind =
         front_keeps (front_heads system) [] (subst (Hold Kept TopScope (form.Header system.version ∷ [])) (heads_are system) hold.2) in
-        none_numbered (breaks changed) 1 (sites_of changed)
+        no_number (breaks changed) 1 (sites_of changed)
         (all_hold Keeps TopScope [] (alone (form.Header 2) ∷ flat_map headed_part (canonical_parts changed)) (
           sym carries.header ∙ carries.same (top [] (form.Header system.version)) hold.0,
           tt,

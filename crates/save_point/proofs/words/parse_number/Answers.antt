@@ -1,5 +1,6 @@
 use Rattle.std.proofs.Common.{◌≡◌, ◌∙◌, None, Some, rules}
-use Rattle.save_point.proofs.NumberTexts.{no_text, number_parsed, number_utf8, text_read}
+use Rattle.save_point.proofs.NumberTexts.{number_parsed, number_utf8}
+use Rattle.text_laws.proofs.WordTexts.{no_text, text_read}
 use Rattle.save_point.proofs.words.parse_number.Goals as goal
 
 pub returns-in_err-ok : goal.returns-in_err-ok

@@ -1,5 +1,5 @@
 use Rattle.std.proofs.Common.{◌≡◌, ◌∙◌, None, Some, rules}
-use Rattle.save_point.proofs.NumberTexts.{no_text, text_read, word_parsed, word_utf8}
+use Rattle.text_laws.proofs.WordTexts.{no_text, text_read, word_parsed, word_utf8}
 use Rattle.save_point.proofs.words.parse_word.Goals as goal
 
 pub returns-in_err-ok : goal.returns-in_err-ok

@@ -24,7 +24,8 @@ all_told system (site ∷ all) told =
     let both = and_parts (keeps rules system site) (list_all (keeps rules system) all) told in
     (both.0, all_told system all both.1)
 
-no_number : (breaks : Site → Bool) (number : ℕ) (all : List Site) → AllByRecursion (λ site. breaks site ≡ false) all
+-- Where no line breaks a rule none is numbered.
+pub no_number : (breaks : Site → Bool) (number : ℕ) (all : List Site) → AllByRecursion (λ site. breaks site ≡ false) all
     → filter_map (number_where breaks) (enumerate_from number all) ≡ []
 no_number breaks number [] keep = refl
 no_number breaks number (site ∷ all) keep = rw (keep.0) (no_number breaks (number + 1) all keep.1)
