@@ -3,7 +3,7 @@
 --   rule 34   the rows that there may be have too many outputs, or instances, for two nodes
 use Rattle.std.specs.Prelude.{◌≡◌, ℕ, ◌*◌, ◌<◌, ◌≤◌, max, List, [], ◌∷◌, ◌++◌, length, Option, Some, None}
 use Rattle.std.specs.List.{flat_map}
-use Rattle.link_core.specs.Pairs.{Pair}
+use Rattle.link_laws.specs.Pairs.{Pair}
 use Rattle.link_nodes.specs.Rounds.{pair_after}
 use Rattle.link_nodes.specs.Shown.{lines_shown, told_of}
 use Rattle.link_nodes.specs.declared.run.Nodes.{Nodes}

@@ -2,17 +2,17 @@
 use Rattle.std.proofs.Common.{◌≡◌, ◌∙◌, ℕ, ◌==◌, Bool, true, false, ◌&&◌, is_none, ℤ, List, [], ◌∷◌, length, Option, Some, None, refl, sym, ap, subst}
 use Rattle.std.specs.Prelude.{if◌then◌else◌}
 use Rattle.std.specs.Option.{option_map}
-use Rattle.link_core.specs.Boards.{Board, entry, said_of}
-use Rattle.link_core.specs.Making.{each, held_standings, limits_by, limits_made, names_of, ports_in, put_said, redos_by, redos_made, replies_by}
-use Rattle.link_core.specs.Making.{replies_made, said_entry, with_limit, with_said, words_made}
-use Rattle.link_core.specs.Nodes.{Making}
+use Rattle.link_laws.specs.Boards.{Board, entry, said_of}
+use Rattle.link_laws.specs.Making.{each, held_standings, limits_by, limits_made, names_of, ports_in, put_said, redos_by, redos_made, replies_by}
+use Rattle.link_laws.specs.Making.{replies_made, said_entry, with_limit, with_said, words_made}
+use Rattle.link_laws.specs.Nodes.{Making}
 use Rattle.link_core.specs.Noted.{AreFed, IsTrue, part_at, position_at}
 use Rattle.link_core.specs.Ready.{IsJudged, all_made}
-use Rattle.link_core.specs.Stages.{stage_of}
-use Rattle.link_core.specs.declared.fact.Said.{Said}
-use Rattle.link_core.specs.declared.fact.Seen.{Seen}
-use Rattle.link_core.specs.declared.stage.Stage.{Stage}
-use Rattle.link_core.specs.declared.stage.Stage.TheVariants.{Words, Limits, Trial, Redo, Over, On}
+use Rattle.link_laws.specs.Stages.{stage_of}
+use Rattle.link_laws.specs.declared.fact.Said.{Said}
+use Rattle.link_laws.specs.declared.fact.Seen.{Seen}
+use Rattle.link_laws.specs.declared.stage.Stage.{Stage}
+use Rattle.link_laws.specs.declared.stage.Stage.TheVariants.{Words, Limits, Trial, Redo, Over, On}
 use Rattle.link_core.proofs.TruthLaws.{are_fed, limits_true, redos_true, replies_true, words_true}
 use Rattle.port_solve.specs.Solved.{HaveInputs, HaveStates, HaveTheirWords}
 use Rattle.super_time.specs.declared.point.Point.{Point}

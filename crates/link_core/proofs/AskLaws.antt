@@ -6,11 +6,11 @@ use Rattle.std.specs.Prelude.{slice_get, IfSome}
 use Rattle.std.specs.List.{list_any}
 use Rattle.std.specs.Option.{option_and_then}
 use Rattle.fixed_words.specs.Operations.{Outcome}
-use Rattle.link_core.specs.Boards.{entry}
-use Rattle.link_core.specs.Making.{determined, is_undefined, ports_in}
+use Rattle.link_laws.specs.Boards.{entry}
+use Rattle.link_laws.specs.Making.{determined, is_undefined, ports_in}
 use Rattle.link_core.specs.Noted.{IsWordSeen, is_defined}
-use Rattle.link_core.specs.declared.fact.Seen.{Seen}
-use Rattle.link_core.specs.declared.fact.Seen.TheVariants.{Undefined}
+use Rattle.link_laws.specs.declared.fact.Seen.{Seen}
+use Rattle.link_laws.specs.declared.fact.Seen.TheVariants.{Undefined}
 use Rattle.link_core.proofs.WordLaws.{as_many, asked_is, held_word, seen_fits, seen_given, told_is, undefined_is}
 use Rattle.port_solve.specs.Solved.{HaveStates, HaveTheirWords, given_there, ports_told}
 use Rattle.port_solve.proofs.OutputPlaces.{outlet_of}

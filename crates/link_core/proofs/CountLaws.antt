@@ -2,11 +2,12 @@
 use Rattle.std.proofs.Common.{◌≡◌, ℕ, zero, suc, ◌+◌, ◌<◌, ◌≤◌, true, false, is_none, is_some, List, [], ◌∷◌, length, map, Option, Some, None, refl, sym, ap}
 use Rattle.std.proofs.Common.{arith, ◌∙◌}
 use Rattle.std.specs.Prelude.{slice_set}
-use Rattle.link_core.specs.Boards.{entry}
-use Rattle.link_core.specs.Noted.{AreNotes, are_nothing, empties, is_defined}
+use Rattle.link_laws.specs.Boards.{entry}
+use Rattle.link_core.specs.Noted.{AreNotes, empties, is_defined}
+use Rattle.link_laws.specs.Boards.{are_nothing}
 use Rattle.link_core.specs.declared.notes.Notes.{Notes}
 use Rattle.unit_tree.specs.Compositions.{Composition}
-use Rattle.link_core.specs.declared.fact.Seen.{Seen}
+use Rattle.link_laws.specs.declared.fact.Seen.{Seen}
 
 pub fewer : {A : Type 0} (entries : List (Option A)) (place : ℕ) (told : A) → place < length entries → is_none (entry entries place) ≡ true
     → empties (slice_set entries place (Some told)) + 1 ≡ empties entries

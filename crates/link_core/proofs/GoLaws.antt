@@ -1,20 +1,21 @@
 -- A node that goes on to the next row.
 use Rattle.std.proofs.Common.{◌≡◌, ◌∙◌, ℕ, suc, ◌+◌, ◌==◌, Bool, true, false, ℤ, List, [], ◌∷◌, length, map, Option, None, refl, sym, ap, ap₂, arith}
 use Rattle.std.specs.Prelude.{if◌then◌else◌, zip}
-use Rattle.link_core.specs.Boards.{Board}
-use Rattle.link_core.specs.Making.{move_by, names_of, nothing_known, own_after, own_states, ports_in, row_shown, rule_of, stage_at}
-use Rattle.link_core.specs.Nodes.{Making, Progress, moved}
-use Rattle.link_core.specs.Noted.{AreNotes, are_nothing, forgotten, making_in, part_at, place_of, stepped}
+use Rattle.link_laws.specs.Boards.{Board}
+use Rattle.link_laws.specs.Making.{move_by, names_of, nothing_known, own_after, own_states, ports_in, row_shown, rule_of, stage_at}
+use Rattle.link_laws.specs.Nodes.{Making, Progress, moved}
+use Rattle.link_core.specs.Noted.{AreNotes, forgotten, making_in, part_at, place_of, stepped}
+use Rattle.link_laws.specs.Boards.{are_nothing}
 use Rattle.link_core.specs.Ready.{kept_in, progress_in, shown_in}
 use Rattle.link_core.specs.declared.course.Course.{Course}
 use Rattle.link_core.specs.declared.course.Kept.{Kept}
 use Rattle.link_core.specs.declared.course.Shown.{Shown}
-use Rattle.link_core.specs.declared.fact.Fact.{Fact}
+use Rattle.link_laws.specs.declared.fact.Fact.{Fact}
 use Rattle.link_core.specs.declared.notes.Notes.{Notes}
-use Rattle.link_core.specs.declared.stage.Stage.TheVariants.{On}
-use Rattle.link_core.specs.declared.taken.Taken.{Taken}
-use Rattle.link_core.specs.declared.taken.Taken.TheVariants.{Row}
-use Rattle.link_core.proofs.PlaceLaws.{nothing_same}
+use Rattle.link_laws.specs.declared.stage.Stage.TheVariants.{On}
+use Rattle.link_laws.specs.declared.taken.Taken.{Taken}
+use Rattle.link_laws.specs.declared.taken.Taken.TheVariants.{Row}
+use Rattle.link_laws.proofs.PlaceLaws.{nothing_same}
 use Rattle.link_core.proofs.StageItems.{names_count}
 use Rattle.link_core.proofs.StepBodies.{own_stepped}
 use Rattle.super_time.specs.declared.point.Point.{Point}

@@ -5,8 +5,8 @@ use Rattle.std.proofs.lemmas.Option.{get_or_from_slice_get}
 use Rattle.std.proofs.lemmas.Slice.Zip.{AllZip-long}
 use Rattle.std.specs.Prelude.{slice_get, slice_index_or}
 use Rattle.std.specs.Vec.{with_items}
-use Rattle.link_core.specs.Making.{nothing_known, rule_of}
-use Rattle.link_core.specs.Nodes.{Making, restarted}
+use Rattle.link_laws.specs.Making.{nothing_known, rule_of}
+use Rattle.link_laws.specs.Nodes.{Making, restarted}
 use Rattle.link_core.specs.Noted.{AreNotes, forgotten, making_in, part_at}
 use Rattle.link_core.specs.Ready.{kept_in, progress_in, shown_in}
 use Rattle.link_core.specs.declared.course.Course.{Course}

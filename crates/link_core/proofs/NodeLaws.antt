@@ -1,15 +1,15 @@
 -- What a node keeps when it works.
 use Rattle.std.proofs.Common.{◌≡◌, ◌∙◌, ℕ, ℤ, List, length, map, sym, ap, subst}
 use Rattle.link_core.specs.Inner.{IsSet}
-use Rattle.link_core.specs.Keeping.{KeepsTo}
-use Rattle.link_core.specs.Making.{ports_in, rule_of}
-use Rattle.link_core.specs.Nodes.{Making, Progress, worked}
+use Rattle.link_laws.specs.Keeping.{KeepsTo}
+use Rattle.link_laws.specs.Making.{ports_in, rule_of}
+use Rattle.link_laws.specs.Nodes.{Making, Progress, worked}
 use Rattle.link_core.specs.Noted.{AreNotes, IsTrue, is_defined, making_in, part_at}
 use Rattle.link_core.specs.Ready.{IsJudged, IsReady, kept_in, progress_in, shown_in}
 use Rattle.link_core.specs.declared.course.Course.{Course}
 use Rattle.link_core.specs.declared.course.Kept.{Kept}
 use Rattle.link_core.specs.declared.notes.Notes.{Notes}
-use Rattle.link_core.specs.declared.taken.Taken.{Taken}
+use Rattle.link_laws.specs.declared.taken.Taken.{Taken}
 use Rattle.link_core.proofs.WorkLaws.{is_true, keeps_working}
 use Rattle.port_solve.specs.Solved.{HaveTheirWords}
 use Rattle.trace_plan.specs.Plans.{Planned}

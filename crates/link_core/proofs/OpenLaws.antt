@@ -1,14 +1,15 @@
 -- A node at its start.
 use Rattle.std.proofs.Common.{◌≡◌, ◌∙◌, ℕ, zero, suc, ◌+◌, ◌++◌, false, ℤ, List, [], ◌∷◌, length, map, None, Vec, Global, refl, sym, ap, ap₂, subst, arith}
 use Rattle.std.specs.Prelude.{replicate}
-use Rattle.link_core.specs.Making.{names_of, nothing_known, part_of, ports_in, rule_of}
-use Rattle.link_core.specs.Nodes.{Making, opened}
-use Rattle.link_core.specs.Noted.{AreNotes, are_nothing, is_defined, making_in, part_at}
+use Rattle.link_laws.specs.Making.{names_of, nothing_known, part_of, ports_in, rule_of}
+use Rattle.link_laws.specs.Nodes.{Making, opened}
+use Rattle.link_core.specs.Noted.{AreNotes, is_defined, making_in, part_at}
+use Rattle.link_laws.specs.Boards.{are_nothing}
 use Rattle.link_core.specs.Ready.{progress_in, shown_in}
 use Rattle.link_core.specs.declared.course.Course.{Course}
 use Rattle.link_core.specs.declared.notes.Notes.{Notes}
 use Rattle.link_core.proofs.CountLaws.{none_defined}
-use Rattle.link_core.proofs.PlaceLaws.{nothing_fed}
+use Rattle.link_laws.proofs.PlaceLaws.{nothing_fed}
 use Rattle.link_core.proofs.RoomLaws.{words_in}
 use Rattle.link_core.proofs.StageBodies.{as_many_mapped}
 use Rattle.link_core.proofs.StageItems.{names_count}

@@ -2,7 +2,7 @@
 use Rattle.std.proofs.Common.{◌≡◌, ℕ, ◌+◌, ◌%◌, ◌≤◌, ◌∷◌, [], ◌++◌, length, arith}
 use Rattle.std.proofs.lemmas.List.FromFn.{length-map-range_with_len, map-range_with_len_more}
 use Rattle.std.specs.List.{AllByRecursion, range_with_len}
-use Rattle.link_core.specs.Nodes.{by_turns}
+use Rattle.link_laws.specs.Nodes.{by_turns}
 use Rattle.list_laws.proofs.Lists.{each_map}
 
 pub one_owner_more : (count : ℕ) → by_turns (count + 1) ≡ by_turns count ++ (count % 2) ∷ []

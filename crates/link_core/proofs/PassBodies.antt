@@ -10,10 +10,10 @@ use Rattle.unit_tree.specs.Routes.{routes_of}
 use Rattle.unit_tree.specs.declared.order.Route.{Route}
 use Rattle.unit_tree.proofs.RouteLaws.{count_is}
 use Rattle.std.specs.List.{AllZip, enumerate_from, flat_map}
-use Rattle.link_core.specs.Boards.{entry}
-use Rattle.link_core.specs.Making.{own_state, own_states, held_outlets, held, determined, put_word, with_word, each, passes}
-use Rattle.link_core.specs.Nodes.{Making}
-use Rattle.link_core.proofs.RuleLaws.{held_same, IsSame}
+use Rattle.link_laws.specs.Boards.{entry}
+use Rattle.link_laws.specs.Making.{own_state, own_states, held_outlets, held, determined, put_word, with_word, each, passes}
+use Rattle.link_laws.specs.Nodes.{Making}
+use Rattle.link_laws.proofs.RuleLaws.{held_same, IsSame}
 use Rattle.list_laws.proofs.Members.{at_seam, at_place}
 use Rattle.list_laws.proofs.Pairs.{zip_append, zip_at}
 use Rattle.unit_tree.specs.Compositions.{Composition, Member}

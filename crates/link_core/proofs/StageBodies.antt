@@ -6,11 +6,11 @@ use Rattle.std.specs.Prelude.{if◌then◌else◌, zip, slice_get}
 use Rattle.std.specs.List.{cons_option, enumerate_from, filter_map, list_all}
 use Rattle.std.specs.Option.{option_map}
 use Rattle.link_core.specs.Noted.{least_with, redo_end_in, redo_end_told, reply_in, reply_told, step_end_in, step_end_told}
-use Rattle.link_core.specs.Stages.{moved_by, over_or, step_in, steps_in}
-use Rattle.link_core.specs.declared.stage.Stage.{Stage}
-use Rattle.link_core.specs.declared.stage.Stage.TheVariants.{Limits}
-use Rattle.link_core.specs.declared.fact.Said.{Said}
-use Rattle.link_core.specs.declared.fact.Said.TheVariants.{Accepted, Fault as StepFault}
+use Rattle.link_laws.specs.Stages.{moved_by, over_or, step_in, steps_in}
+use Rattle.link_laws.specs.declared.stage.Stage.{Stage}
+use Rattle.link_laws.specs.declared.stage.Stage.TheVariants.{Limits}
+use Rattle.link_laws.specs.declared.fact.Said.{Said}
+use Rattle.link_laws.specs.declared.fact.Said.TheVariants.{Accepted, Fault as StepFault}
 use Rattle.list_laws.proofs.Pairs.{zip_there}
 use Rattle.super_time.specs.LocalTime.{local_step}
 use Rattle.unit_tree.specs.Compositions.{Member}

@@ -3,12 +3,12 @@ use Rattle.std.proofs.Common.{◌≡◌, ◌∙◌, ℕ, ◌<◌, Bool, true, is
 use Rattle.std.proofs.lemmas.Option.{slice_get-get_or}
 use Rattle.std.specs.Prelude.{if◌then◌else◌, zip, slice_get}
 use Rattle.std.specs.List.{enumerate_from}
-use Rattle.link_core.specs.Making.{name_of, names_of, no_states}
+use Rattle.link_laws.specs.Making.{name_of, names_of, no_states}
 use Rattle.link_core.specs.Noted.{redo_end_in, reply_in, step_end_in}
-use Rattle.link_core.specs.Stages.{is_answered, limit_in, max_by, steps_in, step_in, word_end}
-use Rattle.link_core.specs.declared.fact.Asked.{Asked}
-use Rattle.link_core.specs.declared.fact.Said.{Said}
-use Rattle.link_core.specs.declared.fact.Seen.{Seen}
+use Rattle.link_laws.specs.Stages.{is_answered, limit_in, max_by, steps_in, step_in, word_end}
+use Rattle.link_laws.specs.declared.fact.Asked.{Asked}
+use Rattle.link_laws.specs.declared.fact.Said.{Said}
+use Rattle.link_laws.specs.declared.fact.Seen.{Seen}
 use Rattle.link_core.proofs.StageBodies.{as_many_mapped, as_many_numbered, as_many_zipped, first_at, mapped_at, redo_is, reply_is, step_at_place, step_is}
 use Rattle.list_laws.proofs.Members.{at_place}
 use Rattle.list_laws.proofs.Pairs.{zip_there}

@@ -4,18 +4,18 @@ use Rattle.std.proofs.Common.{Some, refl, sym, ap, ap₂, arith}
 use Rattle.std.proofs.lemmas.Option.{same_Some, slice_get-get_or}
 use Rattle.std.specs.Prelude.{if◌then◌else◌, zip, slice_get, slice_set}
 use Rattle.std.specs.Option.{option_map}
-use Rattle.link_core.specs.Boards.{asked_of, entry, said_of}
-use Rattle.link_core.specs.Making.{limits_by, own_state, own_states, put_said, redos_by, replies_by, said_entry, with_limit, with_said}
-use Rattle.link_core.specs.declared.stage.Stage.{Stage}
-use Rattle.link_core.specs.declared.stage.Stage.TheVariants.{Words, Limits, Trial, Redo, Over, On}
-use Rattle.link_core.specs.Nodes.{Making}
+use Rattle.link_laws.specs.Boards.{asked_of, entry, said_of}
+use Rattle.link_laws.specs.Making.{limits_by, own_state, own_states, put_said, redos_by, replies_by, said_entry, with_limit, with_said}
+use Rattle.link_laws.specs.declared.stage.Stage.{Stage}
+use Rattle.link_laws.specs.declared.stage.Stage.TheVariants.{Words, Limits, Trial, Redo, Over, On}
+use Rattle.link_laws.specs.Nodes.{Making}
 use Rattle.link_core.specs.Noted.{IsPartOf, limit_if, part_at, reply_if, stepped, stepped_if, stepped_one}
-use Rattle.link_core.specs.declared.fact.Fact.TheVariants.{Limit}
+use Rattle.link_laws.specs.declared.fact.Fact.TheVariants.{Limit}
 use Rattle.link_core.proofs.PassBodies.{Going, goes_on}
 use Rattle.link_core.proofs.StageBodies.{as_many_mapped, as_many_zipped, mapped_at}
-use Rattle.link_core.specs.declared.fact.Asked.{Asked}
-use Rattle.link_core.specs.declared.fact.Fact.{Fact}
-use Rattle.link_core.specs.declared.fact.Said.{Said}
+use Rattle.link_laws.specs.declared.fact.Asked.{Asked}
+use Rattle.link_laws.specs.declared.fact.Fact.{Fact}
+use Rattle.link_laws.specs.declared.fact.Said.{Said}
 use Rattle.super_time.specs.declared.point.Point.{Point}
 use Rattle.list_laws.proofs.Members.{at_place}
 use Rattle.list_laws.proofs.Pairs.{zip_there}

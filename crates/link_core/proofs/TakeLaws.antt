@@ -6,24 +6,24 @@ use Rattle.std.specs.Prelude.{if◌then◌else◌, slice_get, IfSome}
 use Rattle.std.specs.List.{AllByRecursion}
 use Rattle.std.specs.Option.{option_map}
 use Rattle.fixed_words.specs.Operations.{Outcome}
-use Rattle.link_core.specs.Boards.{IsSo, board_of, entry, row_of, seen_of}
+use Rattle.link_laws.specs.Boards.{IsSo, board_of, entry, row_of, seen_of}
 use Rattle.link_core.specs.Inner.{IsSet}
-use Rattle.link_core.specs.Keeping.{IsHonest, IsTrueFact, KeepsTo}
-use Rattle.link_core.specs.Making.{held, is_held_by, is_own, no_states, own_states, ports_in, rule_of}
-use Rattle.link_core.specs.Nodes.{Making, Progress, drops, has, knowing, taken, worked}
+use Rattle.link_laws.specs.Keeping.{IsHonest, IsTrueFact, KeepsTo}
+use Rattle.link_laws.specs.Making.{held, is_held_by, is_own, no_states, own_states, ports_in, rule_of}
+use Rattle.link_laws.specs.Nodes.{Making, Progress, drops, has, knowing, taken, worked}
 use Rattle.link_core.specs.Noted.{AreNotes, IsItemOf, IsWordSeen, knowing_fact, making_in}
 use Rattle.link_core.specs.Ready.{IsJudged, is_dropped, progress_in}
 use Rattle.link_core.specs.declared.course.Course.{Course}
 use Rattle.link_core.specs.declared.course.Kept.{Kept}
-use Rattle.link_core.specs.declared.fact.Fact.{Fact}
-use Rattle.link_core.specs.declared.fact.Fact.TheVariants.{Limit, Reply, Word}
-use Rattle.link_core.specs.declared.fact.Seen.{Seen}
+use Rattle.link_laws.specs.declared.fact.Fact.{Fact}
+use Rattle.link_laws.specs.declared.fact.Fact.TheVariants.{Limit, Reply, Word}
+use Rattle.link_laws.specs.declared.fact.Seen.{Seen}
 use Rattle.link_core.specs.declared.notes.Notes.{Notes}
-use Rattle.link_core.specs.declared.taken.Taken.{Taken}
-use Rattle.link_core.specs.declared.taken.Taken.TheVariants.{Dropped}
+use Rattle.link_laws.specs.declared.taken.Taken.{Taken}
+use Rattle.link_laws.specs.declared.taken.Taken.TheVariants.{Dropped}
 use Rattle.link_core.proofs.PassBodies.{held_at, items_count}
-use Rattle.link_core.proofs.PairLaws.{knowing_keeps, row_is, true_is_honest}
-use Rattle.link_core.proofs.RuleLaws.{no_states_long, place_long}
+use Rattle.link_laws.proofs.PairLaws.{knowing_keeps, row_is, true_is_honest}
+use Rattle.link_laws.proofs.RuleLaws.{no_states_long, place_long}
 use Rattle.link_core.proofs.WordLaws.{given_fits}
 use Rattle.link_core.proofs.WorkLaws.{right}
 use Rattle.list_laws.proofs.Lists.{each_so}

@@ -2,18 +2,18 @@
 use Rattle.std.proofs.Common.{◌≡◌, ◌∙◌, ℕ, true, is_none, is_some, ℤ, List, [], ◌∷◌, length, Option, Some, None, refl, sym, ap, subst, arith, append-nil}
 use Rattle.std.proofs.lemmas.Bool.{and_parts}
 use Rattle.std.specs.List.{list_all}
-use Rattle.link_core.specs.Boards.{Agrees, Board, before_limits, before_redo, before_trial, board_of}
-use Rattle.link_core.specs.Keeping.{IsMade}
-use Rattle.link_core.specs.Laws.{AreWordsKnown, IsRightStage}
-use Rattle.link_core.specs.Making.{held, limits_made, part_of, ports_in, redos_made, replies_made, stage_at, words_made}
-use Rattle.link_core.specs.Nodes.{Making}
+use Rattle.link_laws.specs.Boards.{Agrees, Board, before_limits, before_redo, before_trial, board_of}
+use Rattle.link_laws.specs.Keeping.{IsMade}
+use Rattle.link_laws.specs.Laws.{AreWordsKnown, IsRightStage}
+use Rattle.link_laws.specs.Making.{held, limits_made, part_of, ports_in, redos_made, replies_made, stage_at, words_made}
+use Rattle.link_laws.specs.Nodes.{Making}
 use Rattle.link_core.specs.Noted.{AreFed, IsTrue, part_at}
-use Rattle.link_core.specs.declared.fact.Fact.{Fact}
-use Rattle.link_core.specs.declared.fact.Seen.{Seen}
-use Rattle.link_core.specs.declared.stage.Stage.{Stage}
-use Rattle.link_core.specs.declared.stage.Stage.TheVariants.{Words, Limits, Trial, Redo, Over, On}
-use Rattle.link_core.proofs.PrefixLaws.{behind, limits_behind, redos_behind, replies_behind, words_behind}
-use Rattle.link_core.proofs.RuleLaws.{limits_keep, passes_keep, place_at_most, place_long, place_stands, ports_are, redos_keep, replies_keep, right_stage}
+use Rattle.link_laws.specs.declared.fact.Fact.{Fact}
+use Rattle.link_laws.specs.declared.fact.Seen.{Seen}
+use Rattle.link_laws.specs.declared.stage.Stage.{Stage}
+use Rattle.link_laws.specs.declared.stage.Stage.TheVariants.{Words, Limits, Trial, Redo, Over, On}
+use Rattle.link_laws.proofs.PrefixLaws.{behind, limits_behind, redos_behind, replies_behind, words_behind}
+use Rattle.link_laws.proofs.RuleLaws.{limits_keep, passes_keep, place_at_most, place_long, place_stands, ports_are, redos_keep, replies_keep, right_stage}
 use Rattle.port_solve.specs.Solved.{HaveInputs, HaveStates, HaveTheirWords}
 use Rattle.port_solve.specs.Sound.{IsSound}
 use Rattle.port_solve.proofs.SolvedPorts.{all_right}

@@ -5,9 +5,9 @@ use Rattle.std.proofs.lemmas.Option.{get_or_from_slice_get, same_Some, slice_get
 use Rattle.std.specs.Prelude.{if◌then◌else◌, zip, ◌==◌, slice_get, slice_set, slice_index_or}
 use Rattle.std.specs.Option.{option_map}
 use Rattle.fixed_words.specs.declared.types.Fault.{Fault}
-use Rattle.link_core.specs.Boards.{said_of}
+use Rattle.link_laws.specs.Boards.{said_of}
 use Rattle.link_core.specs.Noted.{said_given, stepped, stepped_if, stepped_one}
-use Rattle.link_core.specs.declared.fact.Said.{Said}
+use Rattle.link_laws.specs.declared.fact.Said.{Said}
 use Rattle.list_laws.proofs.Members.{at_place, set_same}
 use Rattle.list_laws.proofs.Pairs.{zip_at}
 use Rattle.port_solve.specs.Solved.{HaveStates}

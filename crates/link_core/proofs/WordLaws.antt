@@ -6,15 +6,15 @@ use Rattle.std.specs.List.{list_any}
 use Rattle.std.specs.Option.{option_map, option_and_then}
 use Rattle.fixed_words.specs.Operations.{Outcome}
 use Rattle.fixed_words.specs.Types.{is_word_of}
-use Rattle.link_core.specs.Boards.{entry, seen_of}
-use Rattle.link_core.specs.Making.{determined, is_undefined, no_states, port_in, ports_in}
+use Rattle.link_laws.specs.Boards.{entry, seen_of}
+use Rattle.link_laws.specs.Making.{determined, is_undefined, no_states, port_in, ports_in}
 use Rattle.link_core.specs.Noted.{IsWordSeen, is_defined, with_port}
-use Rattle.link_core.specs.declared.fact.Seen.{Seen}
-use Rattle.link_core.specs.declared.fact.Seen.TheVariants.{Is, Fault as Faulted, Undefined}
+use Rattle.link_laws.specs.declared.fact.Seen.{Seen}
+use Rattle.link_laws.specs.declared.fact.Seen.TheVariants.{Is, Fault as Faulted, Undefined}
 use Rattle.port_solve.specs.Solved.{HaveTheirWords, ports_told, given_there}
 use Rattle.port_solve.specs.Sound.{IsWordOf}
 use Rattle.port_solve.proofs.OutputPlaces.{outlet_of, type_is}
-use Rattle.link_core.proofs.RuleLaws.{no_states_long}
+use Rattle.link_laws.proofs.RuleLaws.{no_states_long}
 use Rattle.std.proofs.lemmas.Option.{slice_get_within, slice_get-get_or}
 use Rattle.unit_tree.specs.Routes.{routes_of}
 use Rattle.unit_tree.specs.declared.order.Route.{Route}

@@ -1,20 +1,20 @@
 -- A node that works.
 use Rattle.std.proofs.Common.{◌≡◌, ◌∙◌, ℕ, ◌≤◌, ◌<◌, ℤ, List, length, is_some, Option, Some, None, refl, sym, ap, subst}
 use Rattle.std.specs.Prelude.{if◌then◌else◌}
-use Rattle.link_core.specs.Keeping.{IsRightRule, KeepsTo}
-use Rattle.link_core.specs.Making.{made, move_by, rule_of, stage_at}
-use Rattle.link_core.specs.Nodes.{Making, Progress, moved, worked}
+use Rattle.link_laws.specs.Keeping.{IsRightRule, KeepsTo}
+use Rattle.link_laws.specs.Making.{made, move_by, rule_of, stage_at}
+use Rattle.link_laws.specs.Nodes.{Making, Progress, moved, worked}
 use Rattle.link_core.specs.Noted.{IsTrue, making_in, part_at}
 use Rattle.link_core.specs.Ready.{IsJudged, all_made, kept_in, progress_in, shown_in}
 use Rattle.link_core.specs.declared.course.Course.{Course}
 use Rattle.link_core.specs.declared.course.Kept.{Kept}
 use Rattle.link_core.specs.declared.notes.Notes.{Notes}
-use Rattle.link_core.specs.declared.taken.Taken.{Taken}
-use Rattle.link_core.specs.declared.taken.Taken.TheVariants.{Ended}
-use Rattle.link_core.proofs.PairLaws.{work_keeps}
-use Rattle.link_core.proofs.PlaceLaws.{place_within}
-use Rattle.link_core.proofs.PrefixLaws.{behind, made_behind}
-use Rattle.link_core.proofs.RuleLaws.{rule_is_right}
+use Rattle.link_laws.specs.declared.taken.Taken.{Taken}
+use Rattle.link_laws.specs.declared.taken.Taken.TheVariants.{Ended}
+use Rattle.link_laws.proofs.PairLaws.{work_keeps}
+use Rattle.link_laws.proofs.PlaceLaws.{place_within}
+use Rattle.link_laws.proofs.PrefixLaws.{behind, made_behind}
+use Rattle.link_laws.proofs.RuleLaws.{rule_is_right}
 use Rattle.super_time.specs.declared.point.Point.{Point}
 use Rattle.unit_tree.specs.Compositions.{Composition}
 use Rattle.unit_tree.specs.Successor.{Position}

@@ -1,9 +1,9 @@
 -- What a node keeps beside what contracts see of it.
 use Rattle.std.specs.Prelude.{◌≡◌, ◌≤◌, ◌^◌, ℕ, ℤ, List, map, length, vec_capacity}
 use Rattle.std.specs.List.{AllByRecursion}
-use Rattle.link_core.specs.Keeping.{KeepsTo}
-use Rattle.link_core.specs.Lengths.{AreOfWords}
-use Rattle.link_core.specs.Making.{ports_in, rule_of}
+use Rattle.link_laws.specs.Keeping.{KeepsTo}
+use Rattle.link_laws.specs.Lengths.{AreOfWords}
+use Rattle.link_laws.specs.Making.{ports_in, rule_of}
 use Rattle.link_core.specs.NodeStates.{NodeState}
 use Rattle.link_core.specs.Noted.{AreNotes}
 use Rattle.link_core.specs.Ready.{progress_in}

@@ -1,13 +1,5 @@
-pub mod Boards
 pub mod Inner
 pub mod Joined
-pub mod Keeping
-pub mod Laws
-pub mod Lengths
-pub mod Making
 pub mod NodeStates
-pub mod Nodes
 pub mod Noted
-pub mod Pairs
 pub mod Ready
-pub mod Stages

@@ -1,7 +1,7 @@
 -- What contracts see of a node, and of a pair.
 use Rattle.std.specs.Prelude.{◌≡◌, ℕ, List}
-use Rattle.link_core.specs.Nodes.{Progress}
-use Rattle.link_core.specs.Pairs.{Pair}
+use Rattle.link_laws.specs.Nodes.{Progress}
+use Rattle.link_laws.specs.Pairs.{Pair}
 use Rattle.trace_plan.specs.Plans.{Planned}
 
 -- A plan, the owner of each instance, which node it is, and how far it is.

@@ -3,19 +3,19 @@ use Rattle.std.specs.Prelude.{◌≡◌, ℕ, suc, ◌+◌, ◌≤◌, ◌<◌, 
 use Rattle.std.specs.Prelude.{slice_set, vec_capacity, if◌then◌else◌, Option, Some, None, Result, Ok, Err, ⊤}
 use Rattle.std.specs.Option.{option_map}
 use Rattle.fixed_words.specs.declared.types.Fault.{Fault}
-use Rattle.link_core.specs.Boards.{Agrees, Board, asked_of, board_of, entry, said_of}
-use Rattle.link_core.specs.Keeping.{IsPlace}
-use Rattle.link_core.specs.Making.{own_states, part_of, put_said, said_entry, with_made}
-use Rattle.link_core.specs.Nodes.{Making, with_fact}
-use Rattle.link_core.specs.declared.fact.Fact.{Fact}
-use Rattle.link_core.specs.declared.fact.Fact.TheVariants.{Limit, Reply, Word}
-use Rattle.link_core.specs.declared.fact.Said.{Said}
-use Rattle.link_core.specs.declared.fact.Said.TheVariants.{Accepted, Fault as StepFault}
-use Rattle.link_core.specs.declared.fact.Seen.{Seen}
-use Rattle.link_core.specs.declared.fact.Seen.TheVariants.{Is}
+use Rattle.link_laws.specs.Boards.{Agrees, Board, asked_of, board_of, entry, said_of}
+use Rattle.link_laws.specs.Keeping.{IsPlace}
+use Rattle.link_laws.specs.Making.{own_states, part_of, put_said, said_entry, with_made}
+use Rattle.link_laws.specs.Nodes.{Making, with_fact}
+use Rattle.link_laws.specs.declared.fact.Fact.{Fact}
+use Rattle.link_laws.specs.declared.fact.Fact.TheVariants.{Limit, Reply, Word}
+use Rattle.link_laws.specs.declared.fact.Said.{Said}
+use Rattle.link_laws.specs.declared.fact.Said.TheVariants.{Accepted, Fault as StepFault}
+use Rattle.link_laws.specs.declared.fact.Seen.{Seen}
+use Rattle.link_laws.specs.declared.fact.Seen.TheVariants.{Is}
 use Rattle.link_core.specs.declared.notes.Notes.{Notes}
-use Rattle.link_core.specs.declared.stage.Stage.{Stage}
-use Rattle.link_core.specs.declared.stage.Stage.TheVariants.{Limits, Trial, Redo, On}
+use Rattle.link_laws.specs.declared.stage.Stage.{Stage}
+use Rattle.link_laws.specs.declared.stage.Stage.TheVariants.{Limits, Trial, Redo, On}
 use Rattle.port_solve.specs.Sound.{IsWordOf}
 use Rattle.super_time.specs.LocalTime.{local_step}
 use Rattle.super_time.specs.declared.point.Point.{Point}
@@ -40,9 +40,6 @@ abbrev pub empties : {A : Type 0} → List (Option A) → ℕ
 empties [] = 0
 empties (None ∷ entries) = suc (empties entries)
 empties (Some one ∷ entries) = empties entries
-
-abbrev pub are_nothing : {A : Type 0} → List (Option A) → List (Option A)
-are_nothing entries = map (λ one. None) entries
 
 -- Nothing is known, and the facts stay.
 abbrev pub forgotten : Making → Making

@@ -1,13 +1,13 @@
 -- What a node is about to work with. None of it need be believed.
 use Rattle.std.specs.Prelude.{◌≡◌, ◌≤◌, ◌^◌, ◌-◌, ◌==◌, ◌||◌, Bool, not, is_some, ℕ, ℤ, List, map, length, if◌then◌else◌, Option, Some, None}
-use Rattle.link_core.specs.Boards.{Board, row_of}
-use Rattle.link_core.specs.Making.{is_own, limits_made, ports_in, redos_made, replies_made, words_made}
-use Rattle.link_core.specs.Nodes.{Making, Progress, has}
+use Rattle.link_laws.specs.Boards.{Board, row_of}
+use Rattle.link_laws.specs.Making.{is_own, limits_made, ports_in, redos_made, replies_made, words_made}
+use Rattle.link_laws.specs.Nodes.{Making, Progress, has}
 use Rattle.link_core.specs.Noted.{AreNotes, IsTrue, making_in, part_at}
 use Rattle.link_core.specs.declared.course.Course.{Course}
 use Rattle.link_core.specs.declared.course.Kept.{Kept}
 use Rattle.link_core.specs.declared.course.Shown.{Shown}
-use Rattle.link_core.specs.declared.fact.Fact.{Fact}
+use Rattle.link_laws.specs.declared.fact.Fact.{Fact}
 use Rattle.link_core.specs.declared.notes.Notes.{Notes}
 use Rattle.port_solve.specs.Solved.{HaveTheirWords}
 use Rattle.port_solve.specs.Sound.{IsSound}

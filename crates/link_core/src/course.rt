@@ -1,14 +1,14 @@
 //! Where a node stands, and what it shows and keeps.
 ghost use Rattle.std.specs.Prelude.{◌≡◌, ◌≤◌, length, vec_capacity};
 ghost use Rattle.std.specs.List.{filter_map};
-ghost use Rattle.link_core.specs.Boards.{Board};
+ghost use Rattle.link_laws.specs.Boards.{Board};
 ghost use Rattle.link_core.specs.Ready.{shown_in};
-ghost use Rattle.link_core.specs.Making.{ports_in, row_shown};
+ghost use Rattle.link_laws.specs.Making.{ports_in, row_shown};
 ghost use Rattle.link_core.specs.Noted.{place_of};
 ghost use Rattle.unit_tree.specs.Routes.{routes_of};
 
-use crate::fact::Seen;
 use crate::stage::word_fault;
+use link_laws::Seen;
 use super_time::Point;
 use trace_plan::Plan;
 use unit_tree::Ending;

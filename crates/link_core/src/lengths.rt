@@ -4,7 +4,7 @@ ghost use Rattle.std.specs.List.{AllByRecursion};
 ghost use Rattle.std.specs.Prelude.{◌≡◌, true};
 ghost use Rattle.fixed_words.specs.Types.{is_word_of};
 ghost use Rattle.fixed_words.specs.declared.types.Ty.TheVariants.{Int64};
-ghost use Rattle.link_core.specs.Lengths.{AreOfWords, LimitHasWords, has_words};
+ghost use Rattle.link_laws.specs.Lengths.{AreOfWords, LimitHasWords, has_words};
 
 use trace_plan::Plan;
 use unit_tree::{Expr, Unit};

@@ -1,23 +1,22 @@
 //! A node.
 ghost use Rattle.std.specs.List.{AllByRecursion};
 ghost use Rattle.std.specs.Prelude.{◌≡◌, ◌≤◌, true, length, Some, None, IfOk, OnErr, IfSome, IfNone};
-ghost use Rattle.link_core.specs.Keeping.{IsHonest, KeepsTo};
-ghost use Rattle.link_core.specs.Lengths.{is_short};
-ghost use Rattle.link_core.specs.Making.{rule_of};
+ghost use Rattle.link_laws.specs.Keeping.{IsHonest, KeepsTo};
+ghost use Rattle.link_laws.specs.Lengths.{is_short};
+ghost use Rattle.link_laws.specs.Making.{rule_of};
 ghost use Rattle.link_core.specs.NodeStates.{IsSameNode};
-ghost use Rattle.link_core.specs.Nodes.{keeping, opened, restarted, taken, worked};
+ghost use Rattle.link_laws.specs.Nodes.{keeping, opened, restarted, taken, worked};
 ghost use Rattle.unit_tree.specs.Successor.{first_position};
 
 use crate::course::{Course, Kept};
-use crate::fact::Fact;
 use crate::keeping::{keep_states, restore_states};
 use crate::lengths::read_plan;
 use crate::notes::Notes;
 use crate::opening::{course_of, notes_of, states_of, units_of};
-use crate::taken::Taken;
 use crate::taking::{drops, learn_fact};
 use crate::working::{judged, work_on};
 use fixed_words::{List, NoMemory};
+use link_laws::{Fact, Taken};
 use std::alloc::{AllocError, Global};
 use std::marker::Model;
 use std::sync::Arc;

@@ -1,11 +1,11 @@
 //! What a node knows of a row, and the facts that it made.
 ghost use Rattle.std.specs.Prelude.{◌≡◌, ◌≤◌, ◌<◌, ◌+◌, ◌++◌, ◌∷◌, [], true, length, map, is_none, slice_set, vec_capacity, Some, OnOk, OnErr};
-ghost use Rattle.link_core.specs.Boards.{entry};
+ghost use Rattle.link_laws.specs.Boards.{entry};
 ghost use Rattle.link_core.specs.Noted.{making_in, lacking, empties, HasRoom, AreNotes, forgotten};
 ghost use Rattle.unit_tree.specs.Compositions.{Composition};
 
-use crate::fact::{Asked, Fact, Said, Seen};
 use fixed_words::NoMemory;
+use link_laws::{Asked, Fact, Said, Seen};
 
 /// What is known of a row, item by item, and all facts that the node ever made.
 #[derive(Drop)]

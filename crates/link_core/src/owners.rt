@@ -1,7 +1,7 @@
 //! Which node owns which instance.
 ghost use Rattle.std.specs.List.{AllByRecursion};
 ghost use Rattle.std.specs.Prelude.{◌≡◌, ◌≤◌, length, IfOk};
-ghost use Rattle.link_core.specs.Nodes.{by_turns};
+ghost use Rattle.link_laws.specs.Nodes.{by_turns};
 
 use fixed_words::{List, NoMemory};
 use std::alloc::Global;

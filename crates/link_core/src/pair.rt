@@ -1,15 +1,13 @@
 //! A pair of nodes.
 ghost use Rattle.std.specs.List.{AllByRecursion};
 ghost use Rattle.std.specs.Prelude.{◌≡◌, ◌≤◌, length, slice_get, IfOk, OnErr};
-ghost use Rattle.link_core.specs.Making.{rule_of};
+ghost use Rattle.link_laws.specs.Making.{rule_of};
 ghost use Rattle.link_core.specs.NodeStates.{IsSameNode, IsSamePair};
-ghost use Rattle.link_core.specs.Pairs.{delivered, event_step, happened, node_of, opened_pair};
+ghost use Rattle.link_laws.specs.Pairs.{delivered, event_step, happened, node_of, opened_pair};
 
-use crate::fact::Fact;
 use crate::node::Node;
-use crate::pair_event::PairEvent;
-use crate::taken::Taken;
 use fixed_words::{List, NoMemory};
+use link_laws::{Fact, PairEvent, Taken};
 use std::alloc::Global;
 use std::marker::Model;
 use std::sync::Arc;

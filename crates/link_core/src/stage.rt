@@ -1,37 +1,20 @@
 //! What a row asks for next.
 ghost use Rattle.std.specs.Prelude.{◌≡◌, ◌≤◌, ◌<◌, ◌+◌, ◌^◌, ℕ, [], true, min, map, zip, length, is_some, ◌&&◌, ◌==◌, if◌then◌else◌, Some, IfSome};
 ghost use Rattle.std.specs.List.{list_all, filter_map};
-ghost use Rattle.link_core.specs.Making.{names_of};
+ghost use Rattle.link_laws.specs.Making.{names_of};
 ghost use Rattle.link_core.specs.Noted.{making_in, AreNotes, place_of, position_at, least_with, redo_end_in, reply_in, step_end_in, AllowsStep};
-ghost use Rattle.link_core.specs.Stages.{stage_of, stage_of_limits, stage_of_trial, stage_of_redo, stage_by, stage_on, least_in};
-ghost use Rattle.link_core.specs.Stages.{word_end, max_by, limit_in, steps_in, step_in, are_answered, is_answered, over_or};
+ghost use Rattle.link_laws.specs.Stages.{stage_of, stage_of_limits, stage_of_trial, stage_of_redo, stage_by, stage_on, least_in};
+ghost use Rattle.link_laws.specs.Stages.{word_end, max_by, limit_in, steps_in, step_in, are_answered, is_answered, over_or};
 ghost use Rattle.unit_tree.specs.Negotiation.{is_held, limit_told, proposal_of, least_of, reply_at};
 ghost use Rattle.unit_tree.specs.Ports.{first_some};
 ghost use Rattle.unit_tree.specs.Routes.{routes_of};
 ghost use Rattle.unit_tree.specs.Successor.{first_told, max_end_of, step_end_of, redo_end_of};
 
-use crate::fact::{Asked, Said, Seen};
 use crate::notes::Notes;
+use link_laws::{Asked, Said, Seen, Stage};
 use super_time::{Point, limit, local_step};
 use trace_plan::Plan;
 use unit_tree::{Ending, Place, Route};
-
-/// What a row asks for next, by what is known of it. All lengths are in ticks of the system.
-#[derive(Clone, Copy, Debug, PartialEq, Eq)]
-pub(crate) enum Stage {
-    /// Words of outputs are lacking.
-    Words,
-    /// Limits are lacking.
-    Limits,
-    /// Replies to a step of this length are lacking.
-    Trial(u64),
-    /// Replies to a step of this length, made anew, are lacking.
-    Redo(u64),
-    /// The row is whole, and the trace ends there.
-    Over(Ending),
-    /// The row is whole, and the trace goes on by a step of this length.
-    On(u64),
-}
 
 /// Whether all items are known.
 fn are_known<T: Copy>(entries: &[Option<T>]) -> bool

@@ -1,8 +1,8 @@
 //! Limits, trials and steps of a node's own instances.
 ghost use Rattle.std.specs.Prelude.{◌≡◌, ◌<◌, ◌≤◌, ◌+◌, ◌^◌, true, ℤ, List, [], length, map, slice_get, slice_index_or, is_none, is_some, Some};
 ghost use Rattle.std.specs.Option.{option_map};
-ghost use Rattle.link_core.specs.Boards.{asked_of, said_of};
-ghost use Rattle.link_core.specs.Making.{each, held_standings, put_said, said_entry, with_limit, with_said};
+ghost use Rattle.link_laws.specs.Boards.{asked_of, said_of};
+ghost use Rattle.link_laws.specs.Making.{each, held_standings, put_said, said_entry, with_limit, with_said};
 ghost use Rattle.link_core.specs.Noted.{making_in, AreNotes, HasRoom, part_at, limit_if, reply_if, said_given, stepped, stepped_if};
 ghost use Rattle.port_solve.specs.Solved.{HaveStates};
 ghost use Rattle.trace_units.specs.Fleets.{with_state};
@@ -10,10 +10,10 @@ ghost use Rattle.unit_tree.specs.Compositions.{Composition, Member};
 ghost use Rattle.unit_tree.specs.Negotiation.{all_inputs, max_at, step_at};
 ghost use Rattle.unit_tree.specs.Ports.{Ports};
 
-use crate::fact::{Asked, Fact, Said};
 use crate::notes::{Notes, note};
 use crate::stage::is_held;
 use fixed_words::Fault;
+use link_laws::{Asked, Fact, Said};
 use snap_store::copy_words;
 use super_time::{Point, local_step, local_time};
 use trace_plan::Plan;

@@ -1,18 +1,18 @@
 //! What a node makes of a fact that arrives: whether it is dropped, and how it is learnt.
 ghost use Rattle.std.specs.Prelude.{◌≡◌, ◌≤◌, ◌<◌, ◌+◌, ℕ, false, length, slice_get, slice_set, is_some, Some};
-ghost use Rattle.link_core.specs.Boards.{entry};
-ghost use Rattle.link_core.specs.Making.{is_held_by, is_own, ports_in};
-ghost use Rattle.link_core.specs.Nodes.{has};
+ghost use Rattle.link_laws.specs.Boards.{entry};
+ghost use Rattle.link_laws.specs.Making.{is_held_by, is_own, ports_in};
+ghost use Rattle.link_laws.specs.Nodes.{has};
 ghost use Rattle.link_core.specs.Noted.{making_in, empties, knowing_fact, AreNotes, HasRoom, IsItemOf};
 ghost use Rattle.link_core.specs.Ready.{is_dropped};
-ghost use Rattle.link_core.specs.declared.fact.Fact.TheVariants.{Word};
-ghost use Rattle.link_core.specs.declared.fact.Seen.{Seen};
+ghost use Rattle.link_laws.specs.declared.fact.Fact.TheVariants.{Word};
+ghost use Rattle.link_laws.specs.declared.fact.Seen.{Seen};
 ghost use Rattle.port_solve.specs.Solved.{HaveTheirWords};
 
 use crate::course::Course;
-use crate::fact::Fact;
 use crate::notes::Notes;
 use crate::words::{learn, owner_at};
+use link_laws::Fact;
 use trace_plan::Plan;
 use trace_units::Units;
 

@@ -3,17 +3,17 @@ ghost use Rattle.std.specs.Prelude.{◌≡◌, ◌<◌, ◌≤◌, ◌+◌, ◌^
 ghost use Rattle.std.specs.Prelude.{if◌then◌else◌, Some, IfSome};
 ghost use Rattle.std.specs.List.{list_any, enumerate_from};
 ghost use Rattle.std.specs.Option.{option_map};
-ghost use Rattle.link_core.specs.Boards.{entry, seen_of};
-ghost use Rattle.link_core.specs.Making.{determined, is_undefined, put_word, with_word, words_made, each, ports_in, held, own_states};
+ghost use Rattle.link_laws.specs.Boards.{entry, seen_of};
+ghost use Rattle.link_laws.specs.Making.{determined, is_undefined, put_word, with_word, words_made, each, ports_in, held, own_states};
 ghost use Rattle.link_core.specs.Noted.{making_in, lacking, part_at, with_port, with_seen, is_defined, AreNotes, HasRoom, IsWordSeen};
 ghost use Rattle.port_solve.specs.Solved.{HaveTheirWords};
 ghost use Rattle.unit_tree.specs.Ports.{Outlet, Ports, outlets};
 ghost use Rattle.unit_tree.specs.Routes.{routes_of};
 ghost use Rattle.super_time.specs.declared.point.Point.{Point};
 
-use crate::fact::{Fact, Seen};
 use crate::notes::{Notes, note};
 use fixed_words::Fault;
+use link_laws::{Fact, Seen};
 use port_solve::{ask, feed};
 use trace_plan::Plan;
 use trace_units::Units;

@@ -1,8 +1,8 @@
 //! What a node does when it works: it makes facts, and goes on where none is lacking.
 ghost use Rattle.std.specs.Prelude.{◌≡◌, ◌≤◌, ◌<◌, ◌==◌, ◌&&◌, ◌+◌, false, map, length, vec_capacity, None};
 ghost use Rattle.link_core.specs.declared.course.Kept.{Kept};
-ghost use Rattle.link_core.specs.Making.{limits_by, move_by, ports_in, redos_by, replies_by, rule_of, stage_at};
-ghost use Rattle.link_core.specs.Nodes.{moved, worked};
+ghost use Rattle.link_laws.specs.Making.{limits_by, move_by, ports_in, redos_by, replies_by, rule_of, stage_at};
+ghost use Rattle.link_laws.specs.Nodes.{moved, worked};
 ghost use Rattle.link_core.specs.Noted.{making_in, part_at, AllowsStep, AreFed, AreNotes, HasRoom};
 ghost use Rattle.link_core.specs.Ready.{IsJudged, IsReady, all_made, progress_in};
 ghost use Rattle.port_solve.specs.Solved.{HaveStates, HaveTheirWords};
@@ -11,10 +11,10 @@ ghost use Rattle.unit_tree.specs.Successor.{point_after};
 
 use crate::course::{Course, show};
 use crate::notes::Notes;
-use crate::stage::{Stage, find_stage};
+use crate::stage::find_stage;
 use crate::steps::{Trial, make_limits, make_replies, step_all};
-use crate::taken::Taken;
 use crate::words::make_words;
+use link_laws::{Stage, Taken};
 use step_rule::{NextPoint, after};
 use super_time::Point;
 use trace_plan::Plan;

@@ -5,10 +5,10 @@ use Rattle.std.proofs.lemmas.Grind.{reverse_onto}
 use Rattle.std.proofs.lemmas.List.{map-append}
 use Rattle.std.specs.Prelude.{reverse, slice_get}
 use Rattle.std.specs.List.{AllByRecursion, enumerate_from, filter, flat_map}
-use Rattle.link_core.specs.Nodes.{Rule, taken}
-use Rattle.link_core.specs.Pairs.{Pair, after_events, delivered, event_step}
-use Rattle.link_core.specs.declared.fact.Fact.{Fact}
-use Rattle.link_core.specs.declared.pair_event.PairEvent.TheVariants.{Deliver}
+use Rattle.link_laws.specs.Nodes.{Rule, taken}
+use Rattle.link_laws.specs.Pairs.{Pair, after_events, delivered, event_step}
+use Rattle.link_laws.specs.declared.fact.Fact.{Fact}
+use Rattle.link_laws.specs.declared.pair_event.PairEvent.TheVariants.{Deliver}
 use Rattle.link_nodes.specs.Rounds.{arrivals, is_sent, numbered_sent}
 use Rattle.link_nodes.specs.ShownRows.{taken_all, taken_twice}
 use Rattle.list_laws.proofs.Lists.{each_append}

@@ -4,17 +4,17 @@ use Rattle.std.proofs.Common.{refl, sym, ap, subst, arith, append-nil, append_as
 use Rattle.std.proofs.lemmas.List.Elements.{filter_map-append}
 use Rattle.std.specs.Prelude.{if◌then◌else◌, slice_get}
 use Rattle.std.specs.List.{cons_option}
-use Rattle.link_core.specs.Boards.{Board}
-use Rattle.link_core.specs.Keeping.{IsHonest, IsPlace, KeepsTo}
-use Rattle.link_core.specs.Laws.{AnswersRightly, ShowsRow}
-use Rattle.link_core.specs.Making.{rule_of}
-use Rattle.link_core.specs.Nodes.{End, Go, Move, Progress, Stay, drops, knowing, making_of, moved, taken, with_making, worked}
-use Rattle.link_core.specs.declared.fact.Fact.{Fact}
-use Rattle.link_core.specs.declared.taken.Taken.{Taken}
-use Rattle.link_core.specs.declared.taken.Taken.TheVariants.{Dropped, Ended}
-use Rattle.link_core.proofs.MoveLaws.{moves_to_next}
-use Rattle.link_core.proofs.PairLaws.{knowing_keeps, work_commits}
-use Rattle.link_core.proofs.RuleLaws.{reach_words, rule_is_right}
+use Rattle.link_laws.specs.Boards.{Board}
+use Rattle.link_laws.specs.Keeping.{IsHonest, IsPlace, KeepsTo}
+use Rattle.link_laws.specs.Laws.{AnswersRightly, ShowsRow}
+use Rattle.link_laws.specs.Making.{rule_of}
+use Rattle.link_laws.specs.Nodes.{End, Go, Move, Progress, Stay, drops, knowing, making_of, moved, taken, with_making, worked}
+use Rattle.link_laws.specs.declared.fact.Fact.{Fact}
+use Rattle.link_laws.specs.declared.taken.Taken.{Taken}
+use Rattle.link_laws.specs.declared.taken.Taken.TheVariants.{Dropped, Ended}
+use Rattle.link_laws.proofs.MoveLaws.{moves_to_next}
+use Rattle.link_laws.proofs.PairLaws.{knowing_keeps, work_commits}
+use Rattle.link_laws.proofs.RuleLaws.{reach_words, rule_is_right}
 use Rattle.link_nodes.specs.ShownRows.{rows_come_to}
 use Rattle.link_nodes.specs.Shown.{committed, lines_shown}
 use Rattle.list_laws.proofs.Members.{at_seam, take_next}

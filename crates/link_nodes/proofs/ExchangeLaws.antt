@@ -1,14 +1,14 @@
 -- Both nodes at work, part by part.
 use Rattle.std.proofs.Common.{◌≡◌, ◌∙◌, ℕ, suc, ◌+◌, ◌-◌, ◌<◌, List, [], ◌∷◌, length, map, Option, Result, Ok, Err, refl, sym, ap, ap₂, subst, arith}
 use Rattle.std.specs.Prelude.{◌==◌, ◌||◌, not, is_some, if◌then◌else◌, true, OnOk, reverse}
-use Rattle.link_core.specs.Making.{rule_of}
+use Rattle.link_laws.specs.Making.{rule_of}
 use Rattle.link_core.specs.NodeStates.{IsSameNode, NodeState}
-use Rattle.link_core.specs.Boards.{row_of}
-use Rattle.link_core.specs.Nodes.{Progress, Rule, by_turns, has, knowing, taken, worked}
-use Rattle.link_core.specs.Pairs.{Pair, after_events}
-use Rattle.link_core.specs.declared.fact.Fact.{Fact}
-use Rattle.link_core.specs.declared.taken.Taken.TheVariants.{Dropped}
-use Rattle.link_core.specs.declared.pair_event.PairEvent.TheVariants.{Work}
+use Rattle.link_laws.specs.Boards.{row_of}
+use Rattle.link_laws.specs.Nodes.{Progress, Rule, by_turns, has, knowing, taken, worked}
+use Rattle.link_laws.specs.Pairs.{Pair, after_events}
+use Rattle.link_laws.specs.declared.fact.Fact.{Fact}
+use Rattle.link_laws.specs.declared.taken.Taken.TheVariants.{Dropped}
+use Rattle.link_laws.specs.declared.pair_event.PairEvent.TheVariants.{Work}
 use Rattle.link_core.proofs.OwnerLaws.{as_many_owners}
 use Rattle.link_nodes.proofs.ArrivalLaws.{fact_of, first_told, second_told}
 use Rattle.link_nodes.proofs.GrowLaws.{all_more, still_noted}

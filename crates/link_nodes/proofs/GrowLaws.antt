@@ -3,9 +3,9 @@ use Rattle.std.proofs.Common.{◌≡◌, ◌∙◌, ℕ, zero, suc, ◌+◌, ◌
 use Rattle.std.proofs.Common.{ap, subst, arith, append-nil, append_assoc, length-append}
 use Rattle.std.proofs.lemmas.List.{take_all}
 use Rattle.std.specs.Prelude.{if◌then◌else◌}
-use Rattle.link_core.specs.Nodes.{End, Go, Move, Progress, Rule, Stay, drops, knowing, making_of, moved, taken, with_making, worked}
-use Rattle.link_core.specs.declared.fact.Fact.{Fact}
-use Rattle.link_core.specs.declared.taken.Taken.TheVariants.{Dropped, Ended}
+use Rattle.link_laws.specs.Nodes.{End, Go, Move, Progress, Rule, Stay, drops, knowing, making_of, moved, taken, with_making, worked}
+use Rattle.link_laws.specs.declared.fact.Fact.{Fact}
+use Rattle.link_laws.specs.declared.taken.Taken.TheVariants.{Dropped, Ended}
 use Rattle.link_nodes.specs.ShownRows.{AreNoted, IsNoted, taken_all, taken_twice}
 use Rattle.link_nodes.specs.declared.spans.Spans.{Spans}
 

@@ -3,12 +3,12 @@ use Rattle.std.proofs.Common.{◌≡◌, ◌∙◌, ℕ, zero, suc, ◌≤◌, B
 use Rattle.std.proofs.Common.{arith, append-nil}
 use Rattle.std.proofs.lemmas.List.Elements.{filter_map-append}
 use Rattle.std.specs.Prelude.{if◌then◌else◌}
-use Rattle.link_core.specs.Boards.{Board}
-use Rattle.link_core.specs.Making.{rule_of}
-use Rattle.link_core.specs.Nodes.{End, Go, Move, Progress, Stay, drops, knowing, making_of, moved, taken, with_making, worked}
-use Rattle.link_core.specs.declared.fact.Fact.{Fact}
-use Rattle.link_core.specs.declared.taken.Taken.TheVariants.{Dropped, Ended}
-use Rattle.link_core.proofs.MoveLaws.{moves_to_next}
+use Rattle.link_laws.specs.Boards.{Board}
+use Rattle.link_laws.specs.Making.{rule_of}
+use Rattle.link_laws.specs.Nodes.{End, Go, Move, Progress, Stay, drops, knowing, making_of, moved, taken, with_making, worked}
+use Rattle.link_laws.specs.declared.fact.Fact.{Fact}
+use Rattle.link_laws.specs.declared.taken.Taken.TheVariants.{Dropped, Ended}
+use Rattle.link_laws.proofs.MoveLaws.{moves_to_next}
 use Rattle.link_nodes.specs.ShownRows.{taken_all, taken_twice}
 use Rattle.link_nodes.specs.Shown.{committed, lines_shown}
 use Rattle.trace_plan.specs.Plans.{Planned}

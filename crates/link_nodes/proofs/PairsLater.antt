@@ -1,10 +1,10 @@
 -- Rounds, as far as node 0 is concerned: it only goes on.
 use Rattle.std.proofs.Common.{◌≡◌, ◌∙◌, ℕ, zero, suc, ◌+◌, ◌%◌, ◌==◌, Bool, true, false, List, [], ◌∷◌, ◌++◌, map, refl, sym, ap, subst, arith}
 use Rattle.std.specs.Prelude.{if◌then◌else◌, reverse}
-use Rattle.link_core.specs.Making.{rule_of}
-use Rattle.link_core.specs.Nodes.{Rule}
-use Rattle.link_core.specs.Pairs.{Pair, after_events}
-use Rattle.link_core.specs.declared.pair_event.PairEvent.TheVariants.{Keep, Restart, Work}
+use Rattle.link_laws.specs.Making.{rule_of}
+use Rattle.link_laws.specs.Nodes.{Rule}
+use Rattle.link_laws.specs.Pairs.{Pair, after_events}
+use Rattle.link_laws.specs.declared.pair_event.PairEvent.TheVariants.{Keep, Restart, Work}
 use Rattle.link_nodes.proofs.ArrivalLaws.{fact_of, first_told, second_told}
 use Rattle.link_nodes.proofs.LaterLaws.{IsLater, all_later, later_still, same_later, worked_later}
 use Rattle.link_nodes.specs.Rounds.{after_round, after_rounds, closing_events, numbered_sent, to_first, to_second}

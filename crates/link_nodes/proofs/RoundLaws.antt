@@ -1,12 +1,12 @@
 -- Rounds keep what a pair keeps.
 use Rattle.std.proofs.Common.{ℕ, zero, suc, [], ◌∷◌}
-use Rattle.link_core.specs.Keeping.{IsRightRule, PairKeepsTo}
-use Rattle.link_core.specs.Making.{rule_of}
-use Rattle.link_core.specs.Nodes.{Rule}
-use Rattle.link_core.specs.Pairs.{Pair, after_events, opened_pair}
-use Rattle.link_core.specs.declared.pair_event.PairEvent.TheVariants.{Work}
-use Rattle.link_core.proofs.PairLaws.{all_events_keep, events_keep}
-use Rattle.link_core.proofs.RuleLaws.{rule_is_right}
+use Rattle.link_laws.specs.Keeping.{IsRightRule, PairKeepsTo}
+use Rattle.link_laws.specs.Making.{rule_of}
+use Rattle.link_laws.specs.Nodes.{Rule}
+use Rattle.link_laws.specs.Pairs.{Pair, after_events, opened_pair}
+use Rattle.link_laws.specs.declared.pair_event.PairEvent.TheVariants.{Work}
+use Rattle.link_laws.proofs.PairLaws.{all_events_keep, events_keep}
+use Rattle.link_laws.proofs.RuleLaws.{rule_is_right}
 use Rattle.link_nodes.specs.Rounds.{RoundsKeepToTheTrace, arrivals, closing_events, after_round, after_rounds, numbered_sent, to_first, to_second}
 use Rattle.unit_tree.specs.Compositions.{Composition}
 

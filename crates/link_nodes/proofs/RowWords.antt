@@ -2,8 +2,8 @@
 use Rattle.std.proofs.Common.{◌≡◌, ◌∙◌, ℕ, List, [], ◌∷◌, length, Option, Some, None, refl, sym, ap, subst, append-nil}
 use Rattle.std.proofs.lemmas.Slice.Zip.{AllZip-long}
 use Rattle.std.specs.List.{AllByRecursion, filter_map}
-use Rattle.link_core.specs.Keeping.{IsRowOfTrace}
-use Rattle.link_core.proofs.RuleLaws.{place_stands, place_words}
+use Rattle.link_laws.specs.Keeping.{IsRowOfTrace}
+use Rattle.link_laws.proofs.RuleLaws.{place_stands, place_words}
 use Rattle.link_nodes.specs.ShownRows.{IsJudged}
 use Rattle.run_laws.proofs.AssignmentLaws.{undefined_faults}
 use Rattle.super_time.specs.declared.point.Point.{Point}

@@ -4,7 +4,7 @@ use Rattle.std.specs.Io.KnownBytes.{Appends}
 use Rattle.std.proofs.KnownBytes.{Appends-trans}
 use Rattle.cosim_io.specs.Pieces.{AppendsPrefix}
 use Rattle.cosim_io.proofs.PieceLemmas.{AppendsPrefix-after, AppendsPrefix-longer, AppendsPrefix-nil}
-use Rattle.link_core.specs.Pairs.{Pair}
+use Rattle.link_laws.specs.Pairs.{Pair}
 use Rattle.link_nodes.proofs.ExchangeLaws.{pair_there}
 use Rattle.link_nodes.specs.Exchanges.{ExchangeComes, IsOpened, exchange_rule, pair_of, rule_by_turns}
 use Rattle.link_nodes.specs.Rounds.{after_rounds, pair_after}

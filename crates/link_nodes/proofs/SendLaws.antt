@@ -3,8 +3,8 @@ use Rattle.std.proofs.Common.{◌≡◌, ◌∙◌, ℕ, zero, suc, ◌+◌, ◌
 use Rattle.std.proofs.Common.{Option, Some, None, refl, sym, ap, ap₂, inl, inr, arith, append_assoc}
 use Rattle.std.specs.Prelude.{slice_get}
 use Rattle.std.specs.List.{enumerate_from, filter}
-use Rattle.link_core.specs.Boards.{row_of}
-use Rattle.link_core.specs.declared.fact.Fact.{Fact}
+use Rattle.link_laws.specs.Boards.{row_of}
+use Rattle.link_laws.specs.declared.fact.Fact.{Fact}
 use Rattle.link_core.proofs.PassBodies.{numbered_next}
 use Rattle.link_nodes.proofs.ArrivalLaws.{fact_of}
 use Rattle.link_nodes.specs.Rounds.{is_sent}

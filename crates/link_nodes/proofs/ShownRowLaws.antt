@@ -7,11 +7,11 @@ use Rattle.std.specs.Io.KnownBytes.{Appends}
 use Rattle.std.proofs.KnownBytes.{Appends-nil, Appends-trans}
 use Rattle.cosim_io.specs.Pieces.{AppendsPrefix}
 use Rattle.cosim_io.proofs.PieceLemmas.{AppendsPrefix-after, AppendsPrefix-longer, AppendsPrefix-nil}
-use Rattle.link_core.specs.Keeping.{IsHonest, KeepsTo}
-use Rattle.link_core.specs.Making.{rule_of}
-use Rattle.link_core.specs.Nodes.{Progress, Rule, taken, worked}
-use Rattle.link_core.specs.declared.fact.Fact.{Fact}
-use Rattle.link_core.specs.declared.taken.Taken.{Taken}
+use Rattle.link_laws.specs.Keeping.{IsHonest, KeepsTo}
+use Rattle.link_laws.specs.Making.{rule_of}
+use Rattle.link_laws.specs.Nodes.{Progress, Rule, taken, worked}
+use Rattle.link_laws.specs.declared.fact.Fact.{Fact}
+use Rattle.link_laws.specs.declared.taken.Taken.{Taken}
 use Rattle.link_nodes.proofs.Committed.{taken_grows, worked_grows}
 use Rattle.link_nodes.proofs.LaterLaws.{IsLater, shown_more}
 use Rattle.link_nodes.specs.ShownRows.{ComesTo, IsJudged, Shows, ShowsPast, comes, rows_come_to}

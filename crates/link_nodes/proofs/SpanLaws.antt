@@ -6,8 +6,8 @@ use Rattle.std.proofs.lemmas.Bool.{eqb-true, eqb-false}
 use Rattle.std.proofs.lemmas.Option.{same_Some, slice_get_within}
 use Rattle.std.specs.Prelude.{slice_get}
 use Rattle.std.specs.List.{AllByRecursion}
-use Rattle.link_core.specs.Boards.{row_of}
-use Rattle.link_core.specs.declared.fact.Fact.{Fact}
+use Rattle.link_laws.specs.Boards.{row_of}
+use Rattle.link_laws.specs.declared.fact.Fact.{Fact}
 use Rattle.link_nodes.specs.ShownRows.{AreNoted, AreOfOtherRows}
 use Rattle.link_nodes.specs.declared.spans.Span.{Span}
 use Rattle.list_laws.proofs.Lists.{each_more, each_so}

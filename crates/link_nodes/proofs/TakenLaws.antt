@@ -4,11 +4,11 @@ use Rattle.std.proofs.lemmas.List.{reverse-append}
 use Rattle.std.specs.Prelude.{reverse}
 use Rattle.std.specs.List.{AllByRecursion}
 use Rattle.list_laws.proofs.Lists.{each_part}
-use Rattle.link_core.specs.Making.{rule_of}
+use Rattle.link_laws.specs.Making.{rule_of}
 use Rattle.link_core.specs.NodeStates.{NodeState}
-use Rattle.link_core.specs.Nodes.{Progress, Rule, taken}
-use Rattle.link_core.specs.declared.fact.Fact.{Fact}
-use Rattle.link_core.specs.declared.taken.Taken.{Taken}
+use Rattle.link_laws.specs.Nodes.{Progress, Rule, taken}
+use Rattle.link_laws.specs.declared.fact.Fact.{Fact}
+use Rattle.link_laws.specs.declared.taken.Taken.{Taken}
 use Rattle.link_nodes.specs.ShownRows.{taken_all, taken_twice}
 use Rattle.trace_plan.specs.Plans.{Planned}
 

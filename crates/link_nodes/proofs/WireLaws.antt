@@ -11,14 +11,14 @@ use Rattle.std.specs.Int.{to_be_bytes, from_be_bytes, cast_signed, cast_unsigned
 use Rattle.std.specs.Str.{bytes_eq}
 use Rattle.fixed_words.specs.declared.types.Fault.{Fault}
 use Rattle.fixed_words.specs.declared.types.Fault.TheVariants.{Overflow, Range, ZeroDivisor, Accept, Max}
-use Rattle.link_core.specs.declared.fact.Asked.TheVariants as asked
-use Rattle.link_core.specs.declared.fact.Fact.{Fact}
-use Rattle.link_core.specs.declared.fact.Fact.TheVariants.{Word, Limit, Reply}
-use Rattle.link_core.specs.declared.fact.Said.TheVariants as said
-use Rattle.link_core.specs.declared.fact.Seen.TheVariants as seen
+use Rattle.link_laws.specs.declared.fact.Asked.TheVariants as asked
+use Rattle.link_laws.specs.declared.fact.Fact.{Fact}
+use Rattle.link_laws.specs.declared.fact.Fact.TheVariants.{Word, Limit, Reply}
+use Rattle.link_laws.specs.declared.fact.Said.TheVariants as said
+use Rattle.link_laws.specs.declared.fact.Seen.TheVariants as seen
 use Rattle.link_nodes.specs.Decoding.{fault_tagged, fact_told, read, told_if, is_written, decoded}
 use Rattle.link_nodes.specs.Wire.{tag_of, fields_of, written, encoding, HasTypes}
-use Rattle.link_core.specs.Lengths.{is_short}
+use Rattle.link_laws.specs.Lengths.{is_short}
 use Rattle.link_nodes.specs.declared.fields.Fields.{Fields}
 
 read_written : (kind row place tag : ℕ) (number : ℤ) → row < 2 ^ 64 → place < 2 ^ 32 → cast_unsigned w64 number < 2 ^ 64

@@ -5,15 +5,15 @@ use Rattle.std.specs.Int.{w32, w64, from_be_bytes, cast_signed}
 use Rattle.std.specs.Str.{bytes_eq}
 use Rattle.fixed_words.specs.declared.types.Fault.{Fault}
 use Rattle.fixed_words.specs.declared.types.Fault.TheVariants.{Overflow, Range, ZeroDivisor, Accept, Max}
-use Rattle.link_core.specs.declared.fact.Asked.{Asked}
-use Rattle.link_core.specs.declared.fact.Asked.TheVariants as asked
-use Rattle.link_core.specs.declared.fact.Fact.{Fact}
-use Rattle.link_core.specs.declared.fact.Fact.TheVariants.{Word, Limit, Reply}
-use Rattle.link_core.specs.declared.fact.Said.{Said}
-use Rattle.link_core.specs.declared.fact.Said.TheVariants as said
-use Rattle.link_core.specs.declared.fact.Seen.{Seen}
-use Rattle.link_core.specs.declared.fact.Seen.TheVariants as seen
-use Rattle.link_core.specs.Lengths.{is_short}
+use Rattle.link_laws.specs.declared.fact.Asked.{Asked}
+use Rattle.link_laws.specs.declared.fact.Asked.TheVariants as asked
+use Rattle.link_laws.specs.declared.fact.Fact.{Fact}
+use Rattle.link_laws.specs.declared.fact.Fact.TheVariants.{Word, Limit, Reply}
+use Rattle.link_laws.specs.declared.fact.Said.{Said}
+use Rattle.link_laws.specs.declared.fact.Said.TheVariants as said
+use Rattle.link_laws.specs.declared.fact.Seen.{Seen}
+use Rattle.link_laws.specs.declared.fact.Seen.TheVariants as seen
+use Rattle.link_laws.specs.Lengths.{is_short}
 use Rattle.link_nodes.specs.Wire.{encoding}
 use Rattle.link_nodes.specs.declared.fields.Fields.{Fields}
 

@@ -1,8 +1,8 @@
 -- Both nodes of a plan at work. None of it need be believed.
 use Rattle.std.specs.Prelude.{◌≡◌, ℕ, List, [], length, Option, Result, OnOk}
-use Rattle.link_core.specs.Making.{rule_of}
-use Rattle.link_core.specs.Nodes.{Rule, by_turns}
-use Rattle.link_core.specs.Pairs.{Pair, opened_pair}
+use Rattle.link_laws.specs.Making.{rule_of}
+use Rattle.link_laws.specs.Nodes.{Rule, by_turns}
+use Rattle.link_laws.specs.Pairs.{Pair, opened_pair}
 use Rattle.link_nodes.specs.ShownRows.{ComesTo, IsNoted}
 use Rattle.link_nodes.specs.declared.exchange.Exchange.{Exchange}
 use Rattle.trace_plan.specs.Plans.{Planned}

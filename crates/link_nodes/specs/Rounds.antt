@@ -1,14 +1,14 @@
 -- The rounds of two nodes in one process.
 use Rattle.std.specs.Prelude.{◌≡◌, ℕ, zero, suc, ◌+◌, ◌%◌, ◌==◌, Bool, not, ◌&&◌, List, [], ◌∷◌, ◌++◌, reverse, length, if◌then◌else◌}
 use Rattle.std.specs.List.{enumerate_from, filter, flat_map}
-use Rattle.link_core.specs.Boards.{row_of}
-use Rattle.link_core.specs.Keeping.{PairKeepsTo}
-use Rattle.link_core.specs.Making.{rule_of}
-use Rattle.link_core.specs.Nodes.{Rule, by_turns}
-use Rattle.link_core.specs.Pairs.{Pair, after_events, opened_pair}
-use Rattle.link_core.specs.declared.fact.Fact.{Fact}
-use Rattle.link_core.specs.declared.pair_event.PairEvent.{PairEvent}
-use Rattle.link_core.specs.declared.pair_event.PairEvent.TheVariants.{Deliver, Keep, Restart, Work}
+use Rattle.link_laws.specs.Boards.{row_of}
+use Rattle.link_laws.specs.Keeping.{PairKeepsTo}
+use Rattle.link_laws.specs.Making.{rule_of}
+use Rattle.link_laws.specs.Nodes.{Rule, by_turns}
+use Rattle.link_laws.specs.Pairs.{Pair, after_events, opened_pair}
+use Rattle.link_laws.specs.declared.fact.Fact.{Fact}
+use Rattle.link_laws.specs.declared.pair_event.PairEvent.{PairEvent}
+use Rattle.link_laws.specs.declared.pair_event.PairEvent.TheVariants.{Deliver, Keep, Restart, Work}
 use Rattle.unit_tree.specs.Compositions.{AreMembers, Composition}
 use Rattle.unit_tree.specs.Ports.{IsPlaceOrder}
 

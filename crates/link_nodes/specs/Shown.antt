@@ -2,8 +2,8 @@
 use Rattle.std.specs.Prelude.{◌≡◌, ℕ, List, ◌++◌, take, if◌then◌else◌, is_some, Option}
 use Rattle.std.specs.Io.KnownBytes.{Appends}
 use Rattle.cosim_io.specs.Pieces.{AppendsPrefix}
-use Rattle.link_core.specs.Nodes.{Progress}
-use Rattle.link_core.specs.Pairs.{Pair}
+use Rattle.link_laws.specs.Nodes.{Progress}
+use Rattle.link_laws.specs.Pairs.{Pair}
 use Rattle.link_nodes.specs.Rounds.{pair_after}
 use Rattle.link_nodes.specs.declared.run.Nodes.{Nodes}
 use Rattle.trace_plan.specs.Plans.{Planned}

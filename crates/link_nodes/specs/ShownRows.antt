@@ -4,12 +4,12 @@ use Rattle.std.specs.Prelude.{length, take}
 use Rattle.std.specs.List.{AllByRecursion, cons_option}
 use Rattle.std.specs.Io.KnownBytes.{Appends}
 use Rattle.cosim_io.specs.Pieces.{AppendsPrefix}
-use Rattle.link_core.specs.Boards.{row_of}
-use Rattle.link_core.specs.Nodes.{Progress, Rule, taken}
-use Rattle.link_core.specs.declared.fact.Fact.{Fact}
+use Rattle.link_laws.specs.Boards.{row_of}
+use Rattle.link_laws.specs.Nodes.{Progress, Rule, taken}
+use Rattle.link_laws.specs.declared.fact.Fact.{Fact}
 use Rattle.link_core.specs.declared.node.Row as lent
-use Rattle.link_core.specs.declared.taken.Taken.{Taken}
-use Rattle.link_core.specs.declared.taken.Taken.TheVariants.{Ended, Row}
+use Rattle.link_laws.specs.declared.taken.Taken.{Taken}
+use Rattle.link_laws.specs.declared.taken.Taken.TheVariants.{Ended, Row}
 use Rattle.link_nodes.specs.Shown.{lines_shown}
 use Rattle.link_nodes.specs.declared.spans.Span.{Span}
 use Rattle.link_nodes.specs.declared.spans.Spans.{Spans}

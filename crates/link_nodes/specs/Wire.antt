@@ -3,11 +3,11 @@ use Rattle.std.specs.Prelude.{ℕ, ◌<◌, ◌^◌, true, false, pos, List, ◌
 use Rattle.std.specs.Int.{w32, w64, to_be_bytes, cast_unsigned}
 use Rattle.fixed_words.specs.declared.types.Fault.{Fault}
 use Rattle.fixed_words.specs.declared.types.Fault.TheVariants.{Overflow, Range, ZeroDivisor, Accept, Max}
-use Rattle.link_core.specs.declared.fact.Asked.TheVariants as asked
-use Rattle.link_core.specs.declared.fact.Fact.{Fact}
-use Rattle.link_core.specs.declared.fact.Fact.TheVariants.{Word, Limit, Reply}
-use Rattle.link_core.specs.declared.fact.Said.TheVariants as said
-use Rattle.link_core.specs.declared.fact.Seen.TheVariants as seen
+use Rattle.link_laws.specs.declared.fact.Asked.TheVariants as asked
+use Rattle.link_laws.specs.declared.fact.Fact.{Fact}
+use Rattle.link_laws.specs.declared.fact.Fact.TheVariants.{Word, Limit, Reply}
+use Rattle.link_laws.specs.declared.fact.Said.TheVariants as said
+use Rattle.link_laws.specs.declared.fact.Seen.TheVariants as seen
 use Rattle.link_nodes.specs.declared.fields.Fields.{Fields}
 
 -- The tag of a fault.

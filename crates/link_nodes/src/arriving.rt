@@ -1,10 +1,10 @@
 //! Calls of the nodes, and facts that arrive at them.
 ghost use Rattle.std.specs.Prelude.{◌≡◌, [], length, reverse, OnOk};
 ghost use Rattle.std.specs.List.{AllByRecursion};
-ghost use Rattle.link_core.specs.Keeping.{IsHonest};
-ghost use Rattle.link_core.specs.Making.{rule_of};
+ghost use Rattle.link_laws.specs.Keeping.{IsHonest};
+ghost use Rattle.link_laws.specs.Making.{rule_of};
 ghost use Rattle.link_core.specs.NodeStates.{IsSameNode};
-ghost use Rattle.link_core.specs.Nodes.{taken, worked};
+ghost use Rattle.link_laws.specs.Nodes.{taken, worked};
 ghost use Rattle.link_nodes.specs.ShownRows.{ComesTo, taken_all};
 
 use crate::row_room::{RowRoom, judged};

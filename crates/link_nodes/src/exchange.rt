@@ -1,7 +1,7 @@
 //! Both nodes of a plan, and what goes on between them in a round.
 ghost use Rattle.std.specs.Prelude.{◌≡◌, ◌∷◌, [], List, Option, ℕ};
-ghost use Rattle.link_core.specs.Pairs.{after_events};
-ghost use Rattle.link_core.specs.declared.pair_event.PairEvent.TheVariants.{Work};
+ghost use Rattle.link_laws.specs.Pairs.{after_events};
+ghost use Rattle.link_laws.specs.declared.pair_event.PairEvent.TheVariants.{Work};
 ghost use Rattle.link_nodes.specs.Exchanges.{ExchangeComes, IsExchange, exchange_rule, pair_of};
 ghost use Rattle.link_nodes.specs.Rounds.{after_round, closing_events, to_first, to_second};
 

@@ -2,7 +2,7 @@
 ghost use Rattle.std.specs.Prelude.{◌≡◌, ◌∷◌, [], OnOk, OnErr};
 ghost use Rattle.std.specs.Io.KnownBytes.{Appends};
 ghost use Rattle.cosim_io.specs.Pieces.{AppendsPrefix};
-ghost use Rattle.link_core.specs.Keeping.{IsRowOfTrace};
+ghost use Rattle.link_laws.specs.Keeping.{IsRowOfTrace};
 ghost use Rattle.link_nodes.specs.ShownRows.{IsJudged, comes, row_told, rows_come_to};
 ghost use Rattle.trace_rows.specs.Faults.{TellsFault};
 ghost use Rattle.trace_rows.specs.Lines.{lines_of};

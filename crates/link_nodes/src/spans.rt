@@ -1,7 +1,7 @@
 //! Where the facts of each row stand in a list of facts that grows.
 ghost use Rattle.std.specs.Prelude.{◌≡◌, ◌≤◌, ◌<◌, ◌++◌, ◌∷◌, ◌^◌, [], List, length, take, OnOk};
-ghost use Rattle.link_core.specs.Boards.{row_of};
-ghost use Rattle.link_core.specs.declared.fact.Fact.{Fact as TheFact};
+ghost use Rattle.link_laws.specs.Boards.{row_of};
+ghost use Rattle.link_laws.specs.declared.fact.Fact.{Fact as TheFact};
 ghost use Rattle.link_nodes.specs.ShownRows.{AreNoted, AreOfOtherRows};
 
 use fixed_words::NoMemory;

@@ -1,7 +1,7 @@
 //! Facts on their way from one node to the other.
 ghost use Rattle.std.specs.List.{AllByRecursion};
 ghost use Rattle.std.specs.Prelude.{◌≡◌, ◌≤◌, true, [], map, length, OnOk};
-ghost use Rattle.link_core.specs.Lengths.{is_short};
+ghost use Rattle.link_laws.specs.Lengths.{is_short};
 ghost use Rattle.link_nodes.specs.Rounds.{is_sent, numbered_sent};
 ghost use Rattle.link_nodes.specs.ShownRows.{AreOfOtherRows};
 ghost use Rattle.link_nodes.specs.Wire.{HasTypes};

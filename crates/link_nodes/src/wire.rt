@@ -1,5 +1,5 @@
-ghost use Rattle.link_core.specs.Lengths.{is_short};
-ghost use Rattle.link_core.specs.declared.fact.Fact.{Fact};
+ghost use Rattle.link_laws.specs.Lengths.{is_short};
+ghost use Rattle.link_laws.specs.declared.fact.Fact.{Fact};
 ghost use Rattle.std.specs.Prelude.{◌≡◌, true, length, IfSome, IfNone, Some, None};
 ghost use Rattle.link_nodes.specs.Decoding.{decoded, is_written, read, told_if};
 ghost use Rattle.link_nodes.specs.Wire.{encoding, written, HasTypes};

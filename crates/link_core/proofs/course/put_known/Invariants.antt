@@ -1,7 +1,7 @@
 use Rattle.std.proofs.Common.{◌≡◌, ◌≤◌, ◌++◌, drop, length}
 use Rattle.std.specs.Prelude.{vec_capacity}
 use Rattle.std.specs.List.{filter_map}
-use Rattle.link_core.specs.Making.{ports_in}
+use Rattle.link_laws.specs.Making.{ports_in}
 use Rattle.link_core.proofs.course.put_known.Given as goal
 
 abbrev pub invariant-loop-place : goal.invariant-loop-place

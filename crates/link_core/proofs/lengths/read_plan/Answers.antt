@@ -1,7 +1,7 @@
 use Rattle.std.proofs.Common.{◌≡◌, ◌∙◌, ap, subst, sym}
 use Rattle.std.specs.List.{AllByRecursion}
-use Rattle.link_core.specs.Lengths.{AreOfWords, LimitHasWords}
-use Rattle.link_core.proofs.LengthLaws.{systems_are_of_words}
+use Rattle.link_laws.specs.Lengths.{AreOfWords, LimitHasWords}
+use Rattle.link_laws.proofs.LengthLaws.{systems_are_of_words}
 use Rattle.link_core.proofs.lengths.read_plan.Goals as goal
 use Rattle.unit_tree.specs.Compositions.{run_of}
 use Rattle.unit_tree.specs.Plain.{plain_form}

@@ -1,10 +1,10 @@
 use Rattle.std.proofs.Common.{◌≡◌, ◌∙◌, ap, subst, sym}
 use Rattle.std.proofs.lemmas.Option.{slice_get_past}
 use Rattle.std.specs.Prelude.{IfOk, None, Some, slice_get}
-use Rattle.link_core.specs.Keeping.{IsHonest}
-use Rattle.link_core.specs.Making.{rule_of}
-use Rattle.link_core.specs.Pairs.{delivered}
-use Rattle.link_core.proofs.PairLaws.{found_is}
+use Rattle.link_laws.specs.Keeping.{IsHonest}
+use Rattle.link_laws.specs.Making.{rule_of}
+use Rattle.link_laws.specs.Pairs.{delivered}
+use Rattle.link_laws.proofs.PairLaws.{found_is}
 use Rattle.link_core.proofs.pair.deliver.Goals as goal
 use Rattle.list_laws.proofs.Members.{read_at}
 use Rattle.trace_plan.specs.Plans.{Planned}

@@ -1,5 +1,5 @@
 use Rattle.std.proofs.Common.{◌≡◌, ◌<◌, ◌∙◌, true, false, length, zip, sym, arith}
-use Rattle.link_core.specs.Stages.{is_answered}
+use Rattle.link_laws.specs.Stages.{is_answered}
 use Rattle.link_core.proofs.StageBodies.{all_fails, all_hold, all_next, as_many_zipped}
 use Rattle.link_core.proofs.StageItems.{answer_there}
 use Rattle.link_core.proofs.stage.are_answered.Goals as goal

@@ -1,5 +1,5 @@
 use Rattle.std.proofs.Common.{zip}
-use Rattle.link_core.specs.Stages.{is_answered}
+use Rattle.link_laws.specs.Stages.{is_answered}
 use Rattle.link_core.proofs.StageBodies.{AllFrom}
 use Rattle.link_core.proofs.stage.are_answered.Given as goal
 

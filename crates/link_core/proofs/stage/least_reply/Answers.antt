@@ -1,5 +1,5 @@
 use Rattle.std.proofs.Common.{◌<◌, length, map, zip, refl, sym, subst, arith, ◌+◌}
-use Rattle.link_core.specs.Stages.{steps_in}
+use Rattle.link_laws.specs.Stages.{steps_in}
 use Rattle.link_core.proofs.StageBodies.{Least, least_is, one_lesser}
 use Rattle.link_core.proofs.StageItems.{replies_long, reply_there}
 use Rattle.link_core.proofs.stage.least_reply.Goals as goal

@@ -1,5 +1,5 @@
 use Rattle.std.proofs.Common.{◌≤◌, map, zip}
-use Rattle.link_core.specs.Stages.{steps_in}
+use Rattle.link_laws.specs.Stages.{steps_in}
 use Rattle.link_core.proofs.StageBodies.{Least}
 use Rattle.link_core.proofs.stage.least_reply.Given as goal
 use Rattle.unit_tree.specs.Negotiation.{reply_at}

@@ -1,6 +1,6 @@
 use Rattle.std.proofs.Common.{◌≡◌, ◌≤◌, ◌<◌, ◌+◌, ◌-◌, ◌∙◌, length, min, zip, sym, ap, ap₂, subst, arith}
 use Rattle.link_core.specs.Noted.{least_with}
-use Rattle.link_core.specs.Stages.{limit_in}
+use Rattle.link_laws.specs.Stages.{limit_in}
 use Rattle.link_core.proofs.StageBodies.{Proposes, as_many_zipped, proposed_is, proposes_next, with_most}
 use Rattle.link_core.proofs.StageItems.{limit_there}
 use Rattle.link_core.proofs.stage.proposal.Goals as goal

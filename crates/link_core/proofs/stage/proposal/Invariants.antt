@@ -1,5 +1,5 @@
 use Rattle.std.proofs.Common.{◌≤◌, ◌-◌, min, zip}
-use Rattle.link_core.specs.Stages.{limit_in}
+use Rattle.link_laws.specs.Stages.{limit_in}
 use Rattle.link_core.proofs.StageBodies.{Proposes}
 use Rattle.link_core.proofs.stage.proposal.Given as goal
 

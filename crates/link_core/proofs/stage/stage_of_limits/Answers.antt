@@ -1,7 +1,7 @@
 use Rattle.std.proofs.Common.{◌≡◌, ◌∙◌, true, None, is_some, map, zip, ap, sym}
 use Rattle.std.specs.List.{filter_map, list_all}
 use Rattle.link_core.specs.Noted.{place_of}
-use Rattle.link_core.specs.Stages.{limit_in, max_by, stage_of_trial}
+use Rattle.link_laws.specs.Stages.{limit_in, max_by, stage_of_trial}
 use Rattle.link_core.proofs.StageBodies.{limits_stage}
 use Rattle.link_core.proofs.stage.stage_of_limits.Goals as goal
 use Rattle.unit_tree.specs.Negotiation.{proposal_of}

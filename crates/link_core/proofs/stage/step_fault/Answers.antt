@@ -1,6 +1,6 @@
 use Rattle.std.proofs.Common.{◌≡◌, ◌<◌, true, false, length, map, is_some, arith}
 use Rattle.std.specs.List.{enumerate_from}
-use Rattle.link_core.specs.Stages.{steps_in}
+use Rattle.link_laws.specs.Stages.{steps_in}
 use Rattle.link_core.proofs.StageBodies.{told_here, told_next, told_none}
 use Rattle.link_core.proofs.StageItems.{step_end_there, step_ends_long}
 use Rattle.link_core.proofs.stage.step_fault.Goals as goal

@@ -1,6 +1,6 @@
 use Rattle.std.proofs.Common.{map}
 use Rattle.std.specs.List.{enumerate_from}
-use Rattle.link_core.specs.Stages.{steps_in}
+use Rattle.link_laws.specs.Stages.{steps_in}
 use Rattle.link_core.proofs.StageBodies.{ToldFrom}
 use Rattle.link_core.proofs.stage.step_fault.Given as goal
 use Rattle.unit_tree.specs.Successor.{step_end_of}

@@ -1,8 +1,8 @@
 use Rattle.std.proofs.Common.{◌≡◌, ◌<◌, ◌∙◌, true, false, length, map, zip, is_some, refl, sym, ap, subst, arith}
 use Rattle.std.proofs.lemmas.Option.{slice_get_read}
 use Rattle.std.specs.Prelude.{slice_get, Some}
-use Rattle.link_core.specs.Making.{names_of}
-use Rattle.link_core.specs.Stages.{word_end}
+use Rattle.link_laws.specs.Making.{names_of}
+use Rattle.link_laws.specs.Stages.{word_end}
 use Rattle.link_core.proofs.StageBodies.{told_here, told_next, told_none}
 use Rattle.link_core.proofs.StageItems.{word_ends_long, word_there}
 use Rattle.link_core.proofs.stage.word_fault.Goals as goal

@@ -1,6 +1,6 @@
 use Rattle.std.proofs.Common.{map, zip}
-use Rattle.link_core.specs.Making.{names_of}
-use Rattle.link_core.specs.Stages.{word_end}
+use Rattle.link_laws.specs.Making.{names_of}
+use Rattle.link_laws.specs.Stages.{word_end}
 use Rattle.link_core.proofs.StageBodies.{ToldFrom}
 use Rattle.link_core.proofs.stage.word_fault.Given as goal
 

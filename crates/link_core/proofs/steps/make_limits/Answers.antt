@@ -1,6 +1,6 @@
 use Rattle.std.proofs.Common.{◌∙◌, ◌<◌, length, zip, ap, subst, arith}
 use Rattle.std.proofs.lemmas.Slice.Zip.{AllZip-long}
-use Rattle.link_core.specs.Making.{with_limit}
+use Rattle.link_laws.specs.Making.{with_limit}
 use Rattle.link_core.specs.Noted.{making_in, part_at}
 use Rattle.link_core.proofs.PassBodies.{gone}
 use Rattle.link_core.proofs.StepBodies.{items_long, limit_step}

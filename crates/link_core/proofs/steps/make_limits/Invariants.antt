@@ -1,5 +1,5 @@
 use Rattle.std.proofs.Common.{◌≡◌, zip}
-use Rattle.link_core.specs.Making.{with_limit}
+use Rattle.link_laws.specs.Making.{with_limit}
 use Rattle.link_core.specs.Noted.{AreNotes, HasRoom, making_in, part_at}
 use Rattle.link_core.proofs.PassBodies.{Going}
 use Rattle.link_core.proofs.steps.make_limits.Given as goal

@@ -1,5 +1,5 @@
 use Rattle.std.proofs.Common.{◌∙◌, ap, sym}
-use Rattle.link_core.specs.Making.{is_own}
+use Rattle.link_laws.specs.Making.{is_own}
 use Rattle.link_core.proofs.taking.is_of.Goals as goal
 
 pub returns-in-Word : goal.returns-in-Word

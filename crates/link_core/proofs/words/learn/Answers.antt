@@ -1,6 +1,6 @@
 use Rattle.std.proofs.Common.{◌∙◌, Some, map, ap, sym, length-set}
 use Rattle.std.specs.Prelude.{slice_set}
-use Rattle.link_core.specs.Making.{ports_in}
+use Rattle.link_laws.specs.Making.{ports_in}
 use Rattle.link_core.specs.Noted.{is_defined}
 use Rattle.link_core.proofs.WordLaws.{defined_set, ports_learnt}
 use Rattle.link_core.proofs.words.learn.Goals as goal

@@ -1,6 +1,6 @@
 use Rattle.std.proofs.Common.{◌∙◌, ◌<◌, length, refl, subst, arith}
 use Rattle.std.proofs.lemmas.Slice.Zip.{AllZip-long}
-use Rattle.link_core.specs.Making.{held, own_states, with_word}
+use Rattle.link_laws.specs.Making.{held, own_states, with_word}
 use Rattle.link_core.specs.Noted.{making_in}
 use Rattle.link_core.proofs.PassBodies.{gone, items_count, pass_step}
 use Rattle.link_core.proofs.words.make_pass.Goals as goal

@@ -1,5 +1,5 @@
 use Rattle.std.proofs.Common.{◌≡◌, false}
-use Rattle.link_core.specs.Making.{held, own_states, ports_in, with_word}
+use Rattle.link_laws.specs.Making.{held, own_states, ports_in, with_word}
 use Rattle.link_core.specs.Noted.{AreNotes, HasRoom, making_in}
 use Rattle.link_core.proofs.PassBodies.{Going}
 use Rattle.link_core.proofs.words.make_pass.Given as goal

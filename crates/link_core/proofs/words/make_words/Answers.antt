@@ -1,7 +1,7 @@
 use Rattle.std.proofs.Common.{◌≡◌, ◌∙◌, length, subst, arith}
 use Rattle.std.proofs.lemmas.Slice.Zip.{AllZip-long}
 use Rattle.std.specs.List.{enumerate_from}
-use Rattle.link_core.specs.Making.{each, held, own_states, with_word}
+use Rattle.link_laws.specs.Making.{each, held, own_states, with_word}
 use Rattle.link_core.specs.Noted.{making_in}
 use Rattle.link_core.proofs.PassBodies.{items_count, stopped, turned, turns_on}
 use Rattle.link_core.proofs.words.make_words.Goals as goal

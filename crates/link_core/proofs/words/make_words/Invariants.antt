@@ -1,6 +1,6 @@
 use Rattle.std.proofs.Common.{◌≡◌, length}
 use Rattle.std.specs.List.{enumerate_from}
-use Rattle.link_core.specs.Making.{held, own_states, ports_in}
+use Rattle.link_laws.specs.Making.{held, own_states, ports_in}
 use Rattle.link_core.specs.Noted.{AreNotes, HasRoom, making_in}
 use Rattle.link_core.proofs.PassBodies.{Turning}
 use Rattle.link_core.proofs.words.make_words.Given as goal

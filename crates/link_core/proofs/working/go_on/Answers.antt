@@ -1,11 +1,12 @@
 use Rattle.std.proofs.Common.{◌∙◌, ap, subst, sym}
 use Rattle.std.proofs.lemmas.Slice.Zip.{AllZip-long}
-use Rattle.link_core.specs.Making.{ports_in}
-use Rattle.link_core.specs.Nodes.{Making}
-use Rattle.link_core.specs.Noted.{AreFed, are_nothing, making_in}
+use Rattle.link_laws.specs.Making.{ports_in}
+use Rattle.link_laws.specs.Nodes.{Making}
+use Rattle.link_core.specs.Noted.{AreFed, making_in}
+use Rattle.link_laws.specs.Boards.{are_nothing}
 use Rattle.link_core.proofs.AllLaws.{fed_here}
 use Rattle.link_core.proofs.GoLaws.{moved_on}
-use Rattle.link_core.proofs.PlaceLaws.{nothing_fed}
+use Rattle.link_laws.proofs.PlaceLaws.{nothing_fed}
 use Rattle.link_core.proofs.working.go_on.Goals as goal
 use Rattle.port_solve.specs.Solved.{HaveInputs, HaveStates, HaveTheirWords}
 use Rattle.trace_plan.specs.Plans.{Planned}

@@ -1,5 +1,5 @@
 use Rattle.std.proofs.Common.{◌∙◌, ap, subst, sym}
-use Rattle.link_core.specs.Making.{limits_by, ports_in}
+use Rattle.link_laws.specs.Making.{limits_by, ports_in}
 use Rattle.link_core.specs.Noted.{AreFed, making_in, part_at}
 use Rattle.link_core.proofs.StepBodies.{limits_stay}
 use Rattle.link_core.proofs.working.make_limits_wanted.Goals as goal

@@ -1,7 +1,7 @@
 use Rattle.std.proofs.Common.{◌≡◌, subst}
-use Rattle.link_core.specs.Making.{move_by, rule_of, stage_at}
-use Rattle.link_core.specs.Nodes.{Progress, moved}
-use Rattle.link_core.specs.declared.taken.Taken.{Taken}
+use Rattle.link_laws.specs.Making.{move_by, rule_of, stage_at}
+use Rattle.link_laws.specs.Nodes.{Progress, moved}
+use Rattle.link_laws.specs.declared.taken.Taken.{Taken}
 use Rattle.link_core.specs.Noted.{making_in, part_at}
 use Rattle.link_core.specs.Ready.{progress_in}
 use Rattle.link_core.proofs.WorkLaws.{work_is}

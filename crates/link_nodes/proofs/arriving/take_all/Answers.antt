@@ -1,8 +1,8 @@
 use Rattle.std.proofs.Common.{◌∙◌, ap, subst, sym}
 use Rattle.std.specs.Prelude.{reverse}
-use Rattle.link_core.specs.Keeping.{IsHonest}
-use Rattle.link_core.specs.Making.{rule_of}
-use Rattle.link_core.specs.Nodes.{Progress, taken}
+use Rattle.link_laws.specs.Keeping.{IsHonest}
+use Rattle.link_laws.specs.Making.{rule_of}
+use Rattle.link_laws.specs.Nodes.{Progress, taken}
 use Rattle.link_nodes.specs.ShownRows.{taken_all}
 use Rattle.link_nodes.proofs.TakenLaws.{front_each, last_taken, second_taken}
 use Rattle.link_nodes.proofs.arriving.take_all.Goals as goal

@@ -1,8 +1,8 @@
 use Rattle.std.proofs.Common.{◌≡◌, ◌∙◌, Ok, Err, refl, ap, subst, sym}
 use Rattle.std.specs.Prelude.{reverse}
-use Rattle.link_core.specs.Keeping.{IsHonest}
-use Rattle.link_core.specs.Making.{rule_of}
-use Rattle.link_core.specs.Nodes.{Progress, taken}
+use Rattle.link_laws.specs.Keeping.{IsHonest}
+use Rattle.link_laws.specs.Making.{rule_of}
+use Rattle.link_laws.specs.Nodes.{Progress, taken}
 use Rattle.link_nodes.specs.ShownRows.{ComesTo, taken_all, taken_twice}
 use Rattle.link_nodes.proofs.LaterLaws.{IsLater, all_later, later_still, taken_later}
 use Rattle.link_nodes.proofs.ShownRowLaws.{comes_on, comes_there, part_up}

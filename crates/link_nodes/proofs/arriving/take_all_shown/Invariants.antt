@@ -1,8 +1,8 @@
 use Rattle.std.proofs.Common.{◌≡◌, Ok, length}
 use Rattle.std.specs.Prelude.{reverse}
 use Rattle.std.specs.List.{AllByRecursion}
-use Rattle.link_core.specs.Keeping.{IsHonest}
-use Rattle.link_core.specs.Making.{rule_of}
+use Rattle.link_laws.specs.Keeping.{IsHonest}
+use Rattle.link_laws.specs.Making.{rule_of}
 use Rattle.link_core.specs.NodeStates.{IsSameNode}
 use Rattle.link_nodes.specs.ShownRows.{ComesTo, taken_all}
 use Rattle.link_nodes.proofs.arriving.take_all_shown.Given as goal

@@ -1,7 +1,7 @@
 use Rattle.std.proofs.Common.{◌≡◌, ◌∙◌, ap₂, subst, sym}
-use Rattle.link_core.specs.Keeping.{IsHonest, KeepsTo}
-use Rattle.link_core.specs.Making.{rule_of}
-use Rattle.link_core.specs.Nodes.{taken}
+use Rattle.link_laws.specs.Keeping.{IsHonest, KeepsTo}
+use Rattle.link_laws.specs.Making.{rule_of}
+use Rattle.link_laws.specs.Nodes.{taken}
 use Rattle.link_nodes.proofs.LaterLaws.{taken_later}
 use Rattle.link_nodes.proofs.ShownRowLaws.{comes_not, going_told, take_comes}
 use Rattle.link_nodes.proofs.arriving.take_shown.Goals as goal

@@ -1,7 +1,7 @@
 use Rattle.std.proofs.Common.{◌≡◌, ◌∙◌, ap₂, subst}
-use Rattle.link_core.specs.Keeping.{KeepsTo}
-use Rattle.link_core.specs.Making.{rule_of}
-use Rattle.link_core.specs.Nodes.{worked}
+use Rattle.link_laws.specs.Keeping.{KeepsTo}
+use Rattle.link_laws.specs.Making.{rule_of}
+use Rattle.link_laws.specs.Nodes.{worked}
 use Rattle.link_nodes.proofs.LaterLaws.{worked_later}
 use Rattle.link_nodes.proofs.ShownRowLaws.{comes_not, going_told, work_comes}
 use Rattle.link_nodes.proofs.arriving.work_shown.Goals as goal

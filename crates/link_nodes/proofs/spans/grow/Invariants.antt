@@ -1,5 +1,5 @@
 use Rattle.std.proofs.Common.{◌≡◌, ◌+◌, ◌-◌, List, length}
-use Rattle.link_core.specs.declared.fact.Fact.{Fact}
+use Rattle.link_laws.specs.declared.fact.Fact.{Fact}
 use Rattle.link_nodes.specs.ShownRows.{AreNoted}
 use Rattle.link_nodes.proofs.spans.grow.Given as goal
 

@@ -1,8 +1,8 @@
 use Rattle.std.proofs.Common.{◌≡◌, ◌∙◌, true, ◌+◌, ◌<◌, ◌++◌, Vec, Global, length, ap, sym, subst, append-nil, arith}
 use Rattle.std.proofs.lemmas.Option.{slice_get-get_or}
-use Rattle.link_core.specs.Lengths.{is_short}
-use Rattle.link_core.specs.declared.fact.Fact.{Fact}
-use Rattle.link_core.proofs.PairLaws.{found_is}
+use Rattle.link_laws.specs.Lengths.{is_short}
+use Rattle.link_laws.specs.declared.fact.Fact.{Fact}
+use Rattle.link_laws.proofs.PairLaws.{found_is}
 use Rattle.link_nodes.proofs.SendLaws.{Sending, end_left, left, loses, sends, start_left}
 use Rattle.link_nodes.proofs.transit.send.Goals as goal
 use Rattle.link_nodes.proofs.transit.send.Goals.{then-is_sent+in_ok-push, else-is_sent}

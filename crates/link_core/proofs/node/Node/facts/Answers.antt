@@ -1,10 +1,10 @@
 use Rattle.std.proofs.Common.{◌≡◌, true, subst, sym}
 use Rattle.std.specs.List.{AllByRecursion}
-use Rattle.link_core.specs.Keeping.{IsHonest, IsTrueFact}
-use Rattle.link_core.specs.Lengths.{is_short}
+use Rattle.link_laws.specs.Keeping.{IsHonest, IsTrueFact}
+use Rattle.link_laws.specs.Lengths.{is_short}
 use Rattle.link_core.specs.NodeStates.{NodeState}
 use Rattle.link_core.specs.Ready.{IsJudged, progress_in}
-use Rattle.link_core.proofs.ShortFacts.{fact_is_short}
+use Rattle.link_laws.proofs.ShortFacts.{fact_is_short}
 use Rattle.link_core.proofs.TakeLaws.{facts_honest}
 use Rattle.link_core.proofs.node.Node.facts.Goals as goal
 use Rattle.list_laws.proofs.Lists.{each_so}

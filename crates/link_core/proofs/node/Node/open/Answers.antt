@@ -1,11 +1,11 @@
 use Rattle.std.proofs.Common.{◌≡◌, ◌∙◌, ◌≤◌, [], length, ap, subst, sym, arith}
-use Rattle.link_core.specs.Keeping.{KeepsTo}
-use Rattle.link_core.specs.Lengths.{AreOfWords}
-use Rattle.link_core.specs.Making.{rule_of}
-use Rattle.link_core.specs.Nodes.{Progress}
+use Rattle.link_laws.specs.Keeping.{KeepsTo}
+use Rattle.link_laws.specs.Lengths.{AreOfWords}
+use Rattle.link_laws.specs.Making.{rule_of}
+use Rattle.link_laws.specs.Nodes.{Progress}
 use Rattle.link_core.specs.Ready.{IsJudged}
 use Rattle.link_core.proofs.OpenLaws.{are_notes, opened_is, start_fed}
-use Rattle.link_core.proofs.PairLaws.{opened_keeps}
+use Rattle.link_laws.proofs.PairLaws.{opened_keeps}
 use Rattle.link_core.proofs.WorkLaws.{right}
 use Rattle.link_core.proofs.node.Node.open.Goals as goal
 use Rattle.port_solve.specs.Solved.{HaveStates, HaveTheirWords}

@@ -1,15 +1,15 @@
 use Rattle.std.proofs.Common.{◌≡◌, ◌∙◌, false, map, None, ap, refl, subst, sym}
-use Rattle.link_core.specs.Keeping.{KeepsTo}
-use Rattle.link_core.specs.Making.{ports_in, rule_of}
+use Rattle.link_laws.specs.Keeping.{KeepsTo}
+use Rattle.link_laws.specs.Making.{ports_in, rule_of}
 use Rattle.link_core.specs.NodeStates.{NodeState}
-use Rattle.link_core.specs.Nodes.{Making, Progress, restarted}
-use Rattle.link_core.specs.Noted.{are_nothing}
+use Rattle.link_laws.specs.Nodes.{Making, Progress, restarted}
+use Rattle.link_laws.specs.Boards.{are_nothing}
 use Rattle.link_core.specs.Ready.{IsJudged, progress_in}
 use Rattle.link_core.specs.declared.course.Course.{Course}
 use Rattle.link_core.proofs.KeepLaws.{restarted_is}
 use Rattle.link_core.proofs.RoomLaws.{words_in}
-use Rattle.link_core.proofs.PairLaws.{restart_keeps}
-use Rattle.link_core.proofs.PlaceLaws.{nothing_fed}
+use Rattle.link_laws.proofs.PairLaws.{restart_keeps}
+use Rattle.link_laws.proofs.PlaceLaws.{nothing_fed}
 use Rattle.link_core.proofs.WorkLaws.{right}
 use Rattle.link_core.proofs.node.Node.restart.Goals as goal
 use Rattle.port_solve.specs.Solved.{HaveTheirWords}

@@ -1,12 +1,12 @@
 use Rattle.std.proofs.Common.{◌≡◌, ◌∙◌, ◌≤◌, ◌<◌, ℤ, Vec, Global, map, refl, ap, ap₂, subst, sym}
 use Rattle.std.specs.Prelude.{length, vec_capacity}
-use Rattle.link_core.specs.Keeping.{IsHonest}
-use Rattle.link_core.specs.Making.{ports_in, rule_of}
+use Rattle.link_laws.specs.Keeping.{IsHonest}
+use Rattle.link_laws.specs.Making.{ports_in, rule_of}
 use Rattle.link_core.specs.NodeStates.{NodeState}
-use Rattle.link_core.specs.Nodes.{Progress, taken, worked}
+use Rattle.link_laws.specs.Nodes.{Progress, taken, worked}
 use Rattle.link_core.specs.Noted.{AreNotes, IsItemOf, knowing_fact, making_in}
 use Rattle.link_core.specs.Ready.{IsJudged, IsReady, is_dropped, progress_in}
-use Rattle.link_core.specs.declared.taken.Taken.{Taken}
+use Rattle.link_laws.specs.declared.taken.Taken.{Taken}
 use Rattle.link_core.proofs.NodeLaws.{keeps_new, ready}
 use Rattle.link_core.proofs.TakeLaws.{is_item, keeps_learnt, learnt_is, set_learnt, taken_is}
 use Rattle.link_core.proofs.WorkLaws.{bounds}

@@ -1,12 +1,12 @@
 use Rattle.std.proofs.Common.{◌≡◌, ◌∙◌, ◌≤◌, ◌<◌, map, subst, sym}
 use Rattle.std.specs.Prelude.{length, vec_capacity}
-use Rattle.link_core.specs.Making.{ports_in, rule_of}
+use Rattle.link_laws.specs.Making.{ports_in, rule_of}
 use Rattle.link_core.specs.Noted.{AreNotes}
 use Rattle.unit_tree.specs.Routes.{routes_of}
 use Rattle.link_core.specs.NodeStates.{NodeState}
-use Rattle.link_core.specs.Nodes.{Progress, worked}
+use Rattle.link_laws.specs.Nodes.{Progress, worked}
 use Rattle.link_core.specs.Ready.{IsJudged, IsReady, progress_in}
-use Rattle.link_core.specs.declared.taken.Taken.{Taken}
+use Rattle.link_laws.specs.declared.taken.Taken.{Taken}
 use Rattle.link_core.proofs.NodeLaws.{did_is, keeps_new, ready}
 use Rattle.link_core.proofs.WorkLaws.{bounds}
 use Rattle.link_core.proofs.node.Node.work.Goals as goal

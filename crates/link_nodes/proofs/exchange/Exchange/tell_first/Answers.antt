@@ -1,8 +1,8 @@
 use Rattle.std.proofs.Common.{◌≡◌, ◌∙◌, ◌≤◌, take, length, map, refl, ap, ap₂, subst, sym}
 use Rattle.std.specs.Prelude.{is_some, reverse}
 use Rattle.std.specs.List.{AllByRecursion}
-use Rattle.link_core.specs.Keeping.{IsHonest}
-use Rattle.link_core.specs.Making.{rule_of}
+use Rattle.link_laws.specs.Keeping.{IsHonest}
+use Rattle.link_laws.specs.Making.{rule_of}
 use Rattle.link_nodes.specs.Rounds.{numbered_sent}
 use Rattle.link_nodes.specs.ShownRows.{AreNoted, ComesTo, IsNoted, taken_all}
 use Rattle.link_nodes.proofs.ArrivalLaws.{fact_of, sent_each}

@@ -1,8 +1,8 @@
 use Rattle.std.proofs.Common.{◌≡◌, ◌∙◌, Ok, Err, length, refl, ap, subst, sym}
-use Rattle.link_core.specs.Making.{rule_of}
-use Rattle.link_core.specs.Nodes.{Progress, worked}
-use Rattle.link_core.specs.Pairs.{Pair}
-use Rattle.link_core.specs.declared.taken.Taken.{Taken}
+use Rattle.link_laws.specs.Making.{rule_of}
+use Rattle.link_laws.specs.Nodes.{Progress, worked}
+use Rattle.link_laws.specs.Pairs.{Pair}
+use Rattle.link_laws.specs.declared.taken.Taken.{Taken}
 use Rattle.link_nodes.specs.Exchanges.{exchange_rule}
 use Rattle.link_nodes.specs.ShownRows.{ComesTo, IsNoted}
 use Rattle.link_nodes.proofs.ExchangeLaws.{exchange_up, first_owned, first_worked, same_exchange, second_worked}

@@ -1,5 +1,0 @@
-use Rattle.link_core.proofs.ShortFacts.{fact_is_short}
-use Rattle.link_core.proofs.laws.facts_are_short.Goals as goal
-
-pub returns : goal.returns
-returns c = fact_is_short

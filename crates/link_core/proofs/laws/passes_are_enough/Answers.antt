@@ -1,5 +1,0 @@
-use Rattle.link_core.proofs.PassLaws.{passes_close}
-use Rattle.link_core.proofs.laws.passes_are_enough.Goals as goal
-
-pub returns : goal.returns
-returns c = passes_close

@@ -1,5 +1,0 @@
-use Rattle.link_core.proofs.StageLaws.{stage_is_right}
-use Rattle.link_core.proofs.laws.stages_are_right.Goals as goal
-
-pub returns : goal.returns
-returns c = stage_is_right

@@ -1,0 +1,12 @@
+pub mod BoardLaws
+pub mod LengthLaws
+pub mod MakeLaws
+pub mod MoveLaws
+pub mod PairLaws
+pub mod PassLaws
+pub mod PlaceLaws
+pub mod PrefixLaws
+pub mod RuleLaws
+pub mod ShortFacts
+pub mod StageLaws
+pub mod ValueLaws
