@@ -97,6 +97,37 @@ fn what_a_worker_answers_is_taken(rt: HostRuntime) -> Result<(), Fail> {
     Ok(())
 }
 
+#[test]
+fn a_call_without_a_gate_prints_the_trace(rt: HostRuntime) -> Result<(), Fail> {
+    let alloc = rt.alloc();
+    let words = owned(alloc, &["run", "--workers", "1"])?;
+    let (mut source, mut out, mut notes) = streams(alloc, COUNTER)?;
+    let status = cosim(rt, alloc, &words, &mut source, &mut out, &mut notes);
+    assert_eq!(rt; status, Status::Done);
+    assert_eq!(rt;
+        out.bytes(),
+        &b"time,index,a.y\n0,0,0\n1,0,1\n2,0,2\n3,0,3\n"[..]
+    );
+    assert_eq!(rt; notes.bytes(), &b""[..]);
+    Ok(())
+}
+
+/// A window of 0 plans no step, so that workers get no ticket.
+#[test]
+fn the_window_of_the_words_is_used(rt: HostRuntime) -> Result<(), Fail> {
+    let alloc = rt.alloc();
+    let words = owned(
+        alloc,
+        &["run", "--workers", "1", "--window", "0", "--report"],
+    )?;
+    let (mut source, mut out, mut notes) = streams(alloc, COUNTER)?;
+    let status = cosim(rt, alloc, &words, &mut source, &mut out, &mut notes);
+    assert_eq!(rt; status, Status::Done);
+    let told = numbers(alloc, notes.bytes())?;
+    assert_eq!(rt; told.as_slice(), [4, 0, 3, 0, 0, 0, 0].as_slice());
+    Ok(())
+}
+
 /// Whether a gate was asked by `bench`, if this put what it puts without workers, and no wait was in vain.
 fn bench_waits<R: Threads + Wait + Copy + Send + Drop + 'static>(
     rt: R,

@@ -46,6 +46,14 @@ pub(crate) struct Coordinator<'a, R, G> {
     ghost not_ahead: { writer.front.rows ≤ run.stand.at.number + 1 },
 }
 
+/// What is left of a run when its front is closed. Only then may the caller wait for the workers to end.
+#[derive(Drop)]
+pub(crate) struct Closed {
+    pub(crate) desk: Arc<Desk>,
+    writer: Writer,
+    ghost closed: { writer.front.closed ≡ true },
+}
+
 /// Takes what is found in a lane for the step that is wanted of an instance, and tells whether there was something.
 fn take_found<R: Wait>(rt: &R, lane: &Mutex<Lane>, run: &mut Run, instance: u32) -> bool
     ensures taken { result ≡ true → IsFilled run.old instance run.new }
@@ -211,8 +219,8 @@ fn publish_all<R: Wait>(
 }
 
 impl<'a, R: Wait + Drop, G: Gate> Coordinator<'a, R, G> {
-    /// Tells the workers that no row will follow, and leaves the desk.
-    pub(crate) fn close(self) -> Arc<Desk> {
+    /// Tells the workers that no row will follow.
+    pub(crate) fn close(self) -> Closed {
         let Coordinator {
             rt,
             desk,
@@ -221,7 +229,7 @@ impl<'a, R: Wait + Drop, G: Gate> Coordinator<'a, R, G> {
             ..
         } = self;
         front.close(&rt, &mut writer);
-        desk
+        Closed { desk, writer }
     }
 }
 

@@ -7,7 +7,7 @@ ghost use Rattle.trace_rows.specs.Faults.{TellsFault};
 ghost use Rattle.trace_rows.specs.Reports.{PutsFront, ReportsTrace};
 ghost use Rattle.unit_tree.specs.Successor.{first_position};
 
-use crate::coordinator::{Coordinator, Guessing};
+use crate::coordinator::{Closed, Coordinator, Guessing};
 use crate::gate::Gate;
 use crate::worker::{Home, Seat, Tickets, Watch, Worker, Workplace, Works};
 use cosim_io::Sink;
@@ -245,8 +245,8 @@ fn start<R: Threads + Wait + Copy + Send + 'static>(
     Started { threads }
 }
 
-/// Waits until all workers have ended.
-fn join_all<R: Threads>(rt: &R, started: Started) {
+/// Waits until all workers have ended, which they do when the front is closed.
+fn join_all<R: Threads>(rt: &R, started: Started, _closed: &Closed) {
     let Started { threads } = started;
     for thread in threads {
         if let Some(thread) = thread {
@@ -306,7 +306,7 @@ pub fn run_crew<R: Threads + Wait + Copy + Send + Drop + 'static, O: Sink, G: Ga
     } = open_crew(rt, alloc, &plan, workers, guessing, gate)?;
     let started = start(rt, crew, threads);
     let ended = put_trace(alloc, &plan, &mut coordinator, out);
-    let desk = coordinator.close();
-    join_all(&rt, started);
-    Ok(with_tickets(ended?, desk.sums(&rt)))
+    let closed = coordinator.close();
+    join_all(&rt, started, &closed);
+    Ok(with_tickets(ended?, closed.desk.sums(&rt)))
 }

@@ -1,4 +1,5 @@
 //! Gates: how long a run waits for its workers.
+ghost use Rattle.std.specs.Prelude.{◌≡◌, false};
 
 /// Who decides whether a run waits for the step of an instance that no worker has answered yet.
 pub trait Gate {
@@ -12,7 +13,9 @@ pub trait Gate {
 pub struct OpenGate;
 
 impl Gate for OpenGate {
-    fn again(&self, _row: u64, _instance: u32, _turn: u64) -> bool {
+    fn again(&self, _row: u64, _instance: u32, _turn: u64) -> bool
+        ensures { result ≡ false }
+    {
         false
     }
 }
