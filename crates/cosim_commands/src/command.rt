@@ -2,10 +2,9 @@
 ghost use Rattle.std.specs.Prelude.{◌≡◌, true};
 ghost use Rattle.cosim_call.specs.Calls.{Promises, stream, streams};
 ghost use Rattle.cosim_call.specs.Coming.{Comes, Serves};
-ghost use Rattle.cosim_commands.specs.Answer.{Answers, IsAnswer};
+ghost use Rattle.cosim_answers.specs.Answer.{Answers, IsAnswer};
 ghost use Rattle.command_line.specs.Commands.{IsReadable, command_of, has_workers, input_of, input_of_words};
-ghost use Rattle.cosim_commands.specs.Usage.{UsageClause};
-ghost use Rattle.cosim_commands.specs.Laws.{AnswersAgree, EndsAreServed, EveryCallIsAnswered, NoCallIsAnsweredTwice, NotesAgree, RefusalsAreOfRules, RunsAgree, SavedRunsGoOn};
+ghost use Rattle.cosim_answers.specs.Usage.{UsageClause};
 ghost use Rattle.command_line.specs.Words.{bytes_of};
 
 use crate::commands::{
@@ -189,32 +188,3 @@ pub fn cosim<R: Threads + Wait + Copy + Send + Drop + 'static, S: Source, O: Sin
 {
     cosim_gated(rt, alloc, words, source, out, notes, &OpenGate)
 }
-
-/// A law: for each list of words and each input there is an answer, all answers put the same and have the same status, and
-/// there are no two, but where workers are reported of.
-pub fn one_answer()
-    ensures some { EveryCallIsAnswered }
-    ensures agree { AnswersAgree }
-    ensures only { NoCallIsAnsweredTwice }
-{}
-
-/// A law: a run puts the same and has the same status with any number of workers, over any window, by any guesses, and with a
-/// report or without one. Its notes are the same too, but for the line of the report.
-pub fn workers_change_nothing()
-    ensures agree { RunsAgree }
-    ensures notes { NotesAgree }
-{}
-
-/// A law: the status of an answer tells where it comes from. One by `Refused` is a refusal of the text by the command of the
-/// words, and one by which a command ends its work is of a text that this serves.
-pub fn statuses_have_causes()
-    ensures refused { RefusalsAreOfRules }
-    ensures served { EndsAreServed }
-{}
-
-/// A law: what `run` puts of a text is its header, the rows before a position that `save` saves, and then just what `resume` puts of
-/// that, with the same status, and the same notes but for the line of a report. `resume` refuses nothing that `save` put and that is no
-/// longer than it may read.
-pub fn saved_runs_go_on()
-    ensures { SavedRunsGoOn }
-{}

@@ -1,5 +1,5 @@
 //! The commands, one a module. A command that makes one piece has a `make`, any other a `serve`.
-ghost use Rattle.cosim_commands.specs.Serving.{Accepts};
+ghost use Rattle.cosim_answers.specs.Serving.{Accepts};
 
 pub(crate) mod bench;
 pub(crate) mod check;

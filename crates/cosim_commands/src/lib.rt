@@ -1,22 +1,13 @@
 //! The commands of `cosim`, and the calls that serve them.
 //!
-//! The call that the program makes is [`cosim_gated`], over any source and sinks of bytes; its clause, a record of
-//! five, is the headline, and [`cosim`] and [`cosim_alone`] have the same. Definitions: `specs/Answer.antt` (the answers
-//! for words and input), over `specs/Accepted.antt` (answers for texts that keep all rules), the text of a trace in `event_csv`,
-//! `specs/Figures.antt` (figures of a trace), `specs/SavedAnswers.antt` (what is saved and resumed), `specs/Notes.antt` (what is
-//! noted), `specs/Usage.antt` (words without a form), those of `command_line` (which words are which command), and those of
-//! `cosim_call`: the five clauses, an answer, the notes of faults, the exit codes. [`one_answer`] is the law that every call has
-//! exactly one answer, [`statuses_have_causes`] says what a status says of it, [`workers_change_nothing`] that a run is the same
-//! with workers and without, and [`saved_runs_go_on`] that one that is saved and resumed is the same too. `specs/Serving.antt`,
-//! which need not be believed, says what the parts of commands do.
+//! The call that the program makes is [`cosim_gated`], over any source and sinks of bytes; its clause, a record of five, is the headline,
+//! and [`cosim`] and [`cosim_alone`] have the same. What an answer is, and the laws of answers, are those of `cosim_answers`; the five
+//! clauses of a call are those of `cosim_call`.
 #![tactic(auto)]
 
 mod command;
 mod commands;
 mod note;
 
-pub use command::{
-    cosim, cosim_alone, cosim_gated, one_answer, saved_runs_go_on, statuses_have_causes,
-    workers_change_nothing,
-};
+pub use command::{cosim, cosim_alone, cosim_gated};
 pub use cosim_call::Status;

@@ -1,10 +1,10 @@
 //! The notes of the program.
 ghost use Rattle.std.specs.Prelude.{◌≡◌, ◌≤◌, ◌∷◌, [], ◌++◌, IfOk, OnOk};
 ghost use Rattle.cosim_call.specs.Notes.{line_end};
-ghost use Rattle.cosim_commands.specs.Accepted.{traced_notes};
-ghost use Rattle.cosim_commands.specs.SourcePlaces.{instance_shape, source_end, source_place};
+ghost use Rattle.cosim_answers.specs.Accepted.{traced_notes};
+ghost use Rattle.cosim_answers.specs.SourcePlaces.{instance_shape, source_end, source_place};
 ghost use Rattle.event_runs.specs.Readings.{event_shape, output_read};
-ghost use Rattle.cosim_commands.specs.Notes.{count_text, counts_text, nodes_text, report_text, steps_text, tickets_text, fault_number, instance_name, name_in, output_name, place_text, point_text, fault_text, budget_text, lengths_text, step_refused_text, ending_notes};
+ghost use Rattle.cosim_answers.specs.Notes.{count_text, counts_text, nodes_text, report_text, steps_text, tickets_text, fault_number, instance_name, name_in, output_name, place_text, point_text, fault_text, budget_text, lengths_text, step_refused_text, ending_notes};
 
 use cosim_call::append_all;
 use fixed_words::{Fault, List, NoMemory};

@@ -2,8 +2,8 @@
 //! trace.
 ghost use Rattle.std.specs.Prelude.{◌≡◌, ℕ, List, ◌++◌, codes, IfOk, OnOk};
 ghost use Rattle.cosim_call.specs.Coming.{Makes};
-ghost use Rattle.cosim_commands.specs.Answer.{Answers};
-ghost use Rattle.cosim_commands.specs.Figures.{figure_line, figures_text, ticks_text};
+ghost use Rattle.cosim_answers.specs.Answer.{Answers};
+ghost use Rattle.cosim_answers.specs.Figures.{figure_line, figures_text, ticks_text};
 ghost use Rattle.command_line.specs.Generations.{system_asked};
 ghost use Rattle.command_line.specs.declared.commands.Command.TheVariants.{Bench};
 

@@ -1,6 +1,6 @@
 //! The command `check`.
 ghost use Rattle.cosim_call.specs.Coming.{Makes};
-ghost use Rattle.cosim_commands.specs.Answer.{Answers};
+ghost use Rattle.cosim_answers.specs.Answer.{Answers};
 ghost use Rattle.command_line.specs.declared.commands.Command.TheVariants.{Check};
 
 use crate::commands::accept;

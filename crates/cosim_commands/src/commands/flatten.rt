@@ -1,8 +1,8 @@
 //! The command `flatten`, in three steps: the nest that the text says, the canonical text of its flat system, and whether this keeps all
 //! rules of the language.
 ghost use Rattle.command_line.specs.declared.commands.Command.TheVariants.{Flatten};
-ghost use Rattle.cosim_commands.specs.Answer.{Answers};
-ghost use Rattle.cosim_commands.specs.Serving.{FindsFlat, FindsNest};
+ghost use Rattle.cosim_answers.specs.Answer.{Answers};
+ghost use Rattle.cosim_answers.specs.Serving.{FindsFlat, FindsNest};
 ghost use Rattle.cosim_call.specs.Coming.{Makes};
 ghost use Rattle.std.specs.Prelude.{◌≡◌, length};
 

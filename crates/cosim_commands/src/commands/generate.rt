@@ -1,7 +1,7 @@
 //! The command `gen`, whose word is a keyword and so names no module.
 ghost use Rattle.std.specs.Prelude.{ℕ, List};
 ghost use Rattle.cosim_call.specs.Coming.{Makes};
-ghost use Rattle.cosim_commands.specs.Answer.{Answers};
+ghost use Rattle.cosim_answers.specs.Answer.{Answers};
 ghost use Rattle.command_line.specs.declared.commands.Command.TheVariants.{Gen};
 
 use crate::commands::print::canonical;

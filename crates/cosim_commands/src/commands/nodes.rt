@@ -3,9 +3,9 @@
 ghost use Rattle.std.specs.Prelude.{◌≡◌, nat_le};
 ghost use Rattle.cosim_call.specs.Calls.{stream};
 ghost use Rattle.cosim_call.specs.Coming.{Serves};
-ghost use Rattle.cosim_commands.specs.Answer.{Answers};
-ghost use Rattle.cosim_commands.specs.NodesAnswers.{node_status, nodes_limit, size_for_nodes};
-ghost use Rattle.cosim_commands.specs.Serving.{RunsNodes, TellsRounds};
+ghost use Rattle.cosim_answers.specs.Answer.{Answers};
+ghost use Rattle.cosim_answers.specs.NodesAnswers.{node_status, nodes_limit, size_for_nodes};
+ghost use Rattle.cosim_answers.specs.Serving.{RunsNodes, TellsRounds};
 ghost use Rattle.command_line.specs.declared.commands.Command.TheVariants.{Nodes as NodesAsked};
 
 use crate::commands::run::{plan_of, status};

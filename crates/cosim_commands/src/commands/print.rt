@@ -1,8 +1,8 @@
 //! The command `print`.
 ghost use Rattle.std.specs.Prelude.{◌≡◌, IfOk};
 ghost use Rattle.cosim_call.specs.Coming.{Makes};
-ghost use Rattle.cosim_commands.specs.Accepted.{printed_text};
-ghost use Rattle.cosim_commands.specs.Answer.{Answers};
+ghost use Rattle.cosim_answers.specs.Accepted.{printed_text};
+ghost use Rattle.cosim_answers.specs.Answer.{Answers};
 ghost use Rattle.command_line.specs.declared.commands.Command.TheVariants.{Print};
 
 use crate::commands::accept;

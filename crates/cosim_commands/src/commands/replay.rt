@@ -1,8 +1,8 @@
 //! The command `replay`: what `run` puts, by a world whose workers do what a seed draws, and one line of counts more.
 ghost use Rattle.cosim_call.specs.Calls.{stream};
 ghost use Rattle.cosim_call.specs.Coming.{Serves};
-ghost use Rattle.cosim_commands.specs.Answer.{Answers};
-ghost use Rattle.cosim_commands.specs.Serving.{Replays, TellsReplayed};
+ghost use Rattle.cosim_answers.specs.Answer.{Answers};
+ghost use Rattle.cosim_answers.specs.Serving.{Replays, TellsReplayed};
 ghost use Rattle.command_line.specs.declared.commands.Command.TheVariants.{Replay};
 
 use crate::commands::run::{plan_of, status};

@@ -2,10 +2,10 @@
 ghost use Rattle.std.specs.Prelude.{◌≡◌, ◌+◌, ◌≤◌, length, IfErr, IfOk, IfSome};
 ghost use Rattle.command_line.specs.Commands.{saved_limit};
 ghost use Rattle.command_line.specs.declared.commands.Command.TheVariants.{Resume};
-ghost use Rattle.cosim_commands.specs.Accepted.{planned};
-ghost use Rattle.cosim_commands.specs.Answer.{Answers};
-ghost use Rattle.cosim_commands.specs.SavedAnswers.{lines_before, text_behind};
-ghost use Rattle.cosim_commands.specs.Serving.{FindsSaved, GoesOn, IsAccepted, IsRefusedBehind, OpensSaved, TellsResumed};
+ghost use Rattle.cosim_answers.specs.Accepted.{planned};
+ghost use Rattle.cosim_answers.specs.Answer.{Answers};
+ghost use Rattle.cosim_answers.specs.SavedAnswers.{lines_before, text_behind};
+ghost use Rattle.cosim_answers.specs.Serving.{FindsSaved, GoesOn, IsAccepted, IsRefusedBehind, OpensSaved, TellsResumed};
 ghost use Rattle.cosim_call.specs.Calls.{stream};
 ghost use Rattle.cosim_call.specs.Coming.{Serves};
 ghost use Rattle.save_point.specs.SavedTexts.{IsSaved};

@@ -2,9 +2,9 @@
 ghost use Rattle.std.specs.Prelude.{◌≡◌, ◌<◌, ◌≤◌, IfErr, IfOk};
 ghost use Rattle.cosim_call.specs.Calls.{stream};
 ghost use Rattle.cosim_call.specs.Coming.{Serves};
-ghost use Rattle.cosim_commands.specs.Accepted.{planned, status_of};
-ghost use Rattle.cosim_commands.specs.Answer.{Answers};
-ghost use Rattle.cosim_commands.specs.Serving.{IsAccepted, IsUnaccepted, Runs, TellsEnding};
+ghost use Rattle.cosim_answers.specs.Accepted.{planned, status_of};
+ghost use Rattle.cosim_answers.specs.Answer.{Answers};
+ghost use Rattle.cosim_answers.specs.Serving.{IsAccepted, IsUnaccepted, Runs, TellsEnding};
 ghost use Rattle.command_line.specs.declared.commands.Command.TheVariants.{Run};
 ghost use Rattle.serial_run.specs.Alone.{IsAlone};
 

@@ -1,7 +1,7 @@
 //! The command `save`.
 ghost use Rattle.cosim_call.specs.Coming.{Makes};
-ghost use Rattle.cosim_commands.specs.Answer.{Answers};
-ghost use Rattle.cosim_commands.specs.Serving.{MakesSaved};
+ghost use Rattle.cosim_answers.specs.Answer.{Answers};
+ghost use Rattle.cosim_answers.specs.Serving.{MakesSaved};
 ghost use Rattle.command_line.specs.declared.commands.Command.TheVariants.{Save};
 
 use crate::commands::run::plan_of;

@@ -1,6 +1,6 @@
 //! The command `stimulus`.
-ghost use Rattle.cosim_commands.specs.Answer.{Answers};
-ghost use Rattle.cosim_commands.specs.Serving.{FindsTable};
+ghost use Rattle.cosim_answers.specs.Answer.{Answers};
+ghost use Rattle.cosim_answers.specs.Serving.{FindsTable};
 ghost use Rattle.cosim_call.specs.Coming.{Makes};
 ghost use Rattle.command_line.specs.Commands.{stimulus_limit};
 ghost use Rattle.command_line.specs.declared.commands.Command.TheVariants.{Stimulus};

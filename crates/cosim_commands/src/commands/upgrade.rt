@@ -1,7 +1,7 @@
 //! The command `upgrade`.
 ghost use Rattle.cosim_call.specs.Coming.{Makes};
-ghost use Rattle.cosim_commands.specs.Answer.{Answers};
-ghost use Rattle.cosim_commands.specs.Serving.{Upgrades};
+ghost use Rattle.cosim_answers.specs.Answer.{Answers};
+ghost use Rattle.cosim_answers.specs.Serving.{Upgrades};
 ghost use Rattle.command_line.specs.declared.commands.Command.TheVariants.{Upgrade};
 ghost use Rattle.unit_tree.specs.Printable.{IsPrintable};
 ghost use Rattle.unit_tree.specs.WellFormed.{IsWellFormed};

@@ -2,9 +2,9 @@
 ghost use Rattle.std.specs.Prelude.{◌≡◌, ◌≤◌, length, IfOk};
 ghost use Rattle.command_line.specs.Commands.{verify_limit};
 ghost use Rattle.command_line.specs.declared.commands.Command.TheVariants.{Verify};
-ghost use Rattle.cosim_commands.specs.Answer.{Answers};
-ghost use Rattle.cosim_commands.specs.Serving.{FindsParts};
-ghost use Rattle.cosim_commands.specs.TableAnswers.{verdict_text};
+ghost use Rattle.cosim_answers.specs.Answer.{Answers};
+ghost use Rattle.cosim_answers.specs.Serving.{FindsParts};
+ghost use Rattle.cosim_answers.specs.TableAnswers.{verdict_text};
 ghost use Rattle.cosim_call.specs.Coming.{Makes};
 
 use crate::commands::run::plan_of;

@@ -3,10 +3,10 @@ use Rattle.std.specs.Prelude.{IfSome}
 use Rattle.cosim_call.specs.Calls.{TakesAtMost, stream}
 use Rattle.cosim_call.specs.Coming.{Comes, ReadsInput, Serves}
 use Rattle.cosim_call.proofs.ComingLaws.{comes_unread, comes_whole}
-use Rattle.cosim_commands.specs.Answer.{Answers}
+use Rattle.cosim_answers.specs.Answer.{Answers}
 use Rattle.command_line.specs.Commands.{input_of}
-use Rattle.cosim_commands.proofs.CommandLaws.{in_limit, is_answered}
-use Rattle.cosim_commands.proofs.MakingLaws.{handed_on}
+use Rattle.cosim_answers.proofs.CommandLaws.{in_limit, is_answered}
+use Rattle.cosim_answers.proofs.MakingLaws.{handed_on}
 use Rattle.cosim_commands.proofs.command.come.Goals as goal
 
 pub serve-requires : goal.serve-requires

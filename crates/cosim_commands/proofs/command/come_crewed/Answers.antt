@@ -2,10 +2,10 @@ use Rattle.std.proofs.Common.{ℕ, List, Option, Ok, Err, subst}
 use Rattle.cosim_call.specs.Calls.{TakesAtMost, stream}
 use Rattle.cosim_call.specs.Coming.{Comes, ReadsInput, Serves}
 use Rattle.cosim_call.proofs.ComingLaws.{comes_unread, comes_whole}
-use Rattle.cosim_commands.specs.Answer.{Answers}
+use Rattle.cosim_answers.specs.Answer.{Answers}
 use Rattle.command_line.specs.Commands.{input_of}
-use Rattle.cosim_commands.proofs.CommandLaws.{is_answered}
-use Rattle.cosim_commands.proofs.MakingLaws.{handed_on}
+use Rattle.cosim_answers.proofs.CommandLaws.{is_answered}
+use Rattle.cosim_answers.proofs.MakingLaws.{handed_on}
 use Rattle.cosim_commands.proofs.command.come_crewed.Goals as goal
 
 pub returns : goal.returns

@@ -2,11 +2,11 @@ use Rattle.std.proofs.Common.{Option, subst}
 use Rattle.cosim_call.specs.Calls.{Promises, Streams, stream}
 use Rattle.cosim_call.proofs.CallLaws.{promises_kept}
 use Rattle.cosim_call.proofs.UsageLaws.{never_usage}
-use Rattle.cosim_commands.specs.Answer.{Answers, AnswersOf}
+use Rattle.cosim_answers.specs.Answer.{Answers, AnswersOf}
 use Rattle.command_line.specs.Commands.{input_of, input_of_words}
 use Rattle.command_line.specs.Words.{bytes_of}
 use Rattle.command_line.specs.declared.commands.Command.{Command}
-use Rattle.cosim_commands.proofs.CommandLaws.{has_form}
+use Rattle.cosim_answers.proofs.CommandLaws.{has_form}
 use Rattle.cosim_commands.proofs.command.cosim_gated.Goals as goal
 
 pub returns-in-Some : goal.returns-in-Some

@@ -2,7 +2,7 @@ use Rattle.std.proofs.Common.{sym, subst}
 use Rattle.cosim_call.specs.Calls.{stream}
 use Rattle.cosim_call.specs.Coming.{Serves}
 use Rattle.cosim_call.proofs.ComingLaws.{serves_made}
-use Rattle.cosim_commands.specs.Answer.{Answers}
+use Rattle.cosim_answers.specs.Answer.{Answers}
 use Rattle.command_line.specs.declared.commands.Command.{Command}
 use Rattle.command_line.specs.declared.commands.Command.TheVariants.{Bench}
 use Rattle.cosim_commands.proofs.command.serve_crewed.Goals as goal

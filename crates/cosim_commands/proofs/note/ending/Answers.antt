@@ -1,6 +1,6 @@
 use Rattle.std.proofs.Common.{◌≡◌, ◌∙◌, List, ℕ, subst}
 use Rattle.std.specs.Prelude.{IfOk}
-use Rattle.cosim_commands.proofs.RunLaws.{notes_are}
+use Rattle.cosim_answers.proofs.RunLaws.{notes_are}
 use Rattle.cosim_commands.proofs.note.ending.Goals as goal
 
 pub returns : goal.returns

@@ -2,7 +2,7 @@ use Rattle.std.proofs.Common.{◌≡◌, ℕ, List, ◌++◌, sym, ap, ◌∙◌
 use Rattle.std.specs.Fmt.{decimal}
 use Rattle.std.specs.Prelude.{codes}
 use Rattle.cosim_call.specs.Notes.{line_end}
-use Rattle.cosim_commands.specs.Notes.{nodes_text}
+use Rattle.cosim_answers.specs.Notes.{nodes_text}
 use Rattle.cosim_commands.proofs.note.nodes.Goals as goal
 
 -- the pieces, one behind the other

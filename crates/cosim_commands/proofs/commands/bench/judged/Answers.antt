@@ -1,8 +1,8 @@
 use Rattle.std.proofs.Common.{sym, subst}
 use Rattle.unit_tree.specs.Printable.{IsRanged}
 use Rattle.unit_check.specs.Rules.{IsFaultOf}
-use Rattle.cosim_commands.proofs.BenchLaws.{never_refused}
-use Rattle.cosim_commands.proofs.TraceLaws.{whole_asked}
+use Rattle.cosim_answers.proofs.BenchLaws.{never_refused}
+use Rattle.cosim_answers.proofs.TraceLaws.{whole_asked}
 use Rattle.cosim_commands.proofs.commands.bench.judged.Goals as goal
 
 pub check-requires : goal.check-requires

@@ -1,11 +1,11 @@
 use Rattle.std.proofs.Common.{ap, ◌∙◌}
 use Rattle.trace_plan.specs.Plans.{Planned}
 use Rattle.cosim_call.specs.Coming.{Makes}
-use Rattle.cosim_commands.specs.Answer.{Answers}
-use Rattle.cosim_commands.specs.Figures.{figures_text}
+use Rattle.cosim_answers.specs.Answer.{Answers}
+use Rattle.cosim_answers.specs.Figures.{figures_text}
 use Rattle.command_line.specs.declared.commands.Command.TheVariants.{Bench}
-use Rattle.cosim_commands.proofs.BenchLaws.{bench_given_up, bench_made}
-use Rattle.cosim_commands.proofs.MakingLaws.{handed_on}
+use Rattle.cosim_answers.proofs.BenchLaws.{bench_given_up, bench_made}
+use Rattle.cosim_answers.proofs.MakingLaws.{handed_on}
 use Rattle.cosim_commands.proofs.commands.bench.make.Goals as goal
 
 pub returns-in_err-report : goal.returns-in_err-report

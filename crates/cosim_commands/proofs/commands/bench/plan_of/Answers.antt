@@ -1,6 +1,6 @@
 use Rattle.std.proofs.Common.{subst}
 use Rattle.trace_plan.specs.Faults.{IsRightPlanFault}
-use Rattle.cosim_commands.proofs.BenchLaws.{never_loops}
+use Rattle.cosim_answers.proofs.BenchLaws.{never_loops}
 use Rattle.cosim_commands.proofs.commands.bench.plan_of.Goals as goal
 
 pub unreachable-requires : goal.unreachable-requires

@@ -1,9 +1,9 @@
 use Rattle.std.proofs.Common.{inr, refl}
 use Rattle.cosim_call.specs.Coming.{Makes}
 use Rattle.cosim_call.specs.declared.coming.Stopped.TheVariants as stopped
-use Rattle.cosim_commands.specs.Answer.{Answers, accepted_text}
+use Rattle.cosim_answers.specs.Answer.{Answers, accepted_text}
 use Rattle.command_line.specs.declared.commands.Command.TheVariants.{Check}
-use Rattle.cosim_commands.proofs.MakingLaws.{handed_on, made, not_accepted}
+use Rattle.cosim_answers.proofs.MakingLaws.{handed_on, made, not_accepted}
 use Rattle.cosim_commands.proofs.commands.check.make.Goals as goal
 
 pub returns-in_err-accept : goal.returns-in_err-accept

@@ -2,10 +2,10 @@ use Rattle.std.proofs.Common.{subst}
 use Rattle.text_accept.specs.Accepting.{IsAcceptedAs}
 use Rattle.cosim_call.specs.Coming.{Makes}
 use Rattle.command_line.specs.declared.commands.Command.TheVariants.{Flatten}
-use Rattle.cosim_commands.specs.Answer.{Answers}
-use Rattle.cosim_commands.specs.Serving.{IsUnaccepted}
-use Rattle.cosim_commands.proofs.FlatLaws.{a_line_each, flat_made, flat_refused, groups_refused, nest_refused}
-use Rattle.cosim_commands.proofs.MakingLaws.{handed_on}
+use Rattle.cosim_answers.specs.Answer.{Answers}
+use Rattle.cosim_answers.specs.Serving.{IsUnaccepted}
+use Rattle.cosim_answers.proofs.FlatLaws.{a_line_each, flat_made, flat_refused, groups_refused, nest_refused}
+use Rattle.cosim_answers.proofs.MakingLaws.{handed_on}
 use Rattle.cosim_commands.proofs.commands.flatten.make.Goals as goal
 
 pub flat_text-requires : goal.flat_text-requires

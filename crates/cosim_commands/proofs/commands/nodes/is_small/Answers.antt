@@ -4,8 +4,8 @@ use Rattle.std.specs.Prelude.{nat_le}
 use Rattle.unit_tree.specs.Compositions.{Composition}
 use Rattle.unit_tree.specs.Routes.{routes_of}
 use Rattle.unit_tree.specs.declared.order.Routes.{Routes}
-use Rattle.cosim_commands.specs.NodesAnswers.{nodes_limit, outputs_run, size_for_nodes}
-use Rattle.cosim_commands.proofs.NodesLaws.{outputs_counted}
+use Rattle.cosim_answers.specs.NodesAnswers.{nodes_limit, outputs_run, size_for_nodes}
+use Rattle.cosim_answers.proofs.NodesLaws.{outputs_counted}
 use Rattle.cosim_commands.proofs.commands.nodes.is_small.Goals as goal
 
 -- the product is the size

@@ -4,9 +4,9 @@ use Rattle.trace_rows.specs.declared.fault.CrewFault.{CrewFault}
 use Rattle.trace_plan.specs.Plans.{Planned}
 use Rattle.cosim_call.specs.Calls.{stream}
 use Rattle.cosim_call.specs.declared.coming.Stopped.TheVariants as stopped
-use Rattle.cosim_commands.specs.Serving.{RunsNodes}
-use Rattle.cosim_commands.proofs.MakingLaws.{handed_on}
-use Rattle.cosim_commands.proofs.NodesLaws.{nothing_begins}
+use Rattle.cosim_answers.specs.Serving.{RunsNodes}
+use Rattle.cosim_answers.proofs.MakingLaws.{handed_on}
+use Rattle.cosim_answers.proofs.NodesLaws.{nothing_begins}
 use Rattle.cosim_commands.proofs.commands.nodes.run_pair.Goals as goal
 
 pub returns-in_err-clone : goal.returns-in_err-clone

@@ -5,11 +5,11 @@ use Rattle.trace_plan.specs.Plans.{Planned}
 use Rattle.cosim_call.specs.Calls.{stream}
 use Rattle.cosim_call.specs.Coming.{Serves}
 use Rattle.command_line.specs.declared.commands.Command.TheVariants.{Nodes}
-use Rattle.cosim_commands.specs.Answer.{Answers}
-use Rattle.cosim_commands.specs.NodesAnswers.{nodes_limit, size_for_nodes}
-use Rattle.cosim_commands.specs.Serving.{TellsRounds}
-use Rattle.cosim_commands.proofs.MakingLaws.{handed_on}
-use Rattle.cosim_commands.proofs.NodesLaws.{nodes_stop, rounds_given_up, rounds_told, too_large_refused}
+use Rattle.cosim_answers.specs.Answer.{Answers}
+use Rattle.cosim_answers.specs.NodesAnswers.{nodes_limit, size_for_nodes}
+use Rattle.cosim_answers.specs.Serving.{TellsRounds}
+use Rattle.cosim_answers.proofs.MakingLaws.{handed_on}
+use Rattle.cosim_answers.proofs.NodesLaws.{nodes_stop, rounds_given_up, rounds_told, too_large_refused}
 use Rattle.cosim_commands.proofs.commands.nodes.serve.Goals as goal
 
 -- a number is at most another one, or above it, as it was decided

@@ -1,10 +1,10 @@
 use Rattle.std.proofs.Common.{inr, refl, ap, ◌∙◌}
 use Rattle.cosim_call.specs.Coming.{Makes}
 use Rattle.cosim_call.specs.declared.coming.Stopped.TheVariants as stopped
-use Rattle.cosim_commands.specs.Accepted.{printed_text}
-use Rattle.cosim_commands.specs.Answer.{Answers}
+use Rattle.cosim_answers.specs.Accepted.{printed_text}
+use Rattle.cosim_answers.specs.Answer.{Answers}
 use Rattle.command_line.specs.declared.commands.Command.TheVariants.{Print}
-use Rattle.cosim_commands.proofs.MakingLaws.{handed_on, made, not_accepted}
+use Rattle.cosim_answers.proofs.MakingLaws.{handed_on, made, not_accepted}
 use Rattle.cosim_commands.proofs.commands.print.make.Goals as goal
 
 pub returns-in_err-read : goal.returns-in_err-read

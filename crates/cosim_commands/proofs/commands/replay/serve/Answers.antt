@@ -2,11 +2,11 @@ use Rattle.std.proofs.Common.{subst}
 use Rattle.trace_plan.specs.Plans.{Planned}
 use Rattle.cosim_call.specs.Calls.{stream}
 use Rattle.cosim_call.specs.Coming.{Serves}
-use Rattle.cosim_commands.specs.Answer.{Answers}
-use Rattle.cosim_commands.specs.Serving.{TellsReplayed}
+use Rattle.cosim_answers.specs.Answer.{Answers}
+use Rattle.cosim_answers.specs.Serving.{TellsReplayed}
 use Rattle.command_line.specs.declared.commands.Command.TheVariants.{Replay}
-use Rattle.cosim_commands.proofs.MakingLaws.{handed_on}
-use Rattle.cosim_commands.proofs.ReplayLaws.{replay_given_up, replay_stops, replay_told}
+use Rattle.cosim_answers.proofs.MakingLaws.{handed_on}
+use Rattle.cosim_answers.proofs.ReplayLaws.{replay_given_up, replay_stops, replay_told}
 use Rattle.cosim_commands.proofs.commands.replay.serve.Goals as goal
 
 pub returns-in_err-plan : goal.returns-in_err-plan

@@ -3,10 +3,10 @@ use Rattle.trace_plan.specs.Plans.{Planned}
 use Rattle.cosim_call.specs.Calls.{stream}
 use Rattle.cosim_call.specs.Coming.{Serves}
 use Rattle.command_line.specs.declared.commands.Command.TheVariants.{Resume}
-use Rattle.cosim_commands.specs.Answer.{Answers}
-use Rattle.cosim_commands.specs.Serving.{GoesOn, TellsResumed}
-use Rattle.cosim_commands.proofs.MakingLaws.{handed_on}
-use Rattle.cosim_commands.proofs.ResumeLaws.{fits_nowhere, refuses_behind, rest_given_up, rest_told, saves_no_position}
+use Rattle.cosim_answers.specs.Answer.{Answers}
+use Rattle.cosim_answers.specs.Serving.{GoesOn, TellsResumed}
+use Rattle.cosim_answers.proofs.MakingLaws.{handed_on}
+use Rattle.cosim_answers.proofs.ResumeLaws.{fits_nowhere, refuses_behind, rest_given_up, rest_told, saves_no_position}
 use Rattle.cosim_commands.proofs.commands.resume.serve.Goals as goal
 
 pub returns-in_err-saved : goal.returns-in_err-saved

@@ -5,8 +5,8 @@ use Rattle.trace_rows.proofs.RunEnds.{front_none}
 use Rattle.trace_plan.specs.Plans.{Planned}
 use Rattle.cosim_call.specs.Calls.{stream}
 use Rattle.cosim_call.specs.declared.coming.Stopped.TheVariants as stopped
-use Rattle.cosim_commands.specs.Serving.{Runs}
-use Rattle.cosim_commands.proofs.MakingLaws.{handed_on}
+use Rattle.cosim_answers.specs.Serving.{Runs}
+use Rattle.cosim_answers.proofs.MakingLaws.{handed_on}
 use Rattle.cosim_commands.proofs.commands.run.run_plan.Goals as goal
 
 pub returns-in_err-clone-clause-runs : goal.returns-in_err-clone-clause-runs

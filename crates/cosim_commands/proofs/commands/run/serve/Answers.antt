@@ -2,11 +2,11 @@ use Rattle.std.proofs.Common.{subst}
 use Rattle.trace_plan.specs.Plans.{Planned}
 use Rattle.cosim_call.specs.Calls.{stream}
 use Rattle.cosim_call.specs.Coming.{Serves}
-use Rattle.cosim_commands.specs.Answer.{Answers}
-use Rattle.cosim_commands.specs.Serving.{TellsEnding}
+use Rattle.cosim_answers.specs.Answer.{Answers}
+use Rattle.cosim_answers.specs.Serving.{TellsEnding}
 use Rattle.command_line.specs.declared.commands.Command.TheVariants.{Run}
-use Rattle.cosim_commands.proofs.MakingLaws.{handed_on}
-use Rattle.cosim_commands.proofs.RunLaws.{run_given_up, run_stops, run_told}
+use Rattle.cosim_answers.proofs.MakingLaws.{handed_on}
+use Rattle.cosim_answers.proofs.RunLaws.{run_given_up, run_stops, run_told}
 use Rattle.cosim_commands.proofs.commands.run.serve.Goals as goal
 
 pub returns-in_err-plan : goal.returns-in_err-plan

@@ -1,9 +1,9 @@
 use Rattle.std.proofs.Common.{sym, inl}
 use Rattle.cosim_call.specs.Coming.{Makes}
 use Rattle.command_line.specs.declared.commands.Command.TheVariants.{Save}
-use Rattle.cosim_commands.specs.Answer.{Answers}
-use Rattle.cosim_commands.proofs.MakingLaws.{handed_on, not_accepted}
-use Rattle.cosim_commands.proofs.ResumeLaws.{saved_made}
+use Rattle.cosim_answers.specs.Answer.{Answers}
+use Rattle.cosim_answers.proofs.MakingLaws.{handed_on, not_accepted}
+use Rattle.cosim_answers.proofs.ResumeLaws.{saved_made}
 use Rattle.cosim_commands.proofs.commands.save.make.Goals as goal
 
 pub returns-in_err-plan : goal.returns-in_err-plan

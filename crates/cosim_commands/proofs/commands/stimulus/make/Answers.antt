@@ -1,9 +1,9 @@
 use Rattle.cosim_call.specs.Coming.{Makes}
 use Rattle.cosim_call.specs.declared.coming.Stopped.TheVariants as stopped
 use Rattle.command_line.specs.declared.commands.Command.TheVariants.{Stimulus}
-use Rattle.cosim_commands.specs.Answer.{Answers}
-use Rattle.cosim_commands.proofs.MakingLaws.{handed_on}
-use Rattle.cosim_commands.proofs.TableLaws.{table_made, table_not_made}
+use Rattle.cosim_answers.specs.Answer.{Answers}
+use Rattle.cosim_answers.proofs.MakingLaws.{handed_on}
+use Rattle.cosim_answers.proofs.TableLaws.{table_made, table_not_made}
 use Rattle.cosim_commands.proofs.commands.stimulus.make.Goals as goal
 
 pub returns-in_err-system : goal.returns-in_err-system

@@ -6,12 +6,12 @@ use Rattle.unit_tree.specs.Texts.{text_limit}
 use Rattle.unit_tree.specs.WellFormed.{IsWellFormed}
 use Rattle.unit_tree.specs.declared.system.System.{System}
 use Rattle.unit_upgrade.specs.Upgrades.{upgraded}
-use Rattle.cosim_commands.specs.Accepted.{printed_text}
-use Rattle.cosim_commands.specs.Answer.{Answers}
-use Rattle.cosim_commands.specs.Serving.{Upgrades}
+use Rattle.cosim_answers.specs.Accepted.{printed_text}
+use Rattle.cosim_answers.specs.Answer.{Answers}
+use Rattle.cosim_answers.specs.Serving.{Upgrades}
 use Rattle.command_line.specs.declared.commands.Command.TheVariants.{Upgrade}
-use Rattle.cosim_commands.proofs.MakingLaws.{handed_on, made, not_accepted}
-use Rattle.cosim_commands.proofs.UpgradeLaws.{accepted_is_printable, not_upgraded}
+use Rattle.cosim_answers.proofs.MakingLaws.{handed_on, made, not_accepted}
+use Rattle.cosim_answers.proofs.UpgradeLaws.{accepted_is_printable, not_upgraded}
 use Rattle.cosim_commands.proofs.commands.upgrade.make.Goals as goal
 
 pub upgraded-requires : goal.upgraded-requires

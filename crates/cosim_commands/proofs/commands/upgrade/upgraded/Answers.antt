@@ -1,6 +1,6 @@
 use Rattle.std.proofs.Common.{refl, subst}
 use Rattle.unit_upgrade.specs.Upgrades.{IsRightFault}
-use Rattle.cosim_commands.specs.Accepted.{printed_text}
+use Rattle.cosim_answers.specs.Accepted.{printed_text}
 use Rattle.cosim_commands.proofs.commands.upgrade.upgraded.Goals as goal
 
 pub returns-in-Ok : goal.returns-in-Ok

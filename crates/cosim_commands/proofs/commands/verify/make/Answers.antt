@@ -1,9 +1,9 @@
 use Rattle.cosim_call.specs.Coming.{Makes}
 use Rattle.cosim_call.specs.declared.coming.Stopped.TheVariants as stopped
 use Rattle.command_line.specs.declared.commands.Command.TheVariants.{Verify}
-use Rattle.cosim_commands.specs.Answer.{Answers}
-use Rattle.cosim_commands.proofs.MakingLaws.{handed_on}
-use Rattle.cosim_commands.proofs.TableLaws.{front_refused, never_parted, verdict_made}
+use Rattle.cosim_answers.specs.Answer.{Answers}
+use Rattle.cosim_answers.proofs.MakingLaws.{handed_on}
+use Rattle.cosim_answers.proofs.TableLaws.{front_refused, never_parted, verdict_made}
 use Rattle.cosim_commands.proofs.commands.verify.make.Goals as goal
 
 pub returns-in_err-parts : goal.returns-in_err-parts

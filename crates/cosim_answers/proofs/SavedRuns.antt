@@ -1,0 +1,213 @@
+-- A run that is saved, and resumed, puts what it puts.
+use Rattle.std.proofs.Common.{◌≡◌, ℕ, ◌≤◌, List, ◌∷◌, ◌++◌, length, refl, sym, ap, subst, ◌∙◌, inl, inr}
+use Rattle.std.proofs.Transfers.{drop-appended}
+use Rattle.std.proofs.lemmas.List.Concat.{flat_map-append}
+use Rattle.text_accept.specs.Accepting.{IsAcceptedAs}
+use Rattle.text_accept.proofs.Acceptance.{judged_once}
+use Rattle.text_laws.proofs.ReadBack.{read_back}
+use Rattle.text_laws.proofs.ReadIsPrintable.{read_is_printable}
+use Rattle.run_laws.proofs.PositionLaws.{system_has_members}
+use Rattle.run_laws.proofs.RunOrders.{runs_have_orders}
+use Rattle.run_laws.proofs.Rests.{rest_ends_trace}
+use Rattle.run_laws.specs.RestLaws.{EndsWithRest}
+use Rattle.command_line.specs.Commands.{saved_limit}
+use Rattle.command_line.specs.declared.commands.Command.TheVariants.{Resume}
+use Rattle.save_point.specs.Laws.{CanBeResumed, saved_of}
+use Rattle.save_point.specs.SavedTexts.{IsSaved, ended, named_states, saved_lines, saved_text}
+use Rattle.save_point.specs.Saving.{FitsSaved}
+use Rattle.save_point.proofs.PositionsOnce.{fits_one_or_none}
+use Rattle.save_point.proofs.RowsBefore.{rows_before}
+use Rattle.save_point.proofs.SavedOnce.{saves_or_breaks}
+use Rattle.save_point.proofs.SavedTraces.{can_be_resumed}
+use Rattle.event_runs.specs.Readings.{read_end, read_rows}
+use Rattle.trace_rows.specs.Lines.{header_of, lines_of}
+use Rattle.trace_rows.proofs.RowLaws.{text_is as header_and_lines}
+use Rattle.unit_tree.specs.Canonical.{canonical_text}
+use Rattle.unit_tree.specs.Compositions.{run_of}
+use Rattle.unit_tree.specs.Plain.{plain_form}
+use Rattle.unit_tree.specs.SourceLines.{in_canonical_order, numbers_of}
+use Rattle.unit_tree.specs.Lines.{source_lines}
+use Rattle.unit_tree.specs.Successor.{Position}
+use Rattle.unit_tree.specs.Trace.{IsPositionOf, IsTrace, IsTraceOf, Row, rows_of}
+use Rattle.unit_tree.specs.declared.system.System.{System}
+use Rattle.cosim_call.specs.Answers.{Answer}
+use Rattle.cosim_answers.specs.Accepted.{OnAccepted, TellsTrace, planned, run_answer, traced_notes}
+use Rattle.cosim_answers.specs.Answer.{Answers, report_lines}
+use Rattle.cosim_answers.specs.Laws.{SavedRunsGoOn}
+use Rattle.cosim_answers.specs.SavedAnswers.{AnswersResume, AnswersSave, SavesIn, TellsRest, text_behind}
+use Rattle.cosim_answers.proofs.CommandLaws.{traces_same}
+use Rattle.cosim_answers.proofs.OutputNames.{ends_alike, same_status}
+use Rattle.cosim_answers.proofs.RunLaws.{text_is, trace_told}
+use Rattle.cosim_answers.proofs.SavedLaws.{resume_lawful, rest_there}
+use Rattle.cosim_answers.proofs.TraceLaws.{IsWhole, whole_of}
+
+-- ---- The text behind the lines of a saved text
+
+-- a system of an accepted text is the one that its canonical text is accepted as
+canonical_accepted : (text : List ℕ) (system : System) (lines : List ℕ) → IsAcceptedAs text system lines
+    → (lines : List ℕ) × IsAcceptedAs (canonical_text system) system lines
+canonical_accepted text system lines accepted =
+    let reads = read_back system (read_is_printable text system accepted.reads.reads) in (
+      in_canonical_order reads.parts (numbers_of (source_lines (canonical_text system))),
+      record {
+        reads = record { reads = reads; are_lines = refl };
+        well_formed = accepted.well_formed;
+        ordered = accepted.ordered;
+      },
+    )
+
+-- and stands behind the lines of a position
+canonical_behind : (system : System) (at : Position) → text_behind (saved_text system at) (saved_of system at) ≡ canonical_text system
+unfolding saved_text
+canonical_behind system at =
+    drop-appended (ended (saved_lines at.number at.point (named_states system at))) (saved_text system at) (canonical_text system) refl
+
+module _ (row : ℕ) (text : List ℕ) (saved resumed run : Answer) (of : AnswersSave row text saved) (on : AnswersResume saved.out resumed)
+    (runs : OnAccepted TellsTrace text run) where
+  abbrev system : System
+  system = of.system
+
+  abbrev at : Position
+  at = of.is.at
+
+  whole : IsWhole system
+  whole = whole_of text system of.lines of.accepted
+
+  saves : IsSaved (saved_text system at) (saved_of system at)
+  saves = (can_be_resumed system row at whole.ranged whole.well_formed of.is.is_position).saved
+
+  text_saved : saved.out ≡ saved_text system at
+  text_saved = ap (λ (a : Answer). a.out) of.is.is
+
+  same_saved : on.saved ≡ saved_of system at
+  same_saved =
+      (saves_or_breaks (saved_text system at)).saved_once on.saved (saved_of system at)
+      (subst (λ bytes. IsSaved bytes on.saved) text_saved on.saves.saves) saves
+
+  behind : text_behind saved.out on.saved ≡ canonical_text system
+  behind = ap (λ bytes. text_behind bytes on.saved) text_saved ∙ ap (text_behind (saved_text system at)) same_saved ∙ canonical_behind system at
+
+  same_system : on.system ≡ system
+  same_system =
+      let canonical = canonical_accepted text system of.lines of.accepted in
+      ((judged_once (canonical_text system)).one_system on.system system on.saves.lines canonical.0
+      (subst (λ bytes. IsAcceptedAs bytes on.system on.saves.lines) behind on.saves.accepted) canonical.1).0
+
+  same_position : on.at ≡ at
+  same_position =
+      (fits_one_or_none (planned system) (saved_of system at)).once on.at at
+      (subst (λ s. FitsSaved (planned system) s on.at) same_saved (subst (λ s. FitsSaved (planned s) on.saved on.at) same_system on.fits))
+      (can_be_resumed system row at whole.ranged whole.well_formed of.is.is_position).fits
+
+  tells : TellsRest system at resumed
+  tells = subst (λ p. TellsRest system p resumed) same_position (subst (λ s. TellsRest s on.at resumed) same_system on.tells)
+
+  abbrev position : IsPositionOf (run_of system) row at
+  position = of.is.is_position
+
+  ends : EndsWithRest (run_of system) position.before (position.before ++ (position.here ∷ position.later)) position.ending tells.rows tells.last tells.ending
+  ends =
+      let order = runs_have_orders system whole.ranged whole.well_formed whole.ordered in
+      rest_ends_trace (run_of system) order.0 row at tells.rows tells.last tells.ending (system_has_members (plain_form system)) order.1 position tells.rest
+
+  abbrev before : List Row
+  before = rows_of (run_of system) position.before
+
+  trace : IsTraceOf system (before ++ tells.rows) tells.last tells.ending
+  trace = record {
+    stands = position.before ++ (position.here ∷ position.later);
+    trace = subst (IsTrace (run_of system) (position.before ++ (position.here ∷ position.later))) ends.ending_is position.trace;
+    rows_are = sym ends.rows_are;
+    last_is = sym ends.last_is;
+  }
+
+  -- what the run tells of this trace
+  run_is : run ≡ run_answer system (read_rows system (before ++ tells.rows)) tells.last (read_end system tells.ending)
+  run_is =
+      traces_same system whole run (run_answer system (read_rows system (before ++ tells.rows)) tells.last (read_end system tells.ending))
+      (subst (λ s. TellsTrace s run) ((judged_once text).one_system runs.system system runs.lines of.lines runs.accepted of.accepted).0 runs.is)
+      (trace_told system whole (before ++ tells.rows) tells.last tells.ending trace)
+
+  lines_are : lines_of system (before ++ tells.rows) ≡ lines_of system before ++ lines_of system tells.rows
+  unfolding lines_of
+  lines_are = flat_map-append _ before tells.rows
+
+  out_is : run.out ≡ header_of system ++ (lines_of system before ++ resumed.out)
+  out_is =
+      ap (λ (a : Answer). a.out) run_is
+      ∙ sym (text_is system whole (before ++ tells.rows) tells.last tells.ending trace)
+      ∙ sym (header_and_lines system (before ++ tells.rows))
+      ∙ ap (λ lines. header_of system ++ lines) (lines_are ∙ ap (λ (a : Answer). lines_of system before ++ a.out) (sym tells.is))
+
+  notes_are : run.notes ≡ resumed.notes
+  notes_are =
+      ap (λ (a : Answer). a.notes) run_is
+      ∙ ap (λ ending. traced_notes system ending tells.last) (sym (ends_alike system whole tells.ending))
+      ∙ ap (λ (a : Answer). a.notes) (sym tells.is)
+
+  status_is : run.status ≡ resumed.status
+  status_is = ap (λ (a : Answer). a.status) run_is ∙ sym (same_status system tells.ending) ∙ ap (λ (a : Answer). a.status) (sym tells.is)
+
+  many : length before ≡ row
+  many = rows_before (run_of system) row at position
+
+-- ---- What `save` puts is not refused
+
+module _ (row : ℕ) (text : List ℕ) (saved : Answer) (of : AnswersSave row text saved) (short : length saved.out ≤ saved_limit) where
+  abbrev place : Position
+  place = of.is.at
+
+  put : saved.out ≡ saved_text of.system place
+  put = ap (λ (a : Answer). a.out) of.is.is
+
+  resumable : CanBeResumed of.system place
+  resumable =
+      let whole = whole_of text of.system of.lines of.accepted in
+      can_be_resumed of.system row place whole.ranged whole.well_formed of.is.is_position
+
+  saves_it : IsSaved saved.out (saved_of of.system place)
+  saves_it = subst (λ bytes. IsSaved bytes (saved_of of.system place)) (sym put) resumable.saved
+
+  canonical : (lines : List ℕ) × IsAcceptedAs (text_behind saved.out (saved_of of.system place)) of.system lines
+  canonical =
+      let accepted = canonical_accepted text of.system of.lines of.accepted in (
+        accepted.0,
+        subst (λ bytes. IsAcceptedAs bytes of.system accepted.0)
+            (sym (ap (λ bytes. text_behind bytes (saved_of of.system place)) put ∙ canonical_behind of.system place)) accepted.1,
+      )
+
+  saves_in : SavesIn saved.out (saved_of of.system place) of.system
+  saves_in = record { within = short; saves = saves_it; lines = canonical.0; accepted = canonical.1 }
+
+  rests : TellsRest of.system place (rest_there of.system (saved_of of.system place) place (whole_of text of.system of.lines of.accepted) resumable.fits).0
+  rests = (rest_there of.system (saved_of of.system place) place (whole_of text of.system of.lines of.accepted) resumable.fits).1
+
+  served : (answer : Answer) × AnswersResume saved.out answer
+  served = (
+    (rest_there of.system (saved_of of.system place) place (whole_of text of.system of.lines of.accepted) resumable.fits).0,
+    record { saved = saved_of of.system place; system = of.system; saves = saves_in; at = place; fits = resumable.fits; tells = rests },
+  )
+
+  serves : (resumed : Answer) → Answers Resume saved.out resumed → AnswersResume saved.out resumed
+  serves resumed (inl refusal) = absurd (resume_lawful.not_both saved.out refusal.line refusal.rule served.0 refusal.refused served.1)
+  serves resumed (inr on) = on
+
+pub saved_runs_go_on : SavedRunsGoOn
+saved_runs_go_on row asked text saved resumed run of short on (inl refusal) =
+    absurd ((judged_once text).not_both of.system of.lines refusal.line refusal.rule of.accepted refusal.refused)
+saved_runs_go_on row asked text saved resumed run of short on (inr runs) =
+    let trace = runs.is.trace in
+    let told : OnAccepted TellsTrace text trace =
+    record { system = runs.system; lines = runs.lines; accepted = runs.accepted; is = runs.is.tells } in
+    let on' = serves row text saved of short resumed on in
+    record {
+      before = before row text saved resumed trace of on' told;
+      as_many = many row text saved resumed trace of on' told;
+      out = ap (λ (a : Answer). a.out) runs.is.is ∙ out_is row text saved resumed trace of on' told;
+      notes = inr (
+        runs.is.report,
+        ap (λ (a : Answer). a.notes) runs.is.is
+            ∙ ap (λ notes. notes ++ report_lines asked runs.is.report) (notes_are row text saved resumed trace of on' told),
+      );
+      status = ap (λ (a : Answer). a.status) runs.is.is ∙ status_is row text saved resumed trace of on' told;
+    }

@@ -1,0 +1,109 @@
+-- What `save` and `resume` answer, and by which rules they refuse a text.
+--
+--   rule 31   the trace has no position of the number that is asked for
+--   rule 32   the text saves no position
+--   rule 33   a run of the system may stand at no such position
+use Rattle.std.specs.Prelude.{◌≡◌, ◌⊎◌, ℕ, ◌+◌, ◌≤◌, List, drop, length}
+use Rattle.command_line.specs.Commands.{saved_limit}
+use Rattle.cosim_answers.specs.Accepted.{OnAccepted, RefusesAlso, planned, status_of, traced_notes}
+use Rattle.cosim_answers.specs.Limits.{IsLongerThan}
+use Rattle.cosim_answers.specs.SourcePlaces.{source_end}
+use Rattle.cosim_call.specs.Answers.{Answer, piece_answer}
+use Rattle.save_point.specs.SavedTexts.{BreaksAtLine, IsSaved, saved_text}
+use Rattle.save_point.specs.Saving.{FitsNone, FitsSaved, HasNoPosition}
+use Rattle.save_point.specs.declared.reading.Saved.{Saved}
+use Rattle.super_time.specs.declared.point.Point.{Point}
+use Rattle.text_accept.specs.Accepting.{IsAcceptedAs, IsRefusedAt}
+use Rattle.trace_rows.specs.Lines.{lines_of}
+use Rattle.unit_tree.specs.Compositions.{run_of}
+use Rattle.unit_tree.specs.Successor.{Position}
+use Rattle.unit_tree.specs.Trace.{IsPositionOf, IsRest, Row}
+use Rattle.unit_tree.specs.declared.ending.Ending.{Ending}
+use Rattle.unit_tree.specs.declared.system.System.{System}
+
+-- ---- `save`
+
+-- By the saved text of the position of this number in the system's trace.
+pub record TellsPosition (row : ℕ) (system : System) (answer : Answer) : Type 0 where
+  pub at : Position
+  pub is_position : IsPositionOf (run_of system) row at
+  pub is : answer ≡ piece_answer (saved_text system at)
+
+abbrev pub AnswersSave : ℕ → List ℕ → Answer → Type 0
+AnswersSave row = OnAccepted (TellsPosition row)
+
+-- The trace of the system has no position of this number: rule 31.
+abbrev pub LacksPosition : ℕ → System → Type 0
+LacksPosition row system = HasNoPosition (run_of system) row
+
+abbrev pub SaveRefuses : ℕ → List ℕ → ℕ → ℕ → Type 0
+SaveRefuses row = RefusesAlso (LacksPosition row) 31
+
+-- ---- `resume`
+
+-- What stands in a text behind the lines that save a position, and how many lines these are.
+abbrev pub text_behind : List ℕ → Saved → List ℕ
+text_behind text saved = drop saved.rest text
+
+abbrev pub lines_before : Saved → ℕ
+lines_before saved = 3 + length saved.names
+
+-- A text that is short enough saves a position, and the text behind is accepted as a system.
+pub record SavesIn (text : List ℕ) (saved : Saved) (system : System) : Type 0 where
+  pub within : length text ≤ saved_limit
+  pub saves : IsSaved text saved
+  pub lines : List ℕ
+  pub accepted : IsAcceptedAs (text_behind text saved) system lines
+
+-- The lines of rows, without a header, and how and where the run ended, as what is run of the system ended.
+abbrev pub resumed_answer : System → List Row → Point → Ending → Answer
+resumed_answer system rows last ending = record {
+  out = lines_of system rows;
+  notes = traced_notes system (source_end system ending) last;
+  status = status_of ending;
+}
+
+-- By the rest of the position.
+pub record TellsRest (system : System) (at : Position) (answer : Answer) : Type 0 where
+  pub rows : List Row
+  pub last : Point
+  pub ending : Ending
+  pub rest : IsRest (run_of system) at rows last ending
+  pub is : answer ≡ resumed_answer system rows last ending
+
+-- By the rest of the position that a text saves.
+pub record AnswersResume (text : List ℕ) (answer : Answer) : Type 0 where
+  pub saved : Saved
+  pub system : System
+  pub saves : SavesIn text saved system
+  pub at : Position
+  pub fits : FitsSaved (planned system) saved at
+  pub tells : TellsRest system at answer
+
+-- It saves no position: rule 32, at the first line that is lacking or has another form.
+pub record SavesNone (text : List ℕ) (line rule : ℕ) : Type 0 where
+  pub within : length text ≤ saved_limit
+  pub breaks : BreaksAtLine text line
+  pub by : rule ≡ 32
+
+-- The text behind is refused. The line is told by its number in the whole text.
+pub record RefusesBehind (text : List ℕ) (line rule : ℕ) : Type 0 where
+  pub within : length text ≤ saved_limit
+  pub saved : Saved
+  pub saves : IsSaved text saved
+  pub behind : ℕ
+  pub refused : IsRefusedAt (text_behind text saved) behind rule
+  pub at : line ≡ lines_before saved + behind
+
+-- A run of the system may stand at no position that is saved: rule 33, at line 1.
+pub record LacksMatch (text : List ℕ) (line rule : ℕ) : Type 0 where
+  pub saved : Saved
+  pub system : System
+  pub saves : SavesIn text saved system
+  pub none : FitsNone (planned system) saved
+  pub at : line ≡ 1
+  pub by : rule ≡ 33
+
+abbrev pub ResumeRefuses : List ℕ → ℕ → ℕ → Type 0
+ResumeRefuses text line rule =
+    IsLongerThan saved_limit text line rule ⊎ SavesNone text line rule ⊎ RefusesBehind text line rule ⊎ LacksMatch text line rule

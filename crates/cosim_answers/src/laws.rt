@@ -1,0 +1,31 @@
+//! Laws of answers.
+ghost use Rattle.cosim_answers.specs.Laws.{AnswersAgree, EndsAreServed, EveryCallIsAnswered, NoCallIsAnsweredTwice, NotesAgree, RefusalsAreOfRules, RunsAgree, SavedRunsGoOn};
+
+/// A law: for each list of words and each input there is an answer, all answers put the same and have the same status, and
+/// there are no two, but where workers are reported of.
+pub fn one_answer()
+    ensures some { EveryCallIsAnswered }
+    ensures agree { AnswersAgree }
+    ensures only { NoCallIsAnsweredTwice }
+{}
+
+/// A law: a run puts the same and has the same status with any number of workers, over any window, by any guesses, and with a
+/// report or without one. Its notes are the same too, but for the line of the report.
+pub fn workers_change_nothing()
+    ensures agree { RunsAgree }
+    ensures notes { NotesAgree }
+{}
+
+/// A law: the status of an answer tells where it comes from. One by `Refused` is a refusal of the text by the command of the
+/// words, and one by which a command ends its work is of a text that this serves.
+pub fn statuses_have_causes()
+    ensures refused { RefusalsAreOfRules }
+    ensures served { EndsAreServed }
+{}
+
+/// A law: what `run` puts of a text is its header, the rows before a position that `save` saves, and then just what `resume` puts of
+/// that, with the same status, and the same notes but for the line of a report. `resume` refuses nothing that `save` put and that is no
+/// longer than it may read.
+pub fn saved_runs_go_on()
+    ensures { SavedRunsGoOn }
+{}
