@@ -5,6 +5,7 @@ pub mod Lawful
 pub mod MakingLaws
 pub mod NodesLaws
 pub mod OutputNames
+pub mod PipelineLaws
 pub mod ReplayLaws
 pub mod ResumeLaws
 pub mod RunLaws

@@ -6,6 +6,7 @@ pub mod Laws
 pub mod Limits
 pub mod NodesAnswers
 pub mod Notes
+pub mod Pipelines
 pub mod SavedAnswers
 pub mod Serving
 pub mod SourcePlaces

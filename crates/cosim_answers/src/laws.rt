@@ -1,4 +1,5 @@
 //! Laws of answers.
+ghost use Rattle.cosim_answers.specs.Pipelines.{FlatRunsAreNested, GeneratedRunsHaveFigures, NodesPrintAPrefix, PrintsRunAlike, RunsAreVerified, TablesArePrinted, UpgradesRunAlike};
 ghost use Rattle.cosim_answers.specs.Laws.{AnswersAgree, EndsAreServed, EveryCallIsAnswered, NoCallIsAnsweredTwice, NotesAgree, RefusalsAreOfRules, RunsAgree, SavedRunsGoOn};
 
 /// A law: for each list of words and each input there is an answer, all answers put the same and have the same status, and
@@ -28,4 +29,17 @@ pub fn statuses_have_causes()
 /// longer than it may read.
 pub fn saved_runs_go_on()
     ensures { SavedRunsGoOn }
+{}
+
+/// A law of pipelines: `run` prints the same of a text, of what `print` prints of it and of what `upgrade` prints of it. `verify` answers
+/// `yes` to what `run` prints. What `run` prints of what `flatten` prints is the trace of the nest, of what `stimulus` prints the rows of
+/// the table, and of what `gen` prints the rows of which `bench` answers the figures. What `nodes` prints is a prefix of what `run` prints.
+pub fn pipelines_agree()
+    ensures print { PrintsRunAlike }
+    ensures upgrade { UpgradesRunAlike }
+    ensures verify { RunsAreVerified }
+    ensures flatten { FlatRunsAreNested }
+    ensures stimulus { TablesArePrinted }
+    ensures generated { GeneratedRunsHaveFigures }
+    ensures nodes { NodesPrintAPrefix }
 {}

@@ -8,9 +8,12 @@
 //!
 //! [`one_answer`] is the law that every call has exactly one answer, [`statuses_have_causes`] says what a status says of it,
 //! [`workers_change_nothing`] that a run is the same with workers and without, and [`saved_runs_go_on`] that one that is saved and resumed
-//! is the same too. `specs/Serving.antt`, which need not be believed, says what the parts of commands do.
+//! is the same too. [`pipelines_agree`] is the law of what a command answers to what another one printed (`specs/Pipelines.antt`).
+//! `specs/Serving.antt`, which need not be believed, says what the parts of commands do.
 #![tactic(auto)]
 
 mod laws;
 
-pub use laws::{one_answer, saved_runs_go_on, statuses_have_causes, workers_change_nothing};
+pub use laws::{
+    one_answer, pipelines_agree, saved_runs_go_on, statuses_have_causes, workers_change_nothing,
+};

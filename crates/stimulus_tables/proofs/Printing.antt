@@ -92,20 +92,7 @@ number_short n small = fixed_short 16 n (omega arith) (omega (arith, small)) (om
 
 -- A number of at most ten digits.
 time_short : (n : ℕ) → n ≤ 10 ^ 9 → length (fixed_text 0 n) ≤ 13
-time_short n small =
-    let text = decimal n in
-    let all = padded 0 text in
-    let place = length all - 0 in
-    let few : length text ≤ 10 = length-decimal-le 10 n (omega arith) (omega arith) (omega arith) in
-    omega (
-      arith,
-      length-append (replicate {A = ℕ} (0 + 1 - length text) 48) text,
-      length-replicate {A = ℕ} (0 + 1 - length text) 48,
-      length-append (take place all) (pointed (drop place all)),
-      length-take-le place all (omega arith),
-      length-drop place all,
-      pointed_within (drop place all),
-    )
+time_short n small = fixed_short 10 n (omega arith) (omega (arith, small)) (omega (arith, small))
 
 unsigned_is_word : (n : ℕ) → n ≤ 10 ^ 15 → is_word_of Int64 (pos n) ≡ true
 unsigned_is_word n small = grind (arith, nat_tests)
