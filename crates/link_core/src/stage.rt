@@ -12,6 +12,7 @@ ghost use Rattle.unit_tree.specs.Successor.{first_told, max_end_of, step_end_of,
 
 use crate::notes::Notes;
 use link_laws::{Asked, Said, Seen, Stage};
+use step_rule::{capped, is_held};
 use super_time::{Point, limit, local_step};
 use trace_plan::Plan;
 use unit_tree::{Ending, Place, Route};
@@ -80,17 +81,6 @@ fn max_fault(limits: &[Option<Asked>]) -> Option<Ending>
     None
 }
 
-/// The lesser of two lengths.
-fn capped(length: u64, other: u128) -> u64
-    ensures { result ≡ min length other }
-{
-    if other < u128::from(length) {
-        other as u64
-    } else {
-        length
-    }
-}
-
 /// The limit that what is told of a `max` sets at `t`, and at most `least`.
 fn capped_limit(factor: u64, t: u64, asked: Option<Asked>, least: u64) -> u64
     requires factor { 1 ≤ factor }
@@ -117,15 +107,6 @@ fn proposal(plan: &Plan, limits: &[Option<Asked>], t: u64) -> u64
         least = capped_limit(plan.factor(instance), t, limits[instance as usize], least);
     }
     least
-}
-
-/// Whether an instance is held in a step of `h` from `t`.
-pub(crate) fn is_held(factor: u64, t: u64, h: u64) -> bool
-    requires factor { 1 ≤ factor }
-    requires end { t + h ≤ 10 ^ 15 }
-    ensures { result ≡ is_held factor t h }
-{
-    h > 0 && local_step(factor, t, h) == 0
 }
 
 /// Whether the reply of an instance to a step of `h` from `t` is known, or none is asked for.

@@ -11,10 +11,10 @@ ghost use Rattle.unit_tree.specs.Negotiation.{all_inputs, max_at, step_at};
 ghost use Rattle.unit_tree.specs.Ports.{Ports};
 
 use crate::notes::{Notes, note};
-use crate::stage::is_held;
 use fixed_words::Fault;
 use link_laws::{Asked, Fact, Said};
 use snap_store::copy_words;
+use step_rule::is_held;
 use super_time::{Point, local_step, local_time};
 use trace_plan::Plan;
 use trace_units::Units;

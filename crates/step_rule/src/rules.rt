@@ -1,7 +1,7 @@
 ghost use Rattle.std.specs.Prelude.{◌≡◌, ◌≤◌, ◌<◌, ◌+◌, ◌^◌, ℕ, length, min};
 ghost use Rattle.step_rule.specs.AfterStep.{after_step};
 ghost use Rattle.super_time.specs.LocalTime.{local_step};
-ghost use Rattle.unit_tree.specs.Negotiation.{agreed_step, proposal_of, reply_of};
+ghost use Rattle.unit_tree.specs.Negotiation.{agreed_step, is_held, proposal_of, reply_of};
 
 use super_time::{Point, limit, local_step};
 
@@ -27,7 +27,7 @@ pub fn propose(stop: u64, longest: u64, t: u64, limits: &[u128]) -> u64
 }
 
 /// The lesser of two lengths.
-fn capped(length: u64, limit: u128) -> u64
+pub fn capped(length: u64, limit: u128) -> u64
     ensures { result ≡ min length limit }
 {
     if limit < u128::from(length) {
@@ -35,6 +35,15 @@ fn capped(length: u64, limit: u128) -> u64
     } else {
         length
     }
+}
+
+/// Whether a component is held in a step of `h` from `t`: the step has a length, and none of the component's own ticks ends in it.
+pub fn is_held(factor: u64, t: u64, h: u64) -> bool
+    requires factor { 1 ≤ factor }
+    requires end { t + h ≤ 10 ^ 15 }
+    ensures { result ≡ is_held factor t h }
+{
+    h > 0 && local_step(factor, t, h) == 0
 }
 
 /// The reply to a step of `h` from `t` of a component that accepted so many local ticks of it, of which one is `factor`
