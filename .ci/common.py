@@ -1,6 +1,7 @@
 """What the checks of the gate share: the program that they try, how they tell of failures, and what they read."""
 import os
 import re
+import signal
 import sys
 
 ROOT = os.path.join(os.path.dirname(os.path.abspath(__file__)), "..")
@@ -44,11 +45,17 @@ class Tally:
         sys.exit(1 if self.failed else 0)
 
 
+def print_page(page: str) -> None:
+    """Prints a page. A reader that leaves ends the process, as it ends other tools."""
+    signal.signal(signal.SIGPIPE, signal.SIG_DFL)
+    print(page, flush=True)
+
+
 def find_program(words, document):
     """The program that is named by the words, or the one that was built. Goes to the folder of the repository. Ends the
     process where there are more words, or there is no program."""
     if len(words) > 1:
-        print(document)
+        print_page(document)
         sys.exit(2)
     program = os.path.abspath(words[0] if words else os.path.join(ROOT, BUILT))
     if not os.access(program, os.X_OK):
@@ -56,6 +63,21 @@ def find_program(words, document):
         sys.exit(1)
     os.chdir(ROOT)
     return program
+
+
+def choose_checks(words: list[str], document: str, checks: tuple) -> tuple[str, list]:
+    """The program that is tried, as `find_program` finds it, and those of the checks that the words name, or all. Where the
+    word is `--list`, prints the checks, and ends the process."""
+    names = {check.__name__: check for check in checks}
+    if words == ["--list"]:
+        print_page("\n".join(f"{name}: {' '.join(check.__doc__.split())}" for name, check in names.items()))
+        sys.exit(0)
+    others = [word for word in words if word not in names]
+    unknown = [word for word in others if not os.path.exists(word)]
+    if unknown:
+        print(f"{unknown[0]!r} is neither a program nor the name of a check, which --list prints")
+        sys.exit(2)
+    return find_program(others, document), [check for name, check in names.items() if name in words] or list(checks)
 
 
 def tell(got, wanted):

@@ -1,30 +1,22 @@
-# Completes the words of cosim in bash: its commands, and behind one its options that aren't given yet, with their values. Behind
-# `<` and `>` it completes the names of files.
+# Completes the words of cosim in bash: its commands, and after one its options that aren't given yet, with their values.
+# After `<` and `>` it completes the names of files.
 #   source tools/completion.bash
 
-# The commands, each with the options that it takes.
-declare -gA _cosim_options=(
-  [run]='--workers --window --guess --report'
-  [check]=''
-  [print]=''
-  [upgrade]=''
-  [save]='--row'
-  [resume]=''
-  [verify]=''
-  [stimulus]=''
-  [flatten]=''
-  [replay]='--seed --workers'
-  [nodes]='--seed --rounds'
-  [gen]='--seed --instances --rows'
-  [bench]='--seed --instances --rows'
-)
+# shellcheck source=tools/commands.bash
+source "$(dirname "$(readlink -f -- "${BASH_SOURCE[0]}")")/commands.bash"
 
-# The options that a command takes, but for those among its words.
-_cosim_left() {
-  local option command=$1
-  shift
-  for option in ${_cosim_options[$command]-}; do
-    if [[ " $* " != *" $option "* ]]; then printf '%s ' "$option"; fi
+# Sets `choices` to what a word may be after the words of a call, of which the last is given by itself too.
+_cosim_choose() {
+  local before=$1 command=$2 option value
+  shift 2
+  cosim_read_options "$command"
+  value=${cosim_values[$before]-}
+  if [ -n "$value" ]; then
+    if [[ $value = *\|* ]]; then choices=${value//|/ }; fi
+    return
+  fi
+  for option in "${!cosim_values[@]}"; do
+    if [[ " $* " != *" $option "* ]]; then choices+="$option "; fi
   done
 }
 
@@ -33,11 +25,9 @@ _cosim() {
   if [[ "$before" = *[\<\>] ]]; then
     compopt -o default 2>/dev/null
   elif ((COMP_CWORD == 1)); then
-    choices=${!_cosim_options[*]}
-  elif [ "$before" = --guess ]; then
-    choices='hold linear'
-  elif [[ "$before" != --* || "$before" = --report ]] && [ -n "${COMP_WORDS[1]}" ]; then
-    choices=$(_cosim_left "${COMP_WORDS[1]}" "${COMP_WORDS[@]:2:COMP_CWORD-2}")
+    choices="${cosim_commands[*]} help"
+  elif [ -n "${COMP_WORDS[1]}" ]; then
+    _cosim_choose "$before" "${COMP_WORDS[1]}" "${COMP_WORDS[@]:2:COMP_CWORD-2}"
   fi
   mapfile -t COMPREPLY < <(compgen -W "$choices" -- "$word")
 }

@@ -2,16 +2,17 @@
 # The sources of the program, for the scripts that build it, keep it or compare it: they set `here` to the folder of the
 # repository, by its full path, and read this file.
 
-# What a build makes; what is kept in the repository; and the file with three lines on the kept one: the checksum of the
-# sources that it was built from, the kit that built it, and its own checksum.
+# What a build makes, what is kept in the repository, and the records of both. A record has three lines: the checksum of the
+# sources that the program was built from, the kit that built it, and the program's own checksum.
 built=$here/crates/cosim_app/out/cosim_app
+built_from=$built.sources.sha256
 kept=$here/bin/cosim-x86_64-linux
 kept_from=$here/bin/sources.sha256
 
 no_kit="the Rattle kit, which proves and builds the program, isn't on this machine: there is no command rt. \
 \"What it stands on\" in $here/README.md tells of it"
 
-# The crates of the repository that each crate stands on, by crates.txt; and those of the program in the order in which
+# The crates of the repository that each crate depends on, by crates.txt; and those of the program in the order in which
 # they are proved, lowest first.
 declare -A below=()
 order=()
@@ -32,7 +33,7 @@ read_crates() {
   put_in_order cosim_app
 }
 
-# Puts a crate into the order, behind those that it stands on.
+# Adds a crate to the order, after those that it depends on.
 put_in_order() {
   local crate
   case " ${order[*]} " in *" $1 "*) return ;; esac
@@ -40,37 +41,74 @@ put_in_order() {
   order+=("$1")
 }
 
-# Finds the files that the program is made of, by their paths in the repository; the words go to `find`.
+# Finds the files that the program is made of, by their paths in the repository, and through links; the words go to `find`.
 find_sources() (
   cd "$here" || exit
-  exec find crates.txt HANDLES "${order[@]/#/crates/}" \( -name out -o -name must-fail \) -prune -o \
+  exec find -L crates.txt HANDLES "${order[@]/#/crates/}" \( -name out -o -name must-fail \) -prune -o \
     -type f \( -name '*.rt' -o -name '*.antt' -o -path crates.txt -o -path HANDLES \) "$@"
 )
 
-# Says why the program has to be built, or nothing.
-why_build() {
-  if [ ! -x "$built" ]; then
-    echo "the program isn't built yet"
-  elif [ -n "$(find_sources -newer "$built" -print -quit)" ]; then
-    echo "a source is newer than the program"
-  fi
-}
-
-# Puts the checksum of standard input.
+# Prints the checksum of standard input.
 sum_input() {
   local sum
   sum=$(sha256sum) && echo "${sum%% *}"
 }
 
-# Puts one checksum of all sources, by path and content, in an order that no setting of the machine changes.
+# Prints one checksum of all sources, by path and content, in an order that no setting of the machine changes. It takes about
+# a tenth of a second. Times of files don't show what a clone, an older file or a link changes.
 sum_sources() (
   cd "$here" || exit
   find_sources -print0 | LC_ALL=C sort -z | xargs -0 sha256sum | sum_input
 )
 
-# Puts the lines that are kept beside the program that was built, by the kit that is on this machine.
-tell_built() {
-  is_kit_there && sum_sources && rt version && sum_input <"$built"
+# Prints a line of a record, by its number from 0.
+line_of() {
+  local lines=()
+  mapfile -t lines <"$1"
+  echo "${lines[$2]-}"
+}
+
+# Whether a program is the one that a record is about.
+is_recorded() {
+  [[ -x $1 && -r $1 && -r $2 ]] && [ "$(line_of "$2" 2)" = "$(sum_input <"$1")" ]
+}
+
+# Whether a record is of the sources that are there.
+is_from_sources() {
+  [ "$(line_of "$1" 0)" = "$(sum_sources)" ]
+}
+
+# Whether the kept program is the one that was kept, and that of the sources, and starts here. That it is of other sources is
+# noted in `of_others`. Where the machine or its C library is another one, the program doesn't end with status 2, which it does without words,
+# reading nothing.
+of_others=
+
+is_kept_right() {
+  local status=0
+  if ! is_recorded "$kept" "$kept_from"; then return 1; fi
+  if ! is_from_sources "$kept_from"; then
+    of_others="the program that bin/ keeps is of other sources"
+    return 1
+  fi
+  "$kept" </dev/null >/dev/null 2>&1 || status=$?
+  [ "$status" = 2 ]
+}
+
+# Says why the program has to be built, or nothing.
+why_build() {
+  if [ ! -x "$built" ]; then
+    echo "the program isn't built yet"
+  elif ! is_recorded "$built" "$built_from"; then
+    echo "it isn't known which sources the program was built from"
+  elif ! is_from_sources "$built_from"; then
+    echo "the program was built from other sources"
+  fi
+}
+
+# Writes the record of the program that was built just now, from the sources with this checksum.
+record_built() {
+  local kit sum
+  kit=$(rt version) && sum=$(sum_input <"$built") && printf '%s\n' "$1" "$kit" "$sum" >"$built_from"
 }
 
 is_kit_there() {

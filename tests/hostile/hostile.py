@@ -11,7 +11,7 @@ sys.dont_write_bytecode = True
 HERE = os.path.dirname(os.path.abspath(__file__))
 sys.path.insert(0, os.path.join(HERE, "..", "..", ".ci"))
 import common
-from common import Tally, find_program, read
+from common import find_program
 
 READ_FAULT, WRITE_FAULT = common.READ_FAULT.encode(), common.WRITE_FAULT.encode()
 NO_MEMORY, USAGE = common.NO_MEMORY.encode(), common.USAGE.encode()

@@ -105,7 +105,7 @@ class Maker:
         lines += [f"event input {e} : Int64" for e in events]
         lines += [self.output(y, ty, params + states, inputs) for y, ty in outputs]
         lines += [self.event_output(f, params + states) for f in sent]
-        lines += [f"local {l} : {ty}" for l, ty in locals_]
+        lines += [f"local {name} : {ty}" for name, ty in locals_]
         counts = [s for s, ty in states if kind_of(ty) == "Int"]
         if random.random() < 0.3:
             lines.append(f"max {random.choice(['1', '2', *counts, *(f'abs({s}) + 1' for s in counts)])}")

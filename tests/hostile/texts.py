@@ -4,6 +4,7 @@ import random
 import string
 
 LONGEST = 1_048_576
+LONGEST_TABLE = 64 * LONGEST
 # A text that is filled leaves room for the line `main` before it.
 FILLED = LONGEST - len("main\n")
 LONGEST_LINE = 1_000
@@ -148,6 +149,46 @@ def connected(unit):
     text = unit + inputs + "output y:Int8=0\nend\ninstance a:u\nend\ninstance b:u\nend\n" + lines + "stop 0\n"
     assert len(text) <= LONGEST
     return text.encode()
+
+
+def sum_of_products(longest):
+    """An expression of so many characters at most, with as many operations as may be."""
+    product = "*".join([f"({'+'.join(['n'] * 13)})"] * 2)
+    return "+".join([product] * ((longest + 1) // (len(product) + 1)))
+
+
+def conditions_of_events():
+    """As many event outputs as there may be, whose lines are conditions."""
+    line = f"if {sum_of_products(957)}<n then n else absent"
+    outputs = "".join(f"event output y{number}:Int8={line}\n" for number in range(16))
+    units = "".join(f"unit u{number}\nstate n:Int8=0\n{outputs}end\n" for number in range(64))
+    return ("cosim 2\n" + units + "".join(f"instance i{number}:u{number}\nend\n" for number in range(64)) + "stop 0\n").encode()
+
+
+def codes_of_their_own():
+    """As many instances as there may be of one unit, each with a parameter of its own, so that none shares the code of another. The
+    step costs nearly as much as it may, and the lines of the outputs are nearly as long as they may be."""
+    value = sum_of_products(930)
+    outputs = "".join(f"output y{number}:Int64={value}\n" for number in range(32))
+    unit = f"cosim 1\nunit u\nparam k:Int64=0\nstate n:Int64=0\n{outputs}step\n{f'n:={value}{chr(10)}' * 115}end\nend\n"
+    return (unit + "".join(f"instance i{number}:u\nk={number}\nend\n" for number in range(64)) + "stop 0\n").encode()
+
+
+def tables_to_verify():
+    """Texts with tables of one record, of empty fields or of one field, which are as long as they may be; each with its name."""
+    text = COUNTER.format("n := n + 1").encode() + b"trace\n"
+    left = LONGEST_TABLE - len(text)
+    yield "a record of commas", text + b"," * left
+    yield "a field in quotes", text + b'"' + b"x" * (left - 2) + b'"'
+
+
+def large_answers():
+    """Calls that take most memory: their words, name and input, and the address space in MiB in which they are answered."""
+    yield ["check"], "conditions of events", conditions_of_events(), 200
+    yield ["save", "--row", "0"], "conditions of events", conditions_of_events(), 300
+    yield ["run"], "codes of their own", codes_of_their_own(), 520
+    for (name, text), room in zip(tables_to_verify(), (1_700, 290)):
+        yield ["verify"], name, text, room
 
 
 NESTED_MAIN = """main
