@@ -10,7 +10,7 @@ kept=$here/bin/cosim-x86_64-linux
 kept_from=$here/bin/sources.sha256
 
 no_kit="the Rattle kit, which proves and builds the program, isn't on this machine: there is no command rt. \
-\"What it stands on\" in $here/README.md tells of it"
+\"What it depends on\" in $here/README.md tells of it"
 
 # The crates of the repository that each crate depends on, by crates.txt; and those of the program in the order in which
 # they are proved, lowest first.
