@@ -103,6 +103,18 @@ def read_mistakes():
     return re.findall(r"^\| \[([\w-]+)\]\(\1\.cosim\) \|.*\| ([^|]+) \| ?([^|]*?) ?\|$", table, re.M)
 
 
+def cured(text, cure):
+    """A text with its cure: each part names a line and what it becomes, what comes behind it, or that it goes."""
+    lines = text.decode().splitlines(True)
+    for part in reversed(cure.split("; ")):
+        place, number = re.match(r"(line|behind line|without line) (\d+)", part).groups()
+        new = [line + "\n" for line in re.findall(r"`([^`]*)`", part)]
+        number = int(number)
+        first = number if place == "behind line" else number - 1
+        lines[first:number] = new
+    return "".join(lines).encode()
+
+
 def read_commands():
     """The table of commands in docs/COMMANDS.md: of each row the command, its options as they are told, and its statuses. The last row
     is that of other words."""

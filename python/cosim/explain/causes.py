@@ -1,0 +1,439 @@
+"""What a line does that breaks a rule from 8 to 24: which name, which operand, and which other line."""
+from typing import Callable, Dict, Iterator, List, NamedTuple, Optional, Sequence, Tuple
+
+from ..formatting import space
+from ..grammar import Leaves, Node, Reader
+from ..lines import NUMBER, Placed, Token, split_lines, tokens_of
+from ..nests import Declared, End, Flat, Nest, Origin, TooLarge, TooManyWays, Unit, read_nest
+
+# The cases that docs/RULES.md has a cure of its own for.
+ABSENT = "`absent` where a word is expected"
+CONDITION = "a condition that is no truth value"
+KINDS = "numbers of different kinds"
+WHOLE_DIVISION = "`/` of whole numbers"
+FIXED_DIVISION = "`div` or `mod` of numbers with decimals"
+TRUTH = "a truth value where a number is expected"
+NO_TRUTH = "a number where a truth value is expected"
+RESULT = "a result of another kind than its target"
+FORM_OF_LITERAL = "a literal of another form than its type"
+PLAIN_TO_EVENT = "a plain output to an event input"
+EVENT_TO_PLAIN = "an event output to a plain input"
+
+BOOL, INT = "Bool", "Int"
+
+# What an expression may use besides the parameters, states and inputs of its unit.
+USES = {"output": (), "max": ("t",), "step": ("t", "h")}
+
+
+class Cause(NamedTuple):
+    """What is to be said of a refusal, and the case of its cure, if it has one of its own."""
+
+    told: Tuple[str, ...] = ()
+    case: Optional[str] = None
+
+
+class Wrong(Exception):
+    """An expression that has no kind."""
+
+    def __init__(self, told: str, case: str) -> None:
+        super().__init__(told)
+        self.cause = Cause((told,), case)
+
+
+class Place(NamedTuple):
+    """Where a line stands that is refused: the text as it was read, the line, its unit, and its origin in the flat text."""
+
+    nest: Nest
+    flat: Optional[Flat]
+    line: int
+    tokens: Tuple[Token, ...]
+    unit: Optional[Unit]
+    placed: Optional[Placed]
+
+    @property
+    def texts(self) -> List[str]:
+        return [token.text for token in self.tokens]
+
+    @property
+    def sort(self) -> str:
+        """The sort of the line: that of a line of a unit, or its first word."""
+        if self.placed and "step" in self.placed.blocks:
+            return "step"
+        return " ".join(self.texts[:2]) if self.texts[:1] == ["event"] else "".join(self.texts[:1])
+
+
+def cause_of(text: bytes, line: int, rule: int) -> Cause:
+    """What is to be said of a line that breaks a rule, where something can be said."""
+    tell = TELLERS.get(rule)
+    lines = split_lines(text)
+    if not tell or not 1 <= line <= len(lines):
+        return Cause()
+    nest = read_nest(text)
+    found = [(unit, placed) for unit in nest.units for placed in unit.lines if placed.number == line]
+    unit, placed = found[0] if found else (None, None)
+    return tell(Place(nest, flat_of(nest), line, tuple(tokens_of(lines[line - 1])), unit, placed))
+
+
+def flat_of(nest: Nest) -> Optional[Flat]:
+    try:
+        return Flat(nest)
+    except (TooLarge, TooManyWays):
+        return None
+
+
+def kind_of_type(type_name: str) -> str:
+    return type_name if type_name == BOOL or type_name.startswith("Fixed") else INT
+
+
+def kind_of_number(text: str) -> str:
+    found = NUMBER.fullmatch(text)
+    return f"Fixed {len(found[2])}" if found and found[2] else INT
+
+
+class Kinds:
+    """The kinds of the expressions of a line."""
+
+    def __init__(self, tokens: Sequence[Token], declared: Dict[str, Declared]) -> None:
+        self.tokens = tokens
+        self.declared = declared
+
+    def told(self, node: Node) -> str:
+        return f"`{space([token.text for token in self.tokens[node.first : node.last]])}`"
+
+    def kind(self, node: Node, may_be_absent: bool = False) -> Optional[str]:
+        """The kind of an expression; none where it is absent."""
+        if node.text == "absent":
+            if not may_be_absent:
+                raise Wrong("`absent` is no word, and stands here where one is expected", ABSENT)
+            return None
+        if node.text == "if":
+            return self.choice(node, may_be_absent)
+        kinds = [self.kind(part) or INT for part in node.parts]
+        if node.text in ("and", "or", "not"):
+            self.each_is(node, kinds, BOOL)
+            return BOOL
+        if not node.parts:
+            return self.leaf(node.text)
+        if node.text == "int":
+            return INT
+        if node.text in ("==", "!="):
+            self.alike(node, kinds)
+            return BOOL
+        for part, kind in zip(node.parts, kinds):
+            if kind == BOOL:
+                raise Wrong(f"{self.told(part)} is a truth value, and `{node.text.split()[0]}` takes numbers", TRUTH)
+        self.alike(node, kinds)
+        return self.result(node, kinds)
+
+    def leaf(self, text: str) -> str:
+        if text in ("true", "false", "present"):
+            return BOOL
+        if text in self.declared:
+            return kind_of_type(self.declared[text].type)
+        return kind_of_number(text)
+
+    def result(self, node: Node, kinds: Sequence[str]) -> str:
+        if node.text.startswith("fix "):
+            return f"Fixed {node.text.split()[1]}"
+        if node.text == "/" and kinds[0] == INT:
+            raise Wrong(f"`/` takes numbers with decimals, and {self.told(node.parts[0])} is whole", WHOLE_DIVISION)
+        if node.text in ("div", "mod") and kinds[0] != INT:
+            raise Wrong(f"`{node.text}` takes whole numbers, and {self.told(node.parts[0])} is `{kinds[0]}`", FIXED_DIVISION)
+        return BOOL if node.text in ("<", "<=", ">", ">=") else kinds[0]
+
+    def choice(self, node: Node, may_be_absent: bool) -> Optional[str]:
+        condition, *branches = node.parts
+        self.is_truth(condition)
+        kinds = [self.kind(branch, may_be_absent) for branch in branches]
+        if None not in kinds:
+            self.alike(node._replace(parts=tuple(branches)), [kind or INT for kind in kinds])
+        return kinds[0] or kinds[1]
+
+    def is_truth(self, condition: Node) -> None:
+        kind = self.kind(condition)
+        if kind != BOOL:
+            raise Wrong(f"{self.told(condition)} is `{kind}`, and the condition of an `if` is a truth value", CONDITION)
+
+    def each_is(self, node: Node, kinds: Sequence[str], wanted: str) -> None:
+        for part, kind in zip(node.parts, kinds):
+            if kind != wanted:
+                raise Wrong(f"{self.told(part)} is `{kind}`, and `{node.text}` takes truth values", NO_TRUTH)
+
+    def alike(self, node: Node, kinds: Sequence[str]) -> None:
+        """All operands have one kind, but for those of a conversion."""
+        for part, kind in zip(node.parts[1:], kinds[1:]):
+            if kind != kinds[0]:
+                case = KINDS if BOOL not in (kind, kinds[0]) else TRUTH
+                raise Wrong(f"{self.told(node.parts[0])} is `{kinds[0]}`, and {self.told(part)} is `{kind}`", case)
+
+
+def expression_of(place: Place) -> Optional[Node]:
+    """The expression of a line, if it has one."""
+    texts = place.texts
+    if place.sort in ("output", "event output"):
+        begun = texts.index("=") + 1 if "=" in texts else len(texts)
+    elif texts[1:2] == [":="]:
+        begun = 2
+    elif texts[:1] in (["if"], ["accept"], ["max"]):
+        begun = 1
+    else:
+        return None
+    reader = Reader(place.tokens, 2)
+    reader.place = begun
+    try:
+        return reader.expression()
+    except Leaves:
+        return None
+
+
+def unlike(place: Place) -> Cause:
+    """Rule 10: the operand, the result or the literal of another kind."""
+    node, declared = expression_of(place), place.unit.declared if place.unit else {}
+    if node is None:
+        return unlike_literal(place)
+    kinds = Kinds(place.tokens, declared)
+    try:
+        kind = kinds.kind(node, place.sort == "event output")
+    except Wrong as wrong:
+        return wrong.cause
+    first = place.texts[0]
+    if first == "if" and kind != BOOL:
+        return Cause((f"{kinds.told(node)} is `{kind}`, and the condition of an `if` is a truth value",), CONDITION)
+    taken = INT if first in ("max", "accept") else kind_of_type(declared[name].type) if (name := target_of(place)) in declared else kind
+    if kind not in (taken, None):
+        what = f"`{first}` takes whole numbers" if first in ("max", "accept") else f"`{target_of(place)}` is `{declared[target_of(place)].type}`"
+        return Cause((f"{kinds.told(node)} is `{kind}`, and {what}",), RESULT)
+    return Cause()
+
+
+def target_of(place: Place) -> str:
+    """The name that a line assigns or declares."""
+    texts = place.texts
+    return texts[0] if texts[1:2] == [":="] else texts[texts.index(":") - 1] if ":" in texts else ""
+
+
+def unlike_literal(place: Place) -> Cause:
+    """A literal that hasn't the form of its type: of a line that declares, or of a setting."""
+    literal = "".join(place.texts[place.texts.index("=") + 1 :]) if "=" in place.texts else ""
+    declared = declared_at(place)
+    if not declared or not literal:
+        return Cause()
+    return Cause((f"`{literal}` is no literal of `{declared.type}`",), FORM_OF_LITERAL)
+
+
+def declared_at(place: Place) -> Optional[Declared]:
+    """What a line declares or, in an instance, sets."""
+    if place.unit:
+        return place.unit.declared.get(target_of(place))
+    for instance in place.nest.main.instances:
+        if any(line == place.line for _, line in instance.settings):
+            unit = place.nest.unit(instance.unit)
+            return unit.declared.get(place.texts[0]) if unit else None
+    return None
+
+
+def names_in(node: Node, tokens: Sequence[Token]) -> Iterator[str]:
+    """The names, and `t` and `h`, that an expression uses; what `present` asks about has its name behind the parenthesis."""
+    if node.text == "present":
+        yield tokens[node.first + 2].text
+    elif not node.parts:
+        yield node.text
+    for part in node.parts:
+        yield from names_in(part, tokens)
+
+
+def unknown(place: Place) -> Cause:
+    """Rule 9: the name that isn't there, or may not be used."""
+    if place.unit:
+        return unknown_in_unit(place, place.unit)
+    flat_ends = [(start, end) for start, end, origin in (place.flat.connections if place.flat else ()) if origin.line == place.line]
+    for start, end in flat_ends:
+        for port, sort in ((start, "output"), (end, "input")):
+            told = told_end(place, port, sort)
+            if told:
+                return Cause((told,))
+    for (end, _), line in place.flat.samples if place.flat else ():
+        told = told_end(place, end, "output") if line == place.line else ""
+        if told:
+            return Cause((told,))
+    return unknown_unit(place)
+
+
+def told_end(place: Place, end: End, sort: str) -> str:
+    """What is wrong with an end of a flat connection, or nothing."""
+    instances = place.flat.instances if place.flat else []
+    unit_name = next((instance.unit for name, instance, _ in instances if name == end[0]), None)
+    if unit_name is None:
+        return f"there is no instance `{end[0]}`"
+    unit = place.nest.unit(unit_name)
+    if unit is None or end[1] in unit.ports(sort):
+        return ""
+    if end[1] in unit.declared:
+        return f"`{end[1]}` of `{unit_name}` is declared by `{unit.declared[end[1]].sort}`, and not as an {sort}"
+    ports = ", ".join(f"`{name}`" for name in unit.ports(sort))
+    return f"`{unit_name}` has no {sort} `{end[1]}`" + (f"; its {sort}s are {ports}" if ports else "")
+
+
+def unknown_unit(place: Place) -> Cause:
+    for part in (*place.nest.groups, place.nest.main):
+        for instance in part.instances:
+            if instance.line == place.line:
+                names = ", ".join(f"`{unit.name}`" for unit in place.nest.units)
+                return Cause((f"there is no unit `{instance.unit}`; there are {names}" if names else "the text has no unit",))
+            unit = place.nest.unit(instance.unit)
+            for name, line in instance.settings:
+                if line == place.line and unit:
+                    parameters = ", ".join(f"`{declared.name}`" for declared in unit.declared.values() if declared.sort == "param")
+                    return Cause((f"`{unit.name}` has no parameter `{name}`" + (f"; it has {parameters}" if parameters else ""),))
+    return Cause()
+
+
+def unknown_in_unit(place: Place, unit: Unit) -> Cause:
+    texts = place.texts
+    if "needs" in texts:
+        for need in texts[texts.index("needs") + 1 : texts.index("=")]:
+            if need != "," and need not in unit.ports("input"):
+                return Cause((f"`{need}`, which the output needs, is no input of `{unit.name}`",))
+    if texts[1:2] == [":="] and texts[0] not in unit.declared:
+        return Cause((f"`{texts[0]}`, which is assigned, isn't declared in `{unit.name}`",))
+    node = expression_of(place)
+    for name in names_in(node, place.tokens) if node else ():
+        told = told_use(place, unit, name)
+        if told:
+            return Cause((told,))
+    return Cause()
+
+
+def told_use(place: Place, unit: Unit, name: str) -> str:
+    """Why an expression may not use a name, or nothing."""
+    where = place.sort.split()[-1]
+    said = {"output": "an output", "max": "`max`", "step": "a step"}.get(where, where)
+    if name in ("t", "h"):
+        return "" if name in USES.get(where, ()) else f"`{name}` can't be used in {said}"
+    if NUMBER.fullmatch(name) or name in ("true", "false", "absent"):
+        return ""
+    declared = unit.declared.get(name)
+    if declared is None:
+        return f"`{name}` isn't declared in `{unit.name}`"
+    if declared.sort.endswith("output"):
+        return f"`{name}` is an output, which no expression can use"
+    if declared.sort == "local" and where != "step":
+        return f"`{name}` is a local, which {said} can't use"
+    is_asked = any(
+        place.texts[at : at + 3] == ["present", "(", name] for at in range(len(place.texts))
+    )
+    return f"`{name}` is no event input, and `present` asks of event inputs" if is_asked and not declared.is_event else ""
+
+
+def twice(place: Place) -> Cause:
+    """Rule 8: the line that has the name first."""
+    nest, name = place.nest, target_of(place)
+    others: List[int] = []
+    if place.unit and place.line != place.unit.line:
+        declared = place.unit.declared.get(name)
+        others = [declared.line] if declared else []
+    elif place.unit:
+        name = place.unit.name
+        others = [unit.line for unit in nest.units if unit.name == name]
+    else:
+        others = [instance.line for instance in nest.main.instances if instance.name == name]
+    other = next((line for line in others if line != place.line), None)
+    return Cause((f"line {other} declares `{name}` too",)) if other else Cause()
+
+
+def lacking(place: Place) -> Cause:
+    """Rule 12: the input that an output uses and doesn't need."""
+    node, texts = expression_of(place), place.texts
+    needs = texts[texts.index("needs") + 1 : texts.index("=")] if "needs" in texts else []
+    inputs = place.unit.ports("input") if place.unit else []
+    used = [name for name in (names_in(node, place.tokens) if node else ()) if name in inputs and name not in needs]
+    if not used:
+        return Cause()
+    wanted = ", ".join(dict.fromkeys([need for need in needs if need != ","] + used))
+    return Cause((f"the output uses the input `{used[0]}`; write `needs {wanted}` before the `=`",))
+
+
+def connected_before(place: Place) -> Cause:
+    """Rule 13: the connection that leads to the same input."""
+    ends: Dict[End, Origin] = {}
+    for _, end, origin in place.flat.connections if place.flat else ():
+        if end in ends and origin.line == place.line:
+            return Cause((f"line {ends[end].line} leads to `{end[0]}.{end[1]}` too",))
+        ends.setdefault(end, origin)
+    return Cause()
+
+
+def port_of(place: Place, end: End) -> Optional[Declared]:
+    for name, instance, _ in place.flat.instances if place.flat else ():
+        unit = place.nest.unit(instance.unit)
+        if name == end[0] and unit:
+            return unit.declared.get(end[1])
+    return None
+
+
+def unequal(place: Place) -> Cause:
+    """Rule 14: the types of both ends."""
+    for start, end, origin in place.flat.connections if place.flat else ():
+        if origin.line != place.line:
+            continue
+        ours, theirs = port_of(place, start), port_of(place, end)
+        if ours and theirs and (ours.type != theirs.type or ours.is_event != theirs.is_event):
+            told = [f"`{port[0]}.{port[1]}` is `{found.sort} {found.name} : {found.type}`, line {found.line}" for port, found in ((start, ours), (end, theirs))]
+            case = None if ours.is_event == theirs.is_event else EVENT_TO_PLAIN if ours.is_event else PLAIN_TO_EVENT
+            return Cause((", and ".join(told),), case)
+    return Cause()
+
+
+def cycle(place: Place) -> Cause:
+    """Rule 15: outputs that need each other, and the connections between them."""
+    needs = needs_of(place)
+    start = next((output for output in needs if cycle_from(output, needs)), None)
+    if start is None:
+        return Cause()
+    ring = cycle_from(start, needs)
+    told = ", ".join(f"`{output[0]}.{output[1]}` needs `{source[0]}.{source[1]}` (line {line})" for output, source, line in ring)
+    return Cause((told,))
+
+
+Step = Tuple[End, End, int]
+
+
+def needs_of(place: Place) -> Dict[End, List[Step]]:
+    """The outputs that each output needs, with the line of the connection."""
+    sources = {end: (start, origin.line) for start, end, origin in (place.flat.connections if place.flat else ())}
+    needs: Dict[End, List[Step]] = {}
+    for name, instance, _ in place.flat.instances if place.flat else ():
+        unit = place.nest.unit(instance.unit)
+        for declared in unit.declared.values() if unit else ():
+            if not declared.sort.endswith("output"):
+                continue
+            texts = list(declared.tokens)
+            inputs = texts[texts.index("needs") + 1 : texts.index("=")] if "needs" in texts else []
+            found = [sources[name, port] for port in inputs if (name, port) in sources]
+            needs[name, declared.name] = [((name, declared.name), source, line) for source, line in found]
+    return needs
+
+
+def cycle_from(start: End, needs: Dict[End, List[Step]]) -> List[Step]:
+    """The shortest way by which an output needs itself, or nothing."""
+    ways: Dict[End, List[Step]] = {start: []}
+    waiting = [start]
+    while waiting:
+        output = waiting.pop(0)
+        for step in needs.get(output, ()):
+            if step[1] == start:
+                return [*ways[output], step]
+            if step[1] not in ways:
+                ways[step[1]] = [*ways[output], step]
+                waiting.append(step[1])
+    return []
+
+
+def assigned(place: Place) -> Cause:
+    """Rule 22: what is assigned."""
+    declared = place.unit.declared.get(place.texts[0]) if place.unit else None
+    return Cause((f"`{declared.name}` is declared by `{declared.sort}` at line {declared.line}",)) if declared else Cause()
+
+
+TELLERS: Dict[int, Callable[[Place], Cause]] = {8: twice, 9: unknown, 10: unlike, 12: lacking, 13: connected_before}
+TELLERS.update({14: unequal, 15: cycle, 22: assigned})

@@ -1,0 +1,268 @@
+"""Rules 4 and 26: what form a line has to have where it stands, where it leaves that, and the right line that is nearest to it."""
+import difflib
+import functools
+import re
+from typing import Iterator, List, NamedTuple, Optional, Sequence, Tuple
+
+from ..documents import RULES, Row, section, tables, without_links
+from ..formatting import space
+from ..grammar import END, EXPRESSION, LITERAL, NAME, TYPE, Fault, Form, fault_at, forms_at
+from ..lines import IN_INSTANCE, NUMBER, PLACES, WORD, Placed, Token, tokens_of
+from ..repository import reserved_words, type_words
+
+# How many tokens of a line are changed at most where the nearest right line is looked for.
+MOST_CHANGES = 2
+
+# The letters of so many forms at most are explained.
+MOST_EXPLAINED = 3
+
+# The least likeness of two words where one is told of in place of the other.
+LEAST_LIKENESS = 0.6
+
+# The signs of forms, by which alone lines aren't alike.
+SIGNS = ("", ":", "=", ":=", "->", ".", ",", "(", ")")
+
+# What is often written in place of a sign of a form, and what is often written besides.
+MISTAKEN = ("=", ":=", "==", "=>", "->", "<-", "-->", ":", "::", ",")
+NEEDLESS = (":", ";", "{", "}", "+", ")")
+
+# The letters of forms that stand for something, and what they stand for.
+LETTERS = {"T": "a type", "L": "a literal", "e": "an expression", "S": "a number of seconds", "E": "0 to 9"}
+LETTERS.update({"Z": "0 to 10,000", "R": "1 to 100,000", "K": "1 to 1,000"})
+
+
+class Example(NamedTuple):
+    """A line that a row of rule 4 tells of, with the place that its table is about, and where it leaves the forms there."""
+
+    row: Row
+    place: str
+    tokens: Tuple[Token, ...]
+    fault: Fault
+
+
+def form_for(placed: Placed, version: int) -> str:
+    """The forms that begin as a line does, in its place or else in another one; where none does, all forms of its place."""
+    for place in (placed.place, *(other for other in PLACES[:-1] if other != placed.place)):
+        begun = begun_forms(placed, place, version)
+        if begun:
+            return told_forms(begun, place)
+    begun = begun_forms(placed, placed.place, 2)
+    if begun:
+        return told_forms(begun, placed.place) + "; this form is of version 2, whose header is `cosim 2`"
+    return told_forms(forms_at(placed.place, version), placed.place)
+
+
+def begun_forms(placed: Placed, place: str, version: int) -> List[Form]:
+    """The forms of a place that begin with the first word of a line, or with a name where that may be one. Elsewhere than in its place
+    it is one where the sign behind it is that of the form."""
+    first, second = (placed.tokens + ["", ""])[:2]
+    forms = forms_at(place, version)
+    begun = [form for form in forms if form.parts[0] == first and len(first) > 1]
+    if len(begun) > 1:
+        begun = [form for form in begun if form.parts[1] == second] or begun
+    if begun or first in reserved_words() or not WORD.fullmatch(first):
+        return begun
+    return [form for form in forms if len(form.parts[0]) == 1 and (place == placed.place or second == form.parts[1])]
+
+
+def told_forms(forms: Sequence[Form], place: str) -> str:
+    if len(forms) > MOST_EXPLAINED:
+        return f"{', '.join(f'`{form.text}`' for form in forms)}, {place}"
+    letters = ", ".join(f"{letter} is {what}" for letter, what in LETTERS.items() if any(letter in form.parts for form in forms))
+    return f"{' or '.join(f'`{form.text}`' for form in forms)}, {place}" + (f"; {letters}" if letters else "")
+
+
+def told_fault(tokens: Sequence[Token], fault: Fault, place: str) -> str:
+    """What is expected where a line leaves its form."""
+    expected = " or ".join(fault.expected)
+    if fault.place == len(tokens):
+        return f"{expected} is missing at the end of the line"
+    found = tokens[fault.place].text
+    if not fault.place:
+        return f"no line begins with `{found}` {place}"
+    if fault.expected == (NAME,) and found in reserved_words():
+        return f"`{found}` is a reserved word, and can't be a name"
+    if fault.expected == (END,):
+        return f"`{found}` can't follow `{tokens[fault.place - 1].text}`"
+    return f"{expected} is expected in place of `{found}`"
+
+
+@functools.lru_cache(maxsize=None)
+def examples(version: int) -> Tuple[Example, ...]:
+    """The lines of the tables of rule 4, each in the places where a line of its table may stand."""
+    found: List[Example] = []
+    for table in tables(section(RULES, "Rule 4:")):
+        for row in table:
+            for line in re.findall(r"`([^`]*)`", row.get("line", "")):
+                tokens = tokens_of(line.encode())
+                for place in places_of(tokens, row["right"]):
+                    fault = fault_at(tokens, place, version)
+                    if fault:
+                        found.append(Example(row, place, tuple(tokens), fault))
+    return tuple(found)
+
+
+def places_of(line: Sequence[Token], right: str) -> Tuple[str, ...]:
+    """The places that an example is about: those where its right lines have a form, and those where it has one in version 2; where
+    there is none of these, those where it goes on furthest."""
+    others = [tokens_of(other.encode()) for other in re.findall(r"`([^`]*)`", right)]
+    places = {place for place in PLACES[:-1] for other in others if texts(other) != ["end"] and fault_at(other, place, 2) is None}
+    reached = {place: (fault.place if fault else len(line) + 1) for place in PLACES[:-1] for fault in (fault_at(line, place, 2),)}
+    furthest = max(reached.values())
+    if furthest > len(line) or (not places and furthest > 1):
+        places.update(place for place in reached if reached[place] == furthest)
+    return tuple(places or PLACES[:-1])
+
+
+def texts(tokens: Sequence[Token]) -> List[str]:
+    return [token.text for token in tokens]
+
+
+def kind_of(token: str) -> str:
+    """What a token is alike to: names are, numbers are, and words and signs of the language are themselves alone."""
+    if token in reserved_words() or not token:
+        return token
+    if WORD.fullmatch(token):
+        return "name"
+    if NUMBER.fullmatch(token):
+        return "number"
+    return "misspelt number" if token[0].isdigit() else token
+
+
+def found_at(tokens: Sequence[Token], fault: Fault) -> str:
+    return tokens[fault.place].text if fault.place < len(tokens) else ""
+
+
+def before(tokens: Sequence[Token], fault: Fault) -> str:
+    return kind_of(tokens[fault.place - 1].text) if fault.place else ""
+
+
+def is_alike(tokens: Sequence[Token], fault: Fault, example: Example) -> bool:
+    """Whether two tokens by which lines leave a form are of a kind: a name or a number behind what is of a kind too, and a sign, or
+    none, in lines that begin alike."""
+    found, other = found_at(tokens, fault), found_at(example.tokens, example.fault)
+    if fault.expected == (NAME,) and {found, other} <= reserved_words():
+        return True
+    kind = kind_of(found)
+    if kind != kind_of(other):
+        return False
+    if kind in ("name", "number", "misspelt number"):
+        return before(tokens, fault) == before(example.tokens, example.fault)
+    return kind_of(tokens[0].text) == kind_of(example.tokens[0].text)
+
+
+def is_telling_token(token: str) -> bool:
+    """Whether lines that leave their forms by such a token are alike for that alone."""
+    return kind_of(token) not in ("name", "number") and token not in SIGNS
+
+
+def likeness(tokens: Sequence[Token], fault: Fault, example: Example) -> float:
+    """How much a line is like one of the tables, from 0 for not at all. Both leave their forms by the same token, which says much
+    unless it is one that forms have; or by tokens of a kind behind alike ones, where the same is expected."""
+    found, other = found_at(tokens, fault), found_at(example.tokens, example.fault)
+    is_expected = fault.expected == example.fault.expected
+    is_telling = found == other and is_telling_token(found)
+    if not (is_expected or is_telling):
+        return 0
+    if not is_telling and not is_alike(tokens, fault, example):
+        return 0
+    nearness = alike(found, other) if kind_of(found) == "misspelt number" else 1.0
+    if not fault.place and kind_of(found) == "name":
+        nearness = likeness_of_beginnings(tokens, example.tokens)
+    elif kind_of(found) == "name" or (fault.place == 1 and kind_of(tokens[0].text) == "name" and found not in SIGNS):
+        at = min(fault.place, 0 if kind_of(tokens[0].text) == "name" and fault.place == 1 else fault.place)
+        nearness = alike(tokens[at].text, example.tokens[at].text)
+    if nearness < LEAST_LIKENESS and kind_of(found) != "misspelt number":
+        return 0
+    shape = difflib.SequenceMatcher(None, [kind_of(text) for text in texts(tokens)], [kind_of(text) for text in texts(example.tokens)])
+    return 1 + is_telling + is_expected + nearness + shape.ratio() + (tokens[0].text == example.tokens[0].text)
+
+
+def likeness_of_beginnings(tokens: Sequence[Token], others: Sequence[Token]) -> float:
+    """How much two lines that begin with a name are alike: by what looks like a call, or by the word, be it no single letter."""
+    are_calls = all(len(line) > 1 and line[1].text == "(" for line in (tokens, others))
+    if are_calls or len(tokens[0].text) == 1:
+        return float(are_calls)
+    return alike(tokens[0].text, others[0].text)
+
+
+def alike(one: str, other: str) -> float:
+    return difflib.SequenceMatcher(None, one.lower(), other.lower()).ratio()
+
+
+def like(tokens: Sequence[Token], placed: Placed, version: int, fault: Fault) -> Optional[Row]:
+    """The row of rule 4 whose line is most like this one: of its place, or of another one where the token by which both leave their
+    forms says enough."""
+    others = PLACES[:-1] if fault.place and is_telling_token(found_at(tokens, fault)) else ()
+    for places in ((placed.place,), others):
+        scored = [(likeness(tokens, fault, example), example.row) for example in examples(version) if example.place in places]
+        score, row = max(scored, key=lambda pair: pair[0], default=(0.0, None))
+        if score:
+            return row
+    return None
+
+
+def told_row(row: Row) -> str:
+    return without_links(f"{row['line']}: {row['why']}; right: {row['right']}", RULES)
+
+
+def nearest(tokens: Sequence[Token], place: str, version: int) -> Optional[str]:
+    """The line with a form that differs from a line in the fewest signs, if so few do. Nothing that says something is left out, and
+    names and expressions aren't made up."""
+    reached = [joined(tokens)]
+    for _ in range(MOST_CHANGES):
+        reached = [other for line in reached for other in changes(line, place, version)]
+        for line in reached:
+            if fault_at(placed_tokens(line), place, version) is None:
+                return space(line)
+    return None
+
+
+def joined(tokens: Sequence[Token]) -> List[str]:
+    """The tokens of a line, with signs that stand together, as `=>`, as one."""
+    line: List[str] = []
+    for place, token in enumerate(tokens):
+        follows = place and tokens[place - 1].end == token.start
+        if follows and line[-1] + token.text in MISTAKEN:
+            line[-1] += token.text
+        else:
+            line.append(token.text)
+    return line
+
+
+def placed_tokens(line: Sequence[str]) -> List[Token]:
+    return [Token(text, place) for place, text in enumerate(line)]
+
+
+def changes(line: List[str], place: str, version: int) -> Iterator[List[str]]:
+    """A line with one change at the token where it leaves its form."""
+    fault = fault_at(placed_tokens(line), place, version)
+    if fault is None:
+        return
+    at, found = fault.place, line[fault.place] if fault.place < len(line) else ""
+    front, rest = line[:at], line[at + 1 :]
+    if at == 0:
+        begun = [form.parts[0] for form in forms_at(place, version) if len(form.parts[0]) > 1]
+        yield from ([word, *rest] for word in difflib.get_close_matches(found.lower(), begun, 1))
+        if place == IN_INSTANCE:
+            yield rest
+        return
+    for text in stand_ins(front, found, fault):
+        if found in MISTAKEN or text.lower() == found.lower():
+            yield [*front, text, *rest]
+        if text != ":=" and text not in ("(", "then", "else"):
+            yield [*front, text, *line[at:]]
+    is_sign = found == "+" and fault.expected not in ((LITERAL,), (EXPRESSION,))
+    if (found in NEEDLESS and not is_sign) or (WORD.fullmatch(found) and fault.expected == (END,) and NUMBER.fullmatch(line[at - 1])) or line[0] == "end":
+        yield front + rest
+
+
+def stand_ins(front: Sequence[str], found: str, fault: Fault) -> Iterator[str]:
+    """What may be written where something else is expected."""
+    for expected in fault.expected:
+        if expected == TYPE:
+            yield from [word for word in type_words() if word.lower() == found.lower()] if WORD.fullmatch(found) else ["Int64"]
+        elif expected == LITERAL and not found:
+            yield "false" if "Bool" in front else "0"
+        elif expected.startswith("`"):
+            yield expected.strip("`")

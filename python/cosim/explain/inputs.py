@@ -1,0 +1,41 @@
+"""What an input is: a model, one with groups or with a table, a saved text, or a table; and which command judges it."""
+import re
+from typing import NamedTuple
+
+from ..repository import LONGEST_SAVED, LONGEST_TEXT
+
+# How a saved text begins, and the tables of `stimulus` and of a trace.
+SAVED = re.compile(rb"saved 1\r?\n")
+TABLE = re.compile(rb"\"?time\"?,")
+TRACE_TABLE = re.compile(rb"\"?time\"?,\"?index\"?,")
+
+# The line between a text and a table, and the lines that a text with groups has and no other.
+TRACE = re.compile(rb"^[ \t]*trace[ \t\r]*(?:#.*)?$", re.M)
+NESTED = re.compile(rb"^[ \t]*(?:main|group[ \t]+\w+)[ \t\r]*(?:#.*)?$", re.M)
+
+
+class Input(NamedTuple):
+    """The text that is judged, the command that judges it, and how it is told that the text is accepted."""
+
+    text: bytes
+    command: str
+    accepted: str
+
+
+def has_groups(text: bytes) -> bool:
+    return bool(NESTED.search(text))
+
+
+def read_kind(data: bytes, shown: str) -> Input:
+    """What the bytes of a file are; `shown` is its name as a shell takes it."""
+    if SAVED.match(data):
+        return Input(data[: LONGEST_SAVED + 1], "resume", f"accepted by resume; run it by ./cosim resume < {shown}")
+    if TRACE_TABLE.match(data):
+        return Input(data, "", "the table of a trace, which is no model: put it behind a model and a line `trace`, and ask ./cosim verify")
+    if TABLE.match(data):
+        return Input(data[: LONGEST_TEXT + 1], "stimulus", f"accepted by stimulus; make a model of it by ./cosim stimulus < {shown}")
+    text, *table = TRACE.split(data, maxsplit=1)
+    text = text[: LONGEST_TEXT + 1]
+    if has_groups(text):
+        return Input(text, "flatten", f"accepted by flatten; run it by ./cosim flatten < {shown} | ./cosim run")
+    return Input(text, "check", "accepted" + (", up to the line 'trace'" if table else ""))

@@ -1,0 +1,153 @@
+"""Which line of a text with groups is meant by a refusal that names another one.
+
+Rules 8 to 24 are reported at a line of the flat text, which isn't printed. Each of its lines comes of one line of the text with
+groups, so this is found by making the flat text's lines again. Rules 27 to 30 are reported at the first line of a group, or at
+`main`: the line inside is the first that breaks the rule as docs/RULES.md has it.
+"""
+from typing import Dict, Iterator, NamedTuple, Optional, Sequence, Set, Tuple
+
+from ..nests import End, Flat, Instance, Link, Nest, Origin, Part, TooLarge, TooManyWays, read_nest
+
+# The rules that are reported at a line of the flat text.
+OF_FLAT_TEXTS = range(8, 25)
+
+# More lines on the way than so many aren't told.
+MOST_WAYS = 8
+
+
+class Guilty(NamedTuple):
+    """A line of a text with groups, and what is to be said of it."""
+
+    line: int
+    told: Tuple[str, ...] = ()
+
+
+def guilty(text: bytes, line: int, rule: int) -> Optional[Guilty]:
+    """The line of a text with groups that breaks a rule which is reported at another line; nothing where none can be named."""
+    nest = read_nest(text)
+    try:
+        if rule in OF_FLAT_TEXTS:
+            return guilty_of_flat(nest, line, rule)
+        if rule == 27:
+            return ill_named(nest, line)
+        if rule == 28:
+            return leads_back(nest, line)
+        if rule == 29:
+            part = next((part for part in (*nest.groups, nest.main) if part.line == line), nest.main)
+            return min(missing(nest, part), default=None)
+        if rule == 30:
+            Flat(nest)
+    except TooLarge as large:
+        return Guilty(large.line, (large.why,))
+    except TooManyWays:
+        pass
+    return None
+
+
+def guilty_of_flat(nest: Nest, line: int, rule: int) -> Optional[Guilty]:
+    flat = Flat(nest)
+    origins = flat.origins()
+    if not 1 <= line <= len(origins):
+        return None
+    origin = origins[line - 1]
+    if rule == 8 and origin.flat.startswith("instance "):
+        return second_of_a_name(flat, origin)
+    return Guilty(origin.line, told_origin(origin))
+
+
+def told_origin(origin: Origin) -> Tuple[str, ...]:
+    """What the flat text has in place of a line with names of groups, and by way of which lines."""
+    if not origin.ways:
+        return ()
+    lines = ", ".join(map(str, origin.ways[:MOST_WAYS])) + (", .." if len(origin.ways) > MOST_WAYS else "")
+    told = f"`{origin.flat}`" if origin.flat else "a line"
+    return (f"it is {told} of the flat text, by way of line{'s' if len(origin.ways) > 1 else ''} {lines}",)
+
+
+def second_of_a_name(flat: Flat, origin: Origin) -> Guilty:
+    """Of two components of one name the second one's line, or that of the instance of a group in which alone they differ."""
+    name = origin.flat.split()[1]
+    first = next(other for other_name, _, other in flat.instances if other_name == name)
+    ours, theirs = (*origin.ways, origin.line), (*first.ways, first.line)
+    apart = next((place for place, (our, their) in enumerate(zip(ours, theirs)) if our != their), 0)
+    return Guilty(ours[apart], (f"the component `{name}` comes of line {theirs[apart]} too",))
+
+
+def ill_named(nest: Nest, line: int) -> Guilty:
+    """Why the name of a group isn't its own."""
+    group = next(group for group in nest.groups if group.line == line)
+    unit = nest.unit(group.name)
+    others = [other.line for other in nest.groups if other.name == group.name and other.line != line] + ([unit.line] if unit else [])
+    if others:
+        return Guilty(line, (f"line {others[0]} has the name `{group.name}` too",))
+    return Guilty(line, ("the group has no instance",))
+
+
+def leads_back(nest: Nest, line: int) -> Optional[Guilty]:
+    """The instance by which a group contains itself, and the instances on the way."""
+    start = next(group for group in nest.groups if group.line == line)
+    ways: Dict[str, Tuple[Instance, ...]] = {start.name: ()}
+    waiting = [start]
+    while waiting:
+        group = waiting.pop(0)
+        for instance in group.instances:
+            way = (*ways[group.name], instance)
+            inner = nest.group(instance.unit)
+            if inner is start:
+                lines = ", ".join(str(step.line) for step in way[1:])
+                return Guilty(way[0].line, (f"it leads back by way of line{'s' if len(way) > 2 else ''} {lines}",) if lines else ())
+            if inner and inner.name not in ways:
+                ways[inner.name] = way
+                waiting.append(inner)
+    return None
+
+
+def missing(nest: Nest, part: Part) -> Iterator[Guilty]:
+    """The lines of a part that break rule 29."""
+    names: Set[str] = set()
+    for link in part.ins:
+        if not has_port(nest, part, link.end, "input"):
+            yield Guilty(link.line, (told_missing(nest, part, link.end, "input"),))
+    for link in part.outs:
+        if not has_port(nest, part, link.start, "output"):
+            yield Guilty(link.line, (told_missing(nest, part, link.start, "output"),))
+        if link.end[1] in names:
+            yield Guilty(link.line, (f"another `out` line has the name `{link.end[1]}`",))
+        names.add(link.end[1])
+    for link in part.connections + (nest.samples if part is nest.main else []):
+        yield from missing_ends(nest, part, link)
+    for instance in part.instances:
+        if nest.group(instance.unit) and instance.settings:
+            yield Guilty(instance.settings[0][1], (f"`{instance.name}` is of a group, which has no parameters",))
+
+
+def missing_ends(nest: Nest, part: Part, link: Link) -> Iterator[Guilty]:
+    """A connection, or a sample, that ends at a port which a group hasn't."""
+    for end, sort in ((link.start, "output"), (link.end, "input")):
+        instance = part.instance(end[0])
+        if instance and nest.group(instance.unit) and not has_port(nest, part, end, sort):
+            yield Guilty(link.line, (told_missing(nest, part, end, sort),))
+            return
+
+
+def ports_of(nest: Nest, instance: Instance, sort: str) -> Sequence[str]:
+    """The inputs or outputs of an instance, be it of a group or of a unit."""
+    group, unit = nest.group(instance.unit), nest.unit(instance.unit)
+    if group:
+        return [link.start[1] for link in group.ins] if sort == "input" else [link.end[1] for link in group.outs]
+    return unit.ports(sort) if unit else []
+
+
+def has_port(nest: Nest, part: Part, end: End, sort: str) -> bool:
+    instance = part.instance(end[0])
+    return instance is not None and end[1] in ports_of(nest, instance, sort)
+
+
+def told_missing(nest: Nest, part: Part, end: End, sort: str) -> str:
+    instance = part.instance(end[0])
+    if instance is None:
+        return f"there is no instance `{end[0]}` here"
+    if not nest.group(instance.unit) and not nest.unit(instance.unit):
+        return f"`{instance.unit}`, which the instance `{end[0]}` is of, is neither a group nor a unit"
+    ports = ", ".join(f"`{name}`" for name in dict.fromkeys(ports_of(nest, instance, sort)))
+    return f"`{instance.unit}` has no {sort} `{end[1]}`; its {sort}s are {ports}" if ports else f"`{instance.unit}` has no {sort}s"

@@ -1,0 +1,106 @@
+"""What there is to say of a refusal: the guilty line, what is wrong with it, and the cure."""
+from typing import List, NamedTuple, Optional, Tuple
+
+from ..documents import RULES, read_titles, without_links
+from ..grammar import fault_at
+from ..lines import IN_GROUP, Placed, placed_lines, split_lines, texts_of, tokens_of
+from ..streams import escaped
+from . import cases, causes, forms, nested, positions
+from .inputs import SAVED, has_groups
+
+# How much of a line is shown, in characters.
+LONGEST_SHOWN = 200
+
+# The rules of lines without a form, at the top of a text and in a group.
+WITHOUT_FORM = (4, 26)
+
+
+class Advice(NamedTuple):
+    """What there is to say of a refusal. `line` is the guilty line of the text, or None where no single line of it is, and `rule` the
+    rule that it breaks. `title` tells what is wrong, and `cure` what mends it. `details` has lines such as `here: ..`, each a word and
+    what it tells."""
+
+    line: Optional[int]
+    rule: int
+    title: str
+    cure: str
+    details: Tuple[str, ...] = ()
+
+
+def advice(text: bytes, line: int, rule: int) -> Advice:
+    """Explains a refusal, by the documents and the text alone, but for rule 33, which asks the program.
+
+    `text` is the text that was refused, as the command read it: a model, one with groups, a saved text, or a table. `line` and `rule`
+    are those of the note `cosim: line L: rule R`. Of a text with groups the line may be one of the flat text, as `flatten` has it.
+    """
+    entry = read_titles()[rule]
+    title, cure = (without_links(entry[column], RULES) for column in ("what is wrong", "cure"))
+    if rule in (33, 36):
+        return advice_on_position(text, line, rule, title, cure)
+    told: List[str] = []
+    found = line
+    if has_groups(text) and not SAVED.match(text):
+        guilty = nested.guilty(text, line, rule)
+        if guilty:
+            found, told = guilty.line, [*guilty.told]
+        elif rule in nested.OF_FLAT_TEXTS:
+            return Advice(None, rule, title, cure, (f"here: it is line {line} of the flat text",))
+    cause = causes.cause_of(without_position(text), found, rule)
+    case = cause.case
+    details = [f"here: {words}" for words in (*told, *cause.told)]
+    if rule in WITHOUT_FORM or rule == 7:
+        lines = split_lines(text)
+        placed = placed_at(text, found)
+        case = cases.case_of(lines, placed, rule) if placed else None
+        details += details_of_form(lines, placed, rule, case) if placed else []
+    return Advice(found, rule, title, (case and cases.cure_of(rule, case)) or cure, tuple(details))
+
+
+def without_position(text: bytes) -> bytes:
+    """A text with the lines of a saved position as blank lines, so that all others keep their numbers."""
+    if not SAVED.match(text):
+        return text
+    lines = text.split(b"\n")
+    count = 3
+    while count < len(lines) and lines[count].startswith(b"state "):
+        count += 1
+    return b"\n" * count + b"\n".join(lines[count:])
+
+
+def advice_on_position(text: bytes, line: int, rule: int, title: str, cure: str) -> Advice:
+    """On a saved position, or on a record of a table, whose number stands in place of a line."""
+    reason = positions.unfit_position(text) if rule == 33 else positions.unfit_record(text, line)
+    if reason is None:
+        return Advice(line if rule == 33 else None, rule, title, cure)
+    return Advice(reason.line, rule, title, cases.cure_of(rule, reason.case) or cure, (f"here: {reason.told}",))
+
+
+def placed_at(text: bytes, line: int) -> Optional[Placed]:
+    return next((placed for placed in placed_lines(text) if placed.number == line), None)
+
+
+def version_of(lines: List[bytes]) -> int:
+    """The version of a text, by the first line that begins as a header."""
+    header: List[str] = next((tokens for tokens in map(texts_of, lines) if tokens[:1] == ["cosim"]), [])
+    return 2 if len(header) == 2 and header[1].lstrip("0") == "2" else 1
+
+
+def details_of_form(lines: List[bytes], placed: Placed, rule: int, case: Optional[str]) -> List[str]:
+    """Where a line leaves its form, the form, a line of the documents that is like it, and the nearest right line."""
+    tokens, version = tokens_of(lines[placed.number - 1]), version_of(lines)
+    if rule == 7 or not tokens or case in (cases.NO_MAIN, cases.SECOND_MAIN, cases.BEFORE_GROUPS, cases.GROUP_BEHIND_MAIN):
+        return []
+    fault = fault_at(tokens, placed.place, version)
+    if fault is None:
+        return []
+    details = [f"here: {forms.told_fault(tokens, fault, placed.place)}", f"form: {forms.form_for(placed, version)}"]
+    row = forms.like(tokens, placed, version, fault) if placed.place != IN_GROUP else None
+    right = forms.nearest(tokens, placed.place, version)
+    return details + ([f"like it: {forms.told_row(row)}"] if row else []) + ([f"right: {right}"] if right else [])
+
+
+def shown(line: bytes) -> str:
+    """A line as it can be shown: what has no sign of its own by its number, and not more than is read at a glance. The carriage return
+    that belongs to its end isn't shown."""
+    text = (line[:-1] if line.endswith(b"\r") else line).decode(errors="backslashreplace")
+    return escaped(text[:LONGEST_SHOWN]) + (" .." if len(text) > LONGEST_SHOWN else "")

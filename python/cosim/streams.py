@@ -1,0 +1,94 @@
+"""The standard streams of a tool, files that it reads, and names as they can be shown.
+
+No tool writes by Python's own streams: a stream may be closed, and what can't be written is then told by the status alone.
+"""
+import os
+import signal
+import sys
+from typing import BinaryIO, Callable, NoReturn, Set, Union
+
+# The statuses where the input can't be read and the output can't be written, as of the program.
+READ_FAULT = 4
+WRITE_FAULT = 5
+
+INPUT, OUTPUT, NOTES = range(3)
+
+# The standard streams that were closed when the tool began.
+CLOSED: Set[int] = set()
+
+
+def occupy_closed_streams() -> None:
+    """Opens the null device in place of each standard stream that is closed, so that no file which is opened later has its number."""
+    for number in (INPUT, OUTPUT, NOTES):
+        try:
+            os.fstat(number)
+        except OSError:
+            CLOSED.add(number)
+            os.open(os.devnull, os.O_RDWR)
+
+
+def start(main: Callable[[], int]) -> NoReturn:
+    """Runs a tool, and ends the process by its status. A signal from the keyboard ends it as any other program."""
+    signal.signal(signal.SIGINT, signal.SIG_DFL)
+    occupy_closed_streams()
+    sys.exit(main())
+
+
+def write_all(number: int, data: bytes) -> None:
+    while data:
+        data = data[os.write(number, data) :]
+
+
+def note(text: str) -> None:
+    """Writes a line to standard error, if that can be written."""
+    try:
+        write_all(NOTES, encode(text + "\n"))
+    except OSError:
+        pass
+
+
+def encode(text: str) -> bytes:
+    return text.encode(errors="backslashreplace")
+
+
+def put(output: Union[str, bytes]) -> None:
+    """Writes bytes, or a text and a line feed, to standard output. Where that fails it ends the tool, quietly if the reader of a pipe
+    has left."""
+    data = output if isinstance(output, bytes) else encode(output + "\n")
+    try:
+        if OUTPUT in CLOSED:
+            raise OSError(9, "Bad file descriptor")
+        write_all(OUTPUT, data)
+    except BrokenPipeError:
+        sys.exit(WRITE_FAULT)
+    except OSError as error:
+        note(f"the output can't be written: {error.strerror}")
+        sys.exit(WRITE_FAULT)
+
+
+def read_at_most(file: BinaryIO, limit: int) -> bytes:
+    """The bytes of a file, and not more than one above the limit: so a longer file is seen to be longer."""
+    return file.read(limit + 1)
+
+
+def read_input(limit: int) -> bytes:
+    """Standard input, as `read_at_most`. Where it can't be read it ends the tool."""
+    try:
+        if INPUT in CLOSED:
+            raise OSError(9, "Bad file descriptor")
+        with open(INPUT, "rb", closefd=False) as file:
+            return read_at_most(file, limit)
+    except OSError as error:
+        note(f"the input can't be read: {error.strerror}")
+        sys.exit(READ_FAULT)
+
+
+def escaped(text: str) -> str:
+    """A text with each sign that can't be seen, but for the tab, by its number. No line ends in it."""
+    unseen = (sign for sign in set(text) if not sign.isprintable() and sign != "\t")
+    return text.translate({ord(sign): sign.encode("unicode_escape").decode() for sign in unseen})
+
+
+def clean_name(path: str) -> str:
+    """The name of a file as it can be shown: in one line, and with no sign that a terminal obeys."""
+    return escaped(path).replace("\t", "\\t")
