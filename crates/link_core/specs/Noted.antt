@@ -3,7 +3,7 @@ use Rattle.std.specs.Prelude.{◌≡◌, ℕ, suc, ◌+◌, ◌≤◌, ◌<◌, 
 use Rattle.std.specs.Prelude.{slice_set, vec_capacity, if◌then◌else◌, Option, Some, None, Result, Ok, Err, ⊤}
 use Rattle.std.specs.Option.{option_map}
 use Rattle.fixed_words.specs.declared.types.Fault.{Fault}
-use Rattle.link_laws.specs.Boards.{Agrees, Board, asked_of, board_of, entry, said_of}
+use Rattle.link_laws.specs.Boards.{Agrees, Board, asked_of, board_of, entry, said_of, are_nothing}
 use Rattle.link_laws.specs.Keeping.{IsPlace}
 use Rattle.link_laws.specs.Making.{own_states, part_of, put_said, said_entry, with_made}
 use Rattle.link_laws.specs.Nodes.{Making, with_fact}

@@ -7,6 +7,7 @@ pub mod PositionsOnce
 pub mod PutTexts
 pub mod ReadStates
 pub mod RowsBefore
+pub mod SavedLengths
 pub mod SavedOnce
 pub mod SavedTraces
 pub mod WalkLaws

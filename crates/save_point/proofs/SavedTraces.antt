@@ -14,7 +14,9 @@ use Rattle.run_laws.proofs.RunSteps.{stands_are_right}
 use Rattle.save_point.specs.Laws.{CanBeResumed}
 use Rattle.save_point.specs.SavedTexts.{AreNumbers, IsState, states_of}
 use Rattle.save_point.proofs.PositionTexts.{position_is_saved}
+use Rattle.save_point.proofs.SavedLengths.{members_few, position_short, states_few}
 use Rattle.trace_plan.proofs.PlainRuns.{bounded, member_count}
+use Rattle.trace_plan.proofs.SystemLines.{few_instances}
 use Rattle.unit_tree.specs.Canonical.{canonical_parts, optional, unit_parts}
 use Rattle.unit_tree.specs.Compositions.{Member, run_of}
 use Rattle.unit_tree.specs.Parts as parts
@@ -193,4 +195,12 @@ module _ (system : System) (number : ℕ) (at : Position) (ranged : IsRanged sys
       names_are = names_of system.instances at.states long;
       counts_are = counts_of system.instances at.states long;
     };
+    short =
+        let row = numbers.row_within in
+        let ticks = numbers.point_within.ticks in
+        let steps = numbers.point_within.steps in
+        position_short system.instances at.states at.number at.point (omega (arith, row)) (omega (arith, ticks)) (omega (arith, steps))
+        (few_instances system kept)
+        (states_are system.instances at.states (names_are_words system ranged) (all_fit (run_of system).members at.states words_at))
+        (states_few (run_of system).members at.states (members_few system ranged kept (plain_form system).instances) words_at);
   }

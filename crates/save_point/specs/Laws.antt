@@ -1,5 +1,5 @@
 -- Laws of saved texts.
-use Rattle.std.specs.Prelude.{◌≡◌, ◌⊎◌, ℕ, List, length, map}
+use Rattle.std.specs.Prelude.{◌≡◌, ◌⊎◌, ℕ, ◌≤◌, List, length, map}
 use Rattle.std.specs.List.{AllByRecursion, flat_map}
 use Rattle.run_laws.specs.RunLaws.{HasOneTrace}
 use Rattle.save_point.specs.Saving.{FitsNone, FitsSaved, HasNoPosition}
@@ -41,10 +41,11 @@ PositionsAreSaved =
     → IsSaved (saved_text system at) (saved_of system at)
 
 -- What is saved of a position is the position: its saved text saves it, and it is the position of the system's run that fits what was
--- saved.
+-- saved. The lines of the position have at most 90,000 bytes.
 pub record CanBeResumed (system : System) (at : Position) : Type 0 where
   pub saved : IsSaved (saved_text system at) (saved_of system at)
   pub fits : FitsSaved (record { system = system; run = run_of system }) (saved_of system at) at
+  pub short : length (ended (saved_lines at.number at.point (named_states system at))) ≤ 90000
 
 -- So it is with each position of the trace of a system that is judged.
 abbrev pub TracesCanBeResumed : Type 0
