@@ -2,13 +2,21 @@
 ghost use Rattle.std.specs.Prelude.{◌≤◌};
 
 use crate::script::{numbers_of, words_of};
-use crate::worlds::policy_of;
 use guess_board::{Cell, Outlook, Policy, guess_line};
 use std::alloc::Global;
 use std::test::Fail;
 
 /// The only component here has one input, from 0 to 9, which was 4 and is 7. The run stops at 29.
 const STOP: u64 = 29;
+
+/// The policy of a word.
+pub(crate) fn policy_of(word: &str) -> Policy {
+    if word == "linear" {
+        Policy::Linear
+    } else {
+        Policy::Hold
+    }
+}
 
 /// What is guessed from row 5 on at a time, by steps, of a component with a factor.
 fn guessed(

@@ -1,4 +1,5 @@
 //! Worlds: what may happen to them, and what is refused.
+use crate::guesses::policy_of;
 use crate::script::{numbers_of, words_of};
 use guess_board::Policy;
 use spec_core::{Event, World};
@@ -6,15 +7,6 @@ use std::alloc::Global;
 use std::sync::Arc;
 use std::test::Fail;
 use trace_core::Plan;
-
-/// The policy of a word.
-pub(crate) fn policy_of(word: &str) -> Policy {
-    if word == "linear" {
-        Policy::Linear
-    } else {
-        Policy::Hold
-    }
-}
 
 /// The event that a name and numbers say.
 fn event_of(name: &str, numbers: &[u32]) -> Option<Event> {
