@@ -1,10 +1,22 @@
 //! Compares two equal lists of words, by the kernel of lanes and by a plain loop.
 ghost use Rattle.std.specs.Prelude.{◌≡◌, ◌<◌, length};
 
-use crate::report::{Comparison, ROUNDS, Shortest, Telling};
+use crate::times::Shortest;
 use std::io;
 use std::time::Instant;
 use word_lanes::first_mismatch;
+
+/// How often the comparisons are made: the shortest time counts.
+const ROUNDS: u32 = 5;
+
+/// What a bench prints.
+#[derive(Clone, Copy)]
+pub(crate) enum Output {
+    /// Whether both ways give the same, which a run prints each time alike.
+    Answer,
+    /// How long each took as well.
+    Times,
+}
 
 #[derive(Clone, Copy)]
 enum Method {
@@ -65,23 +77,27 @@ fn timed(
     Ok((are_equal, shortest))
 }
 
-/// Tells of so many comparisons of lists of so many words.
+/// Prints what so many comparisons of lists of so many words give.
 pub(crate) fn run(
     rt: &HostRuntime,
-    telling: Telling,
+    output: Output,
     comparisons: u32,
     words: u32,
 ) -> io::Result<()> {
     let (is_equal, time) = timed(rt, Method::Kernel, comparisons, words)?;
     let (is_other_equal, other_time) = timed(rt, Method::Plain, comparisons, words)?;
-    let compared = u64::from(comparisons) * u64::from(words);
-    let comparison = Comparison {
-        name: "lanes",
-        each: "a word",
-        time: time.each(compared),
-        other_way: "by a plain loop",
-        other_time: other_time.each(compared),
-        is_same: is_equal && is_other_equal,
+    let answer = if is_equal && is_other_equal {
+        "the same"
+    } else {
+        "not the same"
     };
-    comparison.tell(rt, telling)
+    let compared = u64::from(comparisons) * u64::from(words);
+    match output {
+        Output::Answer => println!(rt; "lanes: {answer}"),
+        Output::Times => println!(rt;
+            "lanes: {} a word, by a plain loop {}, {answer}",
+            time.each(compared),
+            other_time.each(compared)
+        ),
+    }
 }

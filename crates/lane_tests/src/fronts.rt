@@ -62,12 +62,12 @@ pub(crate) fn publish(
 }
 
 /// Cells of rows, each with its own number as the time, a step of 1 and one input.
-pub(crate) fn line(alloc: Global, rows: &[u64], input: i64) -> Result<Vec<Cell>, Fail> {
+pub(crate) fn line(alloc: Global, rows: &[u32], input: i64) -> Result<Vec<Cell>, Fail> {
     let mut cells = Vec::new(alloc);
     for row in rows {
         cells.push(Cell {
-            row: *row,
-            time: *row,
+            row: u64::from(*row),
+            time: u64::from(*row),
             step: 1,
             inputs: List::from_slice(alloc, &[input])?,
         })?;

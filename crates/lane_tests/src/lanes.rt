@@ -1,64 +1,43 @@
-//! Lanes by hand: what is kept for another front, cut, appended, found and refused.
-use crate::answers::{answer_to, want_of};
+//! Lanes and their tickets: what is kept for another front, cut, appended, found and refused.
+use crate::answering::{answer_to, want_of};
 use crate::fronts::{line, publish};
-use guess_board::{Lane, LaneCounts, Ticket};
-use inner_tests::plan_of;
-use std::alloc::Global;
+use crate::script::{numbers_of, words_of};
+use guess_board::{Lane, Ticket};
+use std::alloc::{AllocError, Global};
 use std::sync::Arc;
 use std::test::Fail;
-use trace_core::Run;
+use trace_core::{Plan, Run};
 use unit_answers::{Answer, Proven};
 use unit_exec::{Image, Want};
 
-/// Its state grows by its input.
-const ADDER: &str =
-    "cosim 1\nunit Adder\nstate n : Int64 = 0\ninput u : Int64 = 0\noutput y : Int64 = n\nstep\nn := n + u\nend\nend\ninstance a : Adder\nend\nstop 9\nlongest 1\n";
-
-/// Its step divides by its input.
-const DIVIDER: &str =
-    "cosim 1\nunit Divider\nstate n : Int64 = 0\ninput u : Int64 = 0\noutput y : Int64 = n\nstep\nn := 1 div u\nend\nend\ninstance a : Divider\nend\nstop 9\nlongest 1\n";
-
-/// It accepts nothing of a step.
-const WAITER: &str =
-    "cosim 1\nunit Waiter\nstate n : Int64 = 0\ninput u : Int64 = 0\noutput y : Int64 = n\nstep\nn := n + u\naccept 0\nend\nend\ninstance a : Waiter\nend\nstop 9\nlongest 1\n";
-
-/// The image of the first instance of a system.
-fn image(alloc: Global, text: &str) -> Result<Arc<Image>, Fail> {
-    let run = Run::open(alloc, plan_of(alloc, text)?)?;
-    Ok(Arc::clone(want_of(&run, 0)?.image)?)
+/// Two lanes of the first component of a plan, as those of the instances 0 and 1, and the tickets that they gave.
+#[derive(Drop)]
+struct Desk {
+    lanes: [Lane; 2],
+    tickets: Vec<Ticket>,
 }
 
-/// A lane of an adder.
-fn adder(alloc: Global, instance: u32) -> Result<Lane, Fail> {
-    Ok(Lane::open(alloc, image(alloc, ADDER)?, instance)?)
-}
-
-/// The ticket that a lane gives.
-fn take(alloc: Global, lane: &mut Lane) -> Result<Ticket, Fail> {
-    match lane.take(alloc)? {
-        Some(ticket) => Ok(ticket),
-        None => Err("the lane gives no ticket")?,
+impl Desk {
+    /// The lane of a number.
+    fn lane(&mut self, number: u32) -> &mut Lane {
+        let [first, second] = &mut self.lanes;
+        if number == 0 { first } else { second }
     }
-}
 
-/// Whether a lane gives a ticket.
-fn gives(alloc: Global, lane: &mut Lane) -> Result<bool, Fail> {
-    match lane.take(alloc)? {
-        Some(ticket) => {
-            drop(ticket);
-            Ok(true)
+    /// The ticket that is in a place among those that were taken, which loses it.
+    fn ticket(&mut self, place: u32) -> Result<Ticket, Fail> {
+        let place = place as usize;
+        if place >= self.tickets.len() {
+            Err("there is no such ticket")?;
         }
-        None => Ok(false),
+        Ok(self.tickets.remove(place))
     }
-}
 
-/// Whether a ticket asks for these rows.
-fn asks_for(alloc: Global, rows: &[u64], ticket: &Ticket) -> Result<bool, Fail> {
-    let mut asked = Vec::new(alloc);
-    for cell in ticket.cells() {
-        asked.push(cell.row)?;
+    /// Keeps a ticket behind the others.
+    fn keep(&mut self, ticket: Ticket) -> Result<(), Fail> {
+        self.tickets.push(ticket).map_err(AllocError::from)?;
+        Ok(())
     }
-    Ok(asked.as_slice() == rows)
 }
 
 /// The state that an answer moved to, or behind a fault the one from which it was made.
@@ -89,186 +68,123 @@ fn answers(alloc: Global, image: &Arc<Image>, ticket: &Ticket) -> Result<Vec<Pro
     Ok(answers)
 }
 
-/// Posts the answers to all cells of a ticket, and tells how many were appended.
-fn post(alloc: Global, lane: &mut Lane, ticket: Ticket) -> Result<u32, Fail> {
-    let answers = answers(alloc, lane.image(), &ticket)?;
-    Ok(
-        lane.post(ticket, answers)
-            .ok()
-            .ok_or("the ticket came back")?,
-    )
+/// Takes a ticket, and prints the rows that it asks for.
+fn take(rt: &HostRuntime, desk: &mut Desk, number: u32) -> Result<(), Fail> {
+    let Some(ticket) = desk.lane(number).take(rt.alloc())? else {
+        println!(rt; " no ticket")?;
+        return Ok(());
+    };
+    print!(rt; " rows")?;
+    for cell in ticket.cells() {
+        print!(rt; " {}", cell.row)?;
+    }
+    println!(rt; "")?;
+    desk.keep(ticket)
 }
 
-/// The ticket of a lane at row 0 with a guess for three rows.
-fn guessed(alloc: Global, lane: &mut Lane) -> Result<Ticket, Fail> {
-    publish(alloc, lane, 0, &[0], line(alloc, &[0, 1, 2], 1)?)?;
-    take(alloc, lane)
+/// Posts the answers to all cells of a ticket, and prints how many were appended.
+fn post(rt: &HostRuntime, desk: &mut Desk, number: u32, place: u32) -> Result<(), Fail> {
+    let ticket = desk.ticket(place)?;
+    let lane = desk.lane(number);
+    let answers = answers(rt.alloc(), lane.image(), &ticket)?;
+    match lane.post(ticket, answers) {
+        Ok(appended) => {
+            println!(rt; " appended {appended}")?;
+            Ok(())
+        }
+        Err(back) => {
+            println!(rt; " not of this lane")?;
+            desk.keep(back)
+        }
+    }
+}
+
+/// Gives a ticket back.
+fn give_back(rt: &HostRuntime, desk: &mut Desk, number: u32, place: u32) -> Result<(), Fail> {
+    let ticket = desk.ticket(place)?;
+    match desk.lane(number).back(ticket) {
+        Ok(()) => {
+            println!(rt; " back")?;
+            Ok(())
+        }
+        Err(back) => {
+            println!(rt; " not of this lane")?;
+            desk.keep(back)
+        }
+    }
 }
 
 /// Whether a lane has the answer to a step of 1 at its front.
-fn finds(lane: &Lane, row: u64, state: i64, input: i64, time: u64) -> bool {
+fn finds(lane: &Lane, row: u32, state: u32, input: u32, time: u32) -> bool {
     let want = Want {
-        row,
+        row: u64::from(row),
         image: lane.image(),
-        state: &[state],
-        inputs: &[input],
-        time,
+        state: &[i64::from(state)],
+        inputs: &[i64::from(input)],
+        time: u64::from(time),
         step: 1,
     };
     lane.find(want).is_some()
 }
 
-/// Publishes a lane at a row with the guess that came true from there on, and tells how many answers it kept.
-fn come_true(
-    alloc: Global,
-    lane: &mut Lane,
-    row: u64,
-    state: i64,
-    rows: &[u64],
-) -> Result<u32, Fail> {
-    publish(alloc, lane, row, &[state], line(alloc, rows, 1)?)
-}
-
-#[test]
-fn a_lane_goes_on_with_what_was_answered_ahead(rt: HostRuntime) -> Result<(), Fail> {
-    let mut lane = adder(rt.alloc(), 0)?;
-    let ticket = guessed(rt.alloc(), &mut lane)?;
-    assert!(rt; asks_for(rt.alloc(), &[0, 1, 2], &ticket)?);
-    assert_eq!(rt; come_true(rt.alloc(), &mut lane, 1, 1, &[1, 2])?, 0);
-    assert_eq!(rt; post(rt.alloc(), &mut lane, ticket)?, 2);
-    assert!(rt; finds(&lane, 1, 1, 1, 1));
-    assert_eq!(rt; come_true(rt.alloc(), &mut lane, 2, 2, &[2])?, 1);
-    assert!(rt; finds(&lane, 2, 2, 1, 2));
-    assert!(rt; !finds(&lane, 2, 1, 1, 2));
-    let counts = LaneCounts {
-        tickets: 1,
-        posted: 1,
-        back: 0,
-        appended: 2,
-    };
-    assert_eq!(rt; lane.counts(), counts);
-    Ok(())
-}
-
-#[test]
-fn behind_a_cut_another_ticket_is_given(rt: HostRuntime) -> Result<(), Fail> {
-    let mut lane = adder(rt.alloc(), 0)?;
-    let late = guessed(rt.alloc(), &mut lane)?;
-    publish(
-        rt.alloc(),
-        &mut lane,
-        0,
-        &[0],
-        line(rt.alloc(), &[0, 1], 5)?,
-    )?;
-    let right = take(rt.alloc(), &mut lane)?;
-    assert_eq!(rt; post(rt.alloc(), &mut lane, late)?, 0);
-    assert_eq!(rt; post(rt.alloc(), &mut lane, right)?, 2);
-    Ok(())
-}
-
-#[test]
-fn no_ticket_is_given_beside_a_current_one_or_where_all_is_answered(
-    rt: HostRuntime,
-) -> Result<(), Fail> {
-    let mut lane = adder(rt.alloc(), 0)?;
-    let ticket = guessed(rt.alloc(), &mut lane)?;
-    assert!(rt; !gives(rt.alloc(), &mut lane)?);
-    assert_eq!(rt; post(rt.alloc(), &mut lane, ticket)?, 3);
-    assert!(rt; !gives(rt.alloc(), &mut lane)?);
-    Ok(())
-}
-
-/// As many rows as a line may have.
-const ROWS: [u64; 16] = [0, 1, 2, 3, 4, 5, 6, 7, 8, 9, 10, 11, 12, 13, 14, 15];
-
-#[test]
-fn a_line_of_sixteen_cells_is_given_and_answered(rt: HostRuntime) -> Result<(), Fail> {
-    let mut lane = adder(rt.alloc(), 0)?;
-    publish(rt.alloc(), &mut lane, 0, &[0], line(rt.alloc(), &ROWS, 1)?)?;
-    let ticket = take(rt.alloc(), &mut lane)?;
-    assert!(rt; asks_for(rt.alloc(), &ROWS, &ticket)?);
-    assert_eq!(rt; post(rt.alloc(), &mut lane, ticket)?, 16);
-    Ok(())
-}
-
-/// How many of two answers are appended, where nothing is needed behind them.
-fn appended_at_the_end(alloc: Global, text: &str) -> Result<Option<u32>, Fail> {
-    let mut lane = Lane::open(alloc, image(alloc, text)?, 0)?;
-    publish(alloc, &mut lane, 0, &[0], line(alloc, &[0, 1], 0)?)?;
-    let ticket = take(alloc, &mut lane)?;
-    let appended = post(alloc, &mut lane, ticket)?;
-    Ok(if gives(alloc, &mut lane)? {
-        None
-    } else {
-        Some(appended)
-    })
-}
-
-#[test]
-fn nothing_is_needed_behind_a_fault_or_a_step_that_is_not_accepted(
-    rt: HostRuntime,
-) -> Result<(), Fail> {
-    assert_eq!(rt; appended_at_the_end(rt.alloc(), DIVIDER)?, Some(1));
-    assert_eq!(rt; appended_at_the_end(rt.alloc(), WAITER)?, Some(1));
-    Ok(())
-}
-
-/// A lane whose rows 2, 3 and 4 were answered from the state 7, which stays.
-fn answered(alloc: Global) -> Result<Lane, Fail> {
-    let mut lane = adder(alloc, 0)?;
-    publish(alloc, &mut lane, 2, &[7], line(alloc, &[2, 3, 4], 0)?)?;
-    let ticket = take(alloc, &mut lane)?;
-    post(alloc, &mut lane, ticket)?;
-    Ok(lane)
-}
-
-/// How many of these answers are kept for a state and rows.
-fn kept_for(alloc: Global, state: i64, rows: &[u64]) -> Result<u32, Fail> {
-    let mut lane = answered(alloc)?;
-    publish(alloc, &mut lane, 2, &[state], line(alloc, rows, 0)?)
-}
-
-#[test]
-fn answers_are_kept_in_sequence_and_for_their_state(rt: HostRuntime) -> Result<(), Fail> {
-    assert_eq!(rt; kept_for(rt.alloc(), 7, &[2, 3, 4, 5])?, 3);
-    assert_eq!(rt; kept_for(rt.alloc(), 7, &[3, 4])?, 2);
-    assert_eq!(rt; kept_for(rt.alloc(), 7, &[2, 4])?, 1);
-    assert_eq!(rt; kept_for(rt.alloc(), 8, &[2, 3, 4])?, 0);
-    assert_eq!(rt; kept_for(rt.alloc(), 7, &[])?, 0);
-    Ok(())
-}
-
-#[test]
-fn the_first_answer_is_found_by_its_key_alone(rt: HostRuntime) -> Result<(), Fail> {
-    let lane = answered(rt.alloc())?;
-    assert!(rt; finds(&lane, 2, 7, 0, 2));
-    assert!(rt; finds(&lane, 9, 7, 0, 2));
-    assert!(rt; !finds(&lane, 3, 7, 0, 3));
-    assert!(rt; !finds(&lane, 2, 7, 1, 2));
-    Ok(())
-}
-
-/// Whether a ticket of a lane comes back from another one that has a ticket of that number too, is given back to its own, and
-/// leaves the other as it was.
-fn comes_back(alloc: Global, own: &mut Lane, other: &mut Lane) -> Result<bool, Fail> {
-    publish(alloc, own, 0, &[0], line(alloc, &[0, 1], 1)?)?;
-    publish(alloc, other, 0, &[0], line(alloc, &[0, 1], 1)?)?;
-    let ticket = take(alloc, own)?;
-    drop(take(alloc, other)?);
-    let answers = answers(alloc, own.image(), &ticket)?;
-    match other.post(ticket, answers) {
-        Ok(_) => Ok(false),
-        Err(back) => Ok(!finds(other, 0, 0, 1, 0) && own.back(back).is_ok()),
+/// Makes a call of the lane of a number.
+fn ask(rt: &HostRuntime, desk: &mut Desk, name: &str, numbers: &[u32]) -> Result<(), Fail> {
+    match (name, numbers) {
+        ("publish", [number, row, state, input, rows @ ..]) => {
+            let front = line(rt.alloc(), rows, i64::from(*input))?;
+            let state = [i64::from(*state)];
+            let kept = publish(
+                rt.alloc(),
+                desk.lane(*number),
+                u64::from(*row),
+                &state,
+                front,
+            )?;
+            println!(rt; " kept {kept}")?
+        }
+        ("take", [number]) => take(rt, desk, *number)?,
+        ("post", [number, place]) => post(rt, desk, *number, *place)?,
+        ("back", [number, place]) => give_back(rt, desk, *number, *place)?,
+        ("find", [number, row, state, input, time]) => {
+            let found = finds(desk.lane(*number), *row, *state, *input, *time);
+            println!(rt; " {found}")?
+        }
+        ("counts", [number]) => println!(rt; " {:?}", desk.lane(*number).counts())?,
+        _ => Err("no such call of a lane")?,
     }
+    Ok(())
 }
 
-#[test]
-fn a_ticket_of_another_lane_comes_back(rt: HostRuntime) -> Result<(), Fail> {
-    let mut own = adder(rt.alloc(), 0)?;
-    let mut other = adder(rt.alloc(), 1)?;
-    assert!(rt; comes_back(rt.alloc(), &mut own, &mut other)?);
-    assert_eq!(rt; (own.counts().tickets, own.counts().back), (1, 1));
-    assert_eq!(rt; (other.counts().tickets, other.counts().posted), (1, 0));
+/// Makes each call: its name, the number of a lane, and further numbers.
+fn make_each(rt: &HostRuntime, desk: &mut Desk, calls: &str) -> Result<(), Fail> {
+    for call in calls.lines() {
+        let words = words_of(rt.alloc(), call)?;
+        if let [name, given @ ..] = words.as_slice() {
+            let numbers = numbers_of(rt.alloc(), given)?;
+            print!(rt; "{call}:")?;
+            ask(rt, desk, name, &numbers)?;
+        }
+    }
     Ok(())
+}
+
+/// The image of the first component of a plan.
+fn image_of(alloc: Global, plan: Arc<Plan>) -> Result<Arc<Image>, Fail> {
+    let run = Run::open(alloc, plan)?;
+    Ok(Arc::clone(want_of(&run, 0)?.image)?)
+}
+
+/// Makes calls of two lanes of the first component of a plan.
+pub(crate) fn make_calls(rt: &HostRuntime, plan: Arc<Plan>, calls: &str) -> Result<(), Fail> {
+    let image = image_of(rt.alloc(), plan)?;
+    let mut desk = Desk {
+        lanes: [
+            Lane::open(rt.alloc(), Arc::clone(&image)?, 0)?,
+            Lane::open(rt.alloc(), image, 1)?,
+        ],
+        tickets: Vec::new(rt.alloc()),
+    };
+    let made = make_each(rt, &mut desk, calls);
+    drop(desk);
+    made
 }

@@ -1,5 +1,0 @@
-use Rattle.std.proofs.Common.{length}
-use Rattle.benches.proofs.trace.+have_words.Given as goal
-
-abbrev pub decreases-have_words : goal.decreases-have_words
-decreases-have_words l = length l.columns.now

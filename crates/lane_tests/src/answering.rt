@@ -1,0 +1,32 @@
+//! Answers that units of their own make.
+use std::alloc::Global;
+use std::sync::Arc;
+use std::test::Fail;
+use trace_core::Run;
+use unit_answers::{Proven, prove};
+use unit_exec::{Unit, Want};
+
+/// No time and no step here is later or longer.
+const LATEST: u64 = 1000;
+
+/// The step that is wanted of an instance.
+pub(crate) fn want_of(run: &Run, instance: u32) -> Result<Want<'_>, Fail> {
+    match run.wants(instance) {
+        Some(want) => Ok(want),
+        None => Err("no step is wanted")?,
+    }
+}
+
+/// The answer to a step, made by a unit of its code that made another step before.
+pub(crate) fn answer_to(alloc: Global, want: Want<'_>) -> Result<Proven, Fail> {
+    let fits = want.state.len() == want.image.states() as usize
+        && want.inputs.len() == want.image.inputs() as usize
+        && want.time <= LATEST
+        && want.step <= LATEST;
+    if !fits {
+        Err("the words don't fit the code")?;
+    }
+    let mut unit = Unit::new(alloc, Arc::clone(want.image)?)?;
+    drop(prove(alloc, &mut unit, Want { step: 9, ..want })?);
+    Ok(prove(alloc, &mut unit, want)?)
+}

@@ -1,0 +1,163 @@
+//! Answers that a run takes or leaves.
+use crate::answering::{answer_to, want_of};
+use crate::script::{numbers_of, words_of};
+use std::alloc::{AllocError, Global};
+use std::sync::Arc;
+use std::test::Fail;
+use test_plans::settle;
+use trace_core::{Plan, Run};
+use unit_answers::{Proven, same_key};
+use unit_exec::Want;
+
+/// In what a step differs from the one that is wanted: a part of it, by its number or its words.
+#[derive(Drop)]
+struct Change<'a> {
+    part: &'a str,
+    number: u32,
+    words: Vec<i64>,
+}
+
+/// The change that words say. Without words it is none.
+fn change_of<'a>(alloc: Global, given: &[&'a str]) -> Result<Change<'a>, Fail> {
+    let mut change = Change {
+        part: "",
+        number: 0,
+        words: Vec::new(alloc),
+    };
+    let [part, numbers @ ..] = given else {
+        return Ok(change);
+    };
+    change.part = *part;
+    for number in &numbers_of(alloc, numbers)? {
+        change.number = *number;
+        change.words.push(i64::from(*number))?;
+    }
+    Ok(change)
+}
+
+/// The step that is wanted of an instance, but for a change.
+fn changed<'a>(run: &'a Run, instance: u32, change: &'a Change<'_>) -> Result<Want<'a>, Fail> {
+    let want = want_of(run, instance)?;
+    let number = u64::from(change.number);
+    match change.part {
+        "" => Ok(want),
+        "row" => Ok(Want {
+            row: number,
+            ..want
+        }),
+        "state" => Ok(Want {
+            state: &change.words,
+            ..want
+        }),
+        "inputs" => Ok(Want {
+            inputs: &change.words,
+            ..want
+        }),
+        "code" => Ok(Want {
+            image: want_of(run, change.number)?.image,
+            ..want
+        }),
+        "time" => Ok(Want {
+            time: number,
+            ..want
+        }),
+        "step" => Ok(Want {
+            step: number,
+            ..want
+        }),
+        _ => Err("a step has no such part")?,
+    }
+}
+
+/// The answer that was made last.
+fn last_of(answers: &[Proven]) -> Result<&Proven, Fail> {
+    match answers.last() {
+        Some(answer) => Ok(answer),
+        None => Err("no answer was made")?,
+    }
+}
+
+/// Makes the answer to a step, which becomes the last one.
+fn answer(
+    rt: &HostRuntime,
+    run: &Run,
+    answers: &mut Vec<Proven>,
+    instance: &str,
+    change: &[&str],
+) -> Result<(), Fail> {
+    let change = change_of(rt.alloc(), change)?;
+    let want = changed(run, instance.parse::<u32>()?, &change)?;
+    let made = answer_to(rt.alloc(), want)?;
+    println!(rt;
+        "row {}, time {}: {:?}",
+        made.row(),
+        made.key().time,
+        made.answer()
+    )?;
+    answers.push(made).map_err(AllocError::from)?;
+    Ok(())
+}
+
+/// Whether the last answer is that of a step.
+fn is_same(
+    rt: &HostRuntime,
+    run: &Run,
+    answers: &[Proven],
+    instance: &str,
+    change: &[&str],
+) -> Result<bool, Fail> {
+    let change = change_of(rt.alloc(), change)?;
+    let want = changed(run, instance.parse::<u32>()?, &change)?;
+    Ok(same_key(last_of(answers)?, want))
+}
+
+/// Makes a call of a run, to which its answers belong.
+fn make_call(
+    rt: &HostRuntime,
+    run: &mut Run,
+    answers: &mut Vec<Proven>,
+    call: &str,
+) -> Result<(), Fail> {
+    print!(rt; "{call}: ")?;
+    let words = words_of(rt.alloc(), call)?;
+    match words.as_slice() {
+        ["answer", instance, change @ ..] => answer(rt, run, answers, instance, change)?,
+        ["same", instance, change @ ..] => {
+            let same = is_same(rt, run, answers, instance, change)?;
+            println!(rt; "{same}")?
+        }
+        ["accept", instance] => {
+            let number = instance.parse::<u32>()?;
+            let taken = run.accept(number, last_of(answers)?);
+            println!(rt; "{taken}")?
+        }
+        ["settle"] => {
+            let settled = settle(run, false)?;
+            println!(rt; "{settled:?}")?
+        }
+        ["state", instance] => {
+            let state = want_of(run, instance.parse::<u32>()?)?.state;
+            println!(rt; "{state:?}")?
+        }
+        ["phase"] => println!(rt; "{:?}", run.phase())?,
+        ["steps"] => println!(rt; "found {}, own {}", run.found(), run.own())?,
+        _ => Err("no such call of a run")?,
+    }
+    Ok(())
+}
+
+fn make_each(rt: &HostRuntime, run: &mut Run, calls: &str) -> Result<(), Fail> {
+    let mut answers = Vec::new(rt.alloc());
+    for call in calls.lines() {
+        make_call(rt, run, &mut answers, call)?;
+    }
+    Ok(())
+}
+
+/// Makes calls of the run of a plan.
+pub(crate) fn make_calls(rt: &HostRuntime, plan: Arc<Plan>, calls: &str) -> Result<(), Fail> {
+    let mut run = Run::open(rt.alloc(), plan)?;
+    let made = make_each(rt, &mut run, calls);
+    drop(run);
+    made
+}
