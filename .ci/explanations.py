@@ -35,6 +35,8 @@ FILES = {
     "empty": (b"", 3, b"", b"{}:1: rule 7: there is no header\n     1 |\n"),
     "long": (b"#" * (1 << 20), 3, b"", b"{}:1: rule 2: the text is too long\n     1 | " + b"#" * 200 + b" ..\n"),
     "signs": (b"cosim 1\nunit \x1b\xc2\xa0\xff\r\n", 3, b"", b"{}:2: rule 1: a byte that isn't allowed\n     2 | unit \\x1b\\xa0\\xff\n"),
+    "sum": (MODEL.replace(b"= n", b"= n" + b"+n" * 450 + b"+1.0"), 3, b"", b"{}:4: rule 10: a kind is wrong\n     4 |   output y : Int64 = n+n"),
+    "names": (MODEL.replace(b"= n", b"= n" + b"+n" * 450 + b"+m"), 3, b"", b"{}:4: rule 9: a name isn't there, or may not be used\n     4 |   output y : "),
     "returns": (b"cosim 1\r\nunit A\r\r\n", 3, b"", b"{}:2: rule 1: a byte that isn't allowed\n     2 | unit A\\r\n"),
 }
 

@@ -27,8 +27,13 @@ def occupy_closed_streams() -> None:
             os.open(os.devnull, os.O_RDWR)
 
 
+# How many calls may be within each other: a line may have an expression with as many operators as half its bytes.
+MOST_CALLS = 10_000
+
+
 def start(main: Callable[[], int]) -> NoReturn:
     """Runs a tool, and ends the process by its status. A signal from the keyboard ends it as any other program."""
+    sys.setrecursionlimit(MOST_CALLS)
     signal.signal(signal.SIGINT, signal.SIG_DFL)
     occupy_closed_streams()
     sys.exit(main())

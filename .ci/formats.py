@@ -1,0 +1,127 @@
+"""Tries tools/format, for .ci/tools: on worked texts, on the examples, on random texts, and on files and streams of all kinds."""
+import glob
+import importlib.machinery
+import importlib.util
+import os
+import random
+import re
+import sys
+
+from common import ROOT, read
+
+# The texts of examples that aren't formatted: of mistakes, a part of a text, what `flatten` writes, and what is joined of other files.
+OTHERS = ("examples/mistakes/", "examples/orbit/", "examples/groups/bus.flat.cosim")
+
+# How many random texts are tried, by which seed.
+RANDOM_TEXTS = 300
+SEED = 67
+
+PLAIN = b"cosim 1\nunit A\nstate n:Int64=0 # counts\noutput y:Int64=n\nend\ninstance a:A\nend\nstop 3\n"
+FORMATTED = (
+    b"cosim 1\nunit A\n  state n : Int64 = 0  # counts\n  output y : Int64 = n\nend\ninstance a : A\nend\nstop 3\n"
+)
+
+# A line that is longer than a line may be once it has its spaces.
+WIDE = PLAIN.replace(b"=n\n", b"=n" + b"+n" * 31 + b"#" + b"." * 900 + b"\n")
+
+
+def load_fuzz():
+    """The module of tests/hostile/fuzz, which makes random texts."""
+    folder = os.path.join(ROOT, "tests", "hostile")
+    sys.path.insert(0, folder)
+    loader = importlib.machinery.SourceFileLoader("fuzz", os.path.join(folder, "fuzz"))
+    module = importlib.util.module_from_spec(importlib.util.spec_from_loader("fuzz", loader))
+    loader.exec_module(module)
+    return module
+
+
+def load_formatting():
+    """The modules of python/cosim that format, and that split lines."""
+    sys.path.insert(0, os.path.join(ROOT, "python"))
+    from cosim import formatting, lines
+
+    return formatting.format_text, lines
+
+
+def worked(trial):
+    """Each model of tests/formatted.txt, formatted; and what is formatted stays so."""
+    format_text, _ = load_formatting()
+    for part in re.split(r"^=== ", read("tests/formatted.txt").decode(), flags=re.M)[1:]:
+        name, _, rest = part.partition("\n")
+        text, _, wanted = rest.partition("---\n")
+        wanted = wanted.rstrip("\n").encode() + b"\n"
+        trial.tally.compare(f"formatted, {name}", (0, b"", format_text(text.encode())), (0, b"", wanted))
+        trial.tally.compare(f"formatted twice, {name}", (0, b"", format_text(wanted)), (0, b"", wanted))
+        by_dos = wanted.replace(b"\n", b"\r\n")
+        trial.tally.compare(f"formatted, {name}, by DOS", (0, b"", format_text(text.encode().replace(b"\n", b"\r\n"))), (0, b"", by_dos))
+
+
+def examples(trial):
+    """The examples are formatted."""
+    paths = [path for path in sorted(glob.glob("examples/**/*.cosim", recursive=True)) if not path.startswith(OTHERS)]
+    trial.tally.compare("examples are formatted", trial.ask(["tools/format", "--check", *paths]), (0, b"", b""))
+
+
+def random_texts(trial):
+    """Random texts, which may be refused: each keeps its canonical text, its comments and its blank lines, and is formatted once."""
+    format_text, lines = load_formatting()
+    texts = load_fuzz().Texts(trial.program, random.Random(SEED))
+    makers, accepted = (texts.noise, texts.changed, texts.made, texts.generated), 0
+
+    def comments(text):
+        return [lines.split_comment(line)[1].rstrip(b" \t") for line in lines.split_lines(text)]
+
+    def blanks(text):
+        return [not line.strip() for line in lines.split_lines(text)]
+
+    for number in range(RANDOM_TEXTS):
+        text = makers[number % len(makers)]()
+        formatted = format_text(text)
+        trial.try_that(f"random text {number}, twice: {text!r}", format_text(formatted) == formatted)
+        same = comments(formatted) == comments(text) and blanks(formatted) == blanks(text)
+        trial.try_that(f"random text {number}, comments: {text!r}", same)
+        before, after = (trial.call([trial.program, "print"], each) for each in (text, formatted))
+        accepted += before[0] == 0
+        trial.try_that(f"random text {number}, another model: {text!r}", before[0] != 0 or before == after)
+    trial.try_that(f"{accepted} random texts are accepted", accepted > RANDOM_TEXTS // 4)
+
+
+def files(trial):
+    """Files are formatted in place, or stay as they are, with a line that says why."""
+    form = trial.ask(["tools/format", "--help"])[2]
+    trial.tally.compare("format -x", trial.ask(["tools/format", "-x"]), (2, form, b""))
+    trial.tally.compare("format, a stream", trial.ask(["tools/format"], PLAIN), (0, b"", FORMATTED))
+    trial.tally.compare("format --check, a stream", trial.ask(["tools/format", "--check"], PLAIN), (1, b"", b""))
+    trial.tally.compare("format --check, formatted", trial.ask(["tools/format", "--check"], FORMATTED), (0, b"", b""))
+    trial.tally.compare("format, nowhere", trial.ask(["tools/format", "nowhere"]), (4, b"nowhere: No such file or directory\n", b""))
+    path = os.path.join(trial.clone, "format.cosim")
+    link = os.path.join(trial.clone, "link.cosim")
+    os.symlink("format.cosim", link)
+    for name in ("format.cosim", "link.cosim"):
+        write(path, PLAIN, 0o640)
+        wanted = (1, b"", f"{name}: would be formatted\n".encode())
+        trial.tally.compare(f"format --check {name}", trial.ask(["tools/format", "--check", name]), wanted)
+        trial.try_that(f"format --check {name} changes nothing", read(path) == PLAIN)
+        trial.tally.compare(f"format {name}", trial.ask(["tools/format", name]), (0, b"", b""))
+        kept = (read(path), os.stat(path).st_mode & 0o777, os.path.islink(link))
+        trial.try_that(f"format {name}: {kept}", kept == (FORMATTED, 0o640, True))
+    refusals = [
+        ("a refused model", PLAIN.replace(b"=n", b"=m"), b"it is refused at line 4 by rule 9, and isn't formatted"),
+        ("a wide line", WIDE, b"formatted it would break rule 3 at line 4, so it stays as it is"),
+        ("groups", b"group G\nmain\n" + PLAIN, b"it is refused at line 1 by rule 27, and isn't formatted"),
+    ]
+    for name, text, told in refusals:
+        write(path, text, 0o600)
+        trial.tally.compare(f"format, {name}", trial.ask(["tools/format", "format.cosim"]), (3, b"format.cosim: " + told + b"\n", b""))
+        trial.try_that(f"format, {name}, changes nothing", read(path) == text)
+    left = glob.glob(os.path.join(trial.clone, ".format-*"))
+    trial.try_that(f"format leaves {left}", not left)
+
+
+def write(path, text, mode):
+    with open(path, "wb") as file:
+        file.write(text)
+    os.chmod(path, mode)
+
+
+CHECKS = (worked, examples, random_texts, files)

@@ -1,0 +1,110 @@
+"""The command tools/format."""
+import os
+import tempfile
+from typing import List, NamedTuple, Optional, Sequence
+
+from .explain.inputs import has_groups
+from .formatting import format_text
+from .program import ACCEPTED, REFUSED, ask
+from .repository import LONGEST_TEXT
+from .streams import READ_FAULT, WRITE_FAULT, clean_name, note, put, read_at_most, read_input
+
+# The statuses where a file would be changed, and where words have no form.
+WOULD_CHANGE = 1
+NO_FORM = 2
+
+CHECK = "--check"
+
+
+class Formatted(NamedTuple):
+    """A formatted text; or none, with the status and the reason."""
+
+    text: Optional[bytes]
+    status: int = ACCEPTED
+    reason: str = ""
+
+
+def format_safely(text: bytes) -> Formatted:
+    """A text as it is formatted, if the program prints the same canonical text of both."""
+    command = "flatten" if has_groups(text) else "print"
+    before = ask(command, text)
+    if before.line is not None:
+        return Formatted(None, before.status, f"it is refused at line {before.line} by rule {before.rule}, and isn't formatted")
+    if before.status != ACCEPTED:
+        return Formatted(None, before.status, "it isn't formatted")
+    formatted = format_text(text)
+    after = ask(command, formatted)
+    if after.line is not None:
+        return Formatted(None, REFUSED, f"formatted it would break rule {after.rule} at line {after.line}, so it stays as it is")
+    if (after.status, after.output) != (before.status, before.output):
+        return Formatted(None, REFUSED, "formatted it would be another model, so it stays as it is")
+    return Formatted(formatted)
+
+
+def format_input(is_check: bool) -> int:
+    """Formats standard input to standard output."""
+    text = read_input(LONGEST_TEXT)
+    formatted = format_safely(text)
+    if formatted.text is None:
+        note(f"standard input: {formatted.reason}")
+        return formatted.status
+    if is_check:
+        return WOULD_CHANGE if formatted.text != text else ACCEPTED
+    put(formatted.text)
+    return ACCEPTED
+
+
+def format_file(path: str, is_check: bool) -> int:
+    """Formats a file in place, or tells that it would be changed."""
+    name = clean_name(path)
+    try:
+        with open(path, "rb") as file:
+            text = read_at_most(file, LONGEST_TEXT)
+    except (OSError, ValueError) as error:
+        note(f"{name}: {getattr(error, 'strerror', None) or error}")
+        return READ_FAULT
+    formatted = format_safely(text)
+    if formatted.text is None:
+        note(f"{name}: {formatted.reason}")
+        return formatted.status
+    if formatted.text == text:
+        return ACCEPTED
+    if is_check:
+        put(f"{name}: would be formatted")
+        return WOULD_CHANGE
+    return replace(path, formatted.text)
+
+
+def replace(path: str, text: bytes) -> int:
+    """Puts a file in place of another one at once, so that no reader sees a part of it. A link stays one."""
+    path = os.path.realpath(path)
+    new = ""
+    try:
+        mode = os.stat(path).st_mode
+        with tempfile.NamedTemporaryFile(dir=os.path.dirname(path), prefix=".format-", delete=False) as file:
+            new = file.name
+            file.write(text)
+        os.chmod(new, mode & 0o7777)
+        os.replace(new, path)
+    except OSError as error:
+        note(f"{clean_name(path)}: {error.strerror}; it stays as it is")
+        if new and os.path.exists(new):
+            os.remove(new)
+        return WRITE_FAULT
+    return ACCEPTED
+
+
+def main(document: str, words: Sequence[str]) -> int:
+    if list(words) in (["help"], ["--help"], ["-h"]):
+        put(document.strip())
+        return ACCEPTED
+    is_check = CHECK in words
+    paths: List[str] = list(words)
+    if is_check:
+        paths.remove(CHECK)
+    if any(path.startswith("-") for path in paths):
+        note(document.strip())
+        return NO_FORM
+    if not paths:
+        return format_input(is_check)
+    return max(format_file(path, is_check) for path in paths)
