@@ -1,7 +1,8 @@
 -- A run that is saved, and resumed, puts what it puts.
-use Rattle.std.proofs.Common.{◌≡◌, ℕ, ◌≤◌, List, ◌∷◌, ◌++◌, length, refl, sym, ap, subst, ◌∙◌, inl, inr}
+use Rattle.std.proofs.Common.{◌≡◌, ℕ, ◌+◌, ◌≤◌, List, ◌∷◌, ◌++◌, length, refl, sym, ap, subst, ◌∙◌, inl, inr, arith}
 use Rattle.std.proofs.Transfers.{drop-appended}
 use Rattle.std.proofs.lemmas.List.Concat.{flat_map-append}
+use Rattle.std.proofs.lemmas.List.{length-append}
 use Rattle.text_accept.specs.Accepting.{IsAcceptedAs}
 use Rattle.text_accept.proofs.Acceptance.{judged_once}
 use Rattle.text_laws.proofs.ReadBack.{read_back}
@@ -153,7 +154,13 @@ module _ (row : ℕ) (text : List ℕ) (saved resumed run : Answer) (of : Answer
 
 -- ---- What `save` puts is not refused
 
-module _ (row : ℕ) (text : List ℕ) (saved : Answer) (of : AnswersSave row text saved) (short : length saved.out ≤ saved_limit) where
+-- a saved text is its lines and the canonical text
+saved_length : (system : System) (at : Position)
+    → length (saved_text system at) ≡ length (ended (saved_lines at.number at.point (named_states system at))) + length (canonical_text system)
+unfolding saved_text
+saved_length system at = length-append (ended (saved_lines at.number at.point (named_states system at))) (canonical_text system)
+
+module _ (row : ℕ) (text : List ℕ) (saved : Answer) (of : AnswersSave row text saved) where
   abbrev place : Position
   place = of.is.at
 
@@ -164,6 +171,12 @@ module _ (row : ℕ) (text : List ℕ) (saved : Answer) (of : AnswersSave row te
   resumable =
       let whole = whole_of text of.system of.lines of.accepted in
       can_be_resumed of.system row place whole.ranged whole.well_formed of.is.is_position
+
+  short : length saved.out ≤ saved_limit
+  short =
+      let lines = resumable.short in
+      let rest = (read_is_printable text of.system of.accepted.reads.reads).text in
+      omega (arith, ap length put, saved_length of.system place, lines, rest)
 
   saves_it : IsSaved saved.out (saved_of of.system place)
   saves_it = subst (λ bytes. IsSaved bytes (saved_of of.system place)) (sym put) resumable.saved
@@ -193,13 +206,13 @@ module _ (row : ℕ) (text : List ℕ) (saved : Answer) (of : AnswersSave row te
   serves resumed (inr on) = on
 
 pub saved_runs_go_on : SavedRunsGoOn
-saved_runs_go_on row asked text saved resumed run of short on (inl refusal) =
+saved_runs_go_on row asked text saved resumed run of on (inl refusal) =
     absurd ((judged_once text).not_both of.system of.lines refusal.line refusal.rule of.accepted refusal.refused)
-saved_runs_go_on row asked text saved resumed run of short on (inr runs) =
+saved_runs_go_on row asked text saved resumed run of on (inr runs) =
     let trace = runs.is.trace in
     let told : OnAccepted TellsTrace text trace =
     record { system = runs.system; lines = runs.lines; accepted = runs.accepted; is = runs.is.tells } in
-    let on' = serves row text saved of short resumed on in
+    let on' = serves row text saved of resumed on in
     record {
       before = before row text saved resumed trace of on' told;
       as_many = many row text saved resumed trace of on' told;

@@ -3,7 +3,7 @@ use Rattle.std.specs.Prelude.{◌≡◌, ℕ, ◌≤◌, true, ⊤, List, ◌++�
 use Rattle.cosim_call.specs.Answers.{Answer, IsEndOfWork}
 use Rattle.cosim_call.specs.declared.status.Status.TheVariants as status
 use Rattle.cosim_answers.specs.Answer.{Answers, AnswersRefusal, IsAnswer, ServedBy, report_lines}
-use Rattle.command_line.specs.Commands.{command_of, saved_limit}
+use Rattle.command_line.specs.Commands.{command_of}
 use Rattle.command_line.specs.declared.commands.Command.{Command}
 use Rattle.command_line.specs.declared.commands.Command.TheVariants.{Resume, Run}
 use Rattle.command_line.specs.declared.running.Running.{Running}
@@ -72,8 +72,8 @@ pub record EndsRun (row : ℕ) (asked : Running) (system : System) (resumed run 
   pub notes : IsNoted asked resumed.notes run
   pub status : run.status ≡ resumed.status
 
--- Where `save` serves a text, and what it puts is no longer than `resume` may read, this serves it, and ends the run of the text.
+-- Where `save` serves a text, `resume` serves what it prints, and ends the run of the text.
 abbrev pub SavedRunsGoOn : Type 0
 SavedRunsGoOn =
-    (row : ℕ) (asked : Running) (text : List ℕ) (saved resumed run : Answer) (of : AnswersSave row text saved) → length saved.out ≤ saved_limit
+    (row : ℕ) (asked : Running) (text : List ℕ) (saved resumed run : Answer) (of : AnswersSave row text saved)
     → Answers Resume saved.out resumed → Answers (Run asked) text run → EndsRun row asked of.system resumed run

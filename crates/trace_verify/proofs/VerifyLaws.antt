@@ -21,7 +21,8 @@ use Rattle.stimulus_tables.specs.Records.{Fields, records_of}
 use Rattle.trace_verify.specs.Verifying.{IsVerdictOn}
 use Rattle.trace_verify.specs.declared.verdict.Verdict.{Verdict}
 use Rattle.trace_verify.proofs.LineRecords.{lines_read}
-use Rattle.trace_verify.proofs.PlainTexts.{AreHigh, are_named, plain_of, row_plain, titles_plain}
+use Rattle.trace_csv.proofs.HighTexts.{AreHigh}
+use Rattle.trace_verify.proofs.PlainTexts.{are_named, plain_of, row_plain, titles_plain}
 use Rattle.unit_tree.specs.Compositions.{Composition, run_of}
 use Rattle.unit_tree.specs.Plain.{plain_form}
 use Rattle.unit_tree.specs.Printable.{IsRanged}
