@@ -18,10 +18,9 @@ struct Desk {
 }
 
 impl Desk {
-    /// The lane of a number.
+    /// The lane of a number, 0 or 1.
     fn lane(&mut self, number: u32) -> &mut Lane {
-        let [first, second] = &mut self.lanes;
-        if number == 0 { first } else { second }
+        &mut self.lanes[number as usize % 2]
     }
 
     /// The ticket that is in a place among those that were taken, which loses it.
