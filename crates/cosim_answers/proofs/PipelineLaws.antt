@@ -1,6 +1,6 @@
 -- What a command answers to what another one printed.
 use Rattle.std.proofs.Common.{◌≡◌, ℕ, ◌≤◌, ◌==◌, Bool, true, false, if◌then◌else◌, List, [], ◌∷◌, ◌++◌, length, map, take, drop, append_assoc, append-nil}
-use Rattle.std.proofs.Common.{take-append-drop, is_some, Option, refl, sym, ap, subst, ◌∙◌, inl, inr}
+use Rattle.std.proofs.Common.{take-append-drop, is_some, refl, sym, ap, subst, ◌∙◌, inl, inr}
 use Rattle.std.proofs.lemmas.List.Concat.{flat_map-append}
 use Rattle.std.proofs.lemmas.List.Elements.{filter_map-append}
 use Rattle.command_line.specs.Commands.{verify_limit}
@@ -11,13 +11,12 @@ use Rattle.cosim_answers.proofs.CommandLaws.{traces_same}
 use Rattle.cosim_answers.proofs.Lawful.{determined_within, lawful_within}
 use Rattle.cosim_answers.proofs.RunLaws.{text_is, trace_told}
 use Rattle.cosim_answers.proofs.TableLaws.{verdicts_once, verify_lawful}
-use Rattle.cosim_answers.proofs.TraceLaws.{IsWhole, one_outcome, plain_outcome, whole_asked, whole_of}
+use Rattle.cosim_answers.proofs.TraceLaws.{IsWhole, whole_asked, whole_of}
 use Rattle.cosim_answers.specs.Accepted.{TellsTrace, printed_text, run_answer, status_of, traced_notes, traced_text}
-use Rattle.cosim_answers.specs.Answer.{Answers, AnswersRun, TellsReported, report_lines, with_report}
+use Rattle.cosim_answers.specs.Answer.{Answers, AnswersRun, TellsReported, report_lines}
 use Rattle.cosim_answers.specs.Pipelines.{FlatRunsAreNested, GeneratedRunsHaveFigures, NodesPrintAPrefix, PrintsRunAlike, RunAlike, RunsAreVerified, TablesArePrinted, UpgradesRunAlike}
 use Rattle.cosim_answers.specs.TableAnswers.{AnswersTable, AnswersVerify, RefusesTable, verdict_text}
 use Rattle.cosim_call.specs.Answers.{Answer, piece_answer}
-use Rattle.cosim_call.specs.declared.status.Status.{Status}
 use Rattle.cosim_gen.proofs.Printing.{is_printable as generated_is_printable}
 use Rattle.event_runs.specs.EventRuns.{IsEventTraceOf}
 use Rattle.event_runs.specs.EventTrace.{EventRow}
@@ -262,7 +261,7 @@ tables_are_printed asked table made run of answers =
     let system = table_system t.names t.first t.later in
     let printable = table_is_printable t.names t.first t.later stimulus in
     let kept = table_is_well_formed t.names t.first t.later stimulus in
-    let ordered = no_cycle t.names t.first t.later stimulus in
+    let ordered = no_cycle t.names t.first t.later stimulus.are_names.differ in
     let whole : IsWhole system = record { ranged = printable.ranged; well_formed = kept; ordered = ordered } in
     let tells = printed_run asked system printable kept ordered made.out
     (ap (λ (x : Answer). x.out) played.is ∙ ap printed_text t.is) run answers in

@@ -1,5 +1,5 @@
 -- Laws of answers.
-use Rattle.std.specs.Prelude.{◌≡◌, ℕ, ◌≤◌, true, ⊤, List, ◌++◌, length, ◌⊎◌, Option, Some}
+use Rattle.std.specs.Prelude.{◌≡◌, ℕ, true, ⊤, List, ◌++◌, length, ◌⊎◌, Option, Some}
 use Rattle.cosim_call.specs.Answers.{Answer, IsEndOfWork}
 use Rattle.cosim_call.specs.declared.status.Status.TheVariants as status
 use Rattle.cosim_answers.specs.Answer.{Answers, AnswersRefusal, IsAnswer, ServedBy, report_lines}

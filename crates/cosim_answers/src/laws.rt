@@ -24,9 +24,8 @@ pub fn statuses_have_causes()
     ensures served { EndsAreServed }
 {}
 
-/// A law: what `run` puts of a text is its header, the rows before a position that `save` saves, and then just what `resume` puts of
-/// that, with the same status, and the same notes but for the line of a report. `resume` refuses nothing that `save` put and that is no
-/// longer than it may read.
+/// A law: what `run` prints of a text is its header, the rows before a position that `save` saves, and then just what `resume` prints
+/// of that, with the same status, and the same notes but for the line of a report. `resume` refuses nothing that `save` printed.
 pub fn saved_runs_go_on()
     ensures { SavedRunsGoOn }
 {}
