@@ -1,4 +1,5 @@
-"""Reads a text whose lines have forms, with groups or without, and says of which of its lines each line of the flat text comes."""
+"""Reads a text whose lines have forms, with groups or without, and says of which of its lines each line of the flat text
+comes."""
 from typing import Dict, Iterator, List, NamedTuple, Optional, Set, Tuple
 
 from .lines import LONGEST_NAME, Placed, is_part, placed_lines
@@ -9,7 +10,7 @@ MOST_CONNECTIONS = 2_048
 # How many ports are looked at until a text is given up, whose groups lead to the same ports by too many ways.
 MOST_STEPS = 1_000_000
 
-# The lines of a unit, and the lines of `main` behind its connections, in canonical order by their first words.
+# The lines of a unit, and the lines of `main` after its connections, in canonical order by their first words.
 ORDER_IN_UNIT = ("resolution", "param", "state", "local", "input", "event input", "output", "event output", "max", "step")
 ORDER_OF_NUMBERS = ("stop", "longest", "zero", "rows")
 
@@ -66,7 +67,7 @@ class Link(NamedTuple):
 
 
 class Part(NamedTuple):
-    """A group, or `main`, whose name is empty: its line, and what stands in it."""
+    """A group, or `main`, whose name is empty: its line, and its instances, links and connections."""
 
     name: str
     line: int
@@ -82,7 +83,8 @@ class Part(NamedTuple):
 
 
 class Nest(NamedTuple):
-    """A text: its groups, `main` with its units and samples, and the lines of its header and its numbers by their first words."""
+    """A text: its groups, `main` with its units and samples, and the lines of its header and its numbers by their first
+    words."""
 
     groups: List[Part]
     main: Part
@@ -102,7 +104,8 @@ class Nest(NamedTuple):
 
 
 class Origin(NamedTuple):
-    """Of which line a line of the flat text comes, by way of which others, and what the flat line says where that is another."""
+    """Of which line a line of the flat text comes, by way of which others, and what the flat line says where that is
+    another."""
 
     line: int
     ways: Ways = ()
@@ -123,26 +126,27 @@ class TooManyWays(Exception):
 
 
 def read_nest(text: bytes) -> Nest:
-    """The nest of a text that keeps rules 1 and 3 to 7, and of one with groups also rule 26. Of other texts it has what has a form."""
+    """The nest of a text that keeps rules 1 and 3 to 7, and of one with groups also rule 26. Of other texts it has what has a
+    form."""
     placed_all = list(placed_lines(text))
     nest = Nest([], empty_part("", 1), [], [], {}, {}, {})
     part = nest.main
     units: List[List[Placed]] = []
     has_parts = any(is_part(placed.tokens) for placed in placed_all)
-    behind_main = not has_parts
+    after_main = not has_parts
     for placed in placed_all:
         first = placed.tokens[0] if placed.tokens else ""
-        if not behind_main and is_part(placed.tokens):
-            behind_main = first == "main"
-            part = empty_part("" if behind_main else placed.tokens[-1], placed.number)
-            if behind_main:
+        if not after_main and is_part(placed.tokens):
+            after_main = first == "main"
+            part = empty_part("" if after_main else placed.tokens[-1], placed.number)
+            if after_main:
                 nest = nest._replace(main=part)
             else:
                 nest.groups.append(part)
                 nest.group_names.setdefault(part.name, part)
-        elif "unit" in placed.blocks or first == "unit":
-            if not placed.blocks:
-                units.append([])
+        elif first == "unit" and not placed.blocks:
+            units.append([placed])
+        elif "unit" in placed.blocks:
             units[-1].append(placed)
         elif first:
             read_line(nest, part, placed)
