@@ -215,16 +215,34 @@ def declare(declared: Dict[str, Declared], sort: str, placed: Placed) -> None:
     declared.setdefault(name, Declared(sort, name, type_name, placed.number, tuple(placed.tokens)))
 
 
+def links_by_port(links: List[Link], is_out: bool) -> Dict[str, List[Link]]:
+    """The `in` lines of a group, or its `out` lines, by the group's port, and of those that lead to one inner port the first."""
+    by_port: Dict[str, Dict[End, Link]] = {}
+    for link in links:
+        outer_end, inner_end = (link.end, link.start) if is_out else (link.start, link.end)
+        by_port.setdefault(outer_end[1], {}).setdefault(inner_end, link)
+    return {port: list(by_end.values()) for port, by_end in by_port.items()}
+
+
 class Flat:
-    """The flat system of a nest: its instances, its connections and its samples, with their origins."""
+    """The flat system of a nest: its instances, its connections and its samples, with their origins.
+
+    Where the groups lead to connections by too many ways it has the first connections alone.
+    """
 
     def __init__(self, nest: Nest) -> None:
         self.nest = nest
         self.steps = 0
+        self.ins = {group.name: links_by_port(group.ins, False) for group in nest.group_names.values()}
+        self.outs = {group.name: links_by_port(group.outs, True) for group in nest.group_names.values()}
         self.instances: List[Tuple[str, Instance, Origin]] = []
         self.connections: List[Tuple[End, End, Origin]] = []
         self.add_instances(nest.main, (), ())
-        self.add_connections(nest.main, (), ())
+        try:
+            self.add_connections(nest.main, (), ())
+            self.is_whole = True
+        except TooManyWays:
+            self.is_whole = False
         self.samples = [(self.source(nest.main, (), link.start, ()), link.line) for link in nest.samples]
 
     def step(self) -> None:
@@ -266,10 +284,10 @@ class Flat:
         while True:
             instance = part.instance(end[0])
             group = self.nest.group(instance.unit) if instance else None
-            link = next((link for link in group.outs if link.end[1] == end[1]), None) if group else None
-            if group is None or link is None:
+            links = self.outs[group.name].get(end[1]) if group else None
+            if group is None or not links:
                 return ("_".join((*path, end[0])), end[1]), ways
-            part, path, end, ways = group, (*path, end[0]), link.start, (*ways, link.line)
+            part, path, end, ways = group, (*path, end[0]), links[0].start, (*ways, links[0].line)
 
     def targets(self, part: Part, path: Path, end: End, ways: Ways, seen: Set[End]) -> Iterator[Reached]:
         """The inputs of components that an input leads to, each once, and the `in` lines on the way."""
@@ -283,10 +301,8 @@ class Flat:
         if group is None:
             yield (name, end[1]), ways
             return
-        for link in group.ins:
-            self.step()
-            if link.start[1] == end[1]:
-                yield from self.targets(group, (*path, end[0]), link.end, (*ways, link.line), seen)
+        for link in self.ins[group.name].get(end[1], ()):
+            yield from self.targets(group, (*path, end[0]), link.end, (*ways, link.line), seen)
 
     def origins(self) -> List[Origin]:
         """The origin of each line of the flat text, in its order."""
@@ -297,6 +313,8 @@ class Flat:
             origins += [Origin(line, origin.ways) for _, line in instance.settings]
             origins += [Origin(line, origin.ways) for line in instance.last]
         origins += [origin for _, _, origin in self.connections]
+        if not self.is_whole:
+            return origins
         origins += [Origin(placed.number) for word in ORDER_OF_NUMBERS for placed in nest.numbers.get(word, [])]
         origins += [Origin(line, ways, f"sample {end[0]}.{end[1]}") for (end, ways), line in self.samples]
         return origins

@@ -3,7 +3,7 @@ from typing import Callable, Dict, Iterator, List, NamedTuple, Optional, Sequenc
 
 from ..grammar import Leaves, Node, Reader
 from ..lines import NUMBER, Placed, Token, split_lines, tokens_of
-from ..nests import Declared, End, Flat, Nest, Origin, TooLarge, TooManyWays, Unit, read_nest
+from ..nests import Declared, End, Flat, Nest, Origin, TooLarge, Unit, read_nest
 from .kinds import BOOL, CONDITION, FORM_OF_LITERAL, INT, RESULT, Cause, Kinds, Wrong, kind_of_type
 
 # The cases that docs/RULES.md has a cure of its own for, besides those of kinds.
@@ -52,7 +52,7 @@ def cause_of(text: bytes, line: int, rule: int) -> Cause:
 def flat_of(nest: Nest) -> Optional[Flat]:
     try:
         return Flat(nest)
-    except (TooLarge, TooManyWays):
+    except TooLarge:
         return None
 
 

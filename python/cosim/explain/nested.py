@@ -7,7 +7,7 @@ groups, so this is found by making the flat text's lines again. Rules 27 to 30 a
 import collections
 from typing import Dict, Iterator, NamedTuple, Optional, Sequence, Set, Tuple
 
-from ..nests import End, Flat, Instance, Link, Nest, Origin, Part, TooLarge, TooManyWays, read_nest
+from ..nests import End, Flat, Instance, Link, Nest, Origin, Part, TooLarge, read_nest
 
 # The rules that are reported at a line of the flat text.
 OF_FLAT_TEXTS = range(8, 25)
@@ -45,8 +45,6 @@ def guilty(text: bytes, line: int, rule: int) -> Optional[Guilty]:
             Flat(nest)
     except TooLarge as large:
         return Guilty(large.line, (large.why,))
-    except TooManyWays:
-        pass
     return None
 
 
